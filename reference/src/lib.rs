@@ -1,0 +1,1 @@
+//! The separate implementation: document 01's translator and runner in plain Rust.
