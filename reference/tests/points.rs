@@ -128,6 +128,12 @@ const POINTS: &[Row] = &[
     ("C2", b"BEGIN R1 := ABS R2; END @", 0, 0, "1012 0A00"),
     ("C3", b"BEGIN R3 := R1 * R3; END @", 0, 0, "1831 1C23 0A00"),
     ("C6", b"BEGIN GOTO L; L: END @", 0, 0, "47F0F004 0A00"),
+    ("K2", b"BEGIN INTEGER I; R1 := I(R2); END @", 8, 23, ""),
+    ("F2", b"BEGIN FOR R0 := 1 STEP 1 UNTIL R0 DO R0 := R0 + R0; END @", 0, 0, ""),
+    ("F5", b"BEGIN SHORT LOGICAL A; END @", 4, 12, ""),
+    ("F5", b"BEGIN ARRAY (2) INTEGER REGISTER A(1); END @", 4, 24, ""),
+    ("F5", b"BEGIN R1 := ABS NEG R2; END @", 4, 16, ""),
+    ("F5", b"BEGIN ; END @", 4, 6, ""),
 ];
 
 #[test]
