@@ -1,28 +1,48 @@
 //! The commands on source texts.
 
+use crate::gen;
+use crate::random::Random;
 use crate::translate::translate;
 use std::io::{self, Read, Write};
 use std::time::Instant;
 
 const USAGE: &str = "usage:
   reference translate FILE   the object text, or `refused NUMBER at PLACE` and exit status 1
-  reference batch            cases from standard input, a line `number place length hash` for each";
+  reference batch            cases from standard input, a line `number place length hash` for each
+  reference gen SEED COUNT   generated texts as cases for `batch`
+  reference gen --histogram SEED COUNT   how these are answered
+  reference sized LENGTH SEED   an accepted text of about that length
+  reference speed            megabytes translated in a second, for texts of 1, 8 and 32 KB";
 
 /// Carries out a command on texts and gives the exit status.
 pub fn main(args: &[String]) -> i32 {
-    let words: Vec<&str> = args.iter().map(String::as_str).collect();
-    let done = match words.as_slice() {
-        ["translate", file] => translate_file(file),
-        ["batch"] => batch(),
-        _ => Err(io::Error::new(io::ErrorKind::InvalidInput, USAGE)),
-    };
-    match done {
+    match command(args) {
         Ok(status) => status,
         Err(error) => {
             eprintln!("{error}");
             2
         }
     }
+}
+
+fn command(args: &[String]) -> io::Result<i32> {
+    let words: Vec<&str> = args.iter().map(String::as_str).collect();
+    match words.as_slice() {
+        ["translate", file] => translate_file(file),
+        ["batch"] => batch(),
+        ["gen", seed, count] => generate(parse(seed)?, parse(count)?),
+        ["gen", "--histogram", seed, count] => histogram(parse(seed)?, parse(count)?),
+        ["sized", length, seed] => {
+            io::stdout().write_all(&sized(parse(length)? as usize, parse(seed)?))?;
+            Ok(0)
+        }
+        ["speed"] => speed(),
+        _ => Err(io::Error::new(io::ErrorKind::InvalidInput, USAGE)),
+    }
+}
+
+fn parse(word: &str) -> io::Result<u64> {
+    word.parse().map_err(|_| io::Error::new(io::ErrorKind::InvalidInput, format!("no number: {word}")))
 }
 
 fn translate_file(file: &str) -> io::Result<i32> {
@@ -78,13 +98,62 @@ fn batch() -> io::Result<i32> {
     Ok(0)
 }
 
-/// Megabytes a second of translating `text`, over at least `seconds`.
-pub fn translate_speed(text: &[u8], seconds: f64) -> f64 {
-    let start = Instant::now();
-    let mut bytes = 0;
-    while start.elapsed().as_secs_f64() < seconds {
-        std::hint::black_box(translate(std::hint::black_box(text), None));
-        bytes += text.len();
+fn generate(seed: u64, count: u64) -> io::Result<i32> {
+    let mut output = io::BufWriter::new(io::stdout().lock());
+    for number in 0..count {
+        write_case(&mut output, &gen::case(seed, number))?;
     }
-    bytes as f64 / start.elapsed().as_secs_f64() / 1e6
+    output.flush()?;
+    Ok(0)
+}
+
+/// Numbers of answers, with the room unlimited; 16 is counted with rooms at, one below and far below the length needed.
+fn histogram(seed: u64, count: u64) -> io::Result<i32> {
+    let mut answers = [0u64; 17];
+    let mut lengths = Vec::new();
+    for number in 0..count {
+        let text = gen::case(seed, number);
+        let answer = translate(&text, None);
+        answers[answer.number as usize] += 1;
+        lengths.push(text.len());
+        if answer.number == 0 {
+            let needed = answer.object.len();
+            let room = [needed, needed - 1, number as usize % needed][number as usize % 3];
+            answers[16] += u64::from(translate(&text, Some(room)).number == 16);
+        }
+    }
+    for (number, times) in answers.iter().enumerate() {
+        println!("{number:2} {times:8} {:7.3} %", *times as f64 * 100.0 / count as f64);
+    }
+    lengths.sort_unstable();
+    let (total, median) = (lengths.iter().sum::<usize>(), lengths[lengths.len() / 2]);
+    println!("median length {median}, average {:.0}", total as f64 / count as f64);
+    Ok(0)
+}
+
+fn sized(length: usize, seed: u64) -> Vec<u8> {
+    gen::sized_text(&mut Random::new(seed, length as u64), length)
+}
+
+/// Translates texts of a length in turn for at least `SECONDS`.
+fn speed() -> io::Result<i32> {
+    const SECONDS: f64 = 1.0;
+    const TEXTS: u64 = 20;
+    for length in [1_000, 8_000, 32_000] {
+        let texts: Vec<Vec<u8>> = (0..TEXTS).map(|seed| sized(length, seed)).collect();
+        if let Some(refused) = texts.iter().position(|text| translate(text, None).number != 0) {
+            return Err(io::Error::other(format!("text {refused} of length {length} is refused")));
+        }
+        let start = Instant::now();
+        let mut bytes = 0;
+        while start.elapsed().as_secs_f64() < SECONDS {
+            for text in &texts {
+                std::hint::black_box(translate(std::hint::black_box(text), None));
+                bytes += text.len();
+            }
+        }
+        let speed = bytes as f64 / start.elapsed().as_secs_f64() / 1e6;
+        println!("{length:6} bytes: {speed:6.1} MB/s");
+    }
+    Ok(0)
 }
