@@ -3,7 +3,9 @@
 use crate::gen;
 use crate::random::Random;
 use crate::translate::translate;
+use crate::vectors;
 use std::io::{self, Read, Write};
+use std::path::Path;
 use std::time::Instant;
 
 const USAGE: &str = "usage:
@@ -12,7 +14,11 @@ const USAGE: &str = "usage:
   reference gen SEED COUNT   generated texts as cases for `batch`
   reference gen --histogram SEED COUNT   how these are answered
   reference sized LENGTH SEED   an accepted text of about that length
-  reference speed            megabytes translated in a second, for texts of 1, 8 and 32 KB";
+  reference speed            megabytes translated in a second, for texts of 1, 8 and 32 KB
+  reference vectors DIR      texts with their answers into DIR/texts, and DIR/MANIFEST.md";
+
+/// The commands on texts; all others are about runs.
+pub const COMMANDS: [&str; 6] = ["translate", "batch", "gen", "sized", "speed", "vectors"];
 
 /// Carries out a command on texts and gives the exit status.
 pub fn main(args: &[String]) -> i32 {
@@ -37,6 +43,7 @@ fn command(args: &[String]) -> io::Result<i32> {
             Ok(0)
         }
         ["speed"] => speed(),
+        ["vectors", dir] => store_vectors(Path::new(dir)),
         _ => Err(io::Error::new(io::ErrorKind::InvalidInput, USAGE)),
     }
 }
@@ -128,6 +135,14 @@ fn histogram(seed: u64, count: u64) -> io::Result<i32> {
     lengths.sort_unstable();
     let (total, median) = (lengths.iter().sum::<usize>(), lengths[lengths.len() / 2]);
     println!("median length {median}, average {:.0}", total as f64 / count as f64);
+    Ok(0)
+}
+
+fn store_vectors(dir: &Path) -> io::Result<i32> {
+    std::fs::create_dir_all(dir)?;
+    let cases = vectors::cases();
+    std::fs::write(dir.join("texts"), vectors::records(&cases))?;
+    std::fs::write(dir.join("MANIFEST.md"), vectors::manifest(&cases))?;
     Ok(0)
 }
 

@@ -157,12 +157,7 @@ pub fn code(program: &Block, findings: Findings) -> Code {
     writer.block(program);
     // "The last instruction is `0A 00`."
     writer.registers(0x0A, 0, 0);
-    Code {
-        instructions: writer.instructions,
-        points: writer.points,
-        length: writer.length,
-        bases: writer.bases,
-    }
+    Code { instructions: writer.instructions, points: writer.points, length: writer.length, bases: writer.bases }
 }
 
 struct Writer<'a> {
@@ -281,7 +276,9 @@ impl Writer<'_> {
             Statement::Block(block) => self.block(block),
             Statement::Goto(name) => self.goto(*name),
             Statement::Null => {}
-            Statement::If { condition, then, otherwise, .. } => self.if_statement(condition, then, otherwise.as_deref()),
+            Statement::If { condition, then, otherwise, .. } => {
+                self.if_statement(condition, then, otherwise.as_deref())
+            }
             Statement::While { condition, body, .. } => self.while_statement(condition, body),
             Statement::For { assignment, step, limit, body, .. } => self.for_statement(assignment, *step, limit, body),
         }

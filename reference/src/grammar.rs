@@ -99,7 +99,11 @@ pub enum Operand {
 }
 
 pub enum Condition {
-    Comparison { register: TokenNo, relation: TokenNo, operand: Operand },
+    Comparison {
+        register: TokenNo,
+        relation: TokenNo,
+        operand: Operand,
+    },
     /// A bare relation or OVERFLOW.
     State(TokenNo),
 }

@@ -26,9 +26,15 @@ pub enum Meaning {
     Unknown,
     Register(u8),
     /// `count` is the number of elements of an array, None for a cell that is none.
-    Cell { short: bool, count: Option<usize> },
+    Cell {
+        short: bool,
+        count: Option<usize>,
+    },
     /// `writes` is all that a call writes.
-    Procedure { register: u8, writes: RegisterSet },
+    Procedure {
+        register: u8,
+        writes: RegisterSet,
+    },
 }
 
 /// The meaning of every declared name, by its token.

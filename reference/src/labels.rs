@@ -10,8 +10,7 @@ pub const LABEL_LIMIT: usize = 256;
 
 /// The token that sets the label, for each token of a GOTO's name that has found one.
 pub fn labels(program: &Block, tokens: &[Token], violations: &mut Violations) -> Vec<Option<TokenNo>> {
-    let mut search =
-        Search { tokens, violations, blocks: Vec::new(), set: 0, found: vec![None; tokens.len()] };
+    let mut search = Search { tokens, violations, blocks: Vec::new(), set: 0, found: vec![None; tokens.len()] };
     search.block(program);
     search.found
 }

@@ -2,11 +2,13 @@
 //!
 //! The translator goes the way of the document: `token`, `grammar`, then `names`, `labels`, `layout` and `kinds` over
 //! the tree, then `code` and `object`; `translate` puts them together. `random`, `spell`, `build` and `gen` make source
-//! texts to try it on.
+//! texts to try it on; `earley` and `rules` are second opinions on refusals 4 and 5 to 13. `vectors` stores texts with their
+//! answers.
 
 pub mod build;
 pub mod cmd_text;
 pub mod code;
+pub mod earley;
 pub mod gen;
 pub mod grammar;
 pub mod kinds;
@@ -14,8 +16,11 @@ pub mod labels;
 pub mod layout;
 pub mod names;
 pub mod object;
+pub mod points;
 pub mod random;
+pub mod rules;
 pub mod spell;
 pub mod token;
 pub mod translate;
+pub mod vectors;
 pub mod violations;

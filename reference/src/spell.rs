@@ -3,7 +3,29 @@
 use crate::random::Random;
 
 const EDGES: [u32; 24] = [
-    0, 1, 2, 3, 4, 7, 8, 15, 16, 31, 32, 63, 64, 127, 255, 256, 4095, 4096, 32767, 32768, 65535, 65536, 0x7FFF_FFFF,
+    0,
+    1,
+    2,
+    3,
+    4,
+    7,
+    8,
+    15,
+    16,
+    31,
+    32,
+    63,
+    64,
+    127,
+    255,
+    256,
+    4095,
+    4096,
+    32767,
+    32768,
+    65535,
+    65536,
+    0x7FFF_FFFF,
     0x8000_0000,
 ];
 
@@ -103,7 +125,9 @@ fn gap(random: &mut Random, style: Style, text: &mut Vec<u8>, token: &[u8]) {
 fn touch_badly(text: &[u8], token: &[u8]) -> bool {
     let (Some(&last), Some(&first)) = (text.last(), token.first()) else { return false };
     let words = last.is_ascii_alphanumeric() && first.is_ascii_alphanumeric();
-    words || (matches!(last, b':' | b'<' | b'>' | b'^') && first == b'=') || (last == first && matches!(first, b'+' | b'-'))
+    words
+        || (matches!(last, b':' | b'<' | b'>' | b'^') && first == b'=')
+        || (last == first && matches!(first, b'+' | b'-'))
 }
 
 /// A comment with any bytes in it, set apart from a word before it.

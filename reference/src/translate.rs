@@ -41,8 +41,7 @@ fn object_for(source: &[u8], room: Option<usize>) -> Result<Vec<u8>, Refusal> {
         return Err(least);
     }
 
-    let code =
-        code(program, Findings { tokens, found: &found, meanings: &meanings, labels: &labels, layout: &layout });
+    let code = code(program, Findings { tokens, found: &found, meanings: &meanings, labels: &labels, layout: &layout });
     refuse_if(code.length > SEGMENT_LIMIT, 14, 0)?;
 
     // "from the next multiple of 4 after segment 1's cells"

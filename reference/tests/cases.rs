@@ -26,10 +26,7 @@ fn cases_2_to_9() {
     let case_7 = "BEGIN SEGMENT BASE RC; SHORT INTEGER S(_1); R2 := S; END @";
     assert_code(case_7, "58C0E008 4820C000");
     assert_eq!(segment(&answer(case_7.as_bytes()).object, 2), bytes("FFFF"));
-    assert_code(
-        "BEGIN FOR R1 := 0 STEP 1 UNTIL 9 DO NULL; END @",
-        "5810E010 5910E014 4720F014 5A10E018 47F0F004",
-    );
+    assert_code("BEGIN FOR R1 := 0 STEP 1 UNTIL 9 DO NULL; END @", "5810E010 5910E014 4720F014 5A10E018 47F0F004");
     assert_refused(4, "!");
 }
 
@@ -64,16 +61,14 @@ fn nesting_64_and_65() {
     assert_eq!(verdict(chained(64).as_bytes()), (0, 0));
     assert_eq!(verdict(chained(65).as_bytes()), (5, 6 + 63 * 20));
 
-    let counts = |depth: usize| {
-        "BEGIN ".to_string() + &"FOR R1 := 1 STEP 1 UNTIL 2 DO ".repeat(depth - 1) + "NULL; END @"
-    };
+    let counts =
+        |depth: usize| "BEGIN ".to_string() + &"FOR R1 := 1 STEP 1 UNTIL 2 DO ".repeat(depth - 1) + "NULL; END @";
     assert_eq!(verdict(counts(64).as_bytes()), (0, 0));
     assert_eq!(verdict(counts(65).as_bytes()), (5, 6 + 63 * 30));
 
     // 32 blocks with 31 procedures between them are 63 constructs, a statement in the last block's body the 64th.
-    let procedures = |last: &str| {
-        "BEGIN PROCEDURE P(R5); ".repeat(31) + "BEGIN " + last + " END; " + &"END; ".repeat(30) + "END @"
-    };
+    let procedures =
+        |last: &str| "BEGIN PROCEDURE P(R5); ".repeat(31) + "BEGIN " + last + " END; " + &"END; ".repeat(30) + "END @";
     assert_eq!(verdict(procedures("IF = THEN NULL;").as_bytes()), (0, 0));
     assert_eq!(verdict(procedures("IF = THEN BEGIN END;").as_bytes()), (5, 31 * 23 + 6 + 10));
     assert_eq!(verdict(procedures("PROCEDURE P(R5); NULL;").as_bytes()), (0, 0));
@@ -87,10 +82,7 @@ fn slip_the_mask_of_less_leaves_no_state_3() {
 
 #[test]
 fn slip_a_goto_is_bound_to_the_inner_later_label() {
-    assert_code(
-        "BEGIN L: BEGIN GOTO L; R1 := R2; L: R3 := R4; END; END @",
-        "47F0F006 1812 1834",
-    );
+    assert_code("BEGIN L: BEGIN GOTO L; R1 := R2; L: R3 := R4; END; END @", "47F0F006 1812 1834");
 }
 
 #[test]

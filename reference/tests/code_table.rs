@@ -67,7 +67,10 @@ fn load_store_and_compare() {
 fn the_16_registers_by_their_names() {
     for (number, digit) in "0123456789ABCDEF".chars().enumerate() {
         assert_code(&format!("BEGIN R1 := R{digit}; END @"), &format!("181{digit}"));
-        assert_code(&format!("BEGIN INTEGER REGISTER X({number}); IF X = X THEN NULL; END @"), &format!("19{digit}{digit} 4770F006"));
+        assert_code(
+            &format!("BEGIN INTEGER REGISTER X({number}); IF X = X THEN NULL; END @"),
+            &format!("19{digit}{digit} 4770F006"),
+        );
         if digit < 'E' {
             assert_code(&format!("BEGIN R{digit} := R1; END @"), &format!("18{digit}1"));
         }
@@ -179,7 +182,10 @@ fn procedures_and_calls() {
         "BEGIN PROCEDURE P(R5); R1 := R1; BEGIN PROCEDURE Q(R7); P; PROCEDURE P(R6); R2 := R2; P; Q; END; P; END @",
         "47F0F008 1811 07F5 47F0F012 4550F004 07F7 47F0F01A 1822 07F6 4560F016 4570F00C 4550F004",
     );
-    assert_code("BEGIN PROCEDURE P(RD); IF = THEN NULL; IF = THEN P ELSE P; END @", "47F0F00A 4770F008 07FD 4770F016 45D0F004 47F0F01A 45D0F004");
+    assert_code(
+        "BEGIN PROCEDURE P(RD); IF = THEN NULL; IF = THEN P ELSE P; END @",
+        "47F0F00A 4770F008 07FD 4770F016 45D0F004 47F0F01A 45D0F004",
+    );
 }
 
 #[test]
@@ -198,7 +204,8 @@ fn bases_and_segments() {
 
 #[test]
 fn cells_values_and_literals() {
-    let text = "BEGIN SHORT INTEGER S(_2); ARRAY (3) INTEGER A(1)(#80000000); ARRAY (3) SHORT INTEGER H(65535)(_32768); \
+    let text =
+        "BEGIN SHORT INTEGER S(_2); ARRAY (3) INTEGER A(1)(#80000000); ARRAY (3) SHORT INTEGER H(65535)(_32768); \
         R1 := 7 + 8 + _1 + 7 + #FFFFFFFF; END @";
     assert_code(text, "5810E028 5A10E02C 5A10E030 5A10E028 5A10E030");
     let zeros = "00000000 00000000 00000000 00000000";
@@ -210,10 +217,7 @@ fn cells_values_and_literals() {
 
 #[test]
 fn displacements_take_three_digits() {
-    assert_code(
-        "BEGIN ARRAY (1000) INTEGER A; R1 := A(3996) + 9; END @",
-        "5810EFAC 5A10EFB0",
-    );
+    assert_code("BEGIN ARRAY (1000) INTEGER A; R1 := A(3996) + 9; END @", "5810EFAC 5A10EFB0");
     let skips = "R1 := R1; ".repeat(1000);
     let text = format!("BEGIN GOTO L; {skips} L: END @");
     assert_code(&text, &format!("47F0F7D4 {}", "1811".repeat(1000)));
