@@ -1,0 +1,58 @@
+-- A loop that counts a run: `run-on`, `run-stop` and `run-end` in the form of its invariant; `run-le` and `run-pos` bound the run. Assumes nothing.
+use Prim.Native.Nat.{ℕ, zero, suc, _+_, _≤_, _<_}
+use mathlib.Core.Path.{_≡_, refl}
+use mathlib.Core.Bool.{Bool, true, false}
+use mathlib.Core.List.{List, [], _∷_}
+use native.Mathlib.Omega.{arith}
+use native.Mathlib.Numerals.{add-one}
+use lib.ListN.{length, take, drop, getD, drop-of-length-le}
+use lib.Seq.{drop-cons}
+use Rattle.base.specs.Runs.{runLen}
+use Rattle.base.specs.Lists.{All}
+
+module _ (p : ℕ → Bool) (s : List ℕ) (i : ℕ) where
+  pub run-on : i < length s → p (getD s i 0) ≡ true → runLen p s ≡ i + runLen p (drop i s) → runLen p s ≡ i + 1 + runLen p (drop (i + 1) s)
+  unfolding runLen
+  run-on h e inv = rw (add-one i) (omega (arith, inv, step))
+    where
+      step : runLen p (drop i s) ≡ suc (runLen p (drop (suc i) s))
+      step = rw (drop-cons s i 0, e, runLen)
+
+  pub run-stop : i < length s → p (getD s i 0) ≡ false → runLen p s ≡ i + runLen p (drop i s) → i ≡ runLen p s
+  unfolding runLen
+  run-stop h e inv = omega (arith, inv, stop)
+    where
+      stop : runLen p (drop i s) ≡ 0
+      stop = rw (drop-cons s i 0, e, runLen)
+
+  pub run-end : length s ≤ i → runLen p s ≡ i + runLen p (drop i s) → i ≡ runLen p s
+  unfolding runLen
+  run-end h inv = omega (arith, inv, stop)
+    where
+      stop : runLen p (drop i s) ≡ 0
+      stop = rw (drop-of-length-le s h)
+
+module _ (p : ℕ → Bool) where
+  pub run-le : (s : List ℕ) → runLen p s ≤ length s
+  unfolding runLen
+  run-le [] = omega arith
+  run-le (x ∷ xs) = go (run-le xs) (p x) refl
+    where
+      go : runLen p xs ≤ length xs → (t : Bool) → p x ≡ t → runLen p (x ∷ xs) ≤ suc (length xs)
+      go h true e = rw (e, runLen) (omega arith)
+      go h false e = rw (e, runLen) (omega arith)
+
+  pub run-pos : (s : List ℕ) → 0 < length s → p (getD s 0 0) ≡ true → 0 < runLen p s
+  unfolding runLen
+  run-pos [] h e = absurd (omega arith)
+  run-pos (x ∷ xs) h e = rw (e, runLen) (omega arith)
+
+  -- each element of the run passes the test
+  pub run-all : (s : List ℕ) → All (λ x. p x ≡ true) (take (runLen p s) s)
+  unfolding runLen
+  run-all [] = tt
+  run-all (x ∷ xs) = go (run-all xs) (p x) refl
+    where
+      go : All (λ y. p y ≡ true) (take (runLen p xs) xs) → (t : Bool) → p x ≡ t → All (λ y. p y ≡ true) (take (runLen p (x ∷ xs)) (x ∷ xs))
+      go h true e = rw (e, runLen) (e, h)
+      go h false e = rw (e, runLen) tt
