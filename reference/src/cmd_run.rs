@@ -2,7 +2,7 @@
 
 use crate::runcase::{answer_line, Case, STORAGE_BEFORE};
 use crate::runner::{run, RunAnswer, STORAGE_NEEDED};
-use crate::{genrun, runspeed, runvectors};
+use crate::{genrun, hercules, runspeed, runvectors};
 use std::io::{self, BufReader, BufWriter, Write};
 
 const USAGE: &str = "\
@@ -11,7 +11,9 @@ reference runbatch < CASES
 reference genrun SEED COUNT
 reference genrun-histogram SEED COUNT
 reference runspeed
-reference runvectors DIR";
+reference runvectors DIR
+reference hercules-image FILE
+reference hercules-compare FILE";
 
 /// Carries out a command; the exit status is 0, 1 for a refused run, or 2 for a command or input that makes no sense.
 pub fn main(args: &[String]) -> i32 {
@@ -31,6 +33,14 @@ pub fn main(args: &[String]) -> i32 {
         ["runvectors", dir] => runvectors::write(dir).map(|manifest| {
             print!("{manifest}");
             0
+        }),
+        ["hercules-image", file] => hercules::write_image(file).map(|report| {
+            print!("{report}");
+            0
+        }),
+        ["hercules-compare", file] => hercules::compare(file).map(|(report, equal)| {
+            print!("{report}");
+            !equal as i32
         }),
         _ => Err(wrong(USAGE)),
     };

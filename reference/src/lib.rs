@@ -2,6 +2,7 @@
 pub mod assemble;
 pub mod cmd_run;
 pub mod genrun;
+pub mod hercules;
 pub mod machine;
 pub mod objread;
 pub mod runcase;
