@@ -2,7 +2,7 @@
 
 use crate::runcase::{answer_line, Case, STORAGE_BEFORE};
 use crate::runner::{run, RunAnswer, STORAGE_NEEDED};
-use crate::{genrun, hercules, runspeed, runvectors};
+use crate::{codetable, genrun, hercules, runspeed, runvectors};
 use std::io::{self, BufReader, BufWriter, Write};
 
 const USAGE: &str = "\
@@ -12,6 +12,7 @@ reference genrun SEED COUNT
 reference genrun-histogram SEED COUNT
 reference runspeed
 reference runvectors DIR
+reference codetable
 reference hercules-image FILE
 reference hercules-compare FILE";
 
@@ -34,6 +35,10 @@ pub fn main(args: &[String]) -> i32 {
             print!("{manifest}");
             0
         }),
+        ["codetable"] => {
+            print!("{}", codetable::lines());
+            Ok(0)
+        }
         ["hercules-image", file] => hercules::write_image(file).map(|report| {
             print!("{report}");
             0
