@@ -481,8 +481,9 @@ fn count_opcodes(case: &Case, count: u32, opcodes: &mut [[u64; 4]; 256]) {
     let mut storage = vec![0; STORAGE_NEEDED];
     runner::load(&object, &mut storage);
     let map = runner::map(&object);
-    let mut state = State { regs: case.regs, cc: case.cc as u32, counter: origin(0) };
-    (state.regs[14], state.regs[15]) = (origin(1), origin(0));
+    let mut regs = case.regs;
+    (regs[14], regs[15]) = (origin(1), origin(0));
+    let mut state = State { regs: &mut regs, cc: case.cc as u32, counter: origin(0) };
     for _ in 0..count {
         let opcode = storage[state.counter as usize];
         step(&mut state, &map, &mut storage).expect("a completed instruction");

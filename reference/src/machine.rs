@@ -25,9 +25,8 @@ pub enum Stop {
 }
 
 /// What a program can see of the machine beside storage.
-#[derive(Clone, Copy, Debug, PartialEq, Eq)]
-pub struct State {
-    pub regs: [u32; 16],
+pub struct State<'a> {
+    pub regs: &'a mut [u32; 16],
     /// The condition code, 0 to 3.
     pub cc: u32,
     /// The address of the next instruction, 24 bits.
@@ -57,17 +56,23 @@ pub fn step(state: &mut State, map: &Map, storage: &mut [u8]) -> Result<(), Stop
     if at % 2 != 0 || !in_program(map, at, 2) {
         return Err(Stop::Instruction);
     }
-    let opcode = storage[at as usize];
-    let fields = storage[at as usize + 1];
+    // The listed opcodes below 40 have two bytes, the others four.
+    let two = bytes(storage, at);
+    if two[0] < 0x40 {
+        two_bytes(state, two)
+    } else if in_program(map, at, 4) {
+        four_bytes(state, map, storage, bytes(storage, at))
+    } else {
+        Err(Stop::Instruction)
+    }
+}
+
+/// "Two bytes: opcode, r·16+s."
+#[inline(always)]
+fn two_bytes(state: &mut State, [opcode, fields]: [u8; 2]) -> Result<(), Stop> {
     let r1 = (fields >> 4) as usize;
     let r2 = (fields & 15) as usize;
-    // The listed opcodes below 40 have two bytes, the others four.
-    let size = if opcode < 0x40 { 2 } else { 4 };
-    if !in_program(map, at, size) {
-        return Err(Stop::Instruction);
-    }
-    let mut next = at + size;
-
+    let mut next = state.counter + 2;
     match opcode {
         // BCR: "no branch when the R2 field contains zero".
         0x07 => {
@@ -99,78 +104,89 @@ pub fn step(state: &mut State, map: &Map, storage: &mut [u8]) -> Result<(), Stop
         // ALR, SLR
         0x1E => (state.regs[r1], state.cc) = add_logical(state.regs[r1], state.regs[r2]),
         0x1F => (state.regs[r1], state.cc) = subtract_logical(state.regs[r1], state.regs[r2]),
+        _ => return Err(Stop::Instruction),
+    }
+    state.counter = next;
+    Ok(())
+}
+
+/// "Four bytes: opcode, r·16+index, base·16 + displacement/256, displacement mod 256."
+#[inline(always)]
+fn four_bytes(state: &mut State, map: &Map, storage: &mut [u8], instruction: [u8; 4]) -> Result<(), Stop> {
+    let [opcode, fields, _, _] = instruction;
+    let r1 = (fields >> 4) as usize;
+    let mut next = state.counter + 4;
+    match opcode {
         // STH
         0x40 => {
-            let address = indexed(state, storage, at);
+            let address = indexed(state, instruction);
             writable(map, address, 2)?;
-            let a = address as usize;
-            storage[a..a + 2].copy_from_slice(&(state.regs[r1] as u16).to_be_bytes());
+            store(storage, address, (state.regs[r1] as u16).to_be_bytes());
         }
         // BAL: the address is formed before the link is stored.
         0x45 => {
-            let target = indexed(state, storage, at);
+            let target = indexed(state, instruction);
             state.regs[r1] = link(state.cc, next);
             next = target;
         }
         // BC
         0x47 => {
             if taken(r1, state.cc) {
-                next = indexed(state, storage, at);
+                next = indexed(state, instruction);
             }
         }
         // LH, CH, AH, SH, MH
-        0x48 => state.regs[r1] = half(state, map, storage, at)?,
-        0x49 => state.cc = compare(state.regs[r1], half(state, map, storage, at)?),
-        0x4A => (state.regs[r1], state.cc) = add(state.regs[r1], half(state, map, storage, at)?),
-        0x4B => (state.regs[r1], state.cc) = subtract(state.regs[r1], half(state, map, storage, at)?),
+        0x48 => state.regs[r1] = half(state, map, storage, instruction)?,
+        0x49 => state.cc = compare(state.regs[r1], half(state, map, storage, instruction)?),
+        0x4A => (state.regs[r1], state.cc) = add(state.regs[r1], half(state, map, storage, instruction)?),
+        0x4B => (state.regs[r1], state.cc) = subtract(state.regs[r1], half(state, map, storage, instruction)?),
         0x4C => {
             // "the low-order 32 bits of the product" replace the operand; the code stays.
-            let factor = half(state, map, storage, at)?;
+            let factor = half(state, map, storage, instruction)?;
             state.regs[r1] = state.regs[r1].wrapping_mul(factor);
         }
         // ST
         0x50 => {
-            let address = indexed(state, storage, at);
+            let address = indexed(state, instruction);
             writable(map, address, 4)?;
-            let a = address as usize;
-            storage[a..a + 4].copy_from_slice(&state.regs[r1].to_be_bytes());
+            store(storage, address, state.regs[r1].to_be_bytes());
         }
         // N, O, X
-        0x54 => (state.regs[r1], state.cc) = and(state.regs[r1], word(state, map, storage, at)?),
-        0x56 => (state.regs[r1], state.cc) = or(state.regs[r1], word(state, map, storage, at)?),
-        0x57 => (state.regs[r1], state.cc) = exclusive_or(state.regs[r1], word(state, map, storage, at)?),
+        0x54 => (state.regs[r1], state.cc) = and(state.regs[r1], word(state, map, storage, instruction)?),
+        0x56 => (state.regs[r1], state.cc) = or(state.regs[r1], word(state, map, storage, instruction)?),
+        0x57 => (state.regs[r1], state.cc) = exclusive_or(state.regs[r1], word(state, map, storage, instruction)?),
         // L, C, A, S, M
-        0x58 => state.regs[r1] = word(state, map, storage, at)?,
-        0x59 => state.cc = compare(state.regs[r1], word(state, map, storage, at)?),
-        0x5A => (state.regs[r1], state.cc) = add(state.regs[r1], word(state, map, storage, at)?),
-        0x5B => (state.regs[r1], state.cc) = subtract(state.regs[r1], word(state, map, storage, at)?),
+        0x58 => state.regs[r1] = word(state, map, storage, instruction)?,
+        0x59 => state.cc = compare(state.regs[r1], word(state, map, storage, instruction)?),
+        0x5A => (state.regs[r1], state.cc) = add(state.regs[r1], word(state, map, storage, instruction)?),
+        0x5B => (state.regs[r1], state.cc) = subtract(state.regs[r1], word(state, map, storage, instruction)?),
         0x5C => {
             if r1 % 2 != 0 {
                 return Err(Stop::Instruction);
             }
-            let factor = word(state, map, storage, at)?;
+            let factor = word(state, map, storage, instruction)?;
             (state.regs[r1], state.regs[r1 + 1]) = multiply(state.regs[r1 + 1], factor);
         }
         // AL, SL
-        0x5E => (state.regs[r1], state.cc) = add_logical(state.regs[r1], word(state, map, storage, at)?),
-        0x5F => (state.regs[r1], state.cc) = subtract_logical(state.regs[r1], word(state, map, storage, at)?),
+        0x5E => (state.regs[r1], state.cc) = add_logical(state.regs[r1], word(state, map, storage, instruction)?),
+        0x5F => (state.regs[r1], state.cc) = subtract_logical(state.regs[r1], word(state, map, storage, instruction)?),
         // SRL, SLL
         0x88 => {
-            let amount = shift_amount(state, storage, at);
+            let amount = shift_amount(state, instruction);
             state.regs[r1] = (state.regs[r1] as u64 >> amount) as u32;
         }
         0x89 => {
-            let amount = shift_amount(state, storage, at);
+            let amount = shift_amount(state, instruction);
             state.regs[r1] = ((state.regs[r1] as u64) << amount) as u32;
         }
         // SRA, SLA
         0x8A => {
-            let amount = shift_amount(state, storage, at);
+            let amount = shift_amount(state, instruction);
             state.regs[r1] = (state.regs[r1] as i32 as i64 >> amount) as u32;
             state.cc = sign_code(state.regs[r1]);
         }
         0x8B => {
-            let amount = shift_amount(state, storage, at);
+            let amount = shift_amount(state, instruction);
             (state.regs[r1], state.cc) = shift_left_arithmetic(state.regs[r1], amount);
         }
         _ => return Err(Stop::Instruction),
@@ -197,11 +213,9 @@ fn link(cc: u32, next: u32) -> u32 {
     (2 << 30) | (cc << 28) | next
 }
 
-/// The third and fourth byte of the instruction: base register's number, displacement.
+/// The third and fourth byte of an instruction: base register's number, displacement.
 #[inline(always)]
-fn base_and_displacement(storage: &[u8], at: u32) -> (usize, u32) {
-    let third = storage[at as usize + 2];
-    let fourth = storage[at as usize + 3];
+fn base_and_displacement([_, _, third, fourth]: [u8; 4]) -> (usize, u32) {
     ((third >> 4) as usize, 256 * (third & 15) as u32 + fourth as u32)
 }
 
@@ -217,17 +231,17 @@ fn base_value(state: &State, register: usize) -> u32 {
 
 /// The address that base, index and displacement give.
 #[inline(always)]
-fn indexed(state: &State, storage: &[u8], at: u32) -> u32 {
-    let index = (storage[at as usize + 1] & 15) as usize;
-    let (base, displacement) = base_and_displacement(storage, at);
+fn indexed(state: &State, instruction: [u8; 4]) -> u32 {
+    let index = (instruction[1] & 15) as usize;
+    let (base, displacement) = base_and_displacement(instruction);
     let sum = base_value(state, base).wrapping_add(base_value(state, index)).wrapping_add(displacement);
     sum & ADDRESS_BITS
 }
 
 /// A shift's amount: the low six bits of base plus displacement; the field beside the register is ignored.
 #[inline(always)]
-fn shift_amount(state: &State, storage: &[u8], at: u32) -> u32 {
-    let (base, displacement) = base_and_displacement(storage, at);
+fn shift_amount(state: &State, instruction: [u8; 4]) -> u32 {
+    let (base, displacement) = base_and_displacement(instruction);
     base_value(state, base).wrapping_add(displacement) & 63
 }
 
@@ -266,22 +280,34 @@ fn writable(map: &Map, address: u32, size: u32) -> Result<(), Stop> {
     }
 }
 
-/// The full word that the instruction at `at` reads.
+/// The full word that the instruction reads.
 #[inline(always)]
-fn word(state: &State, map: &Map, storage: &[u8], at: u32) -> Result<u32, Stop> {
-    let address = indexed(state, storage, at);
+fn word(state: &State, map: &Map, storage: &[u8], instruction: [u8; 4]) -> Result<u32, Stop> {
+    let address = indexed(state, instruction);
     readable(map, address, 4)?;
-    let a = address as usize;
-    Ok(u32::from_be_bytes([storage[a], storage[a + 1], storage[a + 2], storage[a + 3]]))
+    Ok(u32::from_be_bytes(bytes(storage, address)))
 }
 
-/// The half word that the instruction at `at` reads, its sign extended to 32 bits.
+/// The half word that the instruction reads, its sign extended to 32 bits.
 #[inline(always)]
-fn half(state: &State, map: &Map, storage: &[u8], at: u32) -> Result<u32, Stop> {
-    let address = indexed(state, storage, at);
+fn half(state: &State, map: &Map, storage: &[u8], instruction: [u8; 4]) -> Result<u32, Stop> {
+    let address = indexed(state, instruction);
     readable(map, address, 2)?;
-    let a = address as usize;
-    Ok(i16::from_be_bytes([storage[a], storage[a + 1]]) as i32 as u32)
+    Ok(i16::from_be_bytes(bytes(storage, address)) as i32 as u32)
+}
+
+/// The bytes of storage from an address on that is known to be inside.
+#[inline(always)]
+fn bytes<const SIZE: usize>(storage: &[u8], address: u32) -> [u8; SIZE] {
+    let start = address as usize;
+    storage[start..start + SIZE].try_into().expect("as many as asked for")
+}
+
+/// Stores them there.
+#[inline(always)]
+fn store<const SIZE: usize>(storage: &mut [u8], address: u32, bytes: [u8; SIZE]) {
+    let start = address as usize;
+    storage[start..start + SIZE].copy_from_slice(&bytes);
 }
 
 /// 0 zero, 1 less than zero, 2 greater than zero.

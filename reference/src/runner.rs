@@ -32,19 +32,13 @@ pub fn run(object: &[u8], regs: [u32; 16], cc: u64, budget: u32, storage: &mut [
     }
     load(&object, storage);
     let map = map(&object);
-    let mut state = State { regs, cc: cc as u32, counter: origin(0) };
-    state.regs[15] = origin(0);
-    state.regs[14] = origin(1);
+    let mut regs = regs;
+    regs[15] = origin(0);
+    regs[14] = origin(1);
+    let mut state = State { regs: &mut regs, cc: cc as u32, counter: origin(0) };
     let (stop, count) = go(&mut state, &map, storage, budget);
-    RunAnswer {
-        number: 0,
-        place: 0,
-        stop: stop as u32,
-        counter: state.counter,
-        regs: state.regs,
-        cc: state.cc as u64,
-        count,
-    }
+    let (cc, counter) = (state.cc as u64, state.counter);
+    RunAnswer { number: 0, place: 0, stop: stop as u32, counter, regs, cc, count }
 }
 
 /// "Segment k goes to 4096·(k+1); the word at offset 4k of segment 1 becomes segment k's origin where
@@ -79,6 +73,7 @@ pub fn map(object: &ObjectText) -> Map {
 }
 
 /// Instructions until one stops; "0 first": at the budget nothing is looked at.
+#[inline(always)]
 fn go(state: &mut State, map: &Map, storage: &mut [u8], budget: u32) -> (Stop, u32) {
     let mut count = 0;
     while count < budget {
