@@ -264,7 +264,7 @@ fn refusal_18_for_every_code_over_3() {
 
 #[test]
 fn refusal_19_for_storage_under_20480() {
-    for length in [0, 1, 4096, 20479] {
+    for length in [0, 1, 4096, 8192, 16384, 20476, 20478, 20479] {
         assert_eq!(number(CASE_1.as_bytes(), 0, length), 19, "{length}");
     }
     for length in [20480, 20481, 65536] {
