@@ -109,6 +109,8 @@ fn field(construct: &str, target: u8) -> Option<u8> {
 
 fn addresses() -> impl Iterator<Item = (u8, u8, u16)> {
     INDEXES.into_iter().flat_map(|index| {
-        BASES.into_iter().flat_map(move |base| DISPLACEMENTS.into_iter().map(move |displacement| (index, base, displacement)))
+        BASES
+            .into_iter()
+            .flat_map(move |base| DISPLACEMENTS.into_iter().map(move |displacement| (index, base, displacement)))
     })
 }

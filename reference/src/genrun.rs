@@ -56,8 +56,22 @@ impl Random {
 }
 
 const EDGES: [u32; 16] = [
-    0, 1, 2, 0x7FFF, 0x8000, 0xFFFF, 0x1_0000, 0x3FFF_FFFF, 0x4000_0000, 0x7FFF_FFFE, 0x7FFF_FFFF, 0x8000_0000, 0x8000_0001,
-    0xC000_0000, 0xFFFF_8000, 0xFFFF_FFFF,
+    0,
+    1,
+    2,
+    0x7FFF,
+    0x8000,
+    0xFFFF,
+    0x1_0000,
+    0x3FFF_FFFF,
+    0x4000_0000,
+    0x7FFF_FFFE,
+    0x7FFF_FFFF,
+    0x8000_0000,
+    0x8000_0001,
+    0xC000_0000,
+    0xFFFF_8000,
+    0xFFFF_FFFF,
 ];
 
 /// The two-byte instructions on registers, with the branch; those that read words; those that read half words.
@@ -74,8 +88,8 @@ const END: [u8; 2] = [0x0A, 0x00];
 
 /// All that have an operand in storage, a shift amount or a target, then all on registers: for random code.
 const LISTED: [u8; 38] = [
-    0x07, 0x0A, 0x10, 0x11, 0x13, 0x14, 0x16, 0x17, 0x18, 0x19, 0x1A, 0x1B, 0x1C, 0x1E, 0x1F, 0x40, 0x45, 0x47, 0x48, 0x49, 0x4A,
-    0x4B, 0x4C, 0x50, 0x54, 0x56, 0x57, 0x58, 0x59, 0x5A, 0x5B, 0x5C, 0x5E, 0x5F, 0x88, 0x89, 0x8A, 0x8B,
+    0x07, 0x0A, 0x10, 0x11, 0x13, 0x14, 0x16, 0x17, 0x18, 0x19, 0x1A, 0x1B, 0x1C, 0x1E, 0x1F, 0x40, 0x45, 0x47, 0x48,
+    0x49, 0x4A, 0x4B, 0x4C, 0x50, 0x54, 0x56, 0x57, 0x58, 0x59, 0x5A, 0x5B, 0x5C, 0x5E, 0x5F, 0x88, 0x89, 0x8A, 0x8B,
 ];
 
 /// Registers 0 to 5 are worked with, 6 and 7 steer loops and calls, 8 to 11 are indexes, 12 and 13 the bases of segments 2 and 3.
@@ -103,7 +117,13 @@ fn case(random: &mut Random) -> Case {
     if random.chance(1, 6) {
         object = damaged(random, object);
     }
-    Case { object, budget: budget(random), cc: code(random), storage_length: storage_length(random), regs: registers(random) }
+    Case {
+        object,
+        budget: budget(random),
+        cc: code(random),
+        storage_length: storage_length(random),
+        regs: registers(random),
+    }
 }
 
 fn budget(random: &mut Random) -> u32 {
@@ -218,7 +238,8 @@ fn looping(random: &mut Random, segments: &[DataSegment]) -> Vec<u8> {
     for _ in 0..random.range(1, 10) {
         program.push(plain(random, segments));
     }
-    let (count, again) = random.pick(&[(0x1B, 2), (0x1B, 3), (0x1B, 7), (0x1F, 1), (0x1F, 1), (0x1B, 15), (0x1A, 2), (0x1E, 5)]);
+    let (count, again) =
+        random.pick(&[(0x1B, 2), (0x1B, 3), (0x1B, 7), (0x1F, 1), (0x1F, 1), (0x1B, 15), (0x1A, 2), (0x1E, 5)]);
     program.push(two(count, COUNTER, ONE));
     program.push(four(BRANCH, again, 0, 15, top));
     finish(random, &mut program);
@@ -411,7 +432,8 @@ fn damaged_lines(random: &mut Random, object: Vec<u8>) -> Vec<u8> {
         4 => lines[i].push(random.pick(b"0 \r")),
         _ => {
             // Fields of heads: kind, number, length, from, to; of content: number, offset, count.
-            let heads: Vec<usize> = (0..lines.len()).filter(|&n| lines[n].starts_with(b"01") || lines[n].starts_with(b"02")).collect();
+            let heads: Vec<usize> =
+                (0..lines.len()).filter(|&n| lines[n].starts_with(b"01") || lines[n].starts_with(b"02")).collect();
             let i = if random.chance(2, 3) { random.pick(&heads) } else { i };
             let field = 2 * random.below(8.min(lines[i].len() / 2).max(1));
             let digits = random.pick(&[b"00", b"01", b"02", b"03", b"04", b"0F", b"10", b"11", b"FF"]);
@@ -431,7 +453,10 @@ fn damaged_end(random: &mut Random, mut object: Vec<u8>) -> Vec<u8> {
         0 => object.truncate(object.len() - 1),
         1 => object.truncate(object.len() - 3),
         2 => object.extend(random.pick(&[&b"FF\n"[..], b"\n", b" ", b"0", b"0204000000000000\nFF\n"])),
-        3 => object = String::from_utf8_lossy(&object).replace('\n', random.pick(&["\r\n", "\n\n", " \n", "\r"])).into_bytes(),
+        3 => {
+            object =
+                String::from_utf8_lossy(&object).replace('\n', random.pick(&["\r\n", "\n\n", " \n", "\r"])).into_bytes()
+        }
         4 => object.make_ascii_lowercase(),
         5 => object.truncate(random.below(object.len())),
         6 => object = text(&vec![0x07; 4097], &[data(vec![0; 16], 16, 16)]),
@@ -462,7 +487,8 @@ pub fn histogram(seed: u64, count: u64) -> String {
             count_opcodes(&case, answer.count, &mut opcodes);
         }
     }
-    let mut text = format!("{count} cases from seed {seed}: {bytes} bytes of object text, {completed} instructions completed\n");
+    let mut text =
+        format!("{count} cases from seed {seed}: {bytes} bytes of object text, {completed} instructions completed\n");
     for number in [0, 17, 18, 19] {
         text += &format!("number {number}: {}\n", refusals[number]);
     }
@@ -470,7 +496,8 @@ pub fn histogram(seed: u64, count: u64) -> String {
         text += &format!("stop {stop}: {times}\n");
     }
     for (opcode, codes) in opcodes.iter().enumerate().filter(|(_, codes)| codes.iter().sum::<u64>() > 0) {
-        text += &format!("opcode {opcode:02X}, code after 0 to 3: {} {} {} {}\n", codes[0], codes[1], codes[2], codes[3]);
+        text +=
+            &format!("opcode {opcode:02X}, code after 0 to 3: {} {} {} {}\n", codes[0], codes[1], codes[2], codes[3]);
     }
     text
 }

@@ -23,8 +23,8 @@ pub const STORED: usize = 3_700;
 
 /// The listed opcodes that complete: all but the end.
 const OPCODES: [u8; 37] = [
-    0x07, 0x10, 0x11, 0x13, 0x14, 0x16, 0x17, 0x18, 0x19, 0x1A, 0x1B, 0x1C, 0x1E, 0x1F, 0x40, 0x45, 0x47, 0x48, 0x49, 0x4A, 0x4B,
-    0x4C, 0x50, 0x54, 0x56, 0x57, 0x58, 0x59, 0x5A, 0x5B, 0x5C, 0x5E, 0x5F, 0x88, 0x89, 0x8A, 0x8B,
+    0x07, 0x10, 0x11, 0x13, 0x14, 0x16, 0x17, 0x18, 0x19, 0x1A, 0x1B, 0x1C, 0x1E, 0x1F, 0x40, 0x45, 0x47, 0x48, 0x49,
+    0x4A, 0x4B, 0x4C, 0x50, 0x54, 0x56, 0x57, 0x58, 0x59, 0x5A, 0x5B, 0x5C, 0x5E, 0x5F, 0x88, 0x89, 0x8A, 0x8B,
 ];
 
 const CORE: usize = 1 << 24;
@@ -34,8 +34,8 @@ const CELLS_2: usize = 8;
 
 /// Where branches may go: every one of these holds a branch to its stub.
 const TARGETS: [u32; 20] = [
-    0x000C00, 0x000D02, 0x000FFC, 0x001080, 0x0014AE, 0x001FF8, 0x002400, 0x0027FE, 0x003800, 0x004000, 0x005000, 0x007FFE, 0x00FFFE,
-    0x01FFF0, 0x800000, 0xABCDEE, 0xF00000, 0xFFF000, 0xFFFFF8, 0xFFFFFC,
+    0x000C00, 0x000D02, 0x000FFC, 0x001080, 0x0014AE, 0x001FF8, 0x002400, 0x0027FE, 0x003800, 0x004000, 0x005000,
+    0x007FFE, 0x00FFFE, 0x01FFF0, 0x800000, 0xABCDEE, 0xF00000, 0xFFF000, 0xFFFFF8, 0xFFFFFC,
 ];
 
 // The first page: stubs, areas and numbers that base 0 reaches.
@@ -156,7 +156,8 @@ fn related(random: &mut Random, regs: &mut [u32; 16], instruction: &[u8]) -> Opt
         return None;
     }
     let r1 = (instruction[1] / 16) as usize;
-    let addressing = instruction.len() == 4 && (instruction[1] as usize % 16 == r1 || instruction[2] as usize / 16 == r1);
+    let addressing =
+        instruction.len() == 4 && (instruction[1] as usize % 16 == r1 || instruction[2] as usize / 16 == r1);
     if r1 < 14 && !addressing && random.chance(1, 3) {
         regs[r1] = 0;
     }
@@ -184,7 +185,8 @@ fn shift(random: &mut Random, op: u8, r1: u8) -> Vec<u8> {
 fn addressed(random: &mut Random, regs: &mut [u32; 16], op: u8, r1: u8, address: u32) -> Vec<u8> {
     loop {
         let (index, base) = (random.below(16), random.below(16));
-        let displacement = if random.chance(1, 2) { random.below(4096) } else { random.pick(&[0, 1, 2, 4, 2048, 4094, 4095]) };
+        let displacement =
+            if random.chance(1, 2) { random.below(4096) } else { random.pick(&[0, 1, 2, 4, 2048, 4094, 4095]) };
         let free = |register: usize| (1..14).contains(&register);
         let value = |register: usize| if register == 0 { 0 } else { regs[register] };
         let high_byte = (random.next() as u32) << 24;
@@ -252,7 +254,8 @@ fn stub(mark: u8) -> u16 {
 
 /// MVC: `length` bytes from one base and displacement to another.
 fn move_bytes(length: usize, to: (u8, usize), from: (u8, usize)) -> Vec<u8> {
-    let field = |(base, displacement): (u8, usize)| [16 * base + (displacement / 256) as u8, (displacement % 256) as u8];
+    let field =
+        |(base, displacement): (u8, usize)| [16 * base + (displacement / 256) as u8, (displacement % 256) as u8];
     [&[0xD2, length as u8 - 1][..], &field(to), &field(from)].concat()
 }
 
@@ -271,9 +274,9 @@ fn driver() -> (Vec<u8>, u16) {
         move_bytes(CELLS_2, (11, 0), (10, IN_2)),
         move_bytes(64, (0, REGISTERS_IN as usize), (10, IN_REGISTERS)),
         four(0x58, 1, 0, 10, IN_CODE as u16),
-        two(0x04, 1, 0),                     // SPM: condition code, program mask zero
-        four(0x98, 0, 15, 0, REGISTERS_IN),  // LM
-        two(0x07, 15, 15),                   // to 4096
+        two(0x04, 1, 0),                    // SPM: condition code, program mask zero
+        four(0x98, 0, 15, 0, REGISTERS_IN), // LM
+        two(0x07, 15, 15),                  // to 4096
     ];
     let after = [
         four(0x90, 0, 15, 0, REGISTERS_OUT), // STM
@@ -381,7 +384,8 @@ pub fn compare(path: &str) -> io::Result<(String, bool)> {
             same += 1;
             opcodes[trial.instruction[0] as usize][answer.cc as usize] += 1;
         } else {
-            report += &format!("{:02X?} differs\n  {}here  {here}\n  there {there}\n", trial.instruction, given(&trial.case));
+            report +=
+                &format!("{:02X?} differs\n  {}here  {here}\n  there {there}\n", trial.instruction, given(&trial.case));
         }
         if i < STORED {
             trial.case.write(&mut stored)?;

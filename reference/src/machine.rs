@@ -1,4 +1,4 @@
-//! The machine: one instruction of document 01's list, as IBM's Principles of Operation has it.
+//! The machine: one instruction of document 01's list, as System/360 carries it out.
 
 /// "Segment k goes to 4096·(k+1)".
 pub const SEGMENT_ROOM: u32 = 4096;
@@ -74,7 +74,7 @@ fn two_bytes(state: &mut State, [opcode, fields]: [u8; 2]) -> Result<(), Stop> {
     let r2 = (fields & 15) as usize;
     let mut next = state.counter + 2;
     match opcode {
-        // BCR: "no branch when the R2 field contains zero".
+        // BCR: register 0 is no branch, whatever the mask.
         0x07 => {
             if r2 != 0 && taken(r1, state.cc) {
                 next = state.regs[r2] & ADDRESS_BITS;
@@ -141,7 +141,7 @@ fn four_bytes(state: &mut State, map: &Map, storage: &mut [u8], instruction: [u8
         0x4A => (state.regs[r1], state.cc) = add(state.regs[r1], half(state, map, storage, instruction)?),
         0x4B => (state.regs[r1], state.cc) = subtract(state.regs[r1], half(state, map, storage, instruction)?),
         0x4C => {
-            // "the low-order 32 bits of the product" replace the operand; the code stays.
+            // The low 32 bits of the product; the code stays.
             let factor = half(state, map, storage, instruction)?;
             state.regs[r1] = state.regs[r1].wrapping_mul(factor);
         }

@@ -66,8 +66,7 @@ pub fn map(object: &ObjectText) -> Map {
     let mut map = Map::default();
     map[0] = Segment { length: object.program.len() as u32, from: 0, to: 0 };
     for (i, segment) in object.data.iter().enumerate() {
-        map[i + 1] =
-            Segment { length: segment.bytes.len() as u32, from: segment.from as u32, to: segment.to as u32 };
+        map[i + 1] = Segment { length: segment.bytes.len() as u32, from: segment.from as u32, to: segment.to as u32 };
     }
     map
 }

@@ -13,9 +13,9 @@ const RUNS: usize = 5;
 /// `FOR R1 := 0 STEP 1 UNTIL …` that never ends: 5A, 59, 47.
 pub fn counting_loop() -> Case {
     let program = [
-        four(0x5A, 1, 0, 14, 16),  // R1 := R1 + 1
-        four(0x59, 1, 0, 14, 20),  // compare with the limit
-        four(0x47, 15, 0, 15, 0),  // always back
+        four(0x5A, 1, 0, 14, 16), // R1 := R1 + 1
+        four(0x59, 1, 0, 14, 20), // compare with the limit
+        four(0x47, 15, 0, 15, 0), // always back
     ]
     .concat();
     let mut cells = vec![0; 16];
@@ -83,7 +83,8 @@ pub fn report() -> String {
     for (name, case) in [("A/C/BC", counting_loop()), ("mix", mixed_loop())] {
         let mut speeds: Vec<f64> = (0..RUNS).map(|_| speed(&case)).collect();
         speeds.sort_by(f64::total_cmp);
-        text += &format!("{name}: {:.0} million instructions/s (median of {RUNS} runs of {BUDGET})\n", speeds[RUNS / 2]);
+        text +=
+            &format!("{name}: {:.0} million instructions/s (median of {RUNS} runs of {BUDGET})\n", speeds[RUNS / 2]);
     }
     text
 }

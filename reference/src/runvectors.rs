@@ -96,7 +96,8 @@ fn papers_cases() -> Vec<Case> {
 
 /// `BEGIN INTEGER A(5); R1 := A + 3; A := R1; END @`
 pub fn case_1() -> Vec<u8> {
-    let program = [four(0x58, 1, 0, 14, 16), four(0x5A, 1, 0, 14, 20), four(0x50, 1, 0, 14, 16), two(0x0A, 0, 0)].concat();
+    let program =
+        [four(0x58, 1, 0, 14, 16), four(0x5A, 1, 0, 14, 20), four(0x50, 1, 0, 14, 16), two(0x0A, 0, 0)].concat();
     text(&program, &[words(&[5, 3], 20)])
 }
 

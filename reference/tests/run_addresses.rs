@@ -19,17 +19,25 @@ fn stores_write_their_cell_alone() {
         let full: [u8; 12] = [0xEE; 12];
         let (answer, storage) = one(&four(0x50, 3, 0, 14, 20), cells(&full), regs, cc);
         assert_eq!((answer.regs, answer.cc, answer.counter), (loaded(regs), cc, PROGRAM + 4));
-        assert_eq!(at(&storage, DATA + 16, 12), [0xEE, 0xEE, 0xEE, 0xEE, 0x12, 0x34, 0x56, 0x78, 0xEE, 0xEE, 0xEE, 0xEE]);
+        assert_eq!(
+            at(&storage, DATA + 16, 12),
+            [0xEE, 0xEE, 0xEE, 0xEE, 0x12, 0x34, 0x56, 0x78, 0xEE, 0xEE, 0xEE, 0xEE]
+        );
         let (answer, storage) = one(&four(0x40, 3, 0, 14, 22), cells(&full), regs, cc);
         assert_eq!((answer.regs, answer.cc, answer.counter), (loaded(regs), cc, PROGRAM + 4));
-        assert_eq!(at(&storage, DATA + 16, 12), [0xEE, 0xEE, 0xEE, 0xEE, 0xEE, 0xEE, 0x56, 0x78, 0xEE, 0xEE, 0xEE, 0xEE]);
+        assert_eq!(
+            at(&storage, DATA + 16, 12),
+            [0xEE, 0xEE, 0xEE, 0xEE, 0xEE, 0xEE, 0x56, 0x78, 0xEE, 0xEE, 0xEE, 0xEE]
+        );
     }
 }
 
 #[test]
 fn base_index_and_displacement_are_added() {
     let mut regs = registers();
-    for (index, base, displacement) in [(4u32, DATA, 16u16), (DATA, 4, 16), (0, DATA, 20), (DATA + 20, 0, 0), (neg(4076), DATA + 1, 4095)] {
+    for (index, base, displacement) in
+        [(4u32, DATA, 16u16), (DATA, 4, 16), (0, DATA, 20), (DATA + 20, 0, 0), (neg(4076), DATA + 1, 4095)]
+    {
         (regs[6], regs[7]) = (index, base);
         let (answer, _) = one(&four(0x58, 3, 6, 7, displacement), cells(&[0, 0, 0, 1, 0, 0, 0, 2]), regs, 0);
         assert_eq!(answer.regs[3], 2, "{index:X} {base:X} {displacement}");
@@ -130,7 +138,8 @@ fn the_address_of_45_is_formed_before_the_link() {
 
 #[test]
 fn a_call_and_its_return() {
-    let program = [four(0x45, 5, 0, 15, 8), two(0x0A, 0, 0), two(0x18, 0, 0), two(0x1A, 0, 1), two(0x07, 15, 5)].concat();
+    let program =
+        [four(0x45, 5, 0, 15, 8), two(0x0A, 0, 0), two(0x18, 0, 0), two(0x1A, 0, 1), two(0x07, 15, 5)].concat();
     let (answer, _) = go(&program, &[cells(&[])], registers(), 1, 100);
     assert_eq!((answer.stop, answer.counter, answer.count), (1, PROGRAM + 4, 3));
     assert_eq!(answer.regs[0], 0x0303_0303);
@@ -151,7 +160,11 @@ fn reads_from_the_first_byte_of_a_segment_to_its_last() {
                 let load = four(op, 3, 0, 14, displacement);
                 if fits {
                     let expected = if displacement == 0 {
-                        if size == 4 { 4096 } else { 0 }
+                        if size == 4 {
+                            4096
+                        } else {
+                            0
+                        }
                     } else if size == 4 {
                         0x1111_1111
                     } else {
@@ -236,7 +249,9 @@ fn every_data_segment_is_read_and_stored_at_its_place() {
 fn what_is_outside_every_data_segment_is_forbidden() {
     let segments = [data(vec![0; 32], 0, 32)];
     let mut regs = registers();
-    for address in [0, 4092, PROGRAM, PROGRAM + 4, DATA - 4, DATA + 32, SECOND - 4, SECOND, 16384, FOURTH - 4, FOURTH, 0xFF_FFFC] {
+    for address in
+        [0, 4092, PROGRAM, PROGRAM + 4, DATA - 4, DATA + 32, SECOND - 4, SECOND, 16384, FOURTH - 4, FOURTH, 0xFF_FFFC]
+    {
         regs[6] = address;
         for op in [0x58, 0x50, 0x48, 0x40] {
             assert_eq!(stopped(&four(op, 3, 0, 6, 0), &segments, regs, 0), 2, "{op:02X} at {address}");

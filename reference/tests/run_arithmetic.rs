@@ -138,9 +138,14 @@ fn and_or_exclusive_or() {
 #[test]
 fn logical_instructions_of_a_register_with_itself() {
     let mut regs = registers();
-    for (op, value, result, code) in
-        [(0x14, MIN, MIN, 1), (0x16, 0, 0, 0), (0x17, M1, 0, 0), (0x1B, MIN, 0, 0), (0x1A, MIN, 0, 3), (0x1E, MIN, 0, 2)]
-    {
+    for (op, value, result, code) in [
+        (0x14, MIN, MIN, 1),
+        (0x16, 0, 0, 0),
+        (0x17, M1, 0, 0),
+        (0x1B, MIN, 0, 0),
+        (0x1A, MIN, 0, 3),
+        (0x1E, MIN, 0, 2),
+    ] {
         regs[3] = value;
         let (answer, _) = one(&[op, 0x33], cells(&[]), regs, 3);
         assert_eq!((answer.regs[3], answer.cc), (result, code), "{op:02X}");
@@ -266,13 +271,17 @@ fn a_product_may_name_its_own_pair() {
 #[test]
 fn load_positive_negative_complement() {
     for cc in 0..4 {
-        for (value, result, code) in [(0, 0, 0), (1, 1, 2), (MAX, MAX, 2), (M1, 1, 2), (0x8000_0001, MAX, 2), (MIN, MIN, 3)] {
+        for (value, result, code) in
+            [(0, 0, 0), (1, 1, 2), (MAX, MAX, 2), (M1, 1, 2), (0x8000_0001, MAX, 2), (MIN, MIN, 3)]
+        {
             assert_eq!(by_register(0x10, 77, value, cc), (result, code), "10 {value:X}");
         }
         for (value, result, code) in [(0, 0, 0), (1, M1, 1), (MAX, 0x8000_0001, 1), (M1, M1, 1), (MIN, MIN, 1)] {
             assert_eq!(by_register(0x11, 77, value, cc), (result, code), "11 {value:X}");
         }
-        for (value, result, code) in [(0, 0, 0), (1, M1, 1), (MAX, 0x8000_0001, 1), (M1, 1, 2), (0x8000_0001, MAX, 2), (MIN, MIN, 3)] {
+        for (value, result, code) in
+            [(0, 0, 0), (1, M1, 1), (MAX, 0x8000_0001, 1), (M1, 1, 2), (0x8000_0001, MAX, 2), (MIN, MIN, 3)]
+        {
             assert_eq!(by_register(0x13, 77, value, cc), (result, code), "13 {value:X}");
         }
     }
@@ -357,10 +366,27 @@ fn arithmetic_left_shifts() {
     }
 }
 
-/// IBM's words one bit at a time: the 31 bits move, the sign stays, a bit unlike the sign lost is overflow.
+/// The rule one bit at a time: the 31 bits move, the sign stays, a bit unlike the sign lost is overflow.
 #[test]
 fn arithmetic_left_shifts_bit_by_bit() {
-    let values = [0, 1, 2, 3, 0x55, 0x3FFF_FFFF, 0x4000_0000, MAX - 1, MAX, MIN, MIN + 1, 0xBFFF_FFFF, 0xC000_0000, 0xFFFF_0000, M1 - 1, M1];
+    let values = [
+        0,
+        1,
+        2,
+        3,
+        0x55,
+        0x3FFF_FFFF,
+        0x4000_0000,
+        MAX - 1,
+        MAX,
+        MIN,
+        MIN + 1,
+        0xBFFF_FFFF,
+        0xC000_0000,
+        0xFFFF_0000,
+        M1 - 1,
+        M1,
+    ];
     for value in values {
         for amount in 0..64 {
             let sign = value >> 31;

@@ -43,7 +43,12 @@ fn runbatch_answers_a_line_for_each_case() {
 
 #[test]
 fn runbatch_refuses_input_that_is_no_row_of_cases() {
-    for line in ["138 1 0 20480", "x", "138 4294967296 0 20480 0 0 0 0 0 0 0 0 0 0 0 0 0 0 0 0", "137 1 0 20480 0 0 0 0 0 0 0 0 0 0 0 0 0 0 0 0"] {
+    for line in [
+        "138 1 0 20480",
+        "x",
+        "138 4294967296 0 20480 0 0 0 0 0 0 0 0 0 0 0 0 0 0 0 0",
+        "137 1 0 20480 0 0 0 0 0 0 0 0 0 0 0 0 0 0 0 0",
+    ] {
         assert_eq!(reference(&["runbatch"], &case(line)).status.code(), Some(2), "{line}");
     }
     assert_eq!(reference(&["runbatch"], b"").status.code(), Some(0));
@@ -56,14 +61,29 @@ fn run_reports_registers_and_refusals() {
     let path = path.to_str().unwrap();
     let output = reference(&["run", path, "--reg", "2=-1", "--cc", "3", "--dump"], b"");
     assert_eq!(output.status.code(), Some(0));
-    for part in ["stop 1: at 0A 00", "counter 4108 (00100C)", "instructions 3", "R1 00000008 8", "R2 FFFFFFFF -1", "002010  00000008 00000003"] {
+    for part in [
+        "stop 1: at 0A 00",
+        "counter 4108 (00100C)",
+        "instructions 3",
+        "R1 00000008 8",
+        "R2 FFFFFFFF -1",
+        "002010  00000008 00000003",
+    ] {
         assert!(text(&output).contains(part), "{part}");
     }
     let output = reference(&["run", path, "--budget", "2"], b"");
     assert!(text(&output).starts_with("stop 0: budget used\n"));
     let output = reference(&["run", path, "--storage", "20479"], b"");
-    assert_eq!((output.status.code(), text(&output).as_str()), (Some(1), "refusal 19 at 0: storage is under 20,480 bytes\n"));
-    for wrong in [&["run"][..], &["run", path, "--reg", "16=1"], &["run", path, "--budget"], &["run", path, "--budget", "4294967296"]] {
+    assert_eq!(
+        (output.status.code(), text(&output).as_str()),
+        (Some(1), "refusal 19 at 0: storage is under 20,480 bytes\n")
+    );
+    for wrong in [
+        &["run"][..],
+        &["run", path, "--reg", "16=1"],
+        &["run", path, "--budget"],
+        &["run", path, "--budget", "4294967296"],
+    ] {
         assert_eq!(reference(wrong, b"").status.code(), Some(2), "{wrong:?}");
     }
     std::fs::remove_file(path).unwrap();

@@ -31,8 +31,20 @@ fn every_answer_is_well_represented() {
 fn every_opcode_with_every_code() {
     let text = histogram(SEED, 20_000);
     let never: [(&str, &[usize]); 14] = [
-        ("10", &[1]), ("11", &[2, 3]), ("14", &[2, 3]), ("16", &[2, 3]), ("17", &[2, 3]), ("19", &[3]), ("1F", &[0]), //
-        ("49", &[3]), ("54", &[2, 3]), ("56", &[2, 3]), ("57", &[2, 3]), ("59", &[3]), ("5F", &[0]), ("8A", &[3]),
+        ("10", &[1]),
+        ("11", &[2, 3]),
+        ("14", &[2, 3]),
+        ("16", &[2, 3]),
+        ("17", &[2, 3]),
+        ("19", &[3]),
+        ("1F", &[0]), //
+        ("49", &[3]),
+        ("54", &[2, 3]),
+        ("56", &[2, 3]),
+        ("57", &[2, 3]),
+        ("59", &[3]),
+        ("5F", &[0]),
+        ("8A", &[3]),
     ];
     let rows: Vec<&str> = text.lines().filter(|line| line.starts_with("opcode")).collect();
     assert_eq!(rows.len(), 37);
@@ -80,7 +92,10 @@ fn the_count_is_the_number_of_completed_instructions() {
         assert!(answer.count <= case.budget);
         assert_eq!(answer.stop == 0, answer.count == case.budget);
         let (shorter, same_storage) = Case { budget: answer.count, ..case.clone() }.run();
-        assert_eq!((shorter.stop, shorter.counter, shorter.regs, shorter.cc, shorter.count), (0, answer.counter, answer.regs, answer.cc, answer.count));
+        assert_eq!(
+            (shorter.stop, shorter.counter, shorter.regs, shorter.cc, shorter.count),
+            (0, answer.counter, answer.regs, answer.cc, answer.count)
+        );
         assert!(storage == same_storage);
         if answer.stop != 0 {
             let (longer, same_storage) = Case { budget: answer.count + 1, ..case }.run();

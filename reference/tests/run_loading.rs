@@ -29,7 +29,8 @@ const ORIGINS: [[u8; 4]; 4] = [[0, 0, 0x10, 0], [0, 0, 0x20, 0], [0, 0, 0x30, 0]
 fn each_segment_at_its_origin_zeros_elsewhere() {
     let segments = [data(vec![0x11; 24], 16, 24), data(vec![0x22; 4096], 0, 4096), data(vec![0x33; 3], 0, 3)];
     let table: Vec<u8> = ORIGINS.concat();
-    let expected = image(&[(4096, &[0x0A, 0]), (8192, &table), (8208, &[0x11; 8]), (12288, &[0x22; 4096]), (16384, &[0x33; 3])]);
+    let expected =
+        image(&[(4096, &[0x0A, 0]), (8192, &table), (8208, &[0x11; 8]), (12288, &[0x22; 4096]), (16384, &[0x33; 3])]);
     assert!(load(&[0x0A, 0], &segments, 20480) == expected);
 }
 

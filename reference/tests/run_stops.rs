@@ -15,8 +15,21 @@ const LISTED: [u8; 38] = [
 
 /// Those that read or store an operand, with its size.
 const READS: [(u8, u32); 15] = [
-    (0x48, 2), (0x49, 2), (0x4A, 2), (0x4B, 2), (0x4C, 2), //
-    (0x54, 4), (0x56, 4), (0x57, 4), (0x58, 4), (0x59, 4), (0x5A, 4), (0x5B, 4), (0x5C, 4), (0x5E, 4), (0x5F, 4),
+    (0x48, 2),
+    (0x49, 2),
+    (0x4A, 2),
+    (0x4B, 2),
+    (0x4C, 2), //
+    (0x54, 4),
+    (0x56, 4),
+    (0x57, 4),
+    (0x58, 4),
+    (0x59, 4),
+    (0x5A, 4),
+    (0x5B, 4),
+    (0x5C, 4),
+    (0x5E, 4),
+    (0x5F, 4),
 ];
 const STORES: [(u8, u32); 2] = [(0x40, 2), (0x50, 4)];
 
@@ -29,7 +42,9 @@ fn stop_0_when_the_budget_is_used() {
     let program = [two(0x1A, 1, 1), two(0x1A, 1, 1), END.to_vec()].concat();
     let mut regs = registers();
     regs[1] = 1;
-    for (budget, stop, counter, count, value) in [(0, 0, 4096, 0, 1), (1, 0, 4098, 1, 2), (2, 0, 4100, 2, 4), (3, 1, 4100, 2, 4)] {
+    for (budget, stop, counter, count, value) in
+        [(0, 0, 4096, 0, 1), (1, 0, 4098, 1, 2), (2, 0, 4100, 2, 4), (3, 1, 4100, 2, 4)]
+    {
         let (answer, _) = go(&program, &table_only(), regs, 0, budget);
         assert_eq!((answer.stop, answer.counter, answer.count, answer.regs[1]), (stop, counter, count, value));
     }
@@ -104,7 +119,9 @@ fn stop_4_outside_the_program() {
 #[test]
 fn stop_4_where_the_program_ends_inside_an_instruction() {
     let regs = registers();
-    for program in [vec![], vec![0x0A], vec![0x18], vec![0x58, 0x10], vec![0x58, 0x10, 0xE0], vec![0x89, 0x10, 0x00], vec![0x47]] {
+    for program in
+        [vec![], vec![0x0A], vec![0x18], vec![0x58, 0x10], vec![0x58, 0x10, 0xE0], vec![0x89, 0x10, 0x00], vec![0x47]]
+    {
         assert_eq!(stopped(&program, &table_only(), regs, 0), 4, "{program:02X?}");
     }
     // The program goes on to its last byte: at 4,096 bytes the instruction before the edge is whole.
@@ -183,7 +200,9 @@ fn stop_2_for_every_operand_outside() {
             regs[6] = place;
             assert_eq!(stopped(&four(op, 4, 0, 6, 0), &segment, regs, 2), 2, "{op:02X} at {place}");
         }
-        for (place, store) in [(DATA + 16, 0), (DATA + 32 - size, 0), (DATA + 16 - size, 2), (DATA + 32, 2), (DATA + 64 - size, 2)] {
+        for (place, store) in
+            [(DATA + 16, 0), (DATA + 32 - size, 0), (DATA + 16 - size, 2), (DATA + 32, 2), (DATA + 64 - size, 2)]
+        {
             regs[6] = place;
             let expected = if STORES.contains(&(op, size)) { store } else { 0 };
             assert_eq!(go(&four(op, 4, 0, 6, 0), &segment, regs, 2, 1).0.stop, expected, "{op:02X} at {place}");
@@ -215,7 +234,10 @@ fn a_stop_later_in_a_run_keeps_what_was_done() {
 /// Case 8 of the papers with numbers in place: the count is that of completed instructions.
 #[test]
 fn the_for_loop_of_case_8() {
-    let program = [0x58, 0x10, 0xE0, 0x10, 0x59, 0x10, 0xE0, 0x14, 0x47, 0x20, 0xF0, 0x14, 0x5A, 0x10, 0xE0, 0x18, 0x47, 0xF0, 0xF0, 0x04, 0x0A, 0x00];
+    let program = [
+        0x58, 0x10, 0xE0, 0x10, 0x59, 0x10, 0xE0, 0x14, 0x47, 0x20, 0xF0, 0x14, 0x5A, 0x10, 0xE0, 0x18, 0x47, 0xF0,
+        0xF0, 0x04, 0x0A, 0x00,
+    ];
     let numbers = [0, 0, 0, 0, 0, 0, 0, 9, 0, 0, 0, 1];
     let segment = [data([vec![0; 16], numbers.to_vec()].concat(), 16, 16)];
     let (answer, _) = go(&program, &segment, registers(), 0, 1000);
