@@ -8,7 +8,7 @@ use std::io::{self, Read, Write};
 use std::path::Path;
 use std::time::Instant;
 
-const USAGE: &str = "usage:
+pub const USAGE: &str = "usage:
   reference translate FILE   the object text, or `refused NUMBER at PLACE` and exit status 1
   reference batch            cases from standard input, a line `number place length hash` for each
   reference gen SEED COUNT   generated texts as cases for `batch`
