@@ -5,8 +5,7 @@ use crate::runner::{run, RunAnswer, STORAGE_NEEDED};
 use crate::{cmd_text, codetable, genrun, hercules, runspeed, runvectors};
 use std::io::{self, BufReader, BufWriter, Write};
 
-const USAGE: &str = "\
-  reference run OBJECT [--budget N] [--cc N] [--reg N=V]... [--storage BYTES] [--dump]   the result in words
+const USAGE: &str = "  reference run OBJECT [--budget N] [--cc N] [--reg N=V]... [--storage BYTES] [--dump]   the result in words
   reference runbatch         cases from standard input, a line of the result for each
   reference genrun SEED COUNT   generated runs as cases for `runbatch`
   reference genrun-histogram SEED COUNT   how these are answered
