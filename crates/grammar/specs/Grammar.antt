@@ -8,7 +8,6 @@ use lib.Dec.{eqb}
 use lib.ListN.{length}
 use Rattle.base.specs.Choose.{if_then_else_}
 use Rattle.base.specs.Lists.{member}
-use Rattle.token.specs.Text.{kName, kNumber}
 use Rattle.token.specs.Kinds as K
 use Rattle.grammar.specs.Tree.{Designator, Operand, number, place, Sign, plain, abs, neg, negAbs, Term, Assignment, Condition, compared, bare, Width, full, short, Register, Item, Declaration, registers, cells, base, Statement, assign, call, block, goto, null, ifThen, ifElse, while, for, Body, declare, procedure, items, Items, ended, label, item}
 use Rattle.grammar.specs.Reader.{Result, ok, bad, Reader, andThen, _>>=_, _>>_, give, refuse, look, next, want, wantOne}
@@ -19,9 +18,9 @@ fuelled r kinds = r (suc (length kinds)) kinds
 
 abbrev pub inParens : ℕ → Reader ℕ
 inParens k = do
-  want K.kOpen
+  want K.OPEN
   t ← want k
-  want K.kClose
+  want K.CLOSE
   give t
 
 -- ── "designator = name, name(number), name(name), name(number)(name). operand = number or designator." ──
@@ -30,19 +29,19 @@ inParens k = do
 unfoldable pub designatorOf : ℕ → Reader Designator
 designatorOf n = do
   k ← look
-  if eqb k K.kOpen
+  if eqb k K.OPEN
       then (do
         next
         l ← look
-        s ← wantOne (kNumber ∷ kName ∷ [])
-        want K.kClose
-        if eqb l kName
+        s ← wantOne (K.NUMBER ∷ K.NAME ∷ [])
+        want K.CLOSE
+        if eqb l K.NAME
             then give (record { name = n; subscript = none; index = some s })
             else (do
               m ← look
-              if eqb m K.kOpen
+              if eqb m K.OPEN
                   then (do
-                    x ← inParens kName
+                    x ← inParens K.NAME
                     give (record { name = n; subscript = some s; index = some x }))
                   else give (record { name = n; subscript = some s; index = none })))
       else give (record { name = n; subscript = none; index = none })
@@ -50,8 +49,8 @@ designatorOf n = do
 unfoldable pub operand : Reader Operand
 operand = do
   k ← look
-  t ← wantOne (kNumber ∷ kName ∷ [])
-  if eqb k kNumber
+  t ← wantOne (K.NUMBER ∷ K.NAME ∷ [])
+  if eqb k K.NUMBER
       then give (number t)
       else (do
         d ← designatorOf t
@@ -60,13 +59,13 @@ operand = do
 -- ── "condition = name relation operand, a bare relation, or OVERFLOW." ──
 
 abbrev pub relations : List ℕ
-relations = K.kEQ ∷ K.kNE ∷ K.kLT ∷ K.kLE ∷ K.kGE ∷ K.kGT ∷ []
+relations = K.EQUAL ∷ K.UNEQUAL ∷ K.LESS ∷ K.AT-MOST ∷ K.AT-LEAST ∷ K.MORE ∷ []
 
 unfoldable pub condition : Reader Condition
 condition = do
   k ← look
-  t ← wantOne (kName ∷ K.kOVERFLOW ∷ relations)
-  if eqb k kName
+  t ← wantOne (K.NAME ∷ K.OVERFLOW ∷ relations)
+  if eqb k K.NAME
       then (do
         r ← wantOne relations
         a ← operand
@@ -77,7 +76,7 @@ condition = do
 
 -- "Operators: + - * ++ -- AND OR XOR SHLL SHRL SHLA SHRA."
 abbrev pub operators : List ℕ
-operators = K.kPlus ∷ K.kMinus ∷ K.kTimes ∷ K.kPlusPlus ∷ K.kMinusMinus ∷ K.kAND ∷ K.kOR ∷ K.kXOR ∷ K.kSHLL ∷ K.kSHRL ∷ K.kSHLA ∷ K.kSHRA ∷ []
+operators = K.PLUS ∷ K.MINUS ∷ K.TIMES ∷ K.ADD-LOGICAL ∷ K.SUBTRACT-LOGICAL ∷ K.AND ∷ K.OR ∷ K.XOR ∷ K.SHLL ∷ K.SHRL ∷ K.SHLA ∷ K.SHRA ∷ []
 
 unfoldable pub terms : ℕ → Reader (List Term)
 terms zero = give []
@@ -94,19 +93,19 @@ terms (suc fuel) = do
 unfoldable pub signOf : Reader Sign
 signOf = do
   k ← look
-  if eqb k K.kABS then (do t ← next; give (abs t)) else
-      if eqb k K.kNEG
+  if eqb k K.ABS then (do t ← next; give (abs t)) else
+      if eqb k K.NEG
       then (do
         t ← next
         l ← look
-        if eqb l K.kABS then (do next; give (negAbs t)) else give (neg t))
+        if eqb l K.ABS then (do next; give (negAbs t)) else give (neg t))
       else give plain
 
 -- what follows the name of an assignment's target
 unfoldable pub assignmentOf : ℕ → Reader Assignment
 assignmentOf n = do
   d ← designatorOf n
-  want K.kBecomes
+  want K.BECOMES
   s ← signOf
   a ← operand
   ts ← fuelled terms
@@ -119,23 +118,23 @@ unfoldable pub numbers : ℕ → Reader (List ℕ)
 numbers zero = give []
 numbers (suc fuel) = do
   k ← look
-  if eqb k K.kOpen
+  if eqb k K.OPEN
       then (do
-        t ← inParens kNumber
+        t ← inParens K.NUMBER
         ts ← numbers fuel
         give (t ∷ ts))
       else give []
 
 unfoldable pub cellItem : Reader Item
 cellItem = do
-  n ← want kName
+  n ← want K.NAME
   ts ← fuelled numbers
   give (record { name = n; numbers = ts })
 
 unfoldable pub registerItem : Reader Register
 registerItem = do
-  n ← want kName
-  t ← inParens kNumber
+  n ← want K.NAME
+  t ← inParens K.NUMBER
   give (record { name = n; number = t })
 
 -- one or more, with commas between
@@ -144,7 +143,7 @@ listOf one zero = give []
 listOf one (suc fuel) = do
   a ← one
   k ← look
-  if eqb k K.kComma
+  if eqb k K.COMMA
       then (do
         next
         more ← listOf one fuel
@@ -154,8 +153,8 @@ listOf one (suc fuel) = do
 unfoldable pub typeOf : Reader Width
 typeOf = do
   k ← look
-  wantOne (K.kINTEGER ∷ K.kLOGICAL ∷ K.kSHORT ∷ [])
-  if eqb k K.kSHORT then (do want K.kINTEGER; give short) else give full
+  wantOne (K.INTEGER ∷ K.LOGICAL ∷ K.SHORT ∷ [])
+  if eqb k K.SHORT then (do want K.INTEGER; give short) else give full
 
 unfoldable pub cellsOf : Option ℕ → Width → Reader Declaration
 cellsOf count w = do
@@ -167,7 +166,7 @@ unfoldable pub afterType : Width → Reader Declaration
 afterType short = cellsOf none short
 afterType full = do
   k ← look
-  if eqb k K.kREGISTER
+  if eqb k K.REGISTER
       then (do
         next
         rs ← fuelled (listOf registerItem)
@@ -177,16 +176,16 @@ afterType full = do
 unfoldable pub declaration : Reader Declaration
 declaration = do
   k ← look
-  if eqb k K.kSEGMENT
+  if eqb k K.SEGMENT
       then (do
         next
-        want K.kBASE
-        n ← want kName
+        want K.BASE
+        n ← want K.NAME
         give (base n))
-      else if eqb k K.kARRAY
+      else if eqb k K.ARRAY
       then (do
         next
-        c ← inParens kNumber
+        c ← inParens K.NUMBER
         w ← typeOf
         cellsOf (some c) w)
       else (do
@@ -199,23 +198,23 @@ declaration = do
 unfoldable pub afterName : ℕ → Reader Statement
 afterName n = do
   k ← look
-  if eqb k K.kBecomes || eqb k K.kOpen
+  if eqb k K.BECOMES || eqb k K.OPEN
       then (do
         a ← assignmentOf n
         give (assign a))
       else give (call n)
 
 abbrev pub openers : List ℕ
-openers = K.kBEGIN ∷ K.kIF ∷ K.kWHILE ∷ K.kFOR ∷ []
+openers = K.BEGIN ∷ K.IF ∷ K.WHILE ∷ K.FOR ∷ []
 
 -- a statement, of which `construct` reads those that begin with BEGIN, IF, WHILE or FOR
 unfoldable pub statementOf : Reader Statement → Reader Statement
 statementOf construct = do
   k ← look
   if member k openers then construct else
-      if eqb k kName then (do n ← next; afterName n) else
-      if eqb k K.kGOTO then (do t ← next; n ← want kName; give (goto t n)) else
-      if eqb k K.kNULL then (do next; give null) else
+      if eqb k K.NAME then (do n ← next; afterName n) else
+      if eqb k K.GOTO then (do t ← next; n ← want K.NAME; give (goto t n)) else
+      if eqb k K.NULL then (do next; give null) else
       refuse 4
 
 -- ── "block = BEGIN {declaration ;} {statement ; or name :} END." ──
@@ -225,15 +224,15 @@ unfoldable pub itemsOf : Reader Statement → ℕ → Reader Items
 itemsOf inner zero = refuse 4
 itemsOf inner (suc fuel) = do
   k ← look
-  if eqb k K.kEND then (do next; give ended) else
-      if eqb k kName
+  if eqb k K.END then (do next; give ended) else
+      if eqb k K.NAME
       then (do
         n ← next
         l ← look
-        if eqb l K.kColon
+        if eqb l K.COLON
             then (do next; is ← itemsOf inner fuel; give (label n is))
-            else (do s ← afterName n; want K.kSemi; is ← itemsOf inner fuel; give (item s is)))
-      else (do s ← inner; want K.kSemi; is ← itemsOf inner fuel; give (item s is))
+            else (do s ← afterName n; want K.SEMICOLON; is ← itemsOf inner fuel; give (item s is)))
+      else (do s ← inner; want K.SEMICOLON; is ← itemsOf inner fuel; give (item s is))
 
 -- a procedure's name, its return register's and its body
 pub record Procedure : Type 0 where
@@ -242,15 +241,15 @@ pub record Procedure : Type 0 where
   pub body : Statement
 
 abbrev pub declarators : List ℕ
-declarators = K.kINTEGER ∷ K.kLOGICAL ∷ K.kSHORT ∷ K.kARRAY ∷ K.kSEGMENT ∷ []
+declarators = K.INTEGER ∷ K.LOGICAL ∷ K.SHORT ∷ K.ARRAY ∷ K.SEGMENT ∷ []
 
 -- what follows BEGIN; `proc` reads a procedure in the block
 unfoldable pub bodyOf : Reader Statement → Reader Procedure → ℕ → Reader Body
 bodyOf inner proc zero = refuse 4
 bodyOf inner proc (suc fuel) = do
   k ← look
-  if member k declarators then (do d ← declaration; want K.kSemi; b ← bodyOf inner proc fuel; give (declare d b)) else
-      if eqb k K.kPROCEDURE then (do p ← proc; want K.kSemi; b ← bodyOf inner proc fuel; give (procedure (p .name) (p .return) (p .body) b)) else
+  if member k declarators then (do d ← declaration; want K.SEMICOLON; b ← bodyOf inner proc fuel; give (declare d b)) else
+      if eqb k K.PROCEDURE then (do p ← proc; want K.SEMICOLON; b ← bodyOf inner proc fuel; give (procedure (p .name) (p .return) (p .body) b)) else
       (do is ← fuelled (itemsOf inner); give (items is))
 
 -- ── "statement = simple; IF condition THEN statement; IF condition THEN simple ELSE statement; WHILE condition DO statement; FOR assignment STEP number
@@ -262,7 +261,7 @@ ifOf inner t c = do
   k ← look
   s ← inner
   e ← look
-  if eqb e K.kELSE && not (member k (K.kIF ∷ K.kWHILE ∷ K.kFOR ∷ []))
+  if eqb e K.ELSE && not (member k (K.IF ∷ K.WHILE ∷ K.FOR ∷ []))
       then (do e ← next; u ← inner; give (ifElse t c s e u))
       else give (ifThen t c s)
 
@@ -270,17 +269,17 @@ unfoldable pub constructOf : Reader Statement → Reader Procedure → Reader St
 constructOf inner proc = do
   k ← look
   t ← next
-  if eqb k K.kBEGIN then (do b ← fuelled (bodyOf inner proc); give (block t b)) else
-      if eqb k K.kIF then (do c ← condition; want K.kTHEN; ifOf inner t c) else
-      if eqb k K.kWHILE then (do c ← condition; want K.kDO; s ← inner; give (while t c s)) else
+  if eqb k K.BEGIN then (do b ← fuelled (bodyOf inner proc); give (block t b)) else
+      if eqb k K.IF then (do c ← condition; want K.THEN; ifOf inner t c) else
+      if eqb k K.WHILE then (do c ← condition; want K.DO; s ← inner; give (while t c s)) else
       (do
-        n ← want kName
+        n ← want K.NAME
         a ← assignmentOf n
-        want K.kSTEP
-        v ← want kNumber
-        want K.kUNTIL
+        want K.STEP
+        v ← want K.NUMBER
+        want K.UNTIL
         l ← operand
-        want K.kDO
+        want K.DO
         s ← inner
         give (for t a v l s))
 
@@ -295,9 +294,9 @@ unfoldable mutual
   procedureOf zero = refuse 5
   procedureOf (suc room) = do
     next
-    n ← want kName
-    r ← inParens kName
-    want K.kSemi
+    n ← want K.NAME
+    r ← inParens K.NAME
+    want K.SEMICOLON
     s ← statement room
     give (record { name = n; return = r; body = s })
 
@@ -310,9 +309,9 @@ nesting = 64
 unfoldable pub program : Reader Statement
 program = do
   k ← look
-  if eqb k K.kBEGIN
+  if eqb k K.BEGIN
       then (do
         b ← statement nesting
-        want K.kAt
+        want K.AT
         give b)
       else refuse 4

@@ -114,7 +114,7 @@ module _ (f : Tables) where
   -- ── chains ──
 
   abbrev pub shifts : List ℕ
-  shifts = K.kSHLL ∷ K.kSHRL ∷ K.kSHLA ∷ K.kSHRA ∷ []
+  shifts = K.SHLL ∷ K.SHRL ∷ K.SHLA ∷ K.SHRA ∷ []
 
   -- "Shift operands are a number 0 to 63 or a register."
   unfoldable pub shiftRules : Operand → Broken
@@ -123,7 +123,7 @@ module _ (f : Tables) where
 
   -- "AND, OR, XOR, `++`, `--` take no short cell."
   abbrev pub fullOnly : List ℕ
-  fullOnly = K.kAND ∷ K.kOR ∷ K.kXOR ∷ K.kPlusPlus ∷ K.kMinusMinus ∷ []
+  fullOnly = K.AND ∷ K.OR ∷ K.XOR ∷ K.ADD-LOGICAL ∷ K.SUBTRACT-LOGICAL ∷ []
 
   abbrev pub isShort : Meaning → Bool
   isShort nothing = false
@@ -145,7 +145,7 @@ module _ (f : Tables) where
   termRules kept r t =
       let k = kindAt f (t .operator) in
       if member k shifts then shiftRules (t .operand) else
-      if eqb k K.kTimes then productRules kept r t ⊕ operandRules (t .operand) else
+      if eqb k K.TIMES then productRules kept r t ⊕ operandRules (t .operand) else
       if member k fullOnly then operandRules (t .operand) ⊕ noShort (t .operand) else
       operandRules (t .operand)
 

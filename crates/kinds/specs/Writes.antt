@@ -11,7 +11,7 @@ use Rattle.kinds.specs.Meaning.{Meaning, nothing, register, cell, proced
 
 module _ (kinds found : List ℕ) (means : List Meaning) where
   abbrev pub isProduct : Term → Bool
-  isProduct t = eqb (getD kinds (t .operator) 0) K.kTimes && longOperand found means (t .operand)
+  isProduct t = eqb (getD kinds (t .operator) 0) K.TIMES && longOperand found means (t .operand)
 
   -- the registers below the target r that the products of a chain write
   unfoldable pub lowers : ℕ → List Term → List ℕ

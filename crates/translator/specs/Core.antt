@@ -95,7 +95,7 @@ module _ (f : Tables) where
   termOf r t =
       let k = kindAt f (t .operator) in
       if member k shiftKinds then shiftBy (shiftCode k) r (t .operand) else
-      if eqb k K.kTimes then apply timesRow (productTarget r (t .operand)) (useOf (t .operand)) else
+      if eqb k K.TIMES then apply timesRow (productTarget r (t .operand)) (useOf (t .operand)) else
       apply (rowOf k) r (useOf (t .operand))
 
   unfoldable pub chainOf : ℕ → List Term → List Instruction

@@ -55,7 +55,7 @@ codeTable =
 
 -- the kinds of the signs and words whose rows stand first, in the order of the rows
 abbrev pub rowKinds : List ℕ
-rowKinds = K.kBecomes ∷ K.kPlus ∷ K.kMinus ∷ K.kTimes ∷ K.kPlusPlus ∷ K.kMinusMinus ∷ K.kAND ∷ K.kOR ∷ K.kXOR ∷ []
+rowKinds = K.BECOMES ∷ K.PLUS ∷ K.MINUS ∷ K.TIMES ∷ K.ADD-LOGICAL ∷ K.SUBTRACT-LOGICAL ∷ K.AND ∷ K.OR ∷ K.XOR ∷ []
 
 abbrev pub rowOf : ℕ → ℕ
 rowOf kind = indexOf kind rowKinds
@@ -85,7 +85,7 @@ opcode row col = getD (getD codeTable row []) col 0
 -- ── "Shifts 89, 88, 8B, 8A for SHLL, SHRL, SHLA, SHRA" ──
 
 abbrev pub shiftKinds : List ℕ
-shiftKinds = K.kSHLL ∷ K.kSHRL ∷ K.kSHLA ∷ K.kSHRA ∷ []
+shiftKinds = K.SHLL ∷ K.SHRL ∷ K.SHLA ∷ K.SHRA ∷ []
 
 abbrev pub shiftTable : List ℕ
 shiftTable = 0x89 ∷ 0x88 ∷ 0x8b ∷ 0x8a ∷ []
@@ -96,7 +96,7 @@ shiftCode kind = getD shiftTable (indexOf kind shiftKinds) 0
 -- ── "Masks when a condition is false: = 7, ^= 9, < 11, <= 3, >= 5, > 13, OVERFLOW 14." ──
 
 abbrev pub conditionKinds : List ℕ
-conditionKinds = K.kEQ ∷ K.kNE ∷ K.kLT ∷ K.kLE ∷ K.kGE ∷ K.kGT ∷ K.kOVERFLOW ∷ []
+conditionKinds = K.EQUAL ∷ K.UNEQUAL ∷ K.LESS ∷ K.AT-MOST ∷ K.AT-LEAST ∷ K.MORE ∷ K.OVERFLOW ∷ []
 
 abbrev pub falseMasks : List ℕ
 falseMasks = 7 ∷ 9 ∷ 11 ∷ 3 ∷ 5 ∷ 13 ∷ 14 ∷ []
