@@ -6,7 +6,9 @@ use lib.Dec.{ltb}
 use lib.ListN.{length, drop, getD, replicate}
 use Rattle.base.specs.Choose.{if_then_else_}
 use Rattle.base.specs.Text.{bytes}
-use Rattle.token.specs.Text.{Tok, Tokens, toks, stop, tokensOf, kName, valueOf}
+use Rattle.token.specs.Kinds as K
+use Rattle.token.specs.declared.Token.{Token}
+use Rattle.token.specs.Text.{token, keyOf, Reading, tokensOf}
 use Rattle.grammar.specs.Tree.{Statement}
 use Rattle.grammar.specs.Reader.{Result, ok, bad}
 use Rattle.grammar.specs.Grammar as G
@@ -50,32 +52,30 @@ leaves (refused n p) buffer = buffer
 
 -- ── the tokens, with token 0, which is none, and the register names in front ──
 
-abbrev pub standardName : ℕ → Tok
-standardName c = record { kind = kName; value = 0; key = valueOf 36 0 (82 ∷ c ∷ []); place = 0 }
+abbrev pub standardName : ℕ → Token
+standardName c = token K.NAME (keyOf (82 ∷ c ∷ [])) 0
 
-abbrev pub inFront : List Tok
-inFront = record { kind = 0; value = 0; key = 0; place = 0 } ∷ map standardName (bytes "0123456789ABCDEF")
+abbrev pub inFront : List Token
+inFront = token K.END-OF-TEXT 0 0 ∷ map standardName (bytes "0123456789ABCDEF")
 
-abbrev pub kindsOf : List Tok → List ℕ
-kindsOf ts = map (λ (t : Tok). t .kind) ts
+abbrev pub kindsOf : List Token → List ℕ
+kindsOf ts = map (λ (t : Token). t .kind) ts
 
-abbrev pub valuesOf : List Tok → List ℕ
-valuesOf ts = map (λ (t : Tok). t .value) ts
-
-abbrev pub keysOf : List Tok → List ℕ
-keysOf ts = map (λ (t : Tok). t .key) ts
+-- of numbers their 32 bits, of names their keys
+abbrev pub valuesOf : List Token → List ℕ
+valuesOf ts = map (λ (t : Token). t .value) ts
 
 -- "A place is the offset of the first byte of what is named."
-abbrev pub placeAt : List Tok → ℕ → ℕ
-placeAt ts i = getD (map (λ (t : Tok). t .place) ts) i 0
+abbrev pub placeAt : List Token → ℕ → ℕ
+placeAt ts i = getD (map (λ (t : Token). t .place) ts) i 0
 
 -- ── refusals 6 to 13, and what they are judged by ──
 
-unfoldable pub named : List Tok → Statement → Named
-named ts x = nameStatement (keysOf ts) x around (record { found = replicate (length ts) 0; count = 0; broken = unbroken })
+unfoldable pub named : List Token → Statement → Named
+named ts x = nameStatement (valuesOf ts) x around (record { found = replicate (length ts) 0; count = 0; broken = unbroken })
 
-unfoldable pub labelled : List Tok → Statement → Labelled
-labelled ts x = labelStatement (keysOf ts) x [] (record { goes = replicate (length ts) 0; count = 0; broken = unbroken })
+unfoldable pub labelled : List Token → Statement → Labelled
+labelled ts x = labelStatement (valuesOf ts) x [] (record { goes = replicate (length ts) 0; count = 0; broken = unbroken })
 
 -- a text with its names, labels and meanings found, its instructions and its layout
 pub record Made : Type 0 where
@@ -85,10 +85,10 @@ pub record Made : Type 0 where
   pub bases : ℕ
   pub broken : Broken
 
-unfoldable pub meant : List Tok → Named → Statement → Meant
+unfoldable pub meant : List Token → Named → Statement → Meant
 meant ts n x = meanStatement (kindsOf ts) (valuesOf ts) (n .found) x 0 dataBase (standard (length ts))
 
-abbrev pub tablesOf : List Tok → Named → Labelled → Meant → Tables
+abbrev pub tablesOf : List Token → Named → Labelled → Meant → Tables
 tablesOf ts n l m = record {
   kinds = kindsOf ts;
   values = valuesOf ts;
@@ -99,7 +99,7 @@ tablesOf ts n l m = record {
   written = m .written;
 }
 
-unfoldable pub make : List Tok → Statement → Made
+unfoldable pub make : List Token → Statement → Made
 make ts x =
     let n = named ts x in
     let l = labelled ts x in
@@ -122,26 +122,22 @@ finish room m =
     fits room (objectText (segments (m .bases) (m .layout) (m .instructions)))
 
 -- "6 to 13 … Inside a group the smallest place wins, then the smaller number."
-abbrev pub judge : ℕ → List Tok → Made → ℕ → Answer
+abbrev pub judge : ℕ → List Token → Made → ℕ → Answer
 judge room ts m zero = finish room m
 judge room ts m (suc n) = refused (suc n) (placeAt ts (m .broken .at))
 
-unfoldable pub afterTree : ℕ → List Tok → Statement → Answer
+unfoldable pub afterTree : ℕ → List Token → Statement → Answer
 afterTree room ts x = judge room ts (make ts x) (make ts x .broken .number)
 
 -- "4 … 5 … token, or text length", which is the place of the end
-abbrev pub afterTokens : ℕ → List Tok → Result Statement → Answer
+abbrev pub afterTokens : ℕ → List Token → Result Statement → Answer
 afterTokens room ts (ok x next) = afterTree room ts x
 afterTokens room ts (bad n i) = refused n (placeAt ts i)
 
--- "2 … 3"
-abbrev pub afterText : ℕ → Tokens → Answer
-afterText room (stop n p) = refused n p
-afterText room (toks ts) = afterTokens room (inFront ++ ts) (G.program (kindsOf (inFront ++ ts)) firstToken)
-
--- "1: source over 32,768 bytes … 32,768"
-abbrev pub textLimit : ℕ
-textLimit = 32768
+-- "1 … 2 … 3"
+abbrev pub afterText : ℕ → Reading → ℕ → Answer
+afterText room r zero = let ts = inFront ++ r .tokens in afterTokens room ts (G.program (kindsOf ts) firstToken)
+afterText room r (suc n) = refused (suc n) (r .place)
 
 unfoldable pub translate : List ℕ → ℕ → Answer
-translate source room = if ltb textLimit (length source) then refused 1 textLimit else afterText room (tokensOf source)
+translate source room = afterText room (tokensOf source) (tokensOf source .number)
