@@ -32,7 +32,7 @@ pub data Meaning : Type 0 where
   nothing : Meaning
   register : (r : ℕ) → Meaning
   cell : Cell → Meaning
-  procedure : (return : ℕ) → Meaning
+  routine : (return : ℕ) → Meaning
 
 -- what the name at token t means, by its declaration's token
 abbrev pub meaningOf : List ℕ → List Meaning → ℕ → Meaning
@@ -43,14 +43,14 @@ abbrev pub registerOf : Meaning → ℕ
 registerOf nothing = 0
 registerOf (register r) = r
 registerOf (cell c) = 0
-registerOf (procedure r) = 0
+registerOf (routine r) = 0
 
 -- "`*` by a number, or by what begins with the name of a register or integer cell, needs an odd target and also writes the register below."
 abbrev pub isLong : Meaning → Bool
 isLong nothing = false
 isLong (register r) = true
 isLong (cell c) = isFull (c .width)
-isLong (procedure r) = false
+isLong (routine r) = false
 
 abbrev pub longOperand : List ℕ → List Meaning → Operand → Bool
 longOperand found means (number t) = true

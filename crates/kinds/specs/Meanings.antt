@@ -1,14 +1,14 @@
 -- Document 01, "Names, cells, protected registers": what the declarations of a text give, and which registers each procedure's text writes. A structural
 -- function on the tree, in the order of the text; the rules are judged afterwards, by these tables.
-use mathlib.Core.List.{List, [], _∷_, map}
+use mathlib.Core.List.{List, [], _∷_, _++_, map}
 use mathlib.Core.Bool.{Bool, true, false}
 use mathlib.Core.Option.{Option, none, some}
 use Prim.Native.Nat.{ℕ, zero, suc, _+_}
-use lib.ListN.{getD, set, replicate, length}
+use lib.ListN.{getD, set, replicate}
+use Rattle.names.specs.Search.{firstToken}
 use Rattle.grammar.specs.Tree.{Register, Item, Width, Assignment, Statement, assign, call, block, goto, null, ifThen, ifElse, while, for, Body, declare, procedure, items, Items, ended, label, item, registers, cells, base}
-use Rattle.kinds.specs.Registers.{Registers, noRegisters, addRegister, union}
-use Rattle.kinds.specs.Meaning as M
-use Rattle.kinds.specs.Meaning.{Meaning, nothing, register, cell, Based, Cell, meaningOf, registerOf}
+use Rattle.kinds.specs.Registers.{Registers, sixteen, noRegisters, addRegister, union}
+use Rattle.kinds.specs.Meaning.{Meaning, nothing, register, cell, routine, Based, Cell, meaningOf, registerOf}
 use Rattle.kinds.specs.Writes.{assignmentWrites}
 
 -- a cell with its initial values
@@ -48,7 +48,7 @@ unfoldable pub callWrites : Meaning → ℕ → ℕ → Meant → Meant
 callWrites nothing own p s = s
 callWrites (register r) own p s = s
 callWrites (cell c) own p s = s
-callWrites (M.procedure r) own p s = writeText own p (write own r s)
+callWrites (routine r) own p s = writeText own p (write own r s)
 
 -- ── declarations ──
 
@@ -69,8 +69,8 @@ module _ (kinds values found : List ℕ) where
   abbrev pub valueAt : ℕ → ℕ
   valueAt t = getD values t 0
 
-  abbrev pub means : Meant → ℕ → Meaning
-  means s t = meaningOf found (s .means) t
+  abbrev pub meaningIn : Meant → ℕ → Meaning
+  meaningIn s t = meaningOf found (s .means) t
 
   unfoldable pub meanRegisters : List Register → Meant → Meant
   meanRegisters [] s = s
@@ -95,7 +95,7 @@ module _ (kinds values found : List ℕ) where
   unfoldable mutual
     pub meanStatement : Statement → ℕ → Based → Meant → Meant
     meanStatement (assign a) own b s = writeAll own (assignmentWrites kinds found (s .means) a) s
-    meanStatement (call n) own b s = callWrites (means s n) own (getD found n 0) s
+    meanStatement (call n) own b s = callWrites (meaningIn s n) own (getD found n 0) s
     meanStatement (block t x) own b s = meanBody x own b s
     meanStatement (goto t n) own b s = s
     meanStatement null own b s = s
@@ -109,8 +109,8 @@ module _ (kinds values found : List ℕ) where
     meanBody (declare (registers rs) x) own b s = meanBody x own b (meanRegisters rs s)
     meanBody (declare (cells c w is) x) own b s = meanBody x own b (meanCells c w b is s)
     meanBody (declare (base n) x) own b s =
-        meanBody x own (record { register = registerOf (means s n); segment = 2 + s .bases }) (openBase own (registerOf (means s n)) n s)
-    meanBody (procedure n r x y) own b s = meanBody y own b (writeText own n (meanStatement x n b (mean n (M.procedure (registerOf (means s r))) s)))
+        meanBody x own (record { register = registerOf (meaningIn s n); segment = 2 + s .bases }) (openBase own (registerOf (meaningIn s n)) n s)
+    meanBody (procedure n r x y) own b s = meanBody y own b (writeText own n (meanStatement x n b (mean n (routine (registerOf (meaningIn s r))) s)))
     meanBody (items is) own b s = meanItems is own b s
 
     pub meanItems : Items → ℕ → Based → Meant → Meant
@@ -122,10 +122,12 @@ module _ (kinds values found : List ℕ) where
 abbrev pub dataBase : Based
 dataBase = record { register = 14; segment = 1 }
 
--- before the text: tokens 1 to 16 mean the registers 0 to 15, and no other token of the n means anything
+-- before a text of n tokens, with token 0 and the register names in front: tokens 1 to 16 mean the registers 0 to 15, and no other token means anything
 abbrev pub standard : ℕ → Meant
-standard n = record { means = nothing ∷ registersFrom 16 0 (replicate n nothing); opens = replicate n 0; written = replicate n noRegisters; cells = []; bases = 0 }
-  where
-    registersFrom : ℕ → ℕ → List Meaning → List Meaning
-    registersFrom zero r after = after
-    registersFrom (suc k) r after = register r ∷ registersFrom k (suc r) after
+standard n = record {
+  means = nothing ∷ (map register sixteen ++ replicate n nothing);
+  opens = replicate (firstToken + n) 0;
+  written = replicate (firstToken + n) noRegisters;
+  cells = [];
+  bases = 0;
+}

@@ -7,7 +7,7 @@ use lib.ListN.{getD}
 use Rattle.base.specs.Choose.{if_then_else_}
 use Rattle.token.specs.Kinds as K
 use Rattle.grammar.specs.Tree.{Term, Assignment}
-use Rattle.kinds.specs.Meaning.{Meaning, nothing, register, cell, procedure, meaningOf, longOperand}
+use Rattle.kinds.specs.Meaning.{Meaning, nothing, register, cell, routine, meaningOf, longOperand}
 
 module _ (kinds found : List ℕ) (means : List Meaning) where
   abbrev pub isProduct : Term → Bool
@@ -22,7 +22,7 @@ module _ (kinds found : List ℕ) (means : List Meaning) where
   targetWrites nothing ts = []
   targetWrites (register r) ts = r ∷ lowers r ts
   targetWrites (cell c) ts = []
-  targetWrites (procedure r) ts = []
+  targetWrites (routine r) ts = []
 
   unfoldable pub assignmentWrites : Assignment → List ℕ
   assignmentWrites a = targetWrites (meaningOf found means (a .target .name)) (a .rest)

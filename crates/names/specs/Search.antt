@@ -1,15 +1,32 @@
 -- Document 01, "Names, cells, protected registers": the search for a name. Names are known by their keys; a block is the list of the tokens that declare its
 -- names, the newest first; blocks stand innermost first.
-use mathlib.Core.List.{List, [], _∷_}
+use mathlib.Core.List.{List, [], _∷_, map}
 use mathlib.Core.Bool.{Bool, true, false}
-use Prim.Native.Nat.{ℕ, zero, suc}
+use Prim.Native.Nat.{ℕ}
 use lib.Dec.{eqb}
 use lib.ListN.{getD}
 use Rattle.base.specs.Choose.{if_then_else_}
+use Rattle.base.specs.Text.{bytes}
+use Rattle.token.specs.Kinds as K
+use Rattle.token.specs.declared.Token.{Token}
+use Rattle.token.specs.Text.{token, keyOf}
 
--- tokens 1 to 16 are the names R0 to R9 and RA to RF, and stand in front of the text; token 0 is none
+-- ── "R0 to R9 and RA to RF are declared in a block around the program." Their names are tokens 1 to 16, in front of the text; token 0 is none ──
+
+abbrev pub standardName : ℕ → Token
+standardName c = token K.NAME (keyOf (82 ∷ c ∷ [])) 0
+
+abbrev pub inFront : List Token
+inFront = token K.END-OF-TEXT 0 0 ∷ map standardName (bytes "0123456789ABCDEF")
+
+-- the text's own tokens follow
 abbrev pub firstToken : ℕ
 firstToken = 17
+
+abbrev pub around : List (List ℕ)
+around = (1 ∷ 2 ∷ 3 ∷ 4 ∷ 5 ∷ 6 ∷ 7 ∷ 8 ∷ 9 ∷ 10 ∷ 11 ∷ 12 ∷ 13 ∷ 14 ∷ 15 ∷ 16 ∷ []) ∷ []
+
+-- ── the search ──
 
 module _ (keys : List ℕ) where
   -- the token that declares the name with this key in a block; where none does, what is found further out
@@ -30,11 +47,3 @@ innermost (b ∷ bs) = b
 abbrev pub enter : ℕ → List (List ℕ) → List (List ℕ)
 enter t [] = []
 enter t (b ∷ bs) = (t ∷ b) ∷ bs
-
--- "R0 to R9 and RA to RF are declared in a block around the program."
-abbrev pub around : List (List ℕ)
-around = down 16 ∷ []
-  where
-    down : ℕ → List ℕ
-    down zero = []
-    down (suc n) = suc n ∷ down n

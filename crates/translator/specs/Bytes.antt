@@ -5,27 +5,27 @@ use Prim.Native.Nat.{ℕ, _+_, _*_, _/_, _%_}
 use Rattle.base.specs.Runs.{indexOf}
 use Rattle.kinds.specs.Meaning.{Cell, Based}
 use Rattle.kinds.specs.Meanings.{dataBase}
-use Rattle.translator.specs.Instructions.{Named, element, literal, entry, Instruction, rr, rx, shift, branch, link, stop}
+use Rattle.translator.specs.Instructions.{Datum, element, literal, entry, Instruction, rr, rx, shift, branch, link, stop}
 use Rattle.translator.specs.Layout.{Layout, offsetOf}
 
 -- "Program base is register 15."
 abbrev pub programBase : ℕ
 programBase = 15
 
-abbrev pub baseOf : Named → ℕ
-baseOf (element c o x) = c .base .register
-baseOf (literal v) = dataBase .register
-baseOf (entry k) = dataBase .register
+abbrev pub baseRegister : Datum → ℕ
+baseRegister (element c o x) = c .base .register
+baseRegister (literal v) = dataBase .register
+baseRegister (entry k) = dataBase .register
 
-abbrev pub displacement : Layout → Named → ℕ
+abbrev pub displacement : Layout → Datum → ℕ
 displacement l (element c o x) = offsetOf (l .placed) (c .name) + o
 displacement l (literal v) = l .literalsAt + 4 * indexOf v (l .literals)
 displacement l (entry k) = 4 * k
 
-abbrev pub indexOfNamed : Named → ℕ
-indexOfNamed (element c o x) = x
-indexOfNamed (literal v) = 0
-indexOfNamed (entry k) = 0
+abbrev pub indexRegister : Datum → ℕ
+indexRegister (element c o x) = x
+indexRegister (literal v) = 0
+indexRegister (entry k) = 0
 
 abbrev pub twoBytes : ℕ → ℕ → ℕ → List ℕ
 twoBytes op r s = op ∷ (r * 16 + s) ∷ []
@@ -36,7 +36,7 @@ fourBytes op r x b d = op ∷ (r * 16 + x) ∷ (b * 16 + d / 256) ∷ d % 256 �
 -- "`89 r0 00 n`, or by register `89 r0 s0 00`"; "Branch `47 m0` to a displacement from 15"; "Call: `45 r0`"; "The last instruction is `0A 00`."
 unfoldable pub encode : Layout → Instruction → List ℕ
 encode l (rr op r s) = twoBytes op r s
-encode l (rx op r a) = fourBytes op r (indexOfNamed a) (baseOf a) (displacement l a)
+encode l (rx op r a) = fourBytes op r (indexRegister a) (baseRegister a) (displacement l a)
 encode l (shift op r s n) = fourBytes op r 0 s n
 encode l (branch m t) = fourBytes 0x47 m 0 programBase t
 encode l (link r t) = fourBytes 0x45 r 0 programBase t

@@ -10,10 +10,10 @@ use Rattle.base.specs.Lists.{member}
 use Rattle.token.specs.Kinds as K
 use Rattle.grammar.specs.Tree as T
 use Rattle.grammar.specs.Tree.{Designator, Operand, number, place, Sign, plain, abs, neg, negAbs, Term, Assignment, Condition, compared, bare, Width, full, short, Statement, Body, Items}
-use Rattle.kinds.specs.Meaning as M
-use Rattle.kinds.specs.Meaning.{Meaning, nothing, register, cell, Cell, registerOf, longOperand}
-use Rattle.kinds.specs.Kinds.{Tables, kindAt, valueAt, meaningAt}
-use Rattle.translator.specs.Instructions.{Named, element, literal, entry, Instruction, rr, rx, shift, opcode, rowOf, loadRow, compareRow, timesRow, storeRow, column, shiftKinds, shiftCode, falseMask}
+use Rattle.kinds.specs.Meaning.{Meaning, nothing, register, cell, routine, Cell, registerOf, longOperand}
+use Rattle.kinds.specs.Tables.{Tables, kindAt, valueAt, meaningAt}
+use Rattle.kinds.specs.Rules.{shifts}
+use Rattle.translator.specs.Instructions.{Datum, element, literal, entry, Instruction, rr, rx, shift, opcode, rowOf, loadRow, compareRow, timesRow, storeRow, column, shiftCode, falseMask}
 
 -- a label or a procedure is known by the token of its name
 pub data Core : Type 0 where
@@ -41,7 +41,7 @@ pub data Core : Type 0 where
 -- what an operand is: held in a register; stored, with the width of its element; or none, where its name was not found or does not fit
 pub data Use : Type 0 where
   held : (r : ℕ) → Use
-  stored : Width → Named → Use
+  stored : Width → Datum → Use
   absent : Use
 
 -- the instruction of a row of the code table at register r
@@ -62,6 +62,19 @@ load (abs t) r u = signed 0x10 r u
 load (neg t) r u = signed 0x13 r u
 load (negAbs t) r u = signed 0x11 r u
 
+-- "exit branch, mask 2, or 4 if the step is negative": a number's 32 bits are read as signed
+abbrev pub exitMask : ℕ → ℕ
+exitMask step = if leb 2147483648 step then 4 else 2
+
+-- the return register of the procedure that is called
+abbrev pub returnOf : Meaning → ℕ
+returnOf nothing = 0
+returnOf (register r) = 0
+returnOf (cell c) = 0
+returnOf (routine r) = r
+
+-- ── by the tables ──
+
 module _ (f : Tables) where
   -- "An array name alone is its first element."
   abbrev pub subscriptOf : Option ℕ → ℕ
@@ -76,7 +89,7 @@ module _ (f : Tables) where
   useBy nothing d = absent
   useBy (register r) d = held r
   useBy (cell c) d = stored (c .width) (element c (subscriptOf (d .subscript)) (indexOf (d .index)))
-  useBy (M.procedure r) d = absent
+  useBy (routine r) d = absent
 
   unfoldable pub useOf : Operand → Use
   useOf (number t) = stored full (literal (valueAt f t))
@@ -94,7 +107,7 @@ module _ (f : Tables) where
   unfoldable pub termOf : ℕ → Term → List Instruction
   termOf r t =
       let k = kindAt f (t .operator) in
-      if member k shiftKinds then shiftBy (shiftCode k) r (t .operand) else
+      if member k shifts then shiftBy (shiftCode k) r (t .operand) else
       if eqb k K.TIMES then apply timesRow (productTarget r (t .operand)) (useOf (t .operand)) else
       apply (rowOf k) r (useOf (t .operand))
 
@@ -115,7 +128,7 @@ module _ (f : Tables) where
   assignBy nothing a = []
   assignBy (register r) a = toRegister r a
   assignBy (cell c) a = apply storeRow (sourceOf (a .first)) (useOf (place (a .target)))
-  assignBy (M.procedure r) a = []
+  assignBy (routine r) a = []
 
   unfoldable pub assignmentOf : Assignment → List Instruction
   assignmentOf a = assignBy (meaningAt f (a .target .name)) a
@@ -131,19 +144,8 @@ module _ (f : Tables) where
   maskOf (compared n k a) = falseMask (kindAt f k)
   maskOf (bare k) = falseMask (kindAt f k)
 
-  -- "exit branch, mask 2, or 4 if the step is negative": a number's 32 bits are read as signed
-  abbrev pub exitMask : ℕ → ℕ
-  exitMask step = if leb 2147483648 step then 4 else 2
-
   abbrev pub controlOf : Assignment → ℕ
   controlOf a = registerOf (meaningAt f (a .target .name))
-
-  -- the return register of the procedure that is called
-  abbrev pub returnOf : Meaning → ℕ
-  returnOf nothing = 0
-  returnOf (register r) = 0
-  returnOf (cell c) = 0
-  returnOf (M.procedure r) = r
 
   -- ── the whole text ──
 

@@ -1,24 +1,26 @@
 -- Document 01, "Code": instructions, each with the operand that the text names, and the tables of opcodes and masks. An operand has no offset before layout.
-use mathlib.Core.List.{List, [], _∷_}
+use mathlib.Core.List.{List, [], _∷_, _++_}
 use mathlib.Core.Bool.{Bool, true, false}
 use Prim.Native.Nat.{ℕ, _+_}
 use lib.ListN.{getD}
 use Rattle.base.specs.Runs.{runLen, indexOf}
 use Rattle.token.specs.Kinds as K
 use Rattle.grammar.specs.Tree.{Width, full, short}
+use Rattle.grammar.specs.Grammar.{relations}
 use Rattle.kinds.specs.Meaning.{Cell}
+use Rattle.kinds.specs.Rules.{shifts}
 
 -- an operand in storage: an element of a cell, by its byte offset in the cell, with its index register, 0 for none; a number; an entry of segment 1's table
-pub data Named : Type 0 where
-  element : Cell → (offset index : ℕ) → Named
-  literal : (value : ℕ) → Named
-  entry : (k : ℕ) → Named
+pub data Datum : Type 0 where
+  element : Cell → (offset index : ℕ) → Datum
+  literal : (value : ℕ) → Datum
+  entry : (k : ℕ) → Datum
 
 -- opcode, r and s; opcode, r and an operand in storage; a shift of r by the register s, or by n with s 0; a branch, and a branch that links, to an address
 -- in the program; the end
 pub data Instruction : Type 0 where
   rr : (op r s : ℕ) → Instruction
-  rx : (op r : ℕ) → Named → Instruction
+  rx : (op r : ℕ) → Datum → Instruction
   shift : (op r s n : ℕ) → Instruction
   branch : (mask to : ℕ) → Instruction
   link : (r to : ℕ) → Instruction
@@ -84,19 +86,16 @@ opcode row col = getD (getD codeTable row []) col 0
 
 -- ── "Shifts 89, 88, 8B, 8A for SHLL, SHRL, SHLA, SHRA" ──
 
-abbrev pub shiftKinds : List ℕ
-shiftKinds = K.SHLL ∷ K.SHRL ∷ K.SHLA ∷ K.SHRA ∷ []
-
 abbrev pub shiftTable : List ℕ
 shiftTable = 0x89 ∷ 0x88 ∷ 0x8b ∷ 0x8a ∷ []
 
 unfoldable pub shiftCode : ℕ → ℕ
-shiftCode kind = getD shiftTable (indexOf kind shiftKinds) 0
+shiftCode kind = getD shiftTable (indexOf kind shifts) 0
 
 -- ── "Masks when a condition is false: = 7, ^= 9, < 11, <= 3, >= 5, > 13, OVERFLOW 14." ──
 
 abbrev pub conditionKinds : List ℕ
-conditionKinds = K.EQUAL ∷ K.UNEQUAL ∷ K.LESS ∷ K.AT-MOST ∷ K.AT-LEAST ∷ K.MORE ∷ K.OVERFLOW ∷ []
+conditionKinds = relations ++ (K.OVERFLOW ∷ [])
 
 abbrev pub falseMasks : List ℕ
 falseMasks = 7 ∷ 9 ∷ 11 ∷ 3 ∷ 5 ∷ 13 ∷ 14 ∷ []

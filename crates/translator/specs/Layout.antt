@@ -12,7 +12,7 @@ use Rattle.names.specs.Broken.{unbroken, rule, _⊕_}
 use Rattle.grammar.specs.Tree.{Width}
 use Rattle.kinds.specs.Meaning.{Cell, Based, elementSize}
 use Rattle.kinds.specs.Meanings.{Filled}
-use Rattle.translator.specs.Instructions.{Named, element, literal, entry, Instruction, rr, rx, shift, branch, link, stop}
+use Rattle.translator.specs.Instructions.{Datum, element, literal, entry, Instruction, rr, rx, shift, branch, link, stop}
 
 -- "A segment is at most 4,096 bytes, every cell included."
 abbrev pub segmentLimit : ℕ
@@ -87,7 +87,7 @@ offsetOf (p ∷ ps) name = if eqb (p .name) name then p .offset else offsetOf ps
 -- ── literals ──
 
 -- "Each distinct 32-bit value that an instruction takes from storage as a number is one 4-byte literal, in the order in which the code first needs it"
-abbrev pub needs : Named → List ℕ → List ℕ
+abbrev pub needs : Datum → List ℕ → List ℕ
 needs (element c o x) seen = seen
 needs (literal v) seen = if member v seen then seen else seen ++ (v ∷ [])
 needs (entry k) seen = seen

@@ -1,24 +1,24 @@
 -- Document 01, "Numbers answered": the whole translation, a function of the source and the buffer's room. "Groups in order: 1; 2, 3; 4, 5; 6 to 13; 14; 15; 16."
 use mathlib.Core.List.{List, [], _∷_, _++_, map}
 use mathlib.Core.Bool.{Bool, true, false}
-use Prim.Native.Nat.{ℕ, zero, suc, _+_}
+use Prim.Native.Nat.{ℕ, zero, suc, _-_}
 use lib.Dec.{ltb}
 use lib.ListN.{length, drop, getD, replicate}
 use Rattle.base.specs.Choose.{if_then_else_}
-use Rattle.base.specs.Text.{bytes}
-use Rattle.token.specs.Kinds as K
 use Rattle.token.specs.declared.Token.{Token}
-use Rattle.token.specs.Text.{token, keyOf, Reading, tokensOf}
+use Rattle.token.specs.Text.{Reading, tokensOf}
 use Rattle.grammar.specs.Tree.{Statement}
 use Rattle.grammar.specs.Reader.{Result, ok, bad}
 use Rattle.grammar.specs.Grammar as G
 use Rattle.names.specs.declared.Broken.{Broken}
 use Rattle.names.specs.Broken.{unbroken, _⊕_}
-use Rattle.names.specs.Search.{around, firstToken}
+use Rattle.names.specs.Search.{inFront, firstToken, around}
 use Rattle.names.specs.Names.{Named, nameStatement}
 use Rattle.names.specs.Labels.{Labelled, labelStatement}
 use Rattle.kinds.specs.Meanings.{Meant, meanStatement, dataBase, standard}
-use Rattle.kinds.specs.Kinds.{Tables, protected, kindStatement}
+use Rattle.kinds.specs.Tables.{Tables}
+use Rattle.kinds.specs.Rules.{protected}
+use Rattle.kinds.specs.Kinds.{kindStatement}
 use Rattle.objtext.specs.Object.{Segment, objectText}
 use Rattle.translator.specs.Instructions.{Instruction, sizes}
 use Rattle.translator.specs.Core.{coreStatement}
@@ -50,13 +50,7 @@ abbrev pub leaves : Answer → List ℕ → List ℕ
 leaves (accepted t) buffer = t ++ drop (length t) buffer
 leaves (refused n p) buffer = buffer
 
--- ── the tokens, with token 0, which is none, and the register names in front ──
-
-abbrev pub standardName : ℕ → Token
-standardName c = token K.NAME (keyOf (82 ∷ c ∷ [])) 0
-
-abbrev pub inFront : List Token
-inFront = token K.END-OF-TEXT 0 0 ∷ map standardName (bytes "0123456789ABCDEF")
+-- ── the tokens ──
 
 abbrev pub kindsOf : List Token → List ℕ
 kindsOf ts = map (λ (t : Token). t .kind) ts
@@ -86,7 +80,7 @@ pub record Made : Type 0 where
   pub broken : Broken
 
 unfoldable pub meant : List Token → Named → Statement → Meant
-meant ts n x = meanStatement (kindsOf ts) (valuesOf ts) (n .found) x 0 dataBase (standard (length ts))
+meant ts n x = meanStatement (kindsOf ts) (valuesOf ts) (n .found) x 0 dataBase (standard (length ts - firstToken))
 
 abbrev pub tablesOf : List Token → Named → Labelled → Meant → Tables
 tablesOf ts n l m = record {
@@ -122,16 +116,16 @@ finish room m =
     fits room (objectText (segments (m .bases) (m .layout) (m .instructions)))
 
 -- "6 to 13 … Inside a group the smallest place wins, then the smaller number."
-abbrev pub judge : ℕ → List Token → Made → ℕ → Answer
-judge room ts m zero = finish room m
-judge room ts m (suc n) = refused (suc n) (placeAt ts (m .broken .at))
+abbrev pub judgeBy : ℕ → List Token → Made → ℕ → Answer
+judgeBy room ts m zero = finish room m
+judgeBy room ts m (suc n) = refused (suc n) (placeAt ts (m .broken .at))
 
-unfoldable pub afterTree : ℕ → List Token → Statement → Answer
-afterTree room ts x = judge room ts (make ts x) (make ts x .broken .number)
+unfoldable pub judge : ℕ → List Token → Made → Answer
+judge room ts m = judgeBy room ts m (m .broken .number)
 
 -- "4 … 5 … token, or text length", which is the place of the end
 abbrev pub afterTokens : ℕ → List Token → Result Statement → Answer
-afterTokens room ts (ok x next) = afterTree room ts x
+afterTokens room ts (ok x next) = judge room ts (make ts x)
 afterTokens room ts (bad n i) = refused n (placeAt ts i)
 
 -- "1 … 2 … 3"
