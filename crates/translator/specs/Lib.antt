@@ -5,4 +5,4 @@ pub mod Layout
 pub mod Bytes
 pub mod Image
 pub mod Translate
-pub mod Cases
+pub mod Worked
