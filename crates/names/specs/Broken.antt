@@ -22,4 +22,4 @@ before a b = ltb (a .at) (b .at) || (eqb (a .at) (b .at) && leb (a .number) (b .
 
 infixr 25 _⊕_
 unfoldable pub _⊕_ : Broken → Broken → Broken
-_⊕_ a b = if eqb (a .number) 0 then b else if eqb (b .number) 0 then a else if before a b then a else b
+_⊕_ a b = if eqb (b .number) 0 then a else if eqb (a .number) 0 then b else if before a b then a else b
