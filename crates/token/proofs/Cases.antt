@@ -1,0 +1,42 @@
+-- Worked texts, by computing the definition: refusals with their places, then whole lists of tokens. Assumes nothing.
+use Prim.Native.Nat.{ℕ, _+_}
+use Prim.Native.String.{String}
+use mathlib.Core.Path.{_≡_, refl}
+use mathlib.Core.List.{List, [], _∷_, _++_, map}
+use lib.Dec.{T, eqb}
+use Rattle.base.specs.Tables.{every}
+use Rattle.base.specs.Text.{bytes, sameBytes}
+use Rattle.base.specs.Runs.{runLen}
+use Rattle.base.specs.Numbers.{numberFrom}
+use Rattle.base.specs.Walk.{walk}
+use Rattle.token.specs.Kinds as K
+use Rattle.token.specs.Text.{keyOf, wordKind, comment, nameOrWord, number, begins, sign, lexeme, token, nextStep, nextToken, Reading, readFrom, tokensOf}
+use Rattle.token.specs.declared.Token.{Token}
+
+-- 0, or a refusal's number, with the place
+abbrev verdict : String → ℕ × ℕ
+verdict s = (tokensOf (bytes s) .number, tokensOf (bytes s) .place)
+
+verdicts :
+    map verdict
+    ("BEGIN END @" ∷ "" ∷ "BEGIN END  " ∷ "BEGIN R1 := #; END @" ∷ "BEGIN R1 := #G; END @" ∷ "BEGIN R1 := _ 5; END @" ∷ "BEGIN R1 := _#5; END @" ∷
+    "BEGIN R1 := __5; END @" ∷ "BEGIN R1 := #Ab; END @" ∷ "BEGIN INTEGER Ab; END @" ∷ "BEGIN COMMENT END @" ∷ "BEGIN END COMMENT @ ;@" ∷ "BEGIN END @ ? 99999999999 COMMENT" ∷
+    "END END 99999999999 @" ∷ "2147483647 _2147483648 #FFFFFFFF" ∷ "2147483648" ∷ "_2147483649" ∷ "#100000000" ∷ "#000000000FF" ∷ "^" ∷ [])
+    ≡ (0, 0) ∷ (0, 0) ∷ (0, 0) ∷ (2, 12) ∷ (2, 12) ∷ (2, 12) ∷ (2, 12) ∷ (2, 12) ∷ (2, 14) ∷ (2, 15) ∷ (2, 6) ∷ (0, 0) ∷ (0, 0) ∷ (3, 8) ∷ (0, 0) ∷ (3, 0) ∷ (3, 0) ∷ (3, 0) ∷ (0, 0) ∷ (2, 0) ∷ []
+unfolding sameBytes runLen numberFrom walk wordKind comment nameOrWord number begins sign lexeme nextStep nextToken readFrom tokensOf
+verdicts = refl
+
+abbrev tokens : String → List Token
+tokens s = tokensOf (bytes s) .tokens
+
+read :
+    map tokens ("R1:=_1+#FFOR ABCDEFGHIJK<=5THEN COMMENT @;@ 7" ∷ "COMMENTX : = " ∷ [])
+    ≡ (token K.NAME 973 0 ∷ token K.BECOMES 0 2 ∷ token K.NUMBER 4294967295 4 ∷ token K.PLUS 0 6 ∷ token K.NUMBER 255 7 ∷ token K.OR 0 10
+    ∷ token K.NAME (keyOf (bytes "ABCDEFGHIJL")) 13 ∷ token K.AT-MOST 0 24 ∷ token K.NUMBER 5 26 ∷ token K.THEN 0 27 ∷ token K.AT 0 42 ∷ [])
+    ∷ (token K.NAME (keyOf (bytes "COMMENTX")) 0 ∷ token K.COLON 0 9 ∷ token K.EQUAL 0 11 ∷ token K.END-OF-TEXT 0 13 ∷ []) ∷ []
+unfolding sameBytes runLen numberFrom walk wordKind comment nameOrWord number begins sign lexeme nextStep nextToken readFrom tokensOf
+read = refl
+
+-- the kinds of the words and signs are 3, 4, 5 and so on: no two share one
+kinds-rise : T (every (λ i w. eqb (w .0) (i + 3)) 0 (K.words ++ K.signs))
+kinds-rise = tt

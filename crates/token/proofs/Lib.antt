@@ -1,0 +1,2 @@
+-- Laws of the definitions of specs/, and worked texts.
+pub mod Cases

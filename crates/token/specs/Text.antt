@@ -1,0 +1,161 @@
+-- Document 01, "Text and tokens", in its order: what stands at the front of what remains of a text, the next token, all tokens of a text.
+use Prim.Native.Nat.{ℕ, zero, suc, pred, _+_, _-_, _%_, _^_}
+use Prim.Native.String.{String}
+use mathlib.Core.Bool.{Bool, true, false, not, _&&_, _||_}
+use mathlib.Core.List.{List, [], _∷_}
+use lib.Dec.{eqb, leb, ltb}
+use lib.ListN.{length, take, drop, getD}
+use Rattle.base.specs.Choose.{if_then_else_}
+use Rattle.base.specs.Text.{bytes, sameBytes, within}
+use Rattle.base.specs.Runs.{runLen}
+use Rattle.base.specs.Numbers.{numberFrom}
+use Rattle.base.specs.Walk.{Step, walk}
+use Rattle.base.specs.Walk.Step.{stop, pass}
+use Rattle.token.specs.Kinds as K
+use Rattle.token.specs.declared.Lexeme.{Lexeme}
+use Rattle.token.specs.declared.Lexeme.the-variants.{Gap, Token, Refused}
+use Rattle.token.specs.declared.Token as T
+
+-- "Blank (32) and newline (10) separate tokens."
+abbrev pub separates : ℕ → Bool
+separates b = eqb b 32 || eqb b 10
+
+-- "Names: a capital letter, then capitals or digits; the first 10 characters count."
+abbrev pub isCapital : ℕ → Bool
+isCapital b = within 65 90 b
+
+abbrev pub isDigit : ℕ → Bool
+isDigit b = within 48 57 b
+
+abbrev pub inName : ℕ → Bool
+inName b = isCapital b || isDigit b
+
+abbrev pub isHexadecimal : ℕ → Bool
+isHexadecimal b = isDigit b || within 65 70 b
+
+-- what a digit or a capital stands for, to a base up to 36
+abbrev pub digitOf : ℕ → ℕ
+digitOf b = if leb b 57 then b - 48 else b - 55
+
+-- the first 10 characters of a name as one number: no two have the same (proofs/Keys.antt, `key-one`)
+abbrev pub keyOf : List ℕ → ℕ
+keyOf name = numberFrom digitOf 36 0 (take 10 name)
+
+-- "Reserved, compared whole": the kind of the word that the name is, or of a name
+unfoldable pub wordKind : List (ℕ × String) → List ℕ → ℕ
+wordKind [] name = K.NAME
+wordKind (w ∷ ws) name = elim (sameBytes name (bytes (w .1))) [ true ↦ w .0 | false ↦ wordKind ws name ]
+
+-- "COMMENT opens a comment that ends at the next `;` and may hold any byte." Its word has n bytes; "unclosed comment: its first byte"
+unfoldable pub comment : ℕ → List ℕ → Lexeme
+comment n s =
+    let m : ℕ = n + runLen (λ b. not (eqb b 59)) (drop n s) in
+    if ltb m (length s) then Gap (m + 1) else Refused 2
+
+unfoldable pub nameOrWord : List ℕ → Lexeme
+nameOrWord s =
+    let n : ℕ = runLen inName s in
+    let kind : ℕ = wordKind K.words (take n s) in
+    if eqb kind K.COMMENT then comment n s else
+    if eqb kind K.NAME then Token kind (keyOf (take n s)) n else Token kind 0 n
+
+-- digits to a base, after a mark of some bytes, with a value of at most `most`; bits gives the 32 bits that it is taken as
+unfoldable pub number : (ℕ → Bool) → ℕ → ℕ → (ℕ → ℕ) → ℕ → List ℕ → Lexeme
+number inside base most bits mark s =
+    let n : ℕ = runLen inside s in
+    let v : ℕ = numberFrom digitOf base 0 (take n s) in
+    if eqb n 0 then Refused 2 else
+    if ltb most v then Refused 3 else Token K.NUMBER (bits v) (mark + n)
+
+abbrev pub plain : ℕ → ℕ
+plain v = v
+
+abbrev pub negated : ℕ → ℕ
+negated v = (4294967296 - v) % 4294967296
+
+-- a text begins with a sign
+unfoldable pub begins : List ℕ → List ℕ → Bool
+begins [] s = true
+begins (x ∷ xs) [] = false
+begins (x ∷ xs) (y ∷ ys) = eqb x y && begins xs ys
+
+-- "Signs, longest first": the first of the table with which the text begins
+unfoldable pub sign : List (ℕ × String) → List ℕ → Lexeme
+sign [] s = Refused 2
+sign (w ∷ ws) s = elim (begins (bytes (w .1)) s) [ true ↦ Token (w .0) 0 (length (bytes (w .1))) | false ↦ sign ws s ]
+
+-- what stands at the front of a text that is not empty, and how many bytes it has: a gap between tokens; a token; or what is refused at its first byte,
+-- "byte in no token, unclosed comment" as 2, "number out of range" as 3. Numbers are "decimal 0 to 2147483647; with `_` directly in front, `_0` to
+-- `_2147483648`; or `#` and one or more hexadecimal digits with a value below 2^32, taken as 32 bits".
+unfoldable pub lexeme : List ℕ → Lexeme
+lexeme s =
+    let b : ℕ = getD s 0 0 in
+    if separates b then Gap (runLen separates s) else
+    if isCapital b then nameOrWord s else
+    if isDigit b then number isDigit 10 2147483647 plain 0 s else
+    if eqb b 95 then number isDigit 10 2147483648 negated 1 (drop 1 s) else
+    if eqb b 35 then number isHexadecimal 16 4294967295 plain 1 (drop 1 s) else
+    sign K.signs s
+
+-- a token: its kind; its value, which is a number's 32 bits and a name's key, and 0 for any other; and its place, "the offset of the first byte"
+abbrev pub token : ℕ → ℕ → ℕ → T.Token
+token kind value place = record { kind = kind; value = value; place = place }
+
+-- what reading a token gives: the token and where it ended; or a refusal's number and place
+pub data Outcome : Type 0 where
+  read : (token : T.Token) (end : ℕ) → Outcome
+  refused : (number place : ℕ) → Outcome
+
+abbrev pub nextBy : Lexeme → ℕ → Step Outcome
+nextBy (Gap n) at = pass n
+nextBy (Token kind value n) at = stop (read (token kind value at) (at + n))
+nextBy (Refused number) at = stop (refused number at)
+
+unfoldable pub nextStep : ℕ → List ℕ → Step Outcome
+nextStep at s = nextBy (lexeme s) at
+
+-- the next token of what remains of a text, with places counted from there; at the end of the text a token that says so
+unfoldable pub nextToken : List ℕ → Outcome
+nextToken s = walk nextStep (λ at. read (token K.END-OF-TEXT 0 at) at) 0 0 s
+
+-- all tokens of a text, and the refusal that ends them, or 0
+pub record Reading : Type 0 where
+  pub tokens : List T.Token
+  pub number : ℕ
+  pub place : ℕ
+
+abbrev pub ended : List T.Token → Reading
+ended ts = record { tokens = ts; number = 0; place = 0 }
+
+abbrev pub refusedAt : ℕ → ℕ → Reading
+refusedAt number place = record { tokens = []; number = number; place = place }
+
+abbrev pub after : T.Token → Reading → Reading
+after t r = record { tokens = t ∷ r .tokens; number = r .number; place = r .place }
+
+-- `@` and the end of the text are the last token
+abbrev pub isLast : ℕ → Bool
+isLast kind = eqb kind K.AT || eqb kind K.END-OF-TEXT
+
+abbrev pub lastOr : Bool → T.Token → ℕ → (ℕ → Reading) → Reading
+lastOr true t n rest = ended (t ∷ [])
+lastOr false t n rest = after t (rest n)
+
+-- the token's place is made one of the whole text; what remains is read by `rest`, given the bytes to pass over
+abbrev pub readBy : Outcome → ℕ → (ℕ → Reading) → Reading
+readBy (read t end) at rest = lastOr (isLast (t .kind)) (token (t .kind) (t .value) (at + t .place)) end rest
+readBy (refused number place) at rest = refusedAt number (at + place)
+
+-- "Only the bytes up to the first `@` outside a comment are read." "The remaining text after each token is read from where that token ended."
+-- `at` is the place of what remains, k bytes of which are still to be passed over.
+unfoldable pub readFrom : ℕ → ℕ → List ℕ → Reading
+readFrom at k [] = ended (token K.END-OF-TEXT 0 at ∷ [])
+readFrom at (suc k) (x ∷ xs) = readFrom (suc at) k xs
+readFrom at zero (x ∷ xs) = readBy (nextToken (x ∷ xs)) at (λ n. readFrom (suc at) (pred n) xs)
+
+-- "1: source over 32,768 bytes, place 32,768"
+abbrev pub TEXT-LIMIT : ℕ
+TEXT-LIMIT = 32768
+
+unfoldable pub tokensOf : List ℕ → Reading
+tokensOf s = if ltb TEXT-LIMIT (length s) then refusedAt 1 TEXT-LIMIT else readFrom 0 0 s
