@@ -101,7 +101,7 @@ afterData s = drop (17 + contentLength (headLength s)) s
 
 -- "last line FF", and nothing behind it
 unfoldable pub isLast : List ℕ → Bool
-isLast s = eqb (length s) 3 && eqb (byteOf s) 255 && eqb (getD s 2 0) newline
+isLast s = eqb (byteOf s) 255 && eqb (getD s 2 0) newline && eqb (length s) 3
 
 -- ── objects ──
 
