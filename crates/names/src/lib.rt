@@ -8,6 +8,12 @@ pub struct Broken {
     pub at: usize,
 }
 
+// How many names were declared, or labels set, and the broken rules.
+pub struct Noted {
+    pub count: usize,
+    pub broken: Broken,
+}
+
 // Refusal `number` at a token, unless the rule holds.
 pub fn rule(holds: bool, number: usize, token: usize) -> Broken
     ensures { λ r. ⌜ r ≡ ruleOf holds number token ⌝ }

@@ -16,7 +16,7 @@ use Rattle.names.specs.Broken.{rule, _⊕_, unbroken}
 use Rattle.names.specs.Search.{inBlock, find, innermost}
 use Rattle.names.specs.Names.{Named, noteFound, useName, declareName, mostNames}
 use Rattle.search.specs.declared.Blocks.{Blocks}
-use Rattle.search.specs.declared.Noted.{Noted}
+use Rattle.names.specs.declared.Noted.{Noted}
 use Rattle.search.specs.Naming.{Naming, declaring, blocksAfter, shapeOf, indexAfter, declareAt, useRegister, usePlace, useAt, nameOp, beginning}
 use Rattle.search.specs.Flat.{span, blocksOf, blocksIn, namedIn, Rising, Changed, Begun}
 

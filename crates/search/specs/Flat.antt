@@ -8,7 +8,7 @@ use Rattle.base.specs.Choose.{if_then_else_}
 use Rattle.names.specs.Search.{around}
 use Rattle.names.specs.Names.{Named}
 use Rattle.search.specs.declared.Blocks.{Blocks}
-use Rattle.search.specs.declared.Noted.{Noted}
+use Rattle.names.specs.declared.Noted.{Noted}
 
 -- the entries from lo up to hi, the newest first
 unfoldable pub span : List ℕ → ℕ → ℕ → List ℕ

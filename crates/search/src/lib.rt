@@ -13,6 +13,7 @@ use arrays::get;
 use arrays::key;
 use arrays::put;
 use names::Broken;
+use names::Noted;
 use names::join;
 use names::rule;
 
@@ -23,12 +24,6 @@ const MOST_NAMES: usize = 256;
 pub struct Blocks {
     pub depth: usize,
     pub count: usize,
-}
-
-// How many names were declared, and the broken rules.
-pub struct Noted {
-    pub count: usize,
-    pub broken: Broken,
 }
 
 // ── the search ──
