@@ -1,12 +1,11 @@
 -- A search along chains: what a hit, a miss and the end of a chain say of the definition's search. A chain falls, so it ends.
 use mathlib.Core.Path.{_≡_, refl, ap, _∙_}
-use mathlib.Core.List.{List, [], _∷_, map}
+use mathlib.Core.List.{List, [], _∷_}
 use Prim.Native.Nat.{ℕ, zero, suc, _≤_, _<_}
 use native.Mathlib.Omega.{arith}
 use lib.Dec.{ltb}
 use lib.ListN.{getD}
 use borrow.Author.Tests.{eq-eqb, ne-eqb, ltb-true}
-use Rattle.base.specs.Choose.{if_then_else_}
 use Rattle.base.proofs.Tests.{by-test}
 use Rattle.names.specs.Search.{inBlock, find}
 use Rattle.labels.specs.Chains.{after, chainOf, chain, labelsIn, blocksIn}

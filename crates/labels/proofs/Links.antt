@@ -1,7 +1,7 @@
 -- The chains that the first loop makes of a tree (`link-statement`), and what of them a part of the tree leaves as it was: all that stands before its first
 -- token, but for the newest label of the block around it.
-use mathlib.Core.Path.{_≡_, refl, ap, sym, _∙_}
-use mathlib.Core.List.{List, [], _∷_}
+use mathlib.Core.Path.{_≡_, refl, _∙_}
+use mathlib.Core.List.{List, _∷_}
 use Prim.Native.Nat.{ℕ, _+_, _%_, _≤_, _<_}
 use native.Mathlib.Omega.{arith}
 use lib.Dec.{T, eqb}

@@ -9,7 +9,6 @@ use lib.Dec.{T}
 use lib.ListN.{length, getD, set, length-set}
 use lib.Seq.{getD-set-same, getD-set-other}
 use borrow.Author.Tests.{lt-ltb}
-use Rattle.base.specs.Choose.{if_then_else_}
 use Rattle.grammar.specs.Tree.{Statement, assign, call, block, goto, null, ifThen, ifElse, while, for, Body, declare, procedure, items, Items, ended, label, item}
 use Rattle.grammar.specs.Derives.{isStatement, isBody, isItems, isProgram}
 use Rattle.grammar.proofs.Kept as G
@@ -113,7 +112,7 @@ module _ (kinds keys links outer : List ℕ) where
   chained (label l is) i j h m r a n earlier c =
       let e = h .0 in
       let low = r .low in
-      let up = up kinds (G.keep-items is) (h .2 .1) in
+      let rise = up kinds (G.keep-items is) (h .2 .1) in
       let wide : i < length (m .links) = omega (arith, r .links) in
       let room = room-label i l m e low wide j r in
       let k = kept-items kinds is _ _ (h .2 .1) (linkOp E.LABEL l m) (room .outer) in
@@ -208,7 +207,7 @@ module _ (kinds keys links outer : List ℕ) where
     statement (call n) i j h m r a b e ls q s k = on E.CALL n (at b s) k
     statement (block t x) i j h m r a b e ls q s k =
         let p = h .0 in
-        let up = up kinds (G.keep-body x) (h .2) in
+        let rise = up kinds (G.keep-body x) (h .2) in
         let low = r .low in
         let room = room-block i j t m p r in
         let g = kept-body kinds x _ _ (h .2) (linkOp E.BLOCK t m) (room .outer) in
@@ -220,7 +219,7 @@ module _ (kinds keys links outer : List ℕ) where
     statement (goto t n) i j h m r a b e ls q s k = on E.GOTO n (at b s) k ∙ rw q
     statement null i j h m r a b e ls q s k = refl
     statement (ifThen t c x) i j h m r a b e ls q s k =
-        let up = up kinds (G.keep-condition c) (h .2 .1) in
+        let rise = up kinds (G.keep-condition c) (h .2 .1) in
         skip-condition step quiet (at b s) c _
         ∙ (statement x _ _ (h .2 .2 .1) m (room-part r (omega arith) (omega arith)) (part a (omega arith) (omega arith)) b e ls q s _ ∙ on E.END-IF t _ k)
     statement (ifElse t c x w y) i j h m r a b e ls q s k =
@@ -237,7 +236,7 @@ module _ (kinds keys links outer : List ℕ) where
         ∙ (on E.ELSE t _ _
         ∙ (statement y _ _ (h .2 .2 .1 .2 .2) (linkStatement x m) room′ (part a (omega arith) (omega arith)) b (g .block ∙ e) ls q _ _ ∙ on E.END-ELSE t _ k)))
     statement (while t c x) i j h m r a b e ls q s k =
-        let up = up kinds (G.keep-condition c) (h .2 .1) in
+        let rise = up kinds (G.keep-condition c) (h .2 .1) in
         on E.WHILE t (at b s) _
         ∙ (skip-condition step quiet (at b s) c _
         ∙ (statement x _ _ (h .2 .2 .1) m (room-part r (omega arith) (omega arith)) (part a (omega arith) (omega arith)) b e ls q s _ ∙ on E.END-WHILE t _ k))
@@ -255,7 +254,7 @@ module _ (kinds keys links outer : List ℕ) where
         → (ls : List (List ℕ)) → blocksIn links outer (after outer b) ≡ ls → (s : Labelled) (k : List ℕ)
         → run (at b s) (tapeBody x k) ≡ run (at b (labelBody keys x ls s)) k
     body (declare d x) i j h m r a b e z o f ls q s k =
-        let up = up kinds (G.keep-declaration d) (h .1) in
+        let rise = up kinds (G.keep-declaration d) (h .1) in
         skip-declaration step quiet (at b s) d _
         ∙ body x _ _ (h .2 .1) m (room-part r (omega arith) (omega arith)) (part a (omega arith) (omega arith)) b e z o f ls q s k
     body (procedure n v x y) i j h m r a b e z o f ls q s k =
@@ -292,7 +291,7 @@ module _ (kinds keys links outer : List ℕ) where
     listing (label l is) i j h m r a b e earlier c n ls q s k =
         let p = h .0 in
         let low = r .low in
-        let up = up kinds (G.keep-items is) (h .2 .1) in
+        let rise = up kinds (G.keep-items is) (h .2 .1) in
         let wide : i < length (m .links) = omega (arith, r .links) in
         let room = room-label i l m p low wide j r in
         let g = kept-items kinds is _ _ (h .2 .1) (linkOp E.LABEL l m) (room .outer) in

@@ -1,6 +1,6 @@
 -- The first loop along the tape: the labels of each block are chained, and each block to the one around it.
 use mathlib.Core.List.{List}
-use mathlib.Core.Bool.{Bool, _||_}
+use mathlib.Core.Bool.{_||_}
 use Prim.Native.Nat.{ℕ}
 use lib.Dec.{eqb}
 use lib.ListN.{getD, set}

@@ -1,13 +1,11 @@
 -- What a declaration, a use and a whole event leave, and the loop along the tape.
 use mathlib.Core.Path.{_≡_, refl, ap, _∙_}
-use mathlib.Core.List.{List, [], _∷_}
-use mathlib.Core.Bool.{Bool, true, false}
+use mathlib.Core.List.{List}
 use Prim.Native.Nat.{ℕ, suc, _+_, _-_, _/_, _%_, _≤_, _<_}
 use native.Mathlib.Omega.{arith}
 use native.Mathlib.Numerals.{add-one}
 use lib.Dec.{eqb, ltb}
 use lib.ListN.{getD, set, length, drop}
-use Rattle.base.specs.Choose.{choose}
 use Rattle.base.proofs.Tests.{by-test}
 use Rattle.tape.specs.Pass.{pass}
 use Rattle.tape.proofs.Pass.{pass-turn, pass-end}
@@ -18,7 +16,7 @@ use Rattle.names.specs.Names.{Named, noteFound, useName, declareName, mostNames
 use Rattle.search.specs.declared.Blocks.{Blocks}
 use Rattle.names.specs.declared.Noted.{Noted}
 use Rattle.search.specs.Naming.{Naming, declaring, blocksAfter, shapeOf, indexAfter, declareAt, useRegister, usePlace, useAt, nameOp, beginning}
-use Rattle.search.specs.Flat.{span, blocksOf, blocksIn, namedIn, Rising, Changed, Begun}
+use Rattle.search.specs.Flat.{span, blocksIn, namedIn, Rising, Changed, Begun}
 
 -- ── a declaration, a use ──
 

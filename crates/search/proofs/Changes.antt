@@ -1,6 +1,6 @@
 -- The flat blocks when one opens or closes, and when a name is entered: nothing else is disturbed, since blocks rise.
 use mathlib.Core.Path.{_≡_, refl, ap, _∙_}
-use mathlib.Core.Bool.{Bool, true, false}
+use mathlib.Core.Bool.{true, false}
 use mathlib.Core.List.{List, [], _∷_}
 use Prim.Native.Nat.{ℕ, zero, suc, _+_, _-_, _≤_, _<_}
 use native.Mathlib.Omega.{arith}
@@ -8,7 +8,6 @@ use native.Mathlib.Numerals.{add-one}
 use lib.ListN.{getD, set, length}
 use lib.Seq.{getD-set-same, getD-set-other}
 use borrow.Author.Tests.{le-leb, ne-eqb}
-use Rattle.base.specs.Choose.{if_then_else_}
 use Rattle.names.specs.Search.{innermost, enter}
 use Rattle.search.specs.declared.Blocks.{Blocks}
 use Rattle.search.specs.Naming.{outer, declaring, blocksAfter}

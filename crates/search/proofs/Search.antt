@@ -1,13 +1,11 @@
 -- A search through flat blocks, backward from entry to entry and outward from block to block: what a hit, a miss and the end of a block say of the
 -- definition's search.
-use mathlib.Core.Path.{_≡_, refl, ap, _∙_}
+use mathlib.Core.Path.{_≡_, refl, _∙_}
 use mathlib.Core.List.{List, [], _∷_}
-use Prim.Native.Nat.{ℕ, zero, suc, _+_, _-_, _≤_, _<_}
+use Prim.Native.Nat.{ℕ, zero, suc, _-_, _≤_, _<_}
 use native.Mathlib.Omega.{arith}
-use lib.Dec.{eqb}
 use lib.ListN.{getD}
 use borrow.Author.Tests.{eq-eqb, ne-eqb, le-leb, lt-leb}
-use Rattle.base.specs.Choose.{if_then_else_}
 use Rattle.names.specs.Search.{inBlock, find}
 use Rattle.search.specs.Flat.{span, blocksOf}
 

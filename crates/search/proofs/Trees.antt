@@ -1,7 +1,7 @@
 -- On the tape of a program naming is what the definition says of its tree: a line for each way to make a tree. What stands at a fixed distance from an
 -- event's token does so by the grammar.
-use mathlib.Core.Path.{_≡_, refl, ap, sym, _∙_}
-use mathlib.Core.List.{List, [], _∷_, map}
+use mathlib.Core.Path.{_≡_, refl, ap, _∙_}
+use mathlib.Core.List.{List, [], _∷_}
 use mathlib.Core.Option.{Option, none, some}
 use Prim.Native.Nat.{ℕ, _+_, _-_, _%_}
 use native.Mathlib.Omega.{arith}
@@ -13,7 +13,7 @@ use Rattle.tape.specs.Pass.{pass}
 use Rattle.tape.proofs.Pass.{pass-none, pass-event}
 use Rattle.names.specs.Broken.{unbroken}
 use Rattle.names.specs.Search.{enter, around}
-use Rattle.names.specs.Names.{Named, declares, enterAll, useName, declareName, declareNames, nameIndex, nameDesignator, nameOperand, nameTerms, nameAssignment, nameCondition, nameDeclaration, nameStatement, nameBody, nameItems}
+use Rattle.names.specs.Names.{Named, declares, enterAll, useName, declareNames, nameIndex, nameDesignator, nameOperand, nameTerms, nameAssignment, nameCondition, nameDeclaration, nameStatement, nameBody, nameItems}
 use Rattle.search.specs.Naming.{Naming, outer, blocksAfter, shapeOf, declareAt, useRegister, usePlace, useAt, nameOp, beginning}
 
 outer-enter : (t : ℕ) (bs : List (List ℕ)) → outer (enter t bs) ≡ outer bs

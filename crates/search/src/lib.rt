@@ -1,11 +1,10 @@
 // Document 01, "Names, cells, protected registers": which declaration each name means, refusals 6, 7 and 13 of names, in one loop along the tape.
 ghost use mathlib.Core.Path.{_≡_};
 ghost use mathlib.Core.List.{List, [], _∷_};
-ghost use mathlib.Core.Bool.{Bool};
 ghost use Prim.Native.Nat.{ℕ, _+_, _-_, _≤_, _<_};
 ghost use lib.ListN.{length};
 ghost use Rattle.tape.specs.Pass.{pass};
-ghost use Rattle.names.specs.Search.{inBlock, find, innermost, enter, around};
+ghost use Rattle.names.specs.Search.{inBlock, find, innermost, enter};
 ghost use Rattle.names.specs.Names.{useName, declareName};
 ghost use Rattle.search.specs.Naming.{outer, declaring, blocksAfter, shapeOf, declareAt, useRegister, usePlace, useAt, nameOp, beginning};
 ghost use Rattle.search.specs.Flat.{span, blocksOf, blocksIn, namedIn, Rising, Roomy, Changed, Begun};
