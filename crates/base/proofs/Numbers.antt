@@ -1,17 +1,17 @@
 -- Numbers in digits to any base, and cells of any size: bounds, parts, that digits are told by their number, what a cell reads after a store, and that a
 -- store leaves every other byte. Each law is once over the base or the size. Assumes nothing.
 use Prim.Native.Nat.{ℕ, zero, suc, _+_, _-_, _*_, _/_, _%_, _^_, _≤_, _<_, min}
-use mathlib.Core.Path.{_≡_, refl, sym, ap, ap₂, _∙_, subst}
+use mathlib.Core.Path.{_≡_, refl, sym, ap, ap₂, _∙_}
 use mathlib.Core.Logic.{_⊎_}
 use mathlib.Core.List.{List, [], _∷_, _++_, map}
 use native.Mathlib.Omega.{arith}
 use native.Mathlib.Decide.{decLe}
 use native.Mathlib.Numerals.{add-one}
-use native.Mathlib.Nat.{mul-zero, mul-suc, suc-mul, min-eq-left, min-eq-right, pow-zero, pow-suc, pow-succ', pow-le-pow-right, one-le-pow, mul-assoc, add-mul, mul-one, mod-eq-of-lt, lt-of-lt-of-le, mul-le-mul-right}
-use lib.Arith.{digits-lt, digits-div, digits-mod, mod-mul}
+use native.Mathlib.Nat.{mul-zero, mul-suc, suc-mul, min-eq-left, min-eq-right, pow-zero, pow-suc, pow-succ', pow-le-pow-right, one-le-pow, mul-assoc, add-mul, mod-eq-of-lt, lt-of-lt-of-le, mul-le-mul-right}
+use lib.Arith.{digits-lt, mod-mul}
 use lib.Dec.{lit<}
 use lib.ListN.{length, take, drop, getD, set, length-append, drop-of-length-le}
-use lib.Seq.{take-suc, drop-cons, sets, length-sets}
+use lib.Seq.{take-suc, drop-cons, length-sets}
 use Rattle.base.specs.Lists.{All}
 use Rattle.base.specs.Numbers.{numberFrom, valueOf, bytesOf, valueAt, stored}
 use Rattle.base.proofs.Lists.{all-both}

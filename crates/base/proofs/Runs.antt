@@ -1,7 +1,7 @@
 -- A loop that counts a run: `run-on`, `run-stop` and `run-end` in the form of its invariant; `run-le`, `run-pos`, `run-all` say what a run is like,
 -- `run-take` and `run-past` how it goes over a cut. Assumes nothing.
 use Prim.Native.Nat.{ℕ, zero, suc, _+_, _≤_, _<_, min}
-use mathlib.Core.Path.{_≡_, refl, ap}
+use mathlib.Core.Path.{_≡_, refl}
 use mathlib.Core.Bool.{Bool, true, false}
 use mathlib.Core.List.{List, [], _∷_}
 use native.Mathlib.Omega.{arith}

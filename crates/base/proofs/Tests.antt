@@ -1,12 +1,12 @@
 -- How tests in definitions are answered from the facts that branches leave: the rulesets `tests` and `picks`, `cases` and `by-test` for cases on a
 -- test, `told`, `same`, `other`, `tested` for the answer of a call, `never-true` for what cannot be. Assumes nothing.
-use Prim.Native.Nat.{ℕ, _<_, _≤_}
+use Prim.Native.Nat.{ℕ}
 use mathlib.Core.Path.{_≡_, refl, sym, ap, _∙_, subst}
 use mathlib.Core.Bool.{Bool, true, false, not, _&&_, _||_}
 use lib.Dec.{T, eqb}
 use borrow.Author.Tests.{lt-ltb, le-ltb, le-leb, lt-leb, eq-eqb, ne-eqb}
-pub use borrow.Author.Tests.{not-true, not-false}
 use Rattle.base.specs.Choose.{choose}
+pub use borrow.Author.Tests.{not-true, not-false}
 
 -- `search tests` turns ltb, leb and eqb by the facts lt, le and eq in reach
 pub ruleset tests = (lt-ltb, le-ltb, le-leb, lt-leb, eq-eqb, ne-eqb)

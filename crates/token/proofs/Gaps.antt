@@ -7,7 +7,6 @@ use native.Mathlib.Omega.{arith}
 use native.Mathlib.Decide.{decLe}
 use lib.ListN.{length, take, drop, length-drop}
 use Rattle.base.specs.Walk.{walk}
-use Rattle.base.specs.Walk.Step.{stop, pass}
 use Rattle.base.proofs.Parts.{to-end}
 use Rattle.base.proofs.Tests.{never-true}
 use Rattle.base.proofs.Walk.{walk-end, walk-stop, walk-pass}

@@ -1,8 +1,8 @@
 -- Names as numbers: two names with one key are one name in the characters that count, and the word with a name's key is the word that the name is,
 -- compared whole. Assumes nothing.
-use Prim.Native.Nat.{ℕ, zero, suc, _+_, _-_, _*_, _^_, _≤_, _<_, min}
+use Prim.Native.Nat.{ℕ, suc, _+_, _-_, _*_, _^_, _≤_, _<_}
 use Prim.Native.String.{String}
-use mathlib.Core.Path.{_≡_, refl, sym, ap, ap₂, _∙_, subst}
+use mathlib.Core.Path.{_≡_, refl, sym, ap, ap₂, _∙_}
 use mathlib.Core.Bool.{Bool, true, false, not, _&&_, _||_, and-false}
 use mathlib.Core.List.{List, [], _∷_, map}
 use native.Mathlib.Omega.{arith}
@@ -17,16 +17,16 @@ use Rattle.base.specs.Text.{bytes, sameBytes}
 use Rattle.base.specs.Lists.{All}
 use Rattle.base.specs.Runs.{runLen}
 use Rattle.base.specs.Numbers.{numberFrom}
-use Rattle.base.specs.Tables.{every, allBelow}
+use Rattle.base.specs.Tables.{every}
 use Rattle.base.proofs.Lists.{all-map, all-take}
 use Rattle.base.proofs.Numbers.{number-lt, number-split, digits-told}
-use Rattle.base.proofs.Runs.{run-pos, run-all, run-le}
+use Rattle.base.proofs.Runs.{run-pos, run-all}
 use Rattle.base.proofs.Tables.{all-below}
 use Rattle.base.proofs.Tests.{cases, never-true, is-true, and-left, and-right, implied}
 use Rattle.base.proofs.Text.{same-is, not-same}
 use Rattle.token.specs.Kinds as K
 use Rattle.token.specs.Text.{isCapital, inName, digitOf, keyOf, wordKind}
-use Rattle.token.specs.Inner.{inBase, keyKind, Named}
+use Rattle.token.specs.Inner.{keyKind, Named}
 use Rattle.token.specs.declared.Spelled.{Spelled}
 use Rattle.token.proofs.Spelling.{alphanumeric}
 

@@ -1,5 +1,5 @@
 -- The loop over the tokens of a text: what is read from a place on, one token more, and what is laid into the lent lists. Assumes nothing.
-use Prim.Native.Nat.{ℕ, zero, suc, pred, _+_, _-_, _≤_, _<_, min}
+use Prim.Native.Nat.{ℕ, zero, suc, pred, _+_, _-_, _≤_, _<_}
 use mathlib.Core.Path.{_≡_, refl, ap, sym, _∙_}
 use mathlib.Core.Bool.{Bool, true, false}
 use mathlib.Core.List.{List, [], _∷_, map}
@@ -7,20 +7,21 @@ use native.Mathlib.Omega.{arith}
 use native.Mathlib.Decide.{decLe}
 use native.Mathlib.Nat.{add-zero}
 use native.Mathlib.Numerals.{add-one}
-use lib.Dec.{eqb, leb, ltb}
-use lib.ListN.{length, take, drop, set, getD, length-drop, length-set, drop-of-length-le}
+use lib.Dec.{eqb}
+use lib.ListN.{length, take, drop, set, length-drop, drop-of-length-le}
 use lib.Seq.{sets, drop-cons, drop-drop}
 use borrow.Author.Tests.{le-ltb, lt-ltb, le-leb, lt-leb, eq-eqb}
-use Rattle.base.specs.Walk.{walk}
 use Rattle.base.proofs.Parts.{to-end}
 use Rattle.base.proofs.Tests.{cases, never-true}
 use Rattle.token.specs.Kinds as K
-use Rattle.token.specs.Text.{token, Outcome, read, refused, nextToken, Reading, ended, refusedAt, after, isLast, moved, lastOr, readBy, readFrom, TEXT-LIMIT, tokensOf}
-use Rattle.token.specs.Answers.{outcomeOf, summary, summaryOf, summed, room, laid, kindOf, valueOf, placeOf, Summary, Laid, readInto, tokensInto}
+use Rattle.token.specs.Text.{token, Outcome, read, refused, nextToken, Reading, ended, refusedAt, after, isLast, moved, readBy, readFrom, TEXT-LIMIT, tokensOf}
+use Rattle.token.specs.Answers.{outcomeOf, summary, summaryOf, summed, laid, Summary, Laid, readInto, tokensInto}
 use Rattle.token.specs.declared.Token.{Token}
+use Rattle.token.specs.declared.Next.{Next}
+use Rattle.token.specs.declared.Next.the-variants as N
 use Rattle.token.specs.declared.Tokens.{Tokens}
 use Rattle.token.specs.declared.Tokens.the-variants as S
-use Rattle.token.proofs.Gaps.{from, start, at-end, placed, ends, isFinal, Held, held}
+use Rattle.token.proofs.Gaps.{start, at-end, placed, ends, isFinal, Held, held}
 
 -- what is read from a place on
 abbrev pub rest : ℕ → List ℕ → Reading
@@ -50,13 +51,13 @@ module _ (s : List ℕ) (at : ℕ) (o : Outcome) (h : at ≤ length s) (e : o �
   holds : Held (drop at s) o
   holds = rw (← found) (held (drop at s))
 
-  pub fits : at + ends o ≤ length s
+  fits : at + ends o ≤ length s
   fits = omega (arith, holds .fits, length-drop at s)
 
-  pub before : placed o ≤ ends o
+  before : placed o ≤ ends o
   before = holds .before
 
-  pub some : isFinal o ≡ false → 0 < ends o
+  some : isFinal o ≡ false → 0 < ends o
   some = holds .some
 
   -- at the end of the text the next token says so
@@ -68,7 +69,7 @@ module _ (s : List ℕ) (at : ℕ) (o : Outcome) (h : at ≤ length s) (e : o �
   next l = rw (drop-cons s at 0 l) (ap (λ (x : Outcome). readBy x at (λ n. readFrom (suc at) (pred n) (drop (suc at) s))) (ap nextToken (sym (drop-cons s at 0 l)) ∙ found))
 
   -- how reading goes on: with a token, after which the rest is read; with the last token; or with a refusal
-  pub read-on : (t : Token) (end : ℕ) → o ≡ read t end → isLast (t .kind) ≡ false → rest at s ≡ after (moved at t) (rest (at + end) s)
+  read-on : (t : Token) (end : ℕ) → o ≡ read t end → isLast (t .kind) ≡ false → rest at s ≡ after (moved at t) (rest (at + end) s)
   read-on t end q l = go (decLe (length s) at)
     where
       go : Dec (length s ≤ at) → rest at s ≡ after (moved at t) (rest (at + end) s)
@@ -83,7 +84,7 @@ module _ (s : List ℕ) (at : ℕ) (o : Outcome) (h : at ≤ length s) (e : o �
           (ap (λ (r : Reading). after (moved at t) r)
           (skip (suc at) (pred end) (drop (suc at) s) (omega (arith, length-drop (suc at) s)) ∙ rw (drop-drop (pred end) (suc at) s, j)))
 
-  pub read-last : (t : Token) (end : ℕ) → o ≡ read t end → isLast (t .kind) ≡ true → rest at s ≡ ended (moved at t ∷ [])
+  read-last : (t : Token) (end : ℕ) → o ≡ read t end → isLast (t .kind) ≡ true → rest at s ≡ ended (moved at t ∷ [])
   unfolding readFrom tokenIn
   read-last t end q l = go (decLe (length s) at)
     where
@@ -93,13 +94,26 @@ module _ (s : List ℕ) (at : ℕ) (o : Outcome) (h : at ≤ length s) (e : o �
           rw (drop-of-length-le s m, z, add-zero at)
       go (no m) = next (omega arith) ∙ rw (q, l)
 
-  pub read-no : (number place : ℕ) → o ≡ refused number place → rest at s ≡ refusedAt number (at + place)
+  read-no : (number place : ℕ) → o ≡ refused number place → rest at s ≡ refusedAt number (at + place)
   unfolding isRead
   read-no number place q = go (decLe (length s) at)
     where
       go : Dec (length s ≤ at) → rest at s ≡ refusedAt number (at + place)
       go (yes m) = never-true (ap isRead (sym q ∙ ended-here m))
       go (no m) = next (omega arith) ∙ rw q
+
+-- no more tokens than bytes, and one at the end
+pub few-tokens : (at k : ℕ) (s : List ℕ) → length (readFrom at k s .tokens) ≤ length s + 1
+unfolding readFrom
+few-tokens at k [] = omega arith
+few-tokens at (suc k) (x ∷ xs) = omega (arith, few-tokens (suc at) k xs)
+few-tokens at zero (x ∷ xs) = by (nextToken (x ∷ xs)) (λ n. few-tokens (suc at) (pred n) xs)
+  where
+    by : (o : Outcome) → ((n : ℕ) → length (readFrom (suc at) (pred n) xs .tokens) ≤ length xs + 1)
+        → length (readBy o at (λ n. readFrom (suc at) (pred n) xs) .tokens) ≤ suc (length xs) + 1
+    by (refused number place) ih = omega arith
+    by (read t end) ih =
+        cases (isLast (t .kind)) (λ e. rw e (omega arith)) (λ e. rw e (omega (arith, ih end)))
 
 -- what the loops know at a place with n tokens read: the whole reading is what is read from there on
 pub record Reads (s : List ℕ) (at n : ℕ) : Type 0 where
@@ -116,63 +130,91 @@ reads-start s = record { inside = omega arith; few = omega arith; number = refl;
 abbrev pub LaidOn : (Token → ℕ) → List ℕ → List ℕ → List ℕ → ℕ → ℕ → Type 0
 LaidOn part s old now at n = laid part (readFrom 0 0 s .tokens) old ≡ sets now n (map part (rest at s .tokens))
 
--- no more tokens than bytes, and one at the end
-pub few-tokens : (at k : ℕ) (s : List ℕ) → length (readFrom at k s .tokens) ≤ length s + 1
-unfolding readFrom
-few-tokens at k [] = omega arith
-few-tokens at (suc k) (x ∷ xs) = omega (arith, few-tokens (suc at) k xs)
-few-tokens at zero (x ∷ xs) = by (nextToken (x ∷ xs)) (λ n. few-tokens (suc at) (pred n) xs)
-  where
-    by : (o : Outcome) → ((n : ℕ) → length (readFrom (suc at) (pred n) xs .tokens) ≤ length xs + 1)
-        → length (readBy o at (λ n. readFrom (suc at) (pred n) xs) .tokens) ≤ suc (length xs) + 1
-    by (refused number place) ih = omega arith
-    by (read t end) ih =
-        cases (isLast (t .kind)) (λ e. rw e (omega arith)) (λ e. rw e (omega (arith, ih end)))
+-- what they know when the token reader has answered
+pub record Answered (s : List ℕ) (at n : ℕ) (r : Next) : Type 0 where
+  pub reads : Reads s at n
+  pub next : outcomeOf r ≡ nextToken (take (length s - at) (drop at s))
 
-module _ (s : List ℕ) (at : ℕ) (o : Outcome) (h : at ≤ length s) (e : o ≡ nextToken (take (length s - at) (drop at s))) (n : ℕ) (t : Token) (end : ℕ) (q : o ≡ read t end) where
+-- it answered with a token
+module _ {s : List ℕ} {at n : ℕ} {r : Next} {t : Token} {end : ℕ} (g : Answered s at n r) (q : r ≡ N.Token t end) where
+  is : outcomeOf r ≡ read t end
+  is = ap outcomeOf q
+
+  h : at ≤ length s
+  h = g .reads .inside
+
+  pub ends-inside : at + end ≤ length s
+  ends-inside = let f = fits s at (outcomeOf r) h (g .next) in let z : ends (outcomeOf r) ≡ end = ap ends is in omega arith
+
+  pub place-inside : at + t .place ≤ length s
+  place-inside =
+      let f = before s at (outcomeOf r) h (g .next) in
+      let z : placed (outcomeOf r) ≡ t .place = ap placed is in
+      let y : ends (outcomeOf r) ≡ end = ap ends is in
+      omega (arith, ends-inside)
+
+  pub one-more : isLast (t .kind) ≡ false → rest at s ≡ after (moved at t) (rest (at + end) s)
+  one-more l = read-on s at (outcomeOf r) h (g .next) t end is l
+
+  pub the-last : isLast (t .kind) ≡ true → rest at s ≡ ended (moved at t ∷ [])
+  the-last l = read-last s at (outcomeOf r) h (g .next) t end is l
+
+  pub some-bytes : isLast (t .kind) ≡ false → 0 < end
+  some-bytes l =
+      let f = some s at (outcomeOf r) h (g .next) (ap isFinal is ∙ l) in
+      let z : ends (outcomeOf r) ≡ end = ap ends is in
+      omega arith
+
   -- there is room for the token where there is room for all
-  pub reads-room : (m : ℕ) → Reads s at n → length (readFrom 0 0 s .tokens) ≤ m → n < m
-  reads-room m r l =
-      let c = r .count in
+  pub has-room : (m : ℕ) → length (readFrom 0 0 s .tokens) ≤ m → n < m
+  has-room m l =
+      let c = g .reads .count in
       cases (isLast (t .kind))
-      (λ z. omega (arith, ap (λ (x : Reading). length (x .tokens)) (read-last s at o h e t end q z)))
-      (λ z. omega (arith, ap (λ (x : Reading). length (x .tokens)) (read-on s at o h e t end q z)))
+      (λ z. omega (arith, ap (λ (x : Reading). length (x .tokens)) (the-last z)))
+      (λ z. omega (arith, ap (λ (x : Reading). length (x .tokens)) (one-more z)))
 
-  pub reads-on : isLast (t .kind) ≡ false → Reads s at n → Reads s (at + end) (n + 1)
-  reads-on l r =
-      let d = read-on s at o h e t end q l in
-      let z : ends o ≡ end = ap ends q in
-      let f = fits s at o h e in
-      let p = some s at o h e (ap isFinal q ∙ l) in
+  pub reads-on : isLast (t .kind) ≡ false → Reads s (at + end) (n + 1)
+  reads-on l =
+      let p = some-bytes l in
+      let w = g .reads in
       record {
-        inside = omega arith;
-        few = (let w = r .few in omega arith);
-        number = r .number ∙ ap (λ (x : Reading). x .number) d;
-        place = r .place ∙ ap (λ (x : Reading). x .place) d;
-        count = (let w = r .count in let u = ap (λ (x : Reading). length (x .tokens)) d in omega arith);
+        inside = ends-inside;
+        few = omega arith;
+        number = w .number ∙ ap (λ (x : Reading). x .number) (one-more l);
+        place = w .place ∙ ap (λ (x : Reading). x .place) (one-more l);
+        count = omega (arith, ap (λ (x : Reading). length (x .tokens)) (one-more l));
       }
 
-  pub reads-last : isLast (t .kind) ≡ true → Reads s at n → summary 0 0 (n + 1) ≡ summed (readFrom 0 0 s)
-  reads-last l r =
-      let d = read-last s at o h e t end q l in
-      let c : length (readFrom 0 0 s .tokens) ≡ n + 1 = r .count ∙ ap (λ (x : Reading). n + length (x .tokens)) d in
-      rw (r .number ∙ ap (λ (x : Reading). x .number) d, r .place ∙ ap (λ (x : Reading). x .place) d, c)
+  pub reads-last : isLast (t .kind) ≡ true → summary 0 0 (n + 1) ≡ summed (readFrom 0 0 s)
+  reads-last l =
+      let w = g .reads in
+      rw (w .number ∙ ap (λ (x : Reading). x .number) (the-last l), w .place ∙ ap (λ (x : Reading). x .place) (the-last l), w .count ∙ ap (λ (x : Reading). n + length (x .tokens)) (the-last l))
 
   module _ (part : Token → ℕ) (old now : List ℕ) (w : LaidOn part s old now at n) where
     pub laid-on : isLast (t .kind) ≡ false → LaidOn part s old (set now n (part (moved at t))) (at + end) (n + 1)
-    laid-on l = rw (add-one n) (w ∙ ap (λ (x : Reading). sets now n (map part (x .tokens))) (read-on s at o h e t end q l))
+    laid-on l = rw (add-one n) (w ∙ ap (λ (x : Reading). sets now n (map part (x .tokens))) (one-more l))
 
     pub laid-last : isLast (t .kind) ≡ true → set now n (part (moved at t)) ≡ laid part (readFrom 0 0 s .tokens) old
-    laid-last l = sym (w ∙ ap (λ (x : Reading). sets now n (map part (x .tokens))) (read-last s at o h e t end q l))
+    laid-last l = sym (w ∙ ap (λ (x : Reading). sets now n (map part (x .tokens))) (the-last l))
 
-module _ (s : List ℕ) (at : ℕ) (o : Outcome) (h : at ≤ length s) (e : o ≡ nextToken (take (length s - at) (drop at s))) (n number place : ℕ) (q : o ≡ refused number place) where
-  pub reads-no : Reads s at n → eqb number 0 ≡ false → summary number (at + place) 0 ≡ summed (readFrom 0 0 s)
-  reads-no r z =
-      let d = read-no s at o h e number place q in
-      rw (r .number ∙ ap (λ (x : Reading). x .number) d, r .place ∙ ap (λ (x : Reading). x .place) d, z)
+-- it answered with a refusal
+module _ {s : List ℕ} {at n : ℕ} {r : Next} {number place : ℕ} (g : Answered s at n r) (q : outcomeOf r ≡ refused number place) where
+  none-more : rest at s ≡ refusedAt number (at + place)
+  none-more = read-no s at (outcomeOf r) (g .reads .inside) (g .next) number place q
+
+  pub refused-inside : at + place ≤ length s
+  refused-inside =
+      let f = fits s at (outcomeOf r) (g .reads .inside) (g .next) in
+      let z : ends (outcomeOf r) ≡ place = ap ends q in
+      omega arith
+
+  pub reads-no : eqb number 0 ≡ false → summary number (at + place) 0 ≡ summed (readFrom 0 0 s)
+  reads-no z =
+      let w = g .reads in
+      rw (w .number ∙ ap (λ (x : Reading). x .number) none-more, w .place ∙ ap (λ (x : Reading). x .place) none-more, z)
 
   pub laid-no : (part : Token → ℕ) (old now : List ℕ) → LaidOn part s old now at n → now ≡ laid part (readFrom 0 0 s .tokens) old
-  laid-no part old now w = sym (w ∙ ap (λ (x : Reading). sets now n (map part (x .tokens))) (read-no s at o h e number place q))
+  laid-no part old now w = sym (w ∙ ap (λ (x : Reading). sets now n (map part (x .tokens))) none-more)
 
 -- what the entries answer before they read, and that they read
 module _ (s k v p : List ℕ) where

@@ -1,12 +1,12 @@
 -- Bytes as digits: the classes of bytes are the digits to the bases 10, 16 and 36, and a name's key is never cut off. Assumes nothing.
-use Prim.Native.Nat.{ℕ, zero, suc, _+_, _-_, _*_, _^_, _≤_, _<_, min}
+use Prim.Native.Nat.{ℕ, _+_, _-_, _*_, _^_, _≤_, _<_, min}
 use mathlib.Core.Path.{_≡_, refl, sym, ap, _∙_}
-use mathlib.Core.Bool.{Bool, true, false, _&&_, _||_, and-false, Bool·beq}
-use mathlib.Core.List.{List, [], _∷_}
+use mathlib.Core.Bool.{Bool, true, false, and-false, Bool·beq}
+use mathlib.Core.List.{List}
 use native.Mathlib.Omega.{arith}
 use native.Mathlib.Decide.{decLe}
 use native.Mathlib.Nat.{pow-le-pow-right}
-use lib.Dec.{T, leb, ltb, eqb, lit<}
+use lib.Dec.{T, ltb, lit<}
 use lib.ListN.{length, take, drop, getD, length-take}
 use borrow.Author.Tests.{lt-leb, ltb-true}
 use Rattle.base.specs.Lists.{All}
@@ -18,7 +18,7 @@ use Rattle.base.proofs.Numbers.{min-on, number-more, number-lt}
 use Rattle.base.proofs.Parts.{take-min}
 use Rattle.base.proofs.Runs.{run-all, run-le, run-take, run-past}
 use Rattle.base.proofs.Tables.{all-below}
-use Rattle.token.specs.Text.{isDigit, isCapital, isHexadecimal, inName, digitOf, keyOf}
+use Rattle.token.specs.Text.{isDigit, isHexadecimal, inName, digitOf, keyOf}
 use Rattle.token.specs.Inner.{inBase, Digited, Named}
 use Rattle.token.specs.declared.Spelled.{Spelled}
 

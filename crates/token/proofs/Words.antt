@@ -1,15 +1,13 @@
 -- The table of reserved words by their keys, `WORDS` of the code: what stands at a key's place, proved by two computed tests. Assumes nothing.
-use Prim.Native.Nat.{ℕ, suc, _+_, _/_, _%_, _<_}
+use Prim.Native.Nat.{ℕ, suc, _/_, _%_, _<_}
 use Prim.Native.String.{String}
 use mathlib.Core.Path.{_≡_, refl, sym, ap, _∙_}
 use mathlib.Core.Bool.{Bool, true, false}
 use mathlib.Core.List.{List, [], _∷_}
-use native.Mathlib.Omega.{arith}
 use lib.Dec.{T, eqb, eqb→eq}
 use lib.ListN.{length, getD}
 use borrow.Author.Tests.{eqb-true}
 use Rattle.base.specs.Text.{bytes}
-use Rattle.base.specs.Numbers.{numberFrom}
 use Rattle.base.specs.Tables.{every}
 use Rattle.base.proofs.Tables.{at}
 use Rattle.base.proofs.Tests.{and-left, and-right}

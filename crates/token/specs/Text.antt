@@ -1,9 +1,9 @@
 -- Document 01, "Text and tokens", in its order: what stands at the front of what remains of a text, the next token, all tokens of a text.
-use Prim.Native.Nat.{ℕ, zero, suc, pred, _+_, _-_, _%_, _^_}
+use Prim.Native.Nat.{ℕ, zero, suc, pred, _+_, _-_, _%_}
 use Prim.Native.String.{String}
 use mathlib.Core.Bool.{Bool, true, false, not, _&&_, _||_}
 use mathlib.Core.List.{List, [], _∷_}
-use lib.Dec.{eqb, leb, ltb}
+use lib.Dec.{eqb, ltb}
 use lib.ListN.{length, take, drop, getD}
 use Rattle.base.specs.Choose.{if_then_else_}
 use Rattle.base.specs.Text.{bytes, sameBytes, within}

@@ -1,23 +1,21 @@
-use Rattle.token.proofs.Spelling.{value-on}
-use Rattle.token.specs.Inner.{inBase}
-use Rattle.token.specs.Text.{digitOf}
+-- `digits` counts the digits at the front and gives their number, cut off. The invariant: the run goes on from here, and the number so far is that of
+-- the digits passed. Assumes nothing.
+use Prim.Native.Nat.{_≤_, _+_, _-_, _^_, min}
+use mathlib.Core.Path.{_≡_}
+use native.Mathlib.Nat.{mul-le-mul-left}
+use native.Mathlib.Omega.{arith}
+use denote.Ref.{now}
+use lib.ListN.{length, take, drop}
+use borrow.Author.Needs.{needs}
 use Rattle.base.proofs.Tests.{tests}
 use Rattle.base.proofs.Runs.{run-on, run-stop, run-end}
 use Rattle.base.specs.Numbers.{numberFrom}
 use Rattle.base.specs.Runs.{runLen}
-use denote.Ref.{now}
-use lib.ListN.{length, take, drop}
-use native.Mathlib.Nat.{mul-le-mul-left}
-use native.Mathlib.Omega.{arith}
-use Prim.Native.Nat.{_≤_, _+_, _-_, _*_, _^_, min}
-use mathlib.Core.Path.{_≡_, _∙_}
-use borrow.Author.Needs.{needs}
+use Rattle.token.proofs.Spelling.{value-on}
+use Rattle.token.specs.Inner.{inBase}
+use Rattle.token.specs.Text.{digitOf}
 use Rattle.token.proofs.digits.Statement.{statement}
 use Rattle.token.proofs.digits.Tie as tie
-use Rattle.token.proofs.digits.Reads as reads
-use Rattle.token.proofs.digits.Lts as lts
-use Rattle.token.proofs.cap.Reads as cap-reads
-use Rattle.token.proofs.digit.Reads as digit-reads
 
 abbrev Inv-loop : tie.InvT-loop
 Inv-loop base s v₀ i₀ v i = (i ≤ length s) × (runLen (inBase base) s ≡ i + runLen (inBase base) (drop i s)) × (v ≡ min (2 ^ 52) (numberFrom digitOf base 0 (take i s)))
@@ -25,48 +23,37 @@ Inv-loop base s v₀ i₀ v i = (i ≤ length s) × (runLen (inBase base) s ≡ 
 abbrev μ-loop : tie.MeasureT-loop
 μ-loop base s v₀ i₀ v i = length s - i
 
--- src/lib.rt:118:5
 loop-holds : tie.Need-loop-holds Inv-loop μ-loop
 unfolding numberFrom
 loop-holds c = (search needs, search needs, search needs)
 
--- src/lib.rt:119:23
 shared-slice-read-digit : tie.Need-shared-slice-read-digit Inv-loop μ-loop
 shared-slice-read-digit c = search needs
 
--- src/lib.rt:119:13
 digit-requires : tie.Need-digit-requires Inv-loop μ-loop
 digit-requires c κs = search needs
 
--- src/lib.rt:121:13
 returns : tie.Need-returns Inv-loop μ-loop
 returns c = record { size = run-stop _ _ _ (search needs) (rw (← c .before .digit .ensures .0) (search tests)) (search needs); value = search needs; fits = search needs }
 
--- src/lib.rt:123:17
 mul-cap : tie.Need-mul-cap Inv-loop μ-loop
 mul-cap c = omega (arith, mul-le-mul-left (c .before .before .before .before .loop .v) (c .before .before .before .before .before .before .pre), c .before .before .before .before .loop .inv .2)
 
--- src/lib.rt:123:17
 add-cap : tie.Need-add-cap Inv-loop μ-loop
 add-cap c = omega (arith, mul-le-mul-left (c .before .before .before .before .loop .v) (c .before .before .before .before .before .before .pre), c .before .before .before .before .loop .inv .2)
 
--- src/lib.rt:123:9
 cap-requires : tie.Need-cap-requires Inv-loop μ-loop
 cap-requires c κs = search needs
 
--- src/lib.rt:124:9
 add-i : tie.Need-add-i Inv-loop μ-loop
 add-i c = search needs
 
--- src/lib.rt:118:5
 loop-less : tie.Need-loop-less Inv-loop μ-loop
 loop-less c = search needs
 
--- src/lib.rt:118:5
 loop-again : tie.Need-loop-again Inv-loop μ-loop
 loop-again c = (search needs, run-on _ _ _ (search needs) (rw (← c .before .before .digit .ensures .0) (search tests)) (search needs), value-on _ (c .before .before .before .before .before .before .before .args .base) (now (c .before .before .before .before .before .before .before .args .s)) (c .before .before .before .before .before .loop .i) (c .before .before .before .before .before .loop .v) (c .before .before .digit .result) _ (c .before .before .before .before .before .loop .inv .2) (search needs) (search needs) (search needs))
 
--- src/lib.rt:112:1
 returns-2 : tie.Need-returns-2 Inv-loop μ-loop
 returns-2 c = record { size = run-end _ _ _ (search needs) (search needs); value = search needs; fits = search needs }
 

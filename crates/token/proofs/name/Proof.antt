@@ -1,58 +1,45 @@
-use Rattle.token.proofs.Spelling.{short-name, long-name}
-use Rattle.token.specs.Inner.{inBase}
+-- `name` gives a name's bytes and its key: from the first ten characters, and from there on where there are more. Assumes nothing.
+use Prim.Native.Nat.{ℕ, _-_}
+use mathlib.Core.List.{List}
+use mathlib.Core.Path.{ap, _∙_}
+use native.Mathlib.Omega.{arith}
+use denote.Ref.{now}
+use lib.ListN.{length, drop, length-take, length-drop}
+use borrow.Author.Needs.{needs}
 use Rattle.base.proofs.Parts.{to-end}
 use Rattle.base.specs.Runs.{runLen}
-use lib.ListN.{length, take, drop, length-take, length-drop}
-use denote.Ref.{now}
-use native.Mathlib.Omega.{arith}
-use Prim.Native.Nat.{ℕ, _≤_, _<_, _+_, _-_, min}
-use mathlib.Core.List.{List}
-use mathlib.Core.Path.{_≡_, ap, _∙_}
-use borrow.Author.Needs.{needs}
+use Rattle.token.proofs.Spelling.{short-name, long-name}
+use Rattle.token.specs.Inner.{inBase}
 use Rattle.token.proofs.name.Statement.{statement}
 use Rattle.token.proofs.name.Tie as tie
-use Rattle.token.proofs.name.Reads as reads
-use Rattle.token.proofs.name.Lts as lts
-use Rattle.token.proofs.digits.Reads as digits-reads
-use Rattle.token.proofs.least.Reads as least-reads
 
--- src/lib.rt:211:9
 least-requires : tie.Need-least-requires
 least-requires c κs = search needs
 
--- src/lib.rt:212:28
 slice-aggregate-digits : tie.Need-slice-aggregate-digits
 slice-aggregate-digits c = omega (arith, length-take (c .before .least .result) (now (c .before .before .before .args .s)))
 
--- src/lib.rt:212:9
 digits-requires : tie.Need-digits-requires
 digits-requires c κs = search needs
 
--- src/lib.rt:216:9
 returns : tie.Need-returns
 returns c = short-name (now (c .before .before .before .before .before .args .s)) (c .before .before .before .least .result) (c .before .digits .result) (c .before .before .before .least .ensures) (c .before .digits .ensures) (c .if1 .taken)
 
--- src/lib.rt:218:27
 sub-digits : tie.Need-sub-digits
 sub-digits c = omega (arith, c .before .digits .ensures .fits, length-take (c .before .before .before .least .result) (now (c .before .before .before .before .before .args .s)))
 
--- src/lib.rt:218:27
 part-digits-start : tie.Need-part-digits-start
 part-digits-start c = omega (arith, c .before .digits .ensures .fits, length-take (c .before .before .before .least .result) (now (c .before .before .before .before .before .args .s)))
 
--- src/lib.rt:218:27
 part-digits-end : tie.Need-part-digits-end
 part-digits-end c = search needs
 
--- src/lib.rt:218:9
 digits-requires-2 : tie.Need-digits-requires-2
 digits-requires-2 c κs = search needs
 
--- src/lib.rt:220:21
 add-t8 : tie.Need-add-t8
 add-t8 c = omega (arith, c .digits2 .ensures .fits, length-take (length (now (c .before .before .before .before .before .before .before .args .s)) - 10) (drop 10 (now (c .before .before .before .before .before .before .before .args .s))), length-drop 10 (now (c .before .before .before .before .before .before .before .args .s)))
 
--- src/lib.rt:208:1
 returns-2 : tie.Need-returns-2
 returns-2 c = let s = now (c .before .before .before .before .before .before .before .args .s) in
     long-name s (c .before .before .before .before .before .least .result) (c .before .before .before .digits .result) (c .before .before .before .before .before .least .ensures) (c .before .before .before .digits .ensures) (c .digits2 .result .size) (c .before .before .if1 .left) (c .digits2 .ensures .size ∙ ap (λ (t : List ℕ). runLen (inBase 36) t) (to-end s 10))

@@ -1,18 +1,16 @@
+-- `next_token` passes over gaps to a token, a refusal or the end. The invariant: the next token is that found from here on. Assumes nothing.
+use Prim.Native.Nat.{_≤_, _-_}
+use mathlib.Core.Path.{_≡_, _∙_, sym, ap}
+use native.Mathlib.Omega.{arith}
+use denote.Ref.{now}
+use lib.ListN.{length, length-drop}
+use borrow.Author.Needs.{needs}
+use Rattle.base.proofs.Parts.{to-end}
 use Rattle.token.proofs.Gaps.{from, start, at-end, some, fits, past, found, no-token, out-of-range}
 use Rattle.token.proofs.Sizes.{sizeOf}
 use Rattle.token.specs.Text.{nextToken}
-use Rattle.base.proofs.Parts.{to-end}
-use lib.ListN.{length, length-drop}
-use denote.Ref.{now}
-use native.Mathlib.Omega.{arith}
-use Prim.Native.Nat.{_≤_, _<_, _+_, _-_}
-use mathlib.Core.Path.{_≡_, _∙_, sym, ap}
-use borrow.Author.Needs.{needs}
 use Rattle.token.proofs.next_token.Statement.{statement}
 use Rattle.token.proofs.next_token.Tie as tie
-use Rattle.token.proofs.next_token.Reads as reads
-use Rattle.token.proofs.next_token.Lts as lts
-use Rattle.token.proofs.front.Reads as front-reads
 
 abbrev Inv-loop : tie.InvT-loop
 Inv-loop s at₀ at = (at ≤ length s) × (nextToken s ≡ from at s)
@@ -20,39 +18,30 @@ Inv-loop s at₀ at = (at ≤ length s) × (nextToken s ≡ from at s)
 abbrev μ-loop : tie.MeasureT-loop
 μ-loop s at₀ at = length s - at
 
--- src/lib.rt:325:5
 loop-holds : tie.Need-loop-holds Inv-loop μ-loop
 loop-holds c = (search needs, start _)
 
--- src/lib.rt:326:23
 sub-front : tie.Need-sub-front Inv-loop μ-loop
 sub-front c = search needs
 
--- src/lib.rt:326:23
 part-front-start : tie.Need-part-front-start Inv-loop μ-loop
 part-front-start c = search needs
 
--- src/lib.rt:326:23
 part-front-end : tie.Need-part-front-end Inv-loop μ-loop
 part-front-end c = search needs
 
--- src/lib.rt:326:13
 front-requires : tie.Need-front-requires Inv-loop μ-loop
 front-requires c κs = let s = now (c .before .before .before .before .args .s) in rw (to-end s (c .before .before .loop .at)) (omega (arith, length-drop (c .before .before .loop .at) s))
 
--- src/lib.rt:328:25
 enum-known-l : tie.Need-enum-known-l Inv-loop μ-loop
 enum-known-l c = search needs
 
--- src/lib.rt:329:17
 add-at : tie.Need-add-at Inv-loop μ-loop
 add-at c = omega (arith, fits (now (c .before .before .before .before .before .before .before .before .args .s)) (c .before .before .before .before .before .before .loop .at) (c .before .before .before .front .result) (c .before .before .before .before .before .loop-test .taken) (c .before .before .before .front .ensures), ap sizeOf (c .before .l .given .1))
 
--- src/lib.rt:325:5
 loop-less : tie.Need-loop-less Inv-loop μ-loop
 loop-less c = omega (arith, some (now (c .before .before .before .before .before .before .before .before .args .s)) (c .before .before .before .before .before .before .loop .at) (c .before .before .before .front .result) (c .before .before .before .before .before .loop-test .taken) (c .before .before .before .front .ensures), ap sizeOf (c .before .l .given .1))
 
--- src/lib.rt:325:5
 loop-again : tie.Need-loop-again Inv-loop μ-loop
 loop-again c = let s = now (c .before .before .before .before .before .before .before .before .args .s) in
     let l = c .before .before .before .front in
@@ -60,35 +49,27 @@ loop-again c = let s = now (c .before .before .before .before .before .before .b
     let h = c .before .before .before .before .before .loop-test .taken in
     (omega (arith, fits s at (l .result) h (l .ensures), ap sizeOf (c .before .l .given .1)), c .before .before .before .before .before .before .loop .inv .1 ∙ past s at (l .result) h (l .ensures) _ (c .before .l .given .1))
 
--- src/lib.rt:331:27
 enum-known-l-2 : tie.Need-enum-known-l-2 Inv-loop μ-loop
 enum-known-l-2 c = search needs
 
--- src/lib.rt:332:70
 add-t14 : tie.Need-add-t14 Inv-loop μ-loop
 add-t14 c = omega (arith, fits (now (c .before .before .before .before .before .before .before .before .args .s)) (c .before .before .before .before .before .before .loop .at) (c .before .before .before .front .result) (c .before .before .before .before .before .loop-test .taken) (c .before .before .before .front .ensures), ap sizeOf (c .before .l2 .given .1))
 
--- src/lib.rt:332:17
 returns : tie.Need-returns Inv-loop μ-loop
 returns c = sym (c .before .before .before .before .before .before .loop .inv .1 ∙ found (now (c .before .before .before .before .before .before .before .before .args .s)) (c .before .before .before .before .before .before .loop .at) (c .before .before .before .front .result) (c .before .before .before .before .before .loop-test .taken) (c .before .before .before .front .ensures) _ _ _ (c .before .l2 .given .1))
 
--- src/lib.rt:334:32
 enum-told : tie.Need-enum-told Inv-loop μ-loop
 enum-told c = search needs
 
--- src/lib.rt:334:32
 returns-2 : tie.Need-returns-2 Inv-loop μ-loop
 returns-2 c = sym (c .before .before .before .before .before .loop .inv .1 ∙ no-token (now (c .before .before .before .before .before .before .before .args .s)) (c .before .before .before .before .before .loop .at) (c .before .before .front .result) (c .before .before .before .before .loop-test .taken) (c .before .before .front .ensures) (c .enum-told .given .1))
 
--- src/lib.rt:335:35
 enum-told-2 : tie.Need-enum-told-2 Inv-loop μ-loop
 enum-told-2 c = search needs
 
--- src/lib.rt:335:35
 returns-3 : tie.Need-returns-3 Inv-loop μ-loop
 returns-3 c = sym (c .before .before .before .before .before .loop .inv .1 ∙ out-of-range (now (c .before .before .before .before .before .before .before .args .s)) (c .before .before .before .before .before .loop .at) (c .before .before .front .result) (c .before .before .before .before .loop-test .taken) (c .before .before .front .ensures) (c .enum-told2 .given .1))
 
--- src/lib.rt:321:1
 returns-4 : tie.Need-returns-4 Inv-loop μ-loop
 returns-4 c = sym (c .before .loop .inv .1 ∙ at-end _ _ (search needs))
 

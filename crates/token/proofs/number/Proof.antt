@@ -1,28 +1,23 @@
-use Rattle.token.specs.Text.{digitOf, number}
+-- `number` tells no digit, a value out of range and a number apart: what is cut off lies above every limit. Assumes nothing.
+use Prim.Native.Nat.{_<_, _^_, min}
+use mathlib.Core.Path.{_≡_}
+use native.Mathlib.Omega.{arith}
+use denote.Ref.{now}
+use lib.ListN.{take}
+use borrow.Author.Needs.{needs}
 use Rattle.base.proofs.Tests.{tests}
 use Rattle.base.specs.Numbers.{numberFrom}
-use lib.ListN.{length, take}
-use denote.Ref.{now}
-use native.Mathlib.Omega.{arith}
-use Prim.Native.Nat.{ℕ, _≤_, _<_, _+_, _^_, min}
-use mathlib.Core.Path.{_≡_}
-use borrow.Author.Needs.{needs}
+use Rattle.token.specs.Text.{digitOf, number}
 use Rattle.token.proofs.number.Statement.{statement}
 use Rattle.token.proofs.number.Tie as tie
-use Rattle.token.proofs.number.Reads as reads
-use Rattle.token.proofs.number.Lts as lts
-use Rattle.token.proofs.digits.Reads as digits-reads
 
--- src/lib.rt:245:9
 digits-requires : tie.Need-digits-requires
 digits-requires c κs = search needs
 
--- src/lib.rt:249:9
 returns : tie.Need-returns
 unfolding number
 returns c = rw (← c .before .digits .ensures .size) (search tests)
 
--- src/lib.rt:252:9
 returns-2 : tie.Need-returns-2
 unfolding number
 returns-2 c = let d = c .before .before .digits in
@@ -32,15 +27,12 @@ returns-2 c = let d = c .before .before .digits in
     let h : a .most < x = omega arith in
     rw (← d .ensures .size) (search tests)
 
--- src/lib.rt:255:46
 sub-t10 : tie.Need-sub-t10
 sub-t10 c = search needs
 
--- src/lib.rt:255:76
 add-t12 : tie.Need-add-t12
 add-t12 c = omega (arith, c .before .before .before .digits .ensures .fits)
 
--- src/lib.rt:255:9
 returns-3 : tie.Need-returns-3
 unfolding number
 returns-3 c = let d = c .before .before .before .digits in
@@ -50,11 +42,9 @@ returns-3 c = let d = c .before .before .before .digits in
     let h : x ≡ d .result .value = omega (arith, c .before .before .before .before .before .pre) in
     rw (← d .ensures .size, h, c .if3 .taken) (search tests)
 
--- src/lib.rt:257:37
 add-t13 : tie.Need-add-t13
 add-t13 c = omega (arith, c .before .before .before .digits .ensures .fits)
 
--- src/lib.rt:241:1
 returns-4 : tie.Need-returns-4
 unfolding number
 returns-4 c = let d = c .before .before .before .digits in

@@ -1,62 +1,44 @@
-use Rattle.token.proofs.Readings.{too-long, no-room, in-room, few-tokens}
-use lib.ListN.{length}
-use denote.Ref.{now}
+-- `read_tokens` answers for texts that are too long or have no room, and reads all others. Assumes nothing.
 use native.Mathlib.Omega.{arith}
-use Prim.Native.Nat.{ℕ, _≤_, _<_, _+_}
-use mathlib.Core.Path.{_≡_, _∙_, sym}
+use denote.Ref.{now}
 use borrow.Author.Needs.{needs}
+use Rattle.token.proofs.Readings.{too-long, no-room, in-room, few-tokens}
 use Rattle.token.proofs.read_tokens.Statement.{statement}
 use Rattle.token.proofs.read_tokens.Tie as tie
-use Rattle.token.proofs.read_tokens.Reads as reads
-use Rattle.token.proofs.read_tokens.Lts as lts
-use Rattle.token.proofs.lay_tokens.Reads as lay-tokens-reads
-use Rattle.token.proofs.room_in.Reads as room-in-reads
 
--- src/lib.rt:387:9
 returns : tie.Need-returns
 returns c = let a = c .before .before .before .before .before .args in too-long (now (a .src)) (now (a .kinds)) (now (a .values)) (now (a .places)) _ (c .if1 .taken)
 
--- src/lib.rt:389:8
 room-in-requires : tie.Need-room-in-requires
 room-in-requires c κs = search needs
 
--- src/lib.rt:390:29
 add-t15 : tie.Need-add-t15
 add-t15 c = search needs
 
--- src/lib.rt:390:9
 same-length : tie.Need-same-length
 same-length c = search needs
 
--- src/lib.rt:390:9
 same-length-2 : tie.Need-same-length-2
 same-length-2 c = search needs
 
--- src/lib.rt:390:9
 same-length-3 : tie.Need-same-length-3
 same-length-3 c = search needs
 
--- src/lib.rt:390:9
 returns-2 : tie.Need-returns-2
 returns-2 c = let a = c .before .before .before .before .before .before .before .before .before .before .args in no-room (now (a .src)) (now (a .kinds)) (now (a .values)) (now (a .places)) (c .before .room-in .result) _ (c .before .room-in .ensures) (c .before .before .before .before .before .if1 .left) (c .if2 .taken)
 
--- src/lib.rt:392:5
 lay-tokens-requires : tie.Need-lay-tokens-requires
 lay-tokens-requires c κs = (c .before .before .before .before .before .before .before .before .if1 .left, omega (arith, few-tokens 0 0 (now (c .before .before .before .before .before .before .before .before .before .before .before .before .before .args .src)), c .before .before .before .before .room-in .ensures, c .before .before .before .if2 .left))
 
--- src/lib.rt:383:1
 same-length-4 : tie.Need-same-length-4
 same-length-4 c = search needs
 
--- src/lib.rt:383:1
 same-length-5 : tie.Need-same-length-5
 same-length-5 c = search needs
 
--- src/lib.rt:383:1
 same-length-6 : tie.Need-same-length-6
 same-length-6 c = search needs
 
--- src/lib.rt:383:1
 returns-3 : tie.Need-returns-3
 returns-3 c = let a = c .before .before .before .before .before .before .before .before .before .before .before .before .before .before .before .before .before .before .before .before .args in in-room (now (a .src)) (now (a .kinds)) (now (a .values)) (now (a .places)) (c .before .before .before .before .before .before .before .before .before .before .before .room-in .result) _ (c .before .before .before .before .before .before .before .before .before .before .before .room-in .ensures) (c .before .before .before .before .before .before .before .before .before .before .before .before .before .before .before .if1 .left) _ _ _ _ (c .before .before .before .before .before .before .before .before .before .before .if2 .left) (c .before .before .before .before .before .before .lay-tokens .ensures)
 

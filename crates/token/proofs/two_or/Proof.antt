@@ -1,23 +1,18 @@
-use Rattle.base.proofs.Tests.{tests}
+-- `two_or` looks at the second byte. Assumes nothing.
 use borrow.Author.Needs.{needs}
+use Rattle.base.proofs.Tests.{tests}
 use Rattle.token.proofs.two_or.Statement.{statement}
 use Rattle.token.proofs.two_or.Tie as tie
-use Rattle.token.proofs.two_or.Reads as reads
-use Rattle.token.proofs.two_or.Lts as lts
 
--- src/lib.rt:265:9
 returns : tie.Need-returns
 returns c = search tests
 
--- src/lib.rt:267:8
 shared-slice-read-if2 : tie.Need-shared-slice-read-if2
 shared-slice-read-if2 c = search needs
 
--- src/lib.rt:268:9
 returns-2 : tie.Need-returns-2
 returns-2 c = search tests
 
--- src/lib.rt:261:1
 returns-3 : tie.Need-returns-3
 returns-3 c = search tests
 
