@@ -74,18 +74,23 @@ abbrev pub isFinal : Outcome → Bool
 isFinal (read t end) = isLast (t .kind)
 isFinal (refused number place) = true
 
+abbrev pub refusal : Outcome → ℕ
+refusal (read t end) = 1
+refusal (refused number place) = number
+
 pub record Held (s : List ℕ) (o : Outcome) : Type 0 where
   pub before : placed o ≤ ends o
   pub fits : ends o ≤ length s
-  pub some : isFinal o ≡ false → 0 < ends o
+  pub some : isFinal o ≡ false → placed o < ends o
+  pub real : 0 < refusal o
 
 -- n is enough for what is left
 held-from : (n : ℕ) (s : List ℕ) (at : ℕ) → at ≤ length s → length s ≤ at + n → Held s (from at s)
-held-from zero s at h m = rw (at-end s at (omega arith)) (record { before = omega arith; fits = h; some = λ e. never-true (sym e) })
+held-from zero s at h m = rw (at-end s at (omega arith)) (record { before = omega arith; fits = h; some = λ e. never-true (sym e); real = omega arith })
 held-from (suc n) s at h m = go (held-from n s) (decLe (length s) at)
   where
     go : ((i : ℕ) → i ≤ length s → length s ≤ i + n → Held s (from i s)) → Dec (length s ≤ at) → Held s (from at s)
-    go ih (yes l) = rw (at-end s at l) (record { before = omega arith; fits = h; some = λ e. never-true (sym e) })
+    go ih (yes l) = rw (at-end s at l) (record { before = omega arith; fits = h; some = λ e. never-true (sym e); real = omega arith })
     go ih (no l) = by (lexeme (take (length s - at) (drop at s))) refl
       where
         b : at < length s
@@ -99,9 +104,9 @@ held-from (suc n) s at h m = go (held-from n s) (decLe (length s) at)
         by (Token kind value k) e =
             let p = some s at (Token kind value k) b e in
             let f = fits s at (Token kind value k) b e in
-            rw (found s at (Token kind value k) b e kind value k refl) (record { before = omega arith; fits = f; some = λ z. omega arith })
-        by NoToken e = rw (no-token s at NoToken b e refl) (record { before = omega arith; fits = h; some = λ z. never-true (sym z) })
-        by OutOfRange e = rw (out-of-range s at OutOfRange b e refl) (record { before = omega arith; fits = h; some = λ z. never-true (sym z) })
+            rw (found s at (Token kind value k) b e kind value k refl) (record { before = omega arith; fits = f; some = λ z. omega arith; real = omega arith })
+        by NoToken e = rw (no-token s at NoToken b e refl) (record { before = omega arith; fits = h; some = λ z. never-true (sym z); real = omega arith })
+        by OutOfRange e = rw (out-of-range s at OutOfRange b e refl) (record { before = omega arith; fits = h; some = λ z. never-true (sym z); real = omega arith })
 
 pub held : (s : List ℕ) → Held s (nextToken s)
 held s = rw (start s) (held-from (length s) s 0 (omega arith) (omega arith))

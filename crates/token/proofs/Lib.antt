@@ -7,3 +7,4 @@ pub mod Signs
 pub mod Sizes
 pub mod Gaps
 pub mod Readings
+pub mod Shape

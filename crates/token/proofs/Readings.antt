@@ -57,7 +57,7 @@ module _ (s : List ℕ) (at : ℕ) (o : Outcome) (h : at ≤ length s) (e : o �
   before : placed o ≤ ends o
   before = holds .before
 
-  some : isFinal o ≡ false → 0 < ends o
+  some : isFinal o ≡ false → placed o < ends o
   some = holds .some
 
   -- at the end of the text the next token says so
@@ -216,6 +216,19 @@ module _ {s : List ℕ} {at n : ℕ} {r : Next} {number place : ℕ} (g : Answer
   pub laid-no : (part : Token → ℕ) (old now : List ℕ) → LaidOn part s old now at n → now ≡ laid part (readFrom 0 0 s .tokens) old
   laid-no part old now w = sym (w ∙ ap (λ (x : Reading). sets now n (map part (x .tokens))) none-more)
 
+-- a text without a refusal is not too long, so all of it is read
+pub not-too-long : (s : List ℕ) → tokensOf s .number ≡ 0 → length s ≤ TEXT-LIMIT
+unfolding tokensOf
+not-too-long s = go (decLe (length s) TEXT-LIMIT)
+  where
+    go : Dec (length s ≤ TEXT-LIMIT) → tokensOf s .number ≡ 0 → length s ≤ TEXT-LIMIT
+    go (yes h) z = h
+    go (no h) z = let y : _≡_ {A = ℕ} 1 0 = rw (lt-ltb TEXT-LIMIT (length s) (omega arith)) at z in absurd (omega arith)
+
+pub all-read-from : (s : List ℕ) → tokensOf s .number ≡ 0 → tokensOf s ≡ readFrom 0 0 s
+unfolding tokensOf
+all-read-from s z = rw (le-ltb TEXT-LIMIT (length s) (not-too-long s z))
+
 -- what the entries answer before they read, and that they read
 module _ (s k v p : List ℕ) where
   pub too-long : (n : ℕ) → TEXT-LIMIT < length s → Laid (readInto n s) k v p k v p S.TooLong
@@ -258,16 +271,10 @@ module _ (s k v p : List ℕ) where
     counted = sym (ap (λ (x : Summary). x .count) e ∙ rw none-refused)
 
     pub within-limit : length s ≤ TEXT-LIMIT
-    unfolding tokensOf
-    within-limit = go (decLe (length s) TEXT-LIMIT) none-refused
-      where
-        go : Dec (length s ≤ TEXT-LIMIT) → tokensOf s .number ≡ 0 → length s ≤ TEXT-LIMIT
-        go (yes h) z = h
-        go (no h) z = let y : _≡_ {A = ℕ} 1 0 = rw (lt-ltb TEXT-LIMIT (length s) (omega arith)) at z in absurd (omega arith)
+    within-limit = not-too-long s none-refused
 
     whole : tokensOf s ≡ readFrom 0 0 s
-    unfolding tokensOf
-    whole = rw (le-ltb TEXT-LIMIT (length s) within-limit)
+    whole = all-read-from s none-refused
 
     pub enough-room : c ≤ n → length (readFrom 0 0 s .tokens) ≤ n
     enough-room l = rw (← whole) (omega (arith, counted))
