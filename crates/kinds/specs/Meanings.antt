@@ -29,11 +29,11 @@ abbrev pub mean : ℕ → Meaning → Meant → Meant
 mean t m s = record { means = set (s .means) t m; opens = s .opens; written = s .written; cells = s .cells; bases = s .bases }
 
 -- the text of the procedure `own` writes these registers too
-abbrev pub join : ℕ → (Registers → Registers) → Meant → Meant
-join own f s = record { means = s .means; opens = s .opens; written = set (s .written) own (f (getD (s .written) own noRegisters)); cells = s .cells; bases = s .bases }
+abbrev pub growWritten : ℕ → (Registers → Registers) → Meant → Meant
+growWritten own f s = record { means = s .means; opens = s .opens; written = set (s .written) own (f (getD (s .written) own noRegisters)); cells = s .cells; bases = s .bases }
 
 unfoldable pub write : ℕ → ℕ → Meant → Meant
-write own r s = join own (addRegister r) s
+write own r s = growWritten own (addRegister r) s
 
 unfoldable pub writeAll : ℕ → List ℕ → Meant → Meant
 writeAll own [] s = s
@@ -41,7 +41,7 @@ writeAll own (r ∷ rs) s = writeAll own rs (write own r s)
 
 -- all that the text of the procedure p writes
 unfoldable pub writeText : ℕ → ℕ → Meant → Meant
-writeText own p s = join own (union (getD (s .written) p noRegisters)) s
+writeText own p s = growWritten own (union (getD (s .written) p noRegisters)) s
 
 -- "A call writes the procedure's return register and all that its body's text writes, nested procedures and base declarations included, through calls too."
 unfoldable pub callWrites : Meaning → ℕ → ℕ → Meant → Meant
