@@ -1,3 +1,5 @@
 pub mod Cases
 pub mod Lines
 pub mod Written
+pub mod Places
+pub mod Segments
