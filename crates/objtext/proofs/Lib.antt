@@ -3,3 +3,4 @@ pub mod Lines
 pub mod Written
 pub mod Places
 pub mod Segments
+pub mod Walks
