@@ -403,7 +403,7 @@ fn many_literals(random: &mut Random) -> Vec<u8> {
     let shorts = random.below(3);
     let cells = 4080 - 4 * fitting - 2 * shorts.next_multiple_of(2);
     let mut phrase = format!("BEGIN ARRAY ( {} ) INTEGER A ; ", cells / 4);
-    phrase += &["", "SHORT INTEGER S ; ", "SHORT INTEGER S , T ; "][shorts];
+    phrase += ["", "SHORT INTEGER S ; ", "SHORT INTEGER S , T ; "][shorts];
     phrase += "R1 := R1 ";
     let mut values: Vec<u32> = (0..(fitting + over) as u32).map(|n| n * 77 + 5).collect();
     let repeated: Vec<u32> = values.iter().take(random.below(3)).copied().collect();
