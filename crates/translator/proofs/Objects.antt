@@ -3,6 +3,7 @@ use mathlib.Core.Path.{_≡_, refl, sym, ap, subst, _∙_}
 use mathlib.Core.Logic.{_⊎_, inl, inr}
 use mathlib.Core.List.{List, [], _∷_, _++_, map}
 use mathlib.Core.Bool.{Bool, true, false}
+use mathlib.Core.Option.{some}
 use Prim.Native.Nat.{ℕ, zero, suc, _+_, _*_, _-_, _<_, _≤_}
 use native.Mathlib.Omega.{arith}
 use lib.ListN.{length, getD, replicate, length-replicate, length-append}
@@ -10,10 +11,10 @@ use Rattle.base.specs.Lists.{_∈_, All}
 use Rattle.base.proofs.Lists.{all-both, all-getD, all-in}
 use Rattle.token.specs.declared.Token.{Token}
 use Rattle.token.specs.Text.{tokensOf}
-use Rattle.grammar.specs.Tree.{Width, full, short, Statement, assign, call, block, goto, null, ifThen, ifElse, while, for}
+use Rattle.grammar.specs.Tree.{Width, full, Statement}
 use Rattle.grammar.specs.Reader.{ok}
 use Rattle.grammar.specs.Grammar as G
-use Rattle.grammar.specs.Derives.{isStatement, isBlock, isProgram}
+use Rattle.grammar.specs.Derives.{isStatement, isProgram}
 use Rattle.grammar.proofs.Theorems.{read-is-program}
 use Rattle.names.specs.declared.Broken.{Broken}
 use Rattle.names.specs.Broken.{_⊕_}
@@ -32,6 +33,8 @@ use Rattle.kinds.proofs.Small.{Small, meant-small, standard-small}
 use Rattle.kinds.proofs.Known.{Known, Held, grown-statement, known-standard}
 use Rattle.kinds.proofs.Bases.{few-bases}
 use Rattle.objtext.specs.Object.{Segment, program, cells, Object, IsObject, Data}
+use Rattle.objtext.specs.Reader.{readObject}
+use Rattle.objtext.proofs.Written.{read-written}
 use Rattle.translator.specs.Instructions.{Instruction, stop, sizes}
 use Rattle.translator.specs.Core.{Core, coreStatement}
 use Rattle.translator.specs.Code.{code, instructions, sizeOf}
@@ -47,18 +50,6 @@ use Rattle.translator.proofs.Encoded.{bytes-encodeAll}
 use Rattle.translator.proofs.Emitted.{core-ready}
 use Rattle.translator.proofs.Images.{Fitting, placed-bytes, first-data, data-from, length-data}
 use Rattle.translator.proofs.Answers.{Accepted}
-
-block-is : (kinds : List ℕ) (x : Statement) (i j : ℕ) → isBlock kinds x i j → isStatement kinds x i j
-unfolding isBlock
-block-is kinds (block t b) i j p = p
-block-is kinds (assign a) i j p = absurd p
-block-is kinds (call n) i j p = absurd p
-block-is kinds (goto t n) i j p = absurd p
-block-is kinds null i j p = absurd p
-block-is kinds (ifThen t c s) i j p = absurd p
-block-is kinds (ifElse t c s e u) i j p = absurd p
-block-is kinds (while t c s) i j p = absurd p
-block-is kinds (for t a v l s) i j p = absurd p
 
 -- what is in a list of parts is a part of something in the list
 map-in : (c : Cell) (ds : List Filled) → c ∈ map (λ (d : Filled). d .cell) ds → (d : Filled) × (d ∈ ds) × (c ≡ d .cell)
@@ -178,4 +169,9 @@ unfolding isProgram
 accepted-object source object a =
     let p = read-is-program (kindsOf (a .tokens)) firstToken (a .tree) (a .next) (a .read) in
     object-is (a .tokens) (a .tree) (p .0) (subst (λ (l : List Token). firstToken ≤ length l) (sym (a .text)) (front-long (tokensOf source .tokens)))
-    (block-is (kindsOf (a .tokens)) (a .tree) firstToken (p .0) (p .1)) (a .quiet) (a .short) (a .room)
+    (p .1 .1) (a .quiet) (a .short) (a .room)
+
+-- and the reader of object texts gives its segments back
+pub accepted-read : (source object : List ℕ) (a : Accepted source object)
+    → readObject object ≡ some (segments (make (a .tokens) (a .tree) .bases) (make (a .tokens) (a .tree) .layout) (make (a .tokens) (a .tree) .instructions))
+accepted-read source object a = ap readObject (sym (a .made)) ∙ read-written _ (accepted-object source object a)
