@@ -5,4 +5,5 @@ pub mod Sequences
 pub mod Rules
 pub mod Nesting
 pub mod Complete
+pub mod Alike
 pub mod Theorems

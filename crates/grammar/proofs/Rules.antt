@@ -5,7 +5,7 @@ use mathlib.Core.Logic.{_⊎_, inl, inr}
 use mathlib.Core.List.{List, [], _∷_}
 use mathlib.Core.Bool.{Bool, true, false, _&&_, _||_, not}
 use mathlib.Core.Option.{Option, none, some}
-use Prim.Native.Nat.{ℕ, zero, suc, _+_, _<_}
+use Prim.Native.Nat.{ℕ, zero, suc, _+_, _≤_, _<_}
 use native.Mathlib.Omega.{arith}
 use lib.Dec.{eqb}
 use lib.ListN.{getD, length}
@@ -20,7 +20,7 @@ use Rattle.grammar.specs.Grammar.{designatorOf, operand, relations, cond
 use Rattle.grammar.specs.Derives.{Part, Begins, only, constructs, isDesignator, isOperand, isCondition, isSign, areTerms, isAssignment, areNumbers, isItem, isRegister, areMore, areSome, integerOrLogical, isType, isDeclaration, simple, isProcedure, isStatement, isBody, isItems, isBlock, isProgram}
 use Rattle.grammar.proofs.Tests.{has, real, later, the-one, second, first, both}
 use Rattle.grammar.proofs.Kept.{keep-designator, keep-operand, keep-condition, keep-sign, keep-terms, keep-assignment, keep-numbers, keep-item, keep-register, keep-some, keep-type, keep-declaration, keep-procedure, keep-statement, keep-body, keep-items, keep-only, keep-block}
-use Rattle.grammar.proofs.Sequences.{Rule, Sequence, made, token, oneOf, part, parens, Each, Leads, Right, leads-token, leads-one, leads-part, leads-begins, starts, gives, refuses, needs, wants, wants-one, wants-parens, reads, either}
+use Rattle.grammar.proofs.Sequences.{Rule, Sequence, reach, right-onward, made, token, oneOf, part, parens, Each, Leads, Right, leads-token, leads-one, leads-part, leads-begins, starts, gives, refuses, needs, wants, wants-one, wants-parens, reads, either}
 
 -- ── "designator = name, name(number), name(name), name(number)(name). operand = number or designator." ──
 
@@ -543,3 +543,24 @@ module _ (kinds : List ℕ) where
   right-program i = either (has kinds i K.BEGIN) _ _ _
       (λ b. reads _ (as-program i) (right-block 63 i (eqb-true _ _ b)) (λ x m h l. wants _ l (λ t. gives)))
       (λ b. refuses (as-program i))
+
+-- ── no reader goes back: what the lists "{…}" answer lies where they begin or later ──
+
+module _ (kinds : List ℕ) where
+  pub onward-terms : (fuel i : ℕ) → i ≤ reach (terms fuel kinds i)
+  onward-terms fuel i = right-onward keep-terms (right-terms kinds fuel i)
+
+  pub onward-numbers : (fuel i : ℕ) → i ≤ reach (numbers fuel kinds i)
+  onward-numbers fuel i = right-onward keep-numbers (right-numbers kinds fuel i)
+
+  pub onward-cells : (fuel i : ℕ) → length kinds ≤ fuel + i → i ≤ reach (listOf cellItem (suc fuel) kinds i)
+  onward-cells fuel i enough = right-onward (lists cellItems .kept) (right-list cellItems kinds _ (right-item kinds) fuel i (omega arith))
+
+  pub onward-registers : (fuel i : ℕ) → length kinds ≤ fuel + i → i ≤ reach (listOf registerItem (suc fuel) kinds i)
+  onward-registers fuel i enough = right-onward (lists registerItems .kept) (right-list registerItems kinds _ (right-register kinds) fuel i (omega arith))
+
+  pub onward-items : (room fuel i : ℕ) → i ≤ reach (itemsOf (statement room) fuel kinds i)
+  onward-items room fuel i = right-onward keep-items (right-items kinds (statement room) (right-statement kinds room) fuel i)
+
+  pub onward-body : (room fuel i : ℕ) → i ≤ reach (bodyOf (statement room) (procedureOf room) fuel kinds i)
+  onward-body room fuel i = right-onward keep-body (right-body kinds (statement room) (right-statement kinds room) (procedureOf room) (right-procedure kinds room) fuel i)

@@ -113,6 +113,11 @@ supply (part r s) kinds i =
 
 -- ── a reader along a sequence ──
 
+-- the token that an answer names: where it ended, or what it refused
+abbrev pub reach : {A : Type 0} → Result A → ℕ
+reach (ok a j) = j
+reach (bad n t) = t
+
 module _ {A : Type 0} (is : List ℕ → A → Part) (kinds : List ℕ) (i : ℕ) where
   -- the tokens from i up to p, and then the sequence, are the whole
   pub record Leads (s : Sequence A) (p : ℕ) : Type 0 where
@@ -138,6 +143,10 @@ module _ {A : Type 0} {is : List ℕ → A → Part} {kinds : List ℕ} {i : ℕ
 
   pub refused-right : {r : Result A} {n t : ℕ} → Right is kinds i r → r ≡ bad n t → Refused is kinds i n t
   refused-right h e = subst (Answers is kinds i) e (h .right)
+
+  pub right-onward : {r : Result A} → ((a : A) → Kept kinds kinds (is kinds a) (is kinds a)) → Right is kinds i r → i ≤ reach r
+  right-onward {r = ok a j} kept h = kept a .rises (h .right)
+  right-onward {r = bad n t} kept h = h .right .onward
 
   pub leads-token : {k : ℕ} {s : ℕ → Sequence A} {p : ℕ} → Leads is kinds i (token k s) p → getD kinds p 0 ≡ k → Leads is kinds i (s p) (p + 1)
   unfolding Each
