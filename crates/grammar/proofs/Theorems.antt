@@ -5,12 +5,16 @@ use mathlib.Core.List.{List}
 use mathlib.Core.Bool.{true}
 use Prim.Native.Nat.{ℕ, _+_, _≤_, _<_, max}
 use native.Mathlib.Omega.{arith}
-use lib.ListN.{getD}
+use lib.ListN.{getD, length}
 use Rattle.base.specs.Lists.{member}
+use Rattle.token.specs.Kinds as K
 use Rattle.grammar.specs.Tree.{Statement}
 use Rattle.grammar.specs.Reader.{Result, ok, bad}
 use Rattle.grammar.specs.Grammar.{nesting, program}
 use Rattle.grammar.specs.Derives.{isProgram, nestingOf, SameBefore, Begins, constructs}
+use Rattle.grammar.specs.Rising.{statementRises}
+use Rattle.grammar.proofs.Tests.{real}
+use Rattle.grammar.proofs.Rising.{rising-statement, rises-statement}
 use Rattle.grammar.proofs.Rules.{right-program}
 use Rattle.grammar.proofs.Sequences.{reach, read-right, refused-right}
 use Rattle.grammar.proofs.Nesting.{read-within}
@@ -31,6 +35,15 @@ module _ (kinds : List ℕ) (i : ℕ) where
   -- and within the limit of nesting
   pub read-is-within : (x : Statement) (j : ℕ) → program kinds i ≡ ok x j → nestingOf x ≤ nesting
   read-is-within x j e = read-within kinds i e
+
+  -- its tokens rise along the tree, from i on and before j, and all are of the text
+  pub program-rises : (x : Statement) (j : ℕ) → isProgram kinds x i j → statementRises x i j
+  unfolding isProgram
+  program-rises x j (m, (e, h), (a, q)) = rising-statement x .higher (omega arith) (rises-statement kinds x .so h)
+
+  pub program-inside : (x : Statement) (j : ℕ) → isProgram kinds x i j → j ≤ length kinds
+  unfolding isProgram
+  program-inside x j (m, h, (a, q)) = (let l = real kinds m K.AT (omega arith) a in omega arith)
 
   -- every program of the grammar within that limit is read, as itself
   pub program-is-read : (x : Statement) (j : ℕ) → isProgram kinds x i j → nestingOf x ≤ nesting → program kinds i ≡ ok x j
