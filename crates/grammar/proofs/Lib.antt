@@ -4,7 +4,7 @@ pub mod Kept
 pub mod Rising
 pub mod Sequences
 pub mod Rules
-pub mod Nesting
 pub mod Complete
 pub mod Alike
+pub mod Refused
 pub mod Theorems
