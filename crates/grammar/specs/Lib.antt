@@ -3,3 +3,4 @@ pub mod Reader
 pub mod Grammar
 pub mod Derives
 pub mod Rising
+pub mod Refusals
