@@ -1,12 +1,12 @@
 -- The theorems at worked texts: what is read, and where refusals 4 and 5 are given, by computation.
-use mathlib.Core.Path.{_≡_, refl}
-use mathlib.Core.List.{List, [], _∷_, _++_}
+use mathlib.Core.Path.{refl}
+use mathlib.Core.List.{List, [], _∷_}
 use Prim.Native.Nat.{ℕ}
 use lib.ListN.{replicate}
 use Rattle.token.specs.Kinds as K
 use Rattle.grammar.specs.Tree.{block, items, ended}
 use Rattle.grammar.specs.Reader.{andThen, look, next, want, wantOne}
-use Rattle.grammar.specs.Grammar.{designatorOf, operand, condition, terms, signOf, assignmentOf, afterName, statementOf, itemsOf, bodyOf, ifOf, constructOf, statement, nesting, program}
+use Rattle.grammar.specs.Grammar.{condition, statementOf, itemsOf, bodyOf, ifOf, constructOf, statement, nesting, program}
 use Rattle.grammar.specs.Derives.{isProgramWithin}
 use Rattle.grammar.specs.Refusals.{FourAt, FiveAt}
 use Rattle.grammar.proofs.Theorems.{accepted, refusal-4, refusal-5}

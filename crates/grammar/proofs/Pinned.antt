@@ -5,7 +5,7 @@ use mathlib.Core.Option.{Option, none, some}
 use Prim.Native.Nat.{ℕ, _+_}
 use native.Mathlib.Omega.{arith}
 use Rattle.grammar.specs.Tree.{Designator, Operand, number, place, Term, Assignment, Condition, compared, bare, Register, Declaration, registers, cells, base, Statement, assign, call, block, goto, null, ifThen, ifElse, while, for, Body, declare, procedure, items, Items, ended, label, item}
-use Rattle.grammar.specs.Derives.{isShape, isDesignator, isOperand, isCondition, areTerms, isAssignment, isRegister, areMore, areSome, isDeclaration, isStatement, isBody, isItems, isProcedure}
+use Rattle.grammar.specs.Derives.{isShape, isDesignator, isOperand, isCondition, areTerms, isAssignment, isRegister, areMore, areSome, isDeclaration, isStatement, isBody, isItems}
 use Rattle.grammar.specs.Pinned.{headOf, shapePinned, designatorPinned, operandPinned, conditionPinned, termsPinned, assignmentPinned, registersPinned, declarationPinned, statementPinned, bodyPinned, itemsPinned}
 
 module _ (kinds : List ℕ) where
