@@ -4,7 +4,7 @@ use mathlib.Core.Path.{_≡_, refl, sym, _∙_, subst}
 use mathlib.Core.Logic.{_⊎_, inl, inr}
 use mathlib.Core.List.{List, [], _∷_}
 use mathlib.Core.Bool.{Bool, true, false, _&&_, _||_, not}
-use mathlib.Core.Option.{Option, none, some}
+use mathlib.Core.Option.{Option, none}
 use Prim.Native.Nat.{ℕ, zero, suc, _+_, _≤_, _<_}
 use native.Mathlib.Omega.{arith}
 use native.Mathlib.Decide.{decLe}
@@ -17,7 +17,7 @@ use Rattle.base.proofs.Tests.{cases}
 use Rattle.token.specs.Kinds as K
 use Rattle.grammar.specs.Tree.{Width, full, short, Condition, Statement, Body, procedure, Items}
 use Rattle.grammar.specs.Reader.{Result, ok, bad, Reader, andThen, look, next, want, wantOne}
-use Rattle.grammar.specs.Grammar.{inParens, designatorOf, operand, relations, condition, operators, terms, signOf, assignmentOf, numbers, cellItem, registerItem, listOf, typeOf, cellsOf, afterType, declaration, afterName, openers, statementOf, itemsOf, Procedure, declarators, bodyOf, ifOf, constructOf, statement, procedureOf, nesting, program}
+use Rattle.grammar.specs.Grammar.{inParens, designatorOf, operand, condition, operators, terms, signOf, assignmentOf, numbers, cellItem, registerItem, listOf, typeOf, cellsOf, afterType, declaration, afterName, openers, statementOf, itemsOf, Procedure, declarators, bodyOf, ifOf, constructOf, statement, procedureOf}
 use Rattle.grammar.specs.Derives.{SameBefore, Inside, InsideBody, InsideItems}
 use Rattle.grammar.proofs.Tests.{no-token}
 use Rattle.grammar.proofs.Sequences.{reach}

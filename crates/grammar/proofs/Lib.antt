@@ -2,9 +2,11 @@
 pub mod Tests
 pub mod Kept
 pub mod Rising
+pub mod Pinned
 pub mod Sequences
 pub mod Rules
 pub mod Complete
 pub mod Alike
 pub mod Refused
 pub mod Theorems
+pub mod Cases

@@ -9,7 +9,7 @@ use native.Mathlib.Nat.{le-antisymm}
 use Rattle.grammar.specs.Tree.{Statement, assign, call, block, goto, null, ifThen, ifElse, while, for, Body, declare, procedure, items, Items, ended, label, item}
 use Rattle.grammar.specs.Reader.{Result, ok, bad}
 use Rattle.grammar.specs.Grammar.{nesting, program}
-use Rattle.grammar.specs.Derives.{isProgram, nestingOf, bodyNesting, itemsNesting, Inside, InsideBody, InsideItems, isProgramWithin, SameBefore, Begins}
+use Rattle.grammar.specs.Derives.{isProgram, nestingOf, bodyNesting, itemsNesting, Inside, InsideBody, InsideItems, isProgramWithin, Begins}
 use Rattle.grammar.specs.Refusals.{EachProgram, FourAt, FiveAt}
 use Rattle.grammar.proofs.Kept.{fewer}
 use Rattle.grammar.proofs.Sequences.{reach, Four, Five, read-right, refused-right, four-or-five, four, five}

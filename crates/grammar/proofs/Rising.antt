@@ -1,12 +1,11 @@
 -- Tokens rise along every tree that is derived; and what rises between two tokens rises between any further apart. Assumes nothing.
-use mathlib.Core.Path.{_≡_, refl, sym}
 use mathlib.Core.List.{List, [], _∷_}
 use mathlib.Core.Bool.{Bool}
 use mathlib.Core.Option.{Option, none, some}
-use Prim.Native.Nat.{ℕ, _+_, _≤_}
+use Prim.Native.Nat.{ℕ, _≤_}
 use native.Mathlib.Omega.{arith}
 use Rattle.token.specs.Kinds as K
-use Rattle.grammar.specs.Tree.{Designator, Operand, number, place, Sign, plain, abs, neg, negAbs, Term, Assignment, Condition, compared, bare, Width, full, short, Register, Item, Declaration, registers, cells, base, Statement, assign, call, block, goto, null, ifThen, ifElse, while, for, Body, declare, procedure, items, Items, ended, label, item}
+use Rattle.grammar.specs.Tree.{Designator, Operand, number, place, Sign, plain, abs, neg, negAbs, Term, Assignment, Condition, compared, bare, Width, Register, Item, Declaration, registers, cells, base, Statement, assign, call, block, goto, null, ifThen, ifElse, while, for, Body, declare, procedure, items, Items, ended, label, item}
 use Rattle.grammar.specs.Grammar.{relations, operators}
 use Rattle.grammar.specs.Derives.{Part, end, _⟫_, only, _▸_, _#_▸_, _∋▸_, _∋_▸_, integerOrLogical, simple, isShape, isDesignator, isOperand, isCondition, isSign, areTerms, isAssignment, areNumbers, isItem, isRegister, areMore, areSome, isType, isDeclaration, isStatement, isBody, isItems}
 use Rattle.grammar.specs.Rising.{rest, _↑_, perhaps, designatorRises, operandRises, conditionRises, signRises, termsRise, assignmentRises, numbersRise, cellsRise, registersRise, declarationRises, statementRises, bodyRises, itemsRise}

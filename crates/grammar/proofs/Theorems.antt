@@ -13,8 +13,10 @@ use Rattle.grammar.specs.Grammar.{nesting, program}
 use Rattle.grammar.specs.Derives.{isProgram, nestingOf, isProgramWithin}
 use Rattle.grammar.specs.Refusals.{FourAt, FiveAt}
 use Rattle.grammar.specs.Rising.{statementRises}
+use Rattle.grammar.specs.Pinned.{statementPinned}
 use Rattle.grammar.proofs.Tests.{real}
 use Rattle.grammar.proofs.Rising.{rising-statement, rises-statement}
+use Rattle.grammar.proofs.Pinned.{pinned-statement}
 use Rattle.grammar.proofs.Sequences.{read-right, refused-right, four-or-five}
 use Rattle.grammar.proofs.Rules.{right-program}
 use Rattle.grammar.proofs.Complete.{complete-program}
@@ -58,6 +60,11 @@ module _ (kinds : List ℕ) (i : ℕ) where
   pub program-rises : (x : Statement) (j : ℕ) → isProgram kinds x i j → statementRises x i j
   unfolding isProgram
   program-rises x j (m, (e, h), (a, q)) = rising-statement x .higher (omega arith) (rises-statement kinds x .so h)
+
+  -- what stands at fixed distances in it does
+  pub program-pinned : (x : Statement) (j : ℕ) → isProgram kinds x i j → statementPinned x
+  unfolding isProgram
+  program-pinned x j (m, (e, h), r) = pinned-statement kinds x i m h
 
   pub program-inside : (x : Statement) (j : ℕ) → isProgram kinds x i j → j ≤ length kinds
   unfolding isProgram

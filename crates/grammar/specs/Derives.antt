@@ -259,7 +259,7 @@ isProgramWithin most kinds x = within (nestingOf x) most (isProgram kinds x)
 pub record SameBefore (n : ℕ) (kinds others : List ℕ) : Type 0 where
   pub same : (t : ℕ) → t < n → getD others t 0 ≡ getD kinds t 0
 
--- the tokens from i on and before number n begin something of this rule: with some tokens after them, they are it or more than its first part
+-- the tokens from i on and before number n begin something of this rule: with some tokens after them it stands there, and ends no sooner than they do
 pub record Begins {A : Type 0} (is : List ℕ → A → Part) (kinds : List ℕ) (i n : ℕ) : Type 0 where
   pub others : List ℕ
   pub tree : A

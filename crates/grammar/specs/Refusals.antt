@@ -8,7 +8,7 @@ use lib.ListN.{getD}
 use Rattle.base.specs.Lists.{member}
 use Rattle.grammar.specs.Tree.{Statement}
 use Rattle.grammar.specs.Grammar.{nesting}
-use Rattle.grammar.specs.Derives.{Part, isProgram, Inside, isProgramWithin, SameBefore, Begins, constructs}
+use Rattle.grammar.specs.Derives.{isProgram, Inside, isProgramWithin, SameBefore, Begins, constructs}
 
 -- every program from token i on, in whatever tokens begin with those before number n
 abbrev pub EachProgram : (kinds : List ℕ) (i n : ℕ) → (Statement → Type 0) → Type 0
