@@ -1,1 +1,41 @@
 //! The separate implementation: document 01's translator and runner in plain Rust.
+//!
+//! The translator goes the way of the document: `token`, `grammar`, then `names`, `labels`, `layout` and `kinds` over
+//! the tree, then `code` and `object`; `translate` puts them together. `random`, `spell`, `build` and `gen` make source
+//! texts to try it on; `earley` and `rules` are second opinions on refusals 4 and 5 to 13. `vectors` stores texts with their
+//! answers.
+//!
+//! The runner: `objread` reads object text, `machine` carries out one instruction, `runner` loads and runs; `genrun` makes
+//! runs to try it on, `runcase` has their form in files, `runvectors` stores them with their answers; `assemble`, `codetable`
+//! and `hercules` hold it against outside tools.
+
+pub mod assemble;
+pub mod build;
+pub mod cmd_run;
+pub mod cmd_text;
+pub mod code;
+pub mod codetable;
+pub mod earley;
+pub mod gen;
+pub mod genrun;
+pub mod grammar;
+pub mod hercules;
+pub mod kinds;
+pub mod labels;
+pub mod layout;
+pub mod machine;
+pub mod names;
+pub mod objread;
+pub mod object;
+pub mod points;
+pub mod random;
+pub mod rules;
+pub mod runcase;
+pub mod runner;
+pub mod runspeed;
+pub mod runvectors;
+pub mod spell;
+pub mod token;
+pub mod translate;
+pub mod vectors;
+pub mod violations;

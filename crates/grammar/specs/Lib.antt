@@ -1,3 +1,4 @@
 pub mod Tree
 pub mod Reader
 pub mod Grammar
+pub mod Derives

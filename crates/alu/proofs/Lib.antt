@@ -1,0 +1,4 @@
+pub mod Signed
+pub mod Unsigned
+pub mod Products
+pub mod Shifts

@@ -1,0 +1,3 @@
+-- 32-bit arithmetic with the condition code.
+pub mod Word
+pub mod Biased

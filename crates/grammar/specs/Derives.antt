@@ -1,0 +1,233 @@
+-- Document 01, "Grammar", as it stands there: for each rule, and each tree that it makes, which tokens are exactly that tree. Nothing here reads or chooses; that the
+-- readers of `Grammar` give what is derived here, and nothing else, is shown in proofs/.
+use mathlib.Core.Path.{_≡_}
+use mathlib.Core.List.{List, [], _∷_}
+use mathlib.Core.Bool.{Bool, true, false}
+use mathlib.Core.Option.{Option, none, some}
+use Prim.Native.Nat.{ℕ, suc, _+_, _≤_, _<_, max}
+use lib.ListN.{getD}
+use Rattle.base.specs.Lists.{member}
+use Rattle.token.specs.Kinds as K
+use Rattle.grammar.specs.Tree.{Designator, Operand, number, place, Sign, plain, abs, neg, negAbs, Term, Assignment, Condition, compared, bare, Width, full, short, Register, Item, Declaration, registers, cells, base, Statement, assign, call, block, goto, null, ifThen, ifElse, while, for, Body, declare, procedure, items, Items, ended, label, item}
+use Rattle.grammar.specs.Grammar.{relations, operators}
+
+-- what stands from one token up to, but not including, another
+abbrev pub Part : Type 1
+Part = (from to : ℕ) → Type 0
+
+-- nothing stands there
+abbrev pub end : Part
+end i j = i ≡ j
+
+-- no tokens are this
+abbrev pub never : Part
+never i j = ⊥
+
+infixr 25 _⟫_
+-- one part and then another
+abbrev pub _⟫_ : Part → Part → Part
+_⟫_ p q i j = (m : ℕ) × p i m × q m j
+
+-- a part, if what the paper asks of it holds
+abbrev pub only : Bool → Part → Part
+only holds p i j = (holds ≡ true) × p i j
+
+-- "simple = assignment, name (a call), block, GOTO name, NULL."
+abbrev pub simple : Statement → Bool
+simple (assign a) = true
+simple (call n) = true
+simple (block t b) = true
+simple (goto t n) = true
+simple null = true
+simple (ifThen t c s) = false
+simple (ifElse t c s e u) = false
+simple (while t c s) = false
+simple (for t a v l s) = false
+
+abbrev pub integerOrLogical : List ℕ
+integerOrLogical = K.INTEGER ∷ K.LOGICAL ∷ []
+
+module _ (kinds : List ℕ) where
+  infixr 25 _▸_
+  -- a token of kind k, then a part
+  abbrev pub _▸_ : (k : ℕ) → Part → Part
+  _▸_ k p i j = (getD kinds i 0 ≡ k) × p (i + 1) j
+
+  infixr 25 _#_▸_
+  -- token number n, of kind k, then a part
+  abbrev pub _#_▸_ : (k n : ℕ) → Part → Part
+  _#_▸_ k n p i j = (n ≡ i) × (getD kinds i 0 ≡ k) × p (i + 1) j
+
+  infixr 25 _∋▸_
+  -- a token of one of the kinds ks, then a part
+  abbrev pub _∋▸_ : (ks : List ℕ) → Part → Part
+  _∋▸_ ks p i j = (member (getD kinds i 0) ks ≡ true) × p (i + 1) j
+
+  infixr 25 _∋_▸_
+  -- token number n, of one of the kinds ks, then a part
+  abbrev pub _∋_▸_ : (ks : List ℕ) (n : ℕ) → Part → Part
+  _∋_▸_ ks n p i j = (n ≡ i) × (member (getD kinds i 0) ks ≡ true) × p (i + 1) j
+
+  -- ── "designator = name, name(number), name(name), name(number)(name). operand = number or designator." ──
+
+  abbrev pub isShape : (name : ℕ) (subscript index : Option ℕ) → Part
+  isShape n none none = K.NAME # n ▸ end
+  isShape n (some s) none = K.NAME # n ▸ K.OPEN ▸ K.NUMBER # s ▸ K.CLOSE ▸ end
+  isShape n none (some x) = K.NAME # n ▸ K.OPEN ▸ K.NAME # x ▸ K.CLOSE ▸ end
+  isShape n (some s) (some x) = K.NAME # n ▸ K.OPEN ▸ K.NUMBER # s ▸ K.CLOSE ▸ K.OPEN ▸ K.NAME # x ▸ K.CLOSE ▸ end
+
+  unfoldable pub isDesignator : Designator → Part
+  isDesignator d = isShape (d .name) (d .subscript) (d .index)
+
+  unfoldable pub isOperand : Operand → Part
+  isOperand (number t) = K.NUMBER # t ▸ end
+  isOperand (place d) = isDesignator d
+
+  -- ── "condition = name relation operand, a bare relation, or OVERFLOW." ──
+
+  unfoldable pub isCondition : Condition → Part
+  isCondition (compared n r a) = K.NAME # n ▸ relations ∋ r ▸ isOperand a
+  isCondition (bare r) = (K.OVERFLOW ∷ relations) ∋ r ▸ end
+
+  -- ── "assignment = designator := [ABS, NEG or NEG ABS] operand {operator operand}." ──
+
+  unfoldable pub isSign : Sign → Part
+  isSign plain = end
+  isSign (abs t) = K.ABS # t ▸ end
+  isSign (neg t) = K.NEG # t ▸ end
+  isSign (negAbs t) = K.NEG # t ▸ K.ABS ▸ end
+
+  -- "{operator operand}"
+  unfoldable pub areTerms : List Term → Part
+  areTerms [] = end
+  areTerms (t ∷ ts) = operators ∋ t .operator ▸ isOperand (t .operand) ⟫ areTerms ts
+
+  unfoldable pub isAssignment : Assignment → Part
+  isAssignment a = isDesignator (a .target) ⟫ K.BECOMES ▸ isSign (a .sign) ⟫ isOperand (a .first) ⟫ areTerms (a .rest)
+
+  -- ── "declaration = (INTEGER or LOGICAL) REGISTER name(number) {, name(number)}; or [ARRAY (number)] type item {, item}; or PROCEDURE name(name) ;
+  -- statement; or SEGMENT BASE name. type = INTEGER, LOGICAL or SHORT INTEGER; item = name {(number)}." ──
+
+  -- "{(number)}"
+  unfoldable pub areNumbers : List ℕ → Part
+  areNumbers [] = end
+  areNumbers (t ∷ ts) = K.OPEN ▸ K.NUMBER # t ▸ K.CLOSE ▸ areNumbers ts
+
+  unfoldable pub isItem : Item → Part
+  isItem x = K.NAME # x .name ▸ areNumbers (x .numbers)
+
+  -- "name(number)"
+  unfoldable pub isRegister : Register → Part
+  isRegister r = K.NAME # r .name ▸ K.OPEN ▸ K.NUMBER # r .number ▸ K.CLOSE ▸ end
+
+  -- "{, item}"
+  unfoldable pub areMore : {A : Type 0} → (A → Part) → List A → Part
+  areMore isOne [] = end
+  areMore isOne (x ∷ xs) = K.COMMA ▸ isOne x ⟫ areMore isOne xs
+
+  -- "item {, item}"
+  unfoldable pub areSome : {A : Type 0} → (A → Part) → List A → Part
+  areSome isOne [] = never
+  areSome isOne (x ∷ xs) = isOne x ⟫ areMore isOne xs
+
+  unfoldable pub isType : Width → Part
+  isType full = integerOrLogical ∋▸ end
+  isType short = K.SHORT ▸ K.INTEGER ▸ end
+
+  -- all but "PROCEDURE name(name) ; statement", which stands with the blocks
+  unfoldable pub isDeclaration : Declaration → Part
+  isDeclaration (registers rs) = integerOrLogical ∋▸ K.REGISTER ▸ areSome isRegister rs
+  isDeclaration (cells none w xs) = isType w ⟫ areSome isItem xs
+  isDeclaration (cells (some c) w xs) = K.ARRAY ▸ K.OPEN ▸ K.NUMBER # c ▸ K.CLOSE ▸ isType w ⟫ areSome isItem xs
+  isDeclaration (base n) = K.SEGMENT ▸ K.BASE ▸ K.NAME # n ▸ end
+
+  -- ── "simple = assignment, name (a call), block, GOTO name, NULL. statement = simple; IF condition THEN statement; IF condition THEN simple ELSE
+  -- statement; WHILE condition DO statement; FOR assignment STEP number UNTIL operand DO statement." ──
+
+  -- "PROCEDURE name(name) ; statement"
+  abbrev pub isProcedure : (name return : ℕ) (isIts : Part) → Part
+  isProcedure n r isIts = K.PROCEDURE ▸ K.NAME # n ▸ K.OPEN ▸ K.NAME # r ▸ K.CLOSE ▸ K.SEMICOLON ▸ isIts
+
+  unfoldable mutual
+    pub isStatement : Statement → Part
+    isStatement (assign a) = isAssignment a
+    isStatement (call n) = K.NAME # n ▸ end
+    isStatement (block t b) = K.BEGIN # t ▸ isBody b
+    isStatement (goto t n) = K.GOTO # t ▸ K.NAME # n ▸ end
+    isStatement null = K.NULL ▸ end
+    isStatement (ifThen t c s) = K.IF # t ▸ isCondition c ⟫ K.THEN ▸ isStatement s
+    isStatement (ifElse t c s e u) = K.IF # t ▸ isCondition c ⟫ K.THEN ▸ only (simple s) (isStatement s) ⟫ K.ELSE # e ▸ isStatement u
+    isStatement (while t c s) = K.WHILE # t ▸ isCondition c ⟫ K.DO ▸ isStatement s
+    isStatement (for t a v l s) = K.FOR # t ▸ isAssignment a ⟫ K.STEP ▸ K.NUMBER # v ▸ K.UNTIL ▸ isOperand l ⟫ K.DO ▸ isStatement s
+
+    -- ── "block = BEGIN {declaration ;} {statement ; or name :} END", what follows BEGIN ──
+
+    pub isBody : Body → Part
+    isBody (declare d b) = isDeclaration d ⟫ K.SEMICOLON ▸ isBody b
+    isBody (procedure n r s b) = isProcedure n r (isStatement s) ⟫ K.SEMICOLON ▸ isBody b
+    isBody (items xs) = isItems xs
+
+    pub isItems : Items → Part
+    isItems ended = K.END ▸ end
+    isItems (label n xs) = K.NAME # n ▸ K.COLON ▸ isItems xs
+    isItems (item s xs) = isStatement s ⟫ K.SEMICOLON ▸ isItems xs
+
+  -- ── "program = block @." ──
+
+  -- a statement that is a block
+  unfoldable pub isBlock : Statement → Part
+  isBlock (block t b) = isStatement (block t b)
+  isBlock (assign a) = never
+  isBlock (call n) = never
+  isBlock (goto t n) = never
+  isBlock null = never
+  isBlock (ifThen t c s) = never
+  isBlock (ifElse t c s e u) = never
+  isBlock (while t c s) = never
+  isBlock (for t a v l s) = never
+
+  unfoldable pub isProgram : Statement → Part
+  isProgram x = isBlock x ⟫ K.AT ▸ end
+
+-- ── "BEGIN, IF, WHILE, FOR or PROCEDURE inside … such constructs": how many constructs stand, one inside the other ──
+
+unfoldable mutual
+  pub nestingOf : Statement → ℕ
+  nestingOf (assign a) = 0
+  nestingOf (call n) = 0
+  nestingOf (block t b) = suc (bodyNesting b)
+  nestingOf (goto t n) = 0
+  nestingOf null = 0
+  nestingOf (ifThen t c s) = suc (nestingOf s)
+  nestingOf (ifElse t c s e u) = suc (max (nestingOf s) (nestingOf u))
+  nestingOf (while t c s) = suc (nestingOf s)
+  nestingOf (for t a v l s) = suc (nestingOf s)
+
+  pub bodyNesting : Body → ℕ
+  bodyNesting (declare d b) = bodyNesting b
+  bodyNesting (procedure n r s b) = max (suc (nestingOf s)) (bodyNesting b)
+  bodyNesting (items xs) = itemsNesting xs
+
+  pub itemsNesting : Items → ℕ
+  itemsNesting ended = 0
+  itemsNesting (label n xs) = itemsNesting xs
+  itemsNesting (item s xs) = max (nestingOf s) (itemsNesting xs)
+
+-- ── "no program begins with the tokens up to here" ──
+
+-- the tokens before number n are of the same kinds
+pub record SameBefore (n : ℕ) (kinds others : List ℕ) : Type 0 where
+  pub same : (t : ℕ) → t < n → getD others t 0 ≡ getD kinds t 0
+
+-- the tokens from i on and before number n begin something of this rule: with some tokens after them, they are it or more than its first part
+pub record Begins {A : Type 0} (is : List ℕ → A → Part) (kinds : List ℕ) (i n : ℕ) : Type 0 where
+  pub others : List ℕ
+  pub tree : A
+  pub to : ℕ
+  pub same : SameBefore n kinds others
+  pub reach : n ≤ to
+  pub derived : is others tree i to
+
+-- "BEGIN, IF, WHILE, FOR or PROCEDURE"
+abbrev pub constructs : List ℕ
+constructs = K.BEGIN ∷ K.IF ∷ K.WHILE ∷ K.FOR ∷ K.PROCEDURE ∷ []

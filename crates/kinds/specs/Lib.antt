@@ -1,0 +1,7 @@
+pub mod Registers
+pub mod Meaning
+pub mod Writes
+pub mod Meanings
+pub mod Tables
+pub mod Rules
+pub mod Kinds

@@ -1,0 +1,57 @@
+-- Document 01, "Names, cells, protected registers": what a declared name means. Meanings are held by the token that declares the name, and never taken back.
+use mathlib.Core.List.{List}
+use mathlib.Core.Bool.{Bool, true, false}
+use mathlib.Core.Option.{Option, none, some}
+use Prim.Native.Nat.{ℕ}
+use lib.ListN.{getD}
+use Rattle.grammar.specs.Tree.{Designator, Operand, number, place, Width, full, short}
+
+-- "Cells take the next multiple of their size (4, or 2 for short)."
+abbrev pub elementSize : Width → ℕ
+elementSize full = 4
+elementSize short = 2
+
+abbrev pub isFull : Width → Bool
+isFull full = true
+isFull short = false
+
+-- a data base in force: its register and its segment
+pub record Based : Type 0 where
+  pub register : ℕ
+  pub segment : ℕ
+
+-- a cell: the token of its name, the base in force at its declaration, the width and number of its elements, and whether it was declared an array
+pub record Cell : Type 0 where
+  pub name : ℕ
+  pub base : Based
+  pub width : Width
+  pub elements : ℕ
+  pub array : Bool
+
+pub data Meaning : Type 0 where
+  nothing : Meaning
+  register : (r : ℕ) → Meaning
+  cell : Cell → Meaning
+  routine : (return : ℕ) → Meaning
+
+-- what the name at token t means, by its declaration's token
+abbrev pub meaningOf : List ℕ → List Meaning → ℕ → Meaning
+meaningOf found means t = getD means (getD found t 0) nothing
+
+-- the register that a name means; 0 where it means none
+abbrev pub registerOf : Meaning → ℕ
+registerOf nothing = 0
+registerOf (register r) = r
+registerOf (cell c) = 0
+registerOf (routine r) = 0
+
+-- "`*` by a number, or by what begins with the name of a register or integer cell, needs an odd target and also writes the register below."
+abbrev pub isLong : Meaning → Bool
+isLong nothing = false
+isLong (register r) = true
+isLong (cell c) = isFull (c .width)
+isLong (routine r) = false
+
+abbrev pub longOperand : List ℕ → List Meaning → Operand → Bool
+longOperand found means (number t) = true
+longOperand found means (place d) = isLong (meaningOf found means (d .name))

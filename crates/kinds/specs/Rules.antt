@@ -1,0 +1,238 @@
+-- Document 01, "Names, cells, protected registers": the rules on kinds, registers and values of each part of a text, refusals 8 to 11, and 12 of a base
+-- declaration. A name that was not found fits nowhere: 6 at the same place is the smaller number.
+use mathlib.Core.List.{List, [], _∷_}
+use mathlib.Core.Bool.{Bool, true, false, _&&_, _||_, not}
+use mathlib.Core.Option.{Option, none, some}
+use Prim.Native.Nat.{ℕ, zero, suc, _+_, _*_, _-_, _%_}
+use lib.Dec.{eqb, leb, ltb}
+use lib.ListN.{getD}
+use Rattle.base.specs.Choose.{if_then_else_}
+use Rattle.base.specs.Lists.{member}
+use Rattle.token.specs.Kinds as K
+use Rattle.grammar.specs.Tree.{Designator, Operand, number, place, Sign, plain, abs, neg, negAbs, Term, Assignment, Condition, compared, bare, Width, full, short, Register, Item, Declaration, registers, cells, base}
+use Rattle.names.specs.declared.Broken.{Broken}
+use Rattle.names.specs.Broken.{unbroken, rule, broken, _⊕_}
+use Rattle.kinds.specs.Registers.{Registers, noRegisters, spares}
+use Rattle.kinds.specs.Meaning.{Meaning, nothing, register, cell, routine, Cell, elementSize, isFull, meaningOf, registerOf, longOperand}
+use Rattle.kinds.specs.Tables.{Tables, kindAt, valueAt, meaningAt}
+
+-- "Program base is register 15. Data base is 14 … Protected at a point: 15, 14, the bases of enclosing blocks declared so far, the return registers of
+-- enclosing procedures."
+abbrev pub protected : List ℕ
+protected = 15 ∷ 14 ∷ []
+
+-- "No statement, base declaration or call may write a protected register": "10: … target, call or base name; `*` for the lower register"
+unfoldable pub writeRule : List ℕ → ℕ → ℕ → Broken
+writeRule kept r t = rule (not (member r kept)) 10 t
+
+-- ── registers ──
+
+abbrev pub isRegister : Meaning → Bool
+isRegister nothing = false
+isRegister (register r) = true
+isRegister (cell c) = false
+isRegister (routine r) = false
+
+abbrev pub isZero : Meaning → Bool
+isZero nothing = false
+isZero (register r) = eqb r 0
+isZero (cell c) = false
+isZero (routine r) = false
+
+-- ── forms and values ──
+
+abbrev pub isBare : Option ℕ → Option ℕ → Bool
+isBare none none = true
+isBare none (some x) = false
+isBare (some s) none = false
+isBare (some s) (some x) = false
+
+abbrev pub bareName : Designator → Bool
+bareName d = isBare (d .subscript) (d .index)
+
+-- "A subscript is a byte offset, … is a multiple of the element size, and its element lies inside the array."
+abbrev pub inside : Cell → ℕ → Bool
+inside c v = eqb (v % elementSize (c .width)) 0 && leb (v + elementSize (c .width)) (elementSize (c .width) * c .elements)
+
+abbrev pub shifts : List ℕ
+shifts = K.SHLL ∷ K.SHRL ∷ K.SHLA ∷ K.SHRA ∷ []
+
+-- "AND, OR, XOR, `++`, `--` take no short cell."
+abbrev pub fullOnly : List ℕ
+fullOnly = K.AND ∷ K.OR ∷ K.XOR ∷ K.ADD-LOGICAL ∷ K.SUBTRACT-LOGICAL ∷ []
+
+abbrev pub isShort : Meaning → Bool
+isShort nothing = false
+isShort (register r) = false
+isShort (cell c) = not (isFull (c .width))
+isShort (routine r) = false
+
+abbrev pub noSign : Sign → Broken
+noSign plain = unbroken
+noSign (abs t) = broken 8 t
+noSign (neg t) = broken 8 t
+noSign (negAbs t) = broken 8 t
+
+abbrev pub noChain : List Term → Broken
+noChain [] = unbroken
+noChain (t ∷ ts) = broken 8 (t .operator)
+
+-- "A value for a short cell has signed value -32768 to 65535": a number's 32 bits are read as signed
+abbrev pub fitsWidth : Width → ℕ → Bool
+fitsWidth full v = true
+fitsWidth short v = leb v 65535 || leb (4294967296 - 32768) v
+
+-- the last of segments 1 to 3: "12: … a third base declaration"
+abbrev pub lastSegment : ℕ
+lastSegment = 3
+
+-- ── rules by the tables ──
+
+module _ (f : Tables) where
+  -- "The first name in a condition, the FOR target and indexes are registers."
+  unfoldable pub registerRule : ℕ → Broken
+  registerRule t = rule (isRegister (meaningAt f t)) 8 t
+
+  -- "9: … 0 as base, return, index, shift"
+  unfoldable pub zeroRule : ℕ → Broken
+  zeroRule t = rule (not (isZero (meaningAt f t))) 9 t
+
+  -- ── designators and operands ──
+
+  unfoldable pub indexRules : Option ℕ → Broken
+  indexRules none = unbroken
+  indexRules (some t) = registerRule t ⊕ zeroRule t
+
+  unfoldable pub subscriptRules : Cell → Option ℕ → Broken
+  subscriptRules c none = unbroken
+  subscriptRules c (some t) = rule (inside c (valueAt f t)) 11 t
+
+  -- "A subscript … belongs only to arrays (else 8 at the name before it)", and so does an index
+  abbrev pub placeBy : Meaning → Designator → Broken
+  placeBy nothing d = broken 8 (d .name)
+  placeBy (register r) d = rule (bareName d) 8 (d .name)
+  placeBy (cell c) d = rule (c .array || bareName d) 8 (d .name) ⊕ subscriptRules c (d .subscript) ⊕ indexRules (d .index)
+  placeBy (routine r) d = broken 8 (d .name)
+
+  unfoldable pub placeRules : Designator → Broken
+  placeRules d = placeBy (meaningAt f (d .name)) d
+
+  unfoldable pub operandRules : Operand → Broken
+  operandRules (number t) = unbroken
+  operandRules (place d) = placeRules d
+
+  -- one register name and nothing else
+  unfoldable pub onlyRegister : Operand → Broken
+  onlyRegister (number t) = broken 8 t
+  onlyRegister (place d) = rule (isRegister (meaningAt f (d .name)) && bareName d) 8 (d .name)
+
+  -- ── chains ──
+
+  -- "Shift operands are a number 0 to 63 or a register."
+  unfoldable pub shiftRules : Operand → Broken
+  shiftRules (number t) = rule (leb (valueAt f t) 63) 11 t
+  shiftRules (place d) = onlyRegister (place d) ⊕ zeroRule (d .name)
+
+  unfoldable pub noShort : Operand → Broken
+  noShort (number t) = unbroken
+  noShort (place d) = rule (not (isShort (meaningAt f (d .name)))) 8 (d .name)
+
+  -- "`*` by a number, or by what begins with the name of a register or integer cell, needs an odd target and also writes the register below."
+  unfoldable pub productRules : List ℕ → ℕ → Term → Broken
+  productRules kept r t =
+      if longOperand (f .found) (f .means) (t .operand) then rule (eqb (r % 2) 1) 9 (t .operator) ⊕ writeRule kept (r - 1) (t .operator) else unbroken
+
+  -- a term in the chain of the target register r
+  unfoldable pub termRules : List ℕ → ℕ → Term → Broken
+  termRules kept r t =
+      let k = kindAt f (t .operator) in
+      if member k shifts then shiftRules (t .operand) else
+      if eqb k K.TIMES then productRules kept r t ⊕ operandRules (t .operand) else
+      if member k fullOnly then operandRules (t .operand) ⊕ noShort (t .operand) else
+      operandRules (t .operand)
+
+  unfoldable pub chainRules : List ℕ → ℕ → List Term → Broken
+  chainRules kept r [] = unbroken
+  chainRules kept r (t ∷ ts) = termRules kept r t ⊕ chainRules kept r ts
+
+  -- ── assignments ──
+
+  -- "A register target takes the whole chain, left to right"
+  unfoldable pub toRegister : List ℕ → ℕ → Assignment → Broken
+  toRegister kept r a =
+      rule (bareName (a .target)) 8 (a .target .name) ⊕ writeRule kept r (a .target .name) ⊕ operandRules (a .first) ⊕ chainRules kept r (a .rest)
+
+  -- "a cell target one register name only"
+  unfoldable pub toCell : Assignment → Broken
+  toCell a = placeRules (a .target) ⊕ noSign (a .sign) ⊕ onlyRegister (a .first) ⊕ noChain (a .rest)
+
+  abbrev pub assignBy : Meaning → List ℕ → Assignment → Broken
+  assignBy nothing kept a = broken 8 (a .target .name)
+  assignBy (register r) kept a = toRegister kept r a
+  assignBy (cell c) kept a = toCell a
+  assignBy (routine r) kept a = broken 8 (a .target .name)
+
+  unfoldable pub assignmentRules : List ℕ → Assignment → Broken
+  assignmentRules kept a = assignBy (meaningAt f (a .target .name)) kept a
+
+  -- the FOR target is a register
+  abbrev pub controlBy : Meaning → List ℕ → Assignment → Broken
+  controlBy nothing kept a = broken 8 (a .target .name)
+  controlBy (register r) kept a = toRegister kept r a
+  controlBy (cell c) kept a = broken 8 (a .target .name)
+  controlBy (routine r) kept a = broken 8 (a .target .name)
+
+  unfoldable pub controlRules : List ℕ → Assignment → Broken
+  controlRules kept a = controlBy (meaningAt f (a .target .name)) kept a
+
+  unfoldable pub conditionRules : Condition → Broken
+  conditionRules (compared n r a) = registerRule n ⊕ operandRules a
+  conditionRules (bare r) = unbroken
+
+  -- ── calls ──
+
+  -- "A procedure's name is known in its own body; a call there is refused": its return register is protected there
+  abbrev pub callBy : Meaning → List ℕ → ℕ → Broken
+  callBy nothing kept n = broken 8 n
+  callBy (register r) kept n = broken 8 n
+  callBy (cell c) kept n = broken 8 n
+  callBy (routine r) kept n = writeRule kept r n ⊕ rule (spares (getD (f .written) (getD (f .found) n 0) noRegisters) kept) 10 n
+
+  unfoldable pub callRules : List ℕ → ℕ → Broken
+  callRules kept n = callBy (meaningAt f n) kept n
+
+  -- ── declarations ──
+
+  -- "9: register not 0 to 15"
+  unfoldable pub registersRules : List Register → Broken
+  registersRules [] = unbroken
+  registersRules (r ∷ rs) = rule (leb (valueAt f (r .number)) 15) 9 (r .number) ⊕ registersRules rs
+
+  -- "11: bad initial value or one too many", of the values for which there is room
+  unfoldable pub valueRules : Width → ℕ → List ℕ → Broken
+  valueRules w room [] = unbroken
+  valueRules w zero (t ∷ ts) = broken 11 t
+  valueRules w (suc room) (t ∷ ts) = rule (fitsWidth w (valueAt f t)) 11 t ⊕ valueRules w room ts
+
+  unfoldable pub itemRules : Width → ℕ → List Item → Broken
+  itemRules w room [] = unbroken
+  itemRules w room (i ∷ is) = valueRules w room (i .numbers) ⊕ itemRules w room is
+
+  -- "11: … array count not 1 to 2,048"
+  unfoldable pub cellsRules : Option ℕ → Width → List Item → Broken
+  cellsRules none w is = itemRules w 1 is
+  cellsRules (some t) w is = rule (leb 1 (valueAt f t) && leb (valueAt f t) 2048) 11 t ⊕ itemRules w (valueAt f t) is
+
+  unfoldable pub baseRules : List ℕ → ℕ → Broken
+  baseRules kept n = registerRule n ⊕ zeroRule n ⊕ writeRule kept (registerOf (meaningAt f n)) n ⊕ rule (leb (getD (f .opens) n 0) lastSegment) 12 n
+
+  unfoldable pub declarationRules : List ℕ → Declaration → Broken
+  declarationRules kept (registers rs) = registersRules rs
+  declarationRules kept (cells c w is) = cellsRules c w is
+  declarationRules kept (base n) = baseRules kept n
+
+  -- the protected registers after a declaration
+  abbrev pub keptAfter : Declaration → List ℕ → List ℕ
+  keptAfter (registers rs) kept = kept
+  keptAfter (cells c w is) kept = kept
+  keptAfter (base n) kept = registerOf (meaningAt f n) ∷ kept

@@ -1,0 +1,59 @@
+-- `load_step` stops as the operand's tests say; an aligned operand that begins in storage lies in it. Assumes nothing.
+use mathlib.Core.Path.{_∙_}
+use native.Mathlib.Omega.{arith}
+use borrow.Author.Needs.{needs}
+use borrow.Author.Tests.{eq-eqb, ne-eqb}
+use Rattle.base.proofs.Tests.{told}
+use Rattle.machine.proofs.Operands.{whole}
+use Rattle.machine.specs.Space.{needed}
+use Rattle.machine.proofs.load_step.Statement.{statement}
+use Rattle.machine.proofs.load_step.Tie as tie
+
+rem-if1 : tie.Need-rem-if1
+rem-if1 c = search needs
+
+halt-requires : tie.Need-halt-requires
+halt-requires c κs = search needs
+
+returns : tie.Need-returns
+returns c = rw (ne-eqb _ _ (c .before .if1 .taken), c .halt .ensures)
+
+is-readable-requires : tie.Need-is-readable-requires
+is-readable-requires c κs = search needs
+
+load-requires : tie.Need-load-requires
+load-requires c κs = (search needs, omega (arith, whole _ needed _ (c .before .before .before .if1 .left) (c .before .before .before .before .before .pre .5) (c .before .before .is-readable .ensures .1 (c .before .if2 .taken))))
+
+extend-requires : tie.Need-extend-requires
+extend-requires c κs = search needs
+
+add-execute : tie.Need-add-execute
+add-execute c = search needs
+
+execute-requires : tie.Need-execute-requires
+execute-requires c κs = search needs
+
+returns-2 : tie.Need-returns-2
+returns-2 c = rw (eq-eqb _ _ (c .before .before .before .before .before .before .if1 .left), told (c .before .before .before .before .before .is-readable .ensures .0) (c .before .before .before .before .if2 .taken)) (c .execute .ensures ∙ rw (c .before .extend .ensures, c .before .before .load .ensures .0))
+
+halt-requires-2 : tie.Need-halt-requires-2
+halt-requires-2 c κs = search needs
+
+returns-3 : tie.Need-returns-3
+returns-3 c = rw (eq-eqb _ _ (c .before .before .before .if1 .left), told (c .before .before .is-readable .ensures .0) (c .before .if2 .left), c .halt2 .ensures)
+
+pub load-step-spec : {M : Type 1} → statement M
+load-step-spec =
+    tie.close
+    (tie.spec
+    rem-if1
+    halt-requires
+    returns
+    is-readable-requires
+    load-requires
+    extend-requires
+    add-execute
+    execute-requires
+    returns-2
+    halt-requires-2
+    returns-3)

@@ -1,0 +1,28 @@
+-- `multiply_step` stops at an odd field, and else multiplies. Assumes nothing.
+use mathlib.Core.Path.{_∙_}
+use borrow.Author.Needs.{needs}
+use borrow.Author.Tests.{eq-eqb, ne-eqb}
+use Rattle.machine.proofs.multiply_step.Statement.{statement}
+use Rattle.machine.proofs.multiply_step.Tie as tie
+
+halt-requires : tie.Need-halt-requires
+halt-requires c κs = search needs
+
+returns : tie.Need-returns
+returns c = rw (ne-eqb _ _ (c .before .if1 .taken), c .halt .ensures)
+
+get-requires : tie.Need-get-requires
+get-requires c κs = search needs
+
+add-pair : tie.Need-add-pair
+add-pair c = search needs
+
+pair-requires : tie.Need-pair-requires
+pair-requires c κs = search needs
+
+returns-2 : tie.Need-returns-2
+returns-2 c = rw (eq-eqb _ _ (c .before .before .before .before .if1 .left)) (c .pair .ensures ∙ rw (c .before .get .ensures))
+
+pub multiply-step-spec : {M : Type 1} → statement M
+multiply-step-spec =
+    tie.close (tie.spec halt-requires returns get-requires add-pair pair-requires returns-2)

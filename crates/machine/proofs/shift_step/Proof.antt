@@ -1,0 +1,45 @@
+-- `shift_step` writes what `shifted` makes. Assumes nothing.
+use borrow.Author.Needs.{needs}
+use Rattle.machine.proofs.shift_step.Statement.{statement}
+use Rattle.machine.proofs.shift_step.Tie as tie
+
+address-requires : tie.Need-address-requires
+address-requires c κs = search needs
+
+cast-n : tie.Need-cast-n
+cast-n c = search needs
+
+get-requires : tie.Need-get-requires
+get-requires c κs = search needs
+
+shifted-requires : tie.Need-shifted-requires
+shifted-requires c κs = search needs
+
+mul-regs : tie.Need-mul-regs
+mul-regs c = search needs
+
+element-write-regs : tie.Need-element-write-regs
+element-write-regs c = search needs
+
+add-go : tie.Need-add-go
+add-go c = search needs
+
+go-requires : tie.Need-go-requires
+go-requires c κs = search needs
+
+returns : tie.Need-returns
+returns c = rw (c .go .ensures, c .before .shifted .ensures, c .before .before .get .ensures, c .before .before .before .before .address .ensures .0)
+
+pub shift-step-spec : {M : Type 1} → statement M
+shift-step-spec =
+    tie.close
+    (tie.spec
+    address-requires
+    cast-n
+    get-requires
+    shifted-requires
+    mul-regs
+    element-write-regs
+    add-go
+    go-requires
+    returns)

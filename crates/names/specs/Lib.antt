@@ -1,0 +1,4 @@
+pub mod Broken
+pub mod Search
+pub mod Names
+pub mod Labels

@@ -1,0 +1,1 @@
+// The object text: its definition, and its reader.

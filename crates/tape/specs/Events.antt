@@ -1,0 +1,95 @@
+-- The events of a tape, as numbers. To those of designators (TARGET, CONTROL) and operands (FIRST, TERM, COMPARED, LIMIT) their shape is added.
+use Prim.Native.Nat.{ℕ}
+
+abbrev pub BLOCK : ℕ
+BLOCK = 0
+
+abbrev pub END-BLOCK : ℕ
+END-BLOCK = 1
+
+abbrev pub REGISTER : ℕ
+REGISTER = 2
+
+abbrev pub SINGLE-FULL : ℕ
+SINGLE-FULL = 3
+
+abbrev pub SINGLE-SHORT : ℕ
+SINGLE-SHORT = 4
+
+abbrev pub ARRAY-FULL : ℕ
+ARRAY-FULL = 5
+
+abbrev pub ARRAY-SHORT : ℕ
+ARRAY-SHORT = 6
+
+abbrev pub ITEM : ℕ
+ITEM = 7
+
+abbrev pub VALUE : ℕ
+VALUE = 8
+
+abbrev pub BASE : ℕ
+BASE = 9
+
+abbrev pub PROCEDURE : ℕ
+PROCEDURE = 10
+
+abbrev pub END-PROCEDURE : ℕ
+END-PROCEDURE = 11
+
+abbrev pub LABEL : ℕ
+LABEL = 12
+
+abbrev pub TARGET : ℕ
+TARGET = 13
+
+abbrev pub CONTROL : ℕ
+CONTROL = 17
+
+abbrev pub ABS : ℕ
+ABS = 21
+
+abbrev pub NEG : ℕ
+NEG = 22
+
+abbrev pub NEG-ABS : ℕ
+NEG-ABS = 23
+
+abbrev pub FIRST : ℕ
+FIRST = 24
+
+abbrev pub TERM : ℕ
+TERM = 29
+
+abbrev pub COMPARED : ℕ
+COMPARED = 34
+
+abbrev pub LIMIT : ℕ
+LIMIT = 39
+
+abbrev pub BARE : ℕ
+BARE = 44
+
+abbrev pub WHILE : ℕ
+WHILE = 45
+
+abbrev pub END-FOR : ℕ
+END-FOR = 46
+
+abbrev pub ELSE : ℕ
+ELSE = 47
+
+abbrev pub END-ELSE : ℕ
+END-ELSE = 48
+
+abbrev pub END-IF : ℕ
+END-IF = 49
+
+abbrev pub END-WHILE : ℕ
+END-WHILE = 50
+
+abbrev pub CALL : ℕ
+CALL = 51
+
+abbrev pub GOTO : ℕ
+GOTO = 52

@@ -1,0 +1,3 @@
+-- The tape that the grammar writes and every later pass reads.
+pub mod Events
+pub mod Tape

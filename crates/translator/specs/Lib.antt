@@ -1,0 +1,8 @@
+pub mod Instructions
+pub mod Core
+pub mod Code
+pub mod Layout
+pub mod Bytes
+pub mod Image
+pub mod Translate
+pub mod Worked

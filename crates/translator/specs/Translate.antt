@@ -1,0 +1,144 @@
+-- Document 01, "Numbers answered": the whole translation, a function of the source and the buffer's room. "Groups in order: 1; 2, 3; 4, 5; 6 to 13; 14; 15; 16."
+use mathlib.Core.List.{List, [], _∷_, _++_, map}
+use mathlib.Core.Bool.{Bool, true, false}
+use Prim.Native.Nat.{ℕ, zero, suc, _-_}
+use lib.Dec.{ltb}
+use lib.ListN.{length, drop, getD, replicate}
+use Rattle.base.specs.Choose.{if_then_else_}
+use Rattle.token.specs.declared.Token.{Token}
+use Rattle.token.specs.Text.{Reading, tokensOf}
+use Rattle.grammar.specs.Tree.{Statement}
+use Rattle.grammar.specs.Reader.{Result, ok, bad}
+use Rattle.grammar.specs.Grammar.{program}
+use Rattle.names.specs.declared.Broken.{Broken}
+use Rattle.names.specs.Broken.{unbroken, _⊕_}
+use Rattle.names.specs.Search.{inFront, firstToken, around}
+use Rattle.names.specs.Names.{Named, nameStatement}
+use Rattle.names.specs.Labels.{Labelled, labelStatement}
+use Rattle.kinds.specs.Meanings.{Meant, meanStatement, dataBase, standard}
+use Rattle.kinds.specs.Tables.{Tables}
+use Rattle.kinds.specs.Rules.{protected}
+use Rattle.kinds.specs.Kinds.{kindStatement}
+use Rattle.objtext.specs.Object.{Segment, objectText}
+use Rattle.translator.specs.Instructions.{Instruction, sizes}
+use Rattle.translator.specs.Core.{coreStatement}
+use Rattle.translator.specs.Code.{instructions}
+use Rattle.translator.specs.Layout.{Layout, layout, literalsEnd, segmentLimit}
+use Rattle.translator.specs.Image.{segments}
+
+-- ── the answer ──
+
+pub data Answer : Type 0 where
+  accepted : (text : List ℕ) → Answer
+  refused : (number place : ℕ) → Answer
+
+-- "Translator: number, place, length. … Accepted is 0, place 0, bytes written … A refusal has length 0."
+abbrev pub numberOf : Answer → ℕ
+numberOf (accepted t) = 0
+numberOf (refused n p) = n
+
+abbrev pub placeOf : Answer → ℕ
+placeOf (accepted t) = 0
+placeOf (refused n p) = p
+
+abbrev pub lengthOf : Answer → ℕ
+lengthOf (accepted t) = length t
+lengthOf (refused n p) = 0
+
+-- the buffer at the end: "later bytes of the buffer stay"
+abbrev pub leaves : Answer → List ℕ → List ℕ
+leaves (accepted t) buffer = t ++ drop (length t) buffer
+leaves (refused n p) buffer = buffer
+
+-- ── the tokens ──
+
+abbrev pub kindsOf : List Token → List ℕ
+kindsOf ts = map (λ (t : Token). t .kind) ts
+
+-- of numbers their 32 bits, of names their keys
+abbrev pub valuesOf : List Token → List ℕ
+valuesOf ts = map (λ (t : Token). t .value) ts
+
+-- "A place is the offset of the first byte of what is named."
+abbrev pub placeAt : List Token → ℕ → ℕ
+placeAt ts i = getD (map (λ (t : Token). t .place) ts) i 0
+
+-- ── refusals 6 to 13, and what they are judged by ──
+
+unfoldable pub named : List Token → Statement → Named
+named ts x = nameStatement (valuesOf ts) x around (record { found = replicate (length ts) 0; count = 0; broken = unbroken })
+
+unfoldable pub labelled : List Token → Statement → Labelled
+labelled ts x = labelStatement (valuesOf ts) x [] (record { goes = replicate (length ts) 0; count = 0; broken = unbroken })
+
+-- a text with its names, labels and meanings found, its instructions and its layout
+pub record Made : Type 0 where
+  pub tables : Tables
+  pub instructions : List Instruction
+  pub layout : Layout
+  pub bases : ℕ
+  pub broken : Broken
+
+unfoldable pub meant : List Token → Named → Statement → Meant
+meant ts n x = meanStatement (kindsOf ts) (valuesOf ts) (n .found) x 0 dataBase (standard (length ts - firstToken))
+
+abbrev pub tablesOf : List Token → Named → Labelled → Meant → Tables
+tablesOf ts n l m = record {
+  kinds = kindsOf ts;
+  values = valuesOf ts;
+  found = n .found;
+  goes = l .goes;
+  means = m .means;
+  opens = m .opens;
+  written = m .written;
+}
+
+unfoldable pub make : List Token → Statement → Made
+make ts x =
+    let n = named ts x in
+    let l = labelled ts x in
+    let m = meant ts n x in
+    let f = tablesOf ts n l m in
+    let is = instructions (coreStatement f x) in
+    let y = layout (m .bases) (m .cells) is in
+    record { tables = f; instructions = is; layout = y; bases = m .bases; broken = n .broken ⊕ l .broken ⊕ kindStatement f x protected ⊕ y .broken }
+
+-- ── the groups ──
+
+-- "14: program over 4,096 bytes … 0"; "15: literals end past 4,096 … 0"
+unfoldable pub finish : Made → Answer
+finish m =
+    if ltb segmentLimit (sizes (m .instructions)) then refused 14 0 else
+    if ltb segmentLimit (literalsEnd (m .layout)) then refused 15 0 else
+    accepted (objectText (segments (m .bases) (m .layout) (m .instructions)))
+
+-- "6 to 13"
+abbrev pub judgeBy : List Token → Made → ℕ → Answer
+judgeBy ts m zero = finish m
+judgeBy ts m (suc n) = refused (suc n) (placeAt ts (m .broken .at))
+
+unfoldable pub judge : List Token → Made → Answer
+judge ts m = judgeBy ts m (m .broken .number)
+
+-- "4 … 5 … token, or text length", which is the place of the end
+abbrev pub afterTokens : List Token → Result Statement → Answer
+afterTokens ts (ok x next) = judge ts (make ts x)
+afterTokens ts (bad n i) = refused n (placeAt ts i)
+
+-- "1 … 2 … 3"
+abbrev pub afterText : Reading → ℕ → Answer
+afterText r zero = let ts = inFront ++ r .tokens in afterTokens ts (program (kindsOf ts) firstToken)
+afterText r (suc n) = refused (suc n) (r .place)
+
+-- all but 16: the object text, whatever the room
+unfoldable pub translated : List ℕ → Answer
+translated source = afterText (tokensOf source) (tokensOf source .number)
+
+-- "16: buffer shorter than the object text … length needed"
+unfoldable pub inRoom : ℕ → Answer → Answer
+inRoom room (accepted t) = if ltb room (length t) then refused 16 (length t) else accepted t
+inRoom room (refused n p) = refused n p
+
+-- the answer to a source and a buffer with this room
+unfoldable pub translate : List ℕ → ℕ → Answer
+translate source room = inRoom room (translated source)

@@ -1,0 +1,524 @@
+//! Generated source texts: right ones, careless ones, ones at the limits, and mutated ones, so that every refusal that
+//! a text can have comes up, each at least once in 200 texts, and at least a third of the texts are accepted.
+
+use crate::build::Builder;
+use crate::random::Random;
+use crate::spell::{any_value, number, number_out_of_range, set_in_lines, text};
+use crate::token::{RESERVED, SIGNS, TEXT_LIMIT};
+
+/// The text with this number under the seed.
+pub fn case(seed: u64, number: u64) -> Vec<u8> {
+    any_text(&mut Random::new(seed, number))
+}
+
+fn any_text(random: &mut Random) -> Vec<u8> {
+    match random.below(1000) {
+        0..=349 => right_text(random),
+        350..=579 => careless_text(random),
+        580..=719 => mutated_tokens(random),
+        720..=779 => mutated_bytes(random),
+        780..=789 => source_length(random),
+        790..=804 => nesting(random),
+        805..=819 => many_names(random),
+        820..=834 => many_labels(random),
+        835..=859 => full_segment(random),
+        860..=879 => long_program(random),
+        880..=899 => many_literals(random),
+        900..=914 => twice(random),
+        915..=929 => bad_number(random),
+        930..=944 => bad_byte(random),
+        945..=964 => protected(random),
+        965..=979 => tiny(random),
+        _ => token_soup(random),
+    }
+}
+
+/// How many statements a program may have: mostly few.
+fn size(random: &mut Random) -> usize {
+    match random.below(20) {
+        0 => random.range(40, 90),
+        1..=7 => random.range(15, 40),
+        _ => random.range(2, 20),
+    }
+}
+
+fn right_tokens(random: &mut Random) -> Vec<String> {
+    let statements = size(random);
+    let mut builder = Builder::new(random, statements, 0);
+    builder.program(|_| {});
+    builder.tokens
+}
+
+/// A text that is accepted.
+pub fn right_text(random: &mut Random) -> Vec<u8> {
+    let tokens = right_tokens(random);
+    text(random, &tokens)
+}
+
+/// An accepted text of about `length` bytes, up to 32,000, with code in proportion, to measure speed on.
+pub fn sized_text(random: &mut Random, length: usize) -> Vec<u8> {
+    const CODE_ROOM: usize = 3800;
+    const LITERAL_ROOM: usize = 250;
+    let mut builder = Builder::new(random, 1, 0);
+    builder.program(|builder| {
+        let mut written = 0;
+        let mut counted = 0;
+        while written + 100 < length {
+            let in_proportion = builder.length * 32_000 <= CODE_ROOM * written.max(100);
+            if in_proportion && builder.literals.len() < LITERAL_ROOM {
+                builder.small_statement();
+            } else {
+                builder.put("COMMENT A LINE THAT TELLS WHAT HAPPENS HERE AND WHY IT DOES;");
+            }
+            written += builder.tokens[counted..].iter().map(|token| token.len() + 1).sum::<usize>();
+            counted = builder.tokens.len();
+        }
+    });
+    let tokens = builder.tokens;
+    set_in_lines(&tokens)
+}
+
+/// A text by a builder that leaves rules aside.
+pub fn careless_text(random: &mut Random) -> Vec<u8> {
+    let statements = size(random);
+    let careless = *random.of(&[10, 25, 60, 150]);
+    let mut builder = Builder::new(random, statements, careless);
+    builder.program(|_| {});
+    let tokens = builder.tokens;
+    text(random, &tokens)
+}
+
+/// A text with some tokens taken away, doubled, exchanged or replaced.
+pub fn mutated_tokens(random: &mut Random) -> Vec<u8> {
+    let mut tokens = right_tokens(random);
+    let changes = *random.of(&[1, 1, 1, 2, 3]);
+    let by_kind = random.chance(2, 3);
+    for _ in 0..changes {
+        if by_kind {
+            replace_alike(random, &mut tokens);
+        } else {
+            disturb(random, &mut tokens);
+        }
+    }
+    text(random, &tokens)
+}
+
+fn is_name(token: &str) -> bool {
+    token.starts_with(|first: char| first.is_ascii_uppercase()) && RESERVED.iter().all(|(word, _)| *word != token)
+}
+
+fn is_number(token: &str) -> bool {
+    token.starts_with(|first: char| first.is_ascii_digit() || first == '_' || first == '#')
+}
+
+const OPERATORS: [&str; 12] = ["+", "-", "*", "++", "--", "AND", "OR", "XOR", "SHLL", "SHRL", "SHLA", "SHRA"];
+const RELATIONS: [&str; 6] = ["=", "^=", "<", "<=", ">=", ">"];
+const TYPES: [&str; 2] = ["INTEGER", "LOGICAL"];
+
+/// A token in place of another of its kind, so that the text stays a program.
+fn replace_alike(random: &mut Random, tokens: &mut [String]) {
+    let names: Vec<String> = tokens.iter().filter(|token| is_name(token)).cloned().collect();
+    for _ in 0..20 {
+        let at = random.below(tokens.len());
+        let old = tokens[at].as_str();
+        let new = if is_name(old) {
+            match random.below(4) {
+                0 => format!("R{}", random.of(b"0123456789ABCDEF".map(char::from).as_slice())),
+                1 => "UNKNOWN".to_string(),
+                _ => random.of(&names).clone(),
+            }
+        } else if is_number(old) {
+            let value = any_value(random);
+            number(random, value)
+        } else if let Some(list) = [&OPERATORS[..], &RELATIONS, &TYPES].into_iter().find(|list| list.contains(&old)) {
+            random.of(list).to_string()
+        } else {
+            continue;
+        };
+        tokens[at] = new;
+        return;
+    }
+}
+
+/// Any token of the language.
+fn any_token(random: &mut Random) -> String {
+    match random.below(10) {
+        0..=1 => random.of(&["A", "R1", "R0", "RE", "P", "L", "X"]).to_string(),
+        2 => {
+            let value = any_value(random);
+            number(random, value)
+        }
+        3..=6 => random.of(&RESERVED).0.to_string(),
+        _ => random.of(&SIGNS).0.to_string(),
+    }
+}
+
+fn disturb(random: &mut Random, tokens: &mut Vec<String>) {
+    let at = random.below(tokens.len());
+    match random.below(6) {
+        0 => {
+            tokens.remove(at);
+        }
+        1 => {
+            let doubled = tokens[at].clone();
+            tokens.insert(at, doubled);
+        }
+        2 => {
+            let other = random.below(tokens.len());
+            tokens.swap(at, other);
+        }
+        3 => {
+            let token = any_token(random);
+            tokens.insert(at, token);
+        }
+        4 => tokens.truncate(at),
+        _ => tokens[at] = any_token(random),
+    }
+    if tokens.is_empty() {
+        tokens.push("@".to_string());
+    }
+}
+
+/// A text with some bytes changed.
+pub fn mutated_bytes(random: &mut Random) -> Vec<u8> {
+    let mut text = right_text(random);
+    for _ in 0..random.range(1, 3) {
+        let at = random.below(text.len());
+        let byte = match random.below(3) {
+            0 => random.next() as u8,
+            _ => *random.of(b"ABRE019_#@:;=<>+-*(), \n^COMMENT"),
+        };
+        match random.below(4) {
+            0 if text.len() > 1 => {
+                text.remove(at);
+            }
+            1 => text.insert(at, byte),
+            2 => text.truncate(at + 1),
+            _ => text[at] = byte,
+        }
+    }
+    text
+}
+
+/// A text of about 32,768 bytes, at the limit or one past it.
+fn source_length(random: &mut Random) -> Vec<u8> {
+    let mut text = if random.chance(1, 2) { right_text(random) } else { mutated_tokens(random) };
+    let length = match random.below(8) {
+        0 => TEXT_LIMIT,
+        1 => TEXT_LIMIT - 1,
+        2 => TEXT_LIMIT + random.range(2, 500),
+        _ => TEXT_LIMIT + 1,
+    };
+    let filling = *random.of(b" \n@;");
+    let room = length.saturating_sub(text.len());
+    if random.chance(1, 2) {
+        text.extend(std::iter::repeat_n(filling, room));
+    } else {
+        let blanks = std::iter::repeat_n(b' ', room);
+        text.splice(0..0, blanks);
+    }
+    text
+}
+
+/// About 64 constructs inside each other.
+fn nesting(random: &mut Random) -> Vec<u8> {
+    let depth = *random.of(&[63, 64, 65, 65, 65, 66]);
+    let mut tokens = vec!["BEGIN".to_string()];
+    let mut closing = vec!["END @"];
+    let mut may_declare = true;
+    for _ in 1..depth {
+        let (opening, close, declares) = match random.below(if may_declare { 6 } else { 5 }) {
+            0 => ("IF = THEN", "", false),
+            1 => ("IF R1 < 5 THEN NULL ELSE", "", false),
+            2 => ("WHILE > DO", "", false),
+            3 => ("FOR R1 := 1 STEP 1 UNTIL 2 DO", "", false),
+            4 => ("BEGIN", "END", true),
+            _ => ("PROCEDURE P ( R5 ) ;", "", false),
+        };
+        // A statement directly in a block needs its `;`, so does a procedure.
+        let before = closing.last().copied().unwrap_or("");
+        if before.starts_with("END") {
+            closing.push(";");
+        }
+        closing.push(close);
+        may_declare = declares;
+        tokens.extend(opening.split(' ').map(str::to_string));
+    }
+    let innermost_is_block = closing.last().is_some_and(|close| close.starts_with("END"));
+    if !innermost_is_block {
+        tokens.push("NULL".to_string());
+    }
+    for close in closing.iter().rev() {
+        tokens.extend(close.split_ascii_whitespace().map(str::to_string));
+    }
+    if random.chance(1, 4) {
+        disturb(random, &mut tokens);
+    }
+    text(random, &tokens)
+}
+
+/// A short name for each number, none of them reserved: no word of the language has a digit.
+fn name_of(number: usize) -> String {
+    let letter = |number: usize| char::from(b'A' + (number % 26) as u8);
+    match number {
+        0..=25 => letter(number).to_string(),
+        _ => format!("{}{}", letter(number), (number - 26) / 26),
+    }
+}
+
+/// About 256 declared names, in several blocks or one.
+fn many_names(random: &mut Random) -> Vec<u8> {
+    let wanted = *random.of(&[255, 256, 257, 257, 257, 258, 300]);
+    let mut tokens: Vec<String> = vec!["BEGIN".to_string()];
+    let mut blocks = 0;
+    let mut fresh = 0;
+    let mut declared = 0;
+    while declared < wanted {
+        let items = random.range(1, 60).min(wanted - declared);
+        let kind = random.below(8);
+        for item in 0..items {
+            let first = item == 0;
+            let name = name_of(fresh + item);
+            let phrase = match (kind, first) {
+                (0, true) => format!("INTEGER REGISTER {name} ( 3 )"),
+                (0, false) => format!(", {name} ( 3 )"),
+                (1, true) => format!("PROCEDURE {name} ( R5 ) ; NULL"),
+                (1, false) => format!("; PROCEDURE {name} ( R5 ) ; NULL"),
+                (_, true) => format!("SHORT INTEGER {name}"),
+                (_, false) => format!(", {name}"),
+            };
+            tokens.extend(phrase.split(' ').map(str::to_string));
+        }
+        tokens.push(";".to_string());
+        declared += items;
+        fresh += items;
+        if random.chance(1, 4) {
+            blocks += 1;
+            fresh = if random.chance(1, 2) { 0 } else { fresh };
+            tokens.push("BEGIN".to_string());
+        }
+    }
+    for _ in 0..blocks {
+        tokens.extend(["END".to_string(), ";".to_string()]);
+    }
+    tokens.extend(["END".to_string(), "@".to_string()]);
+    if random.chance(1, 5) {
+        replace_alike(random, &mut tokens);
+    }
+    text(random, &tokens)
+}
+
+/// About 256 labels, in several blocks or one.
+fn many_labels(random: &mut Random) -> Vec<u8> {
+    let wanted = *random.of(&[255, 256, 257, 257, 257, 258, 300]);
+    let mut tokens: Vec<String> = vec!["BEGIN".to_string()];
+    let mut fresh = 0;
+    let mut open = 0;
+    for _ in 0..wanted {
+        tokens.extend([name_of(fresh), ":".to_string()]);
+        fresh += 1;
+        if random.chance(1, 20) {
+            tokens.push("BEGIN".to_string());
+            open += 1;
+            fresh = 0;
+        } else if random.chance(1, 20) {
+            let label = name_of(random.below(fresh));
+            tokens.extend(["GOTO".to_string(), label, ";".to_string()]);
+        }
+    }
+    for _ in 0..open {
+        tokens.extend(["END".to_string(), ";".to_string()]);
+    }
+    tokens.extend(["END".to_string(), "@".to_string()]);
+    if random.chance(1, 5) {
+        replace_alike(random, &mut tokens);
+    }
+    text(random, &tokens)
+}
+
+/// A segment filled to 4,096 bytes, or 2 or 4 bytes past.
+fn full_segment(random: &mut Random) -> Vec<u8> {
+    let bases = random.below(4);
+    let mut tokens: Vec<String> = vec!["BEGIN".to_string()];
+    let mut end = 16;
+    for register in ["RA", "RB", "RC"].iter().take(bases) {
+        tokens.extend(["SEGMENT", "BASE", register, ";"].map(str::to_string));
+        end = 0;
+    }
+    let over = *random.of(&[0, 0, 1, 1, 1]);
+    let mut item = 0;
+    loop {
+        let short = random.chance(1, 2);
+        let size = if short { 2 } else { 4 };
+        let start = usize::next_multiple_of(end, size);
+        let fitting = (4096 - start.min(4096)) / size;
+        let last = item > 5 || random.chance(1, 3);
+        let count = if last { fitting + over } else { random.range(1, 700).min(fitting.max(1)) };
+        item += 1;
+        if count == 0 || count > 2048 {
+            if last && count == 0 {
+                break;
+            }
+            continue;
+        }
+        end = start + size * count;
+        let words = if short { "SHORT INTEGER" } else { "INTEGER" };
+        let phrase = format!("ARRAY ( {count} ) {words} A{item} ;");
+        tokens.extend(phrase.split(' ').map(str::to_string));
+        if last || end > 4096 {
+            break;
+        }
+    }
+    tokens.extend(["END".to_string(), "@".to_string()]);
+    text(random, &tokens)
+}
+
+/// A program of about 4,096 bytes of code.
+fn long_program(random: &mut Random) -> Vec<u8> {
+    let wanted = *random.of(&[4092, 4094, 4096, 4096, 4098, 4098, 4098, 4100, 5000]);
+    let statements = size(random);
+    let mut builder = Builder::new(random, statements, 0);
+    builder.program(|builder| {
+        let (first, by) = *builder.random.of(&[("R1", "+R1"), ("R3", "-R2"), ("R8", "XOR R1")]);
+        let rest = wanted - builder.length.min(wanted);
+        if rest == 0 {
+            return;
+        }
+        [first, ":=", first].iter().for_each(|token| builder.put(token));
+        for _ in 0..rest / 2 - 1 {
+            let cut = if by.starts_with("XOR") { 3 } else { 1 };
+            builder.put(&by[..cut]);
+            builder.put(by[cut..].trim());
+        }
+        builder.put(";");
+    });
+    let tokens = builder.tokens;
+    text(random, &tokens)
+}
+
+/// A segment 1 whose literals end at about 4,096.
+fn many_literals(random: &mut Random) -> Vec<u8> {
+    let fitting = random.range(0, 9);
+    let over = *random.of(&[0, 1, 1, 1, 2]);
+    let shorts = random.below(3);
+    let cells = 4080 - 4 * fitting - 2 * shorts.next_multiple_of(2);
+    let mut phrase = format!("BEGIN ARRAY ( {} ) INTEGER A ; ", cells / 4);
+    phrase += &["", "SHORT INTEGER S ; ", "SHORT INTEGER S , T ; "][shorts];
+    phrase += "R1 := R1 ";
+    let mut values: Vec<u32> = (0..(fitting + over) as u32).map(|n| n * 77 + 5).collect();
+    let repeated: Vec<u32> = values.iter().take(random.below(3)).copied().collect();
+    values.extend(repeated);
+    random.shuffle(&mut values);
+    for value in values {
+        let token = number(random, value);
+        let part = match random.below(4) {
+            0 => format!("; IF R2 < {token} THEN NULL ; R1 := R1 "),
+            1 => format!("; FOR R2 := R3 STEP {token} UNTIL R4 DO R6 := R7 ; R1 := R1 "),
+            _ => format!("{} {token} ", random.of(&["+", "-", "++", "AND", "*"])),
+        };
+        phrase += &part;
+    }
+    phrase += "; END @";
+    let tokens: Vec<String> = phrase.split_ascii_whitespace().map(str::to_string).collect();
+    text(random, &tokens)
+}
+
+/// A name declared or a label set a second time.
+fn twice(random: &mut Random) -> Vec<u8> {
+    let mut tokens = right_tokens(random);
+    let label = random.chance(1, 2);
+    let names = ["A", "R1", "LOOPSTARTS", "LOOPSTARTSX", "P"];
+    let (one, two) = (*random.of(&names), *random.of(&names));
+    let phrase = if label {
+        format!("{one} : {two} :")
+    } else {
+        let further = match random.below(3) {
+            0 => format!("INTEGER REGISTER {two} ( 7 )"),
+            1 => format!("PROCEDURE {two} ( R8 ) ; NULL"),
+            _ => format!("ARRAY ( 3 ) INTEGER {two}"),
+        };
+        format!("BEGIN SHORT INTEGER {one} , V ; {further} ; END ;")
+    };
+    // Behind the last statement of the program, before its END and `@`.
+    let at = tokens.len() - 2;
+    tokens.splice(at..at, phrase.split(' ').map(str::to_string));
+    text(random, &tokens)
+}
+
+/// A number out of range somewhere.
+fn bad_number(random: &mut Random) -> Vec<u8> {
+    let mut tokens = if random.chance(3, 4) { right_tokens(random) } else { vec!["END".to_string()] };
+    let numbers: Vec<usize> = (0..tokens.len()).filter(|&at| is_number(&tokens[at])).collect();
+    let bad = number_out_of_range(random);
+    match random.pick(&numbers) {
+        Some(&at) => tokens[at] = bad,
+        None => {
+            let at = random.below(tokens.len());
+            tokens.insert(at, bad);
+        }
+    }
+    text(random, &tokens)
+}
+
+/// A byte in no token somewhere, or a comment without an end.
+fn bad_byte(random: &mut Random) -> Vec<u8> {
+    let mut text = right_text(random);
+    let at = random.below(text.len());
+    match random.below(3) {
+        0 => text.splice(at..at, b" COMMENT ".iter().copied()).for_each(drop),
+        1 => text.insert(at, *random.of(b"\t\r\0a?!/&.%_#^\"\x7F\x80\xFF")),
+        _ => text.insert(at, random.next() as u8),
+    }
+    text
+}
+
+/// Procedures that write or return by few registers, and calls among them.
+fn protected(random: &mut Random) -> Vec<u8> {
+    let registers = ["R4", "R5", "R6", "R7", "RC"];
+    let mut phrase = "BEGIN ".to_string();
+    let procedures = random.range(2, 5);
+    for procedure in 0..procedures {
+        let own = *random.of(&registers);
+        let written = random.of(&registers);
+        let body = match random.below(6) {
+            0 => format!("{written} := R1"),
+            1 => format!("BEGIN SEGMENT BASE {written} ; END"),
+            2 => "R7 := R1 * R2".to_string(),
+            3 => format!("BEGIN PROCEDURE N ( {written} ) ; NULL ; N ; END"),
+            _ if procedure > 0 => format!("P{}", random.below(procedure)),
+            _ => "NULL".to_string(),
+        };
+        phrase += &format!("PROCEDURE P{procedure} ( {own} ) ; {body} ; ");
+    }
+    if random.chance(1, 2) {
+        phrase += &format!("SEGMENT BASE {} ; ", random.of(&registers));
+    }
+    phrase += &format!("P{} ; END @", random.below(procedures));
+    let tokens: Vec<String> = phrase.split_ascii_whitespace().map(str::to_string).collect();
+    text(random, &tokens)
+}
+
+/// A few bytes only.
+fn tiny(random: &mut Random) -> Vec<u8> {
+    let mut text = Vec::new();
+    for _ in 0..random.below(6) {
+        match random.below(4) {
+            0 => text.push(random.next() as u8),
+            1 => text.extend(random.of(&SIGNS).0.as_bytes()),
+            2 => text.extend(random.of(&RESERVED).0.as_bytes()),
+            _ => text.extend(random.of(&["BEGIN ", "END ", "@", " ", "COMMENT", "COMMENT;", "\n", "R1"]).as_bytes()),
+        }
+    }
+    text
+}
+
+/// Tokens in any order, behind a beginning that is right.
+fn token_soup(random: &mut Random) -> Vec<u8> {
+    let mut tokens = right_tokens(random);
+    let kept = random.range(0, tokens.len());
+    tokens.truncate(kept);
+    for _ in 0..random.range(1, 5) {
+        tokens.push(any_token(random));
+    }
+    text(random, &tokens)
+}

@@ -1,0 +1,85 @@
+//! Labels: for every GOTO, the label that it means. Refusal 6 for GOTO, 7 and 13 for labels.
+
+use crate::grammar::*;
+use crate::token::{Spelling, Token};
+use crate::violations::Violations;
+use std::collections::HashMap;
+
+/// "257th label, in the program"
+pub const LABEL_LIMIT: usize = 256;
+
+/// The token that sets the label, for each token of a GOTO's name that has found one.
+pub fn labels(program: &Block, tokens: &[Token], violations: &mut Violations) -> Vec<Option<TokenNo>> {
+    let mut search = Search { tokens, violations, blocks: Vec::new(), set: 0, found: vec![None; tokens.len()] };
+    search.block(program);
+    search.found
+}
+
+struct Search<'a, 'b> {
+    tokens: &'a [Token],
+    violations: &'a mut Violations<'b>,
+    /// The labels of the enclosing blocks inside the innermost procedure body, the innermost block last.
+    blocks: Vec<HashMap<Spelling, TokenNo>>,
+    /// The labels set so far in the whole program.
+    set: usize,
+    found: Vec<Option<TokenNo>>,
+}
+
+impl Search<'_, '_> {
+    /// Labels are "found forward or backward": those of a block are known from its start.
+    fn block(&mut self, block: &Block) {
+        let mut own = HashMap::new();
+        for item in &block.items {
+            if let Item::Label(label) = item {
+                let twice = own.contains_key(&self.tokens[*label].name);
+                self.violations.add_if(twice, 7, *label);
+                own.entry(self.tokens[*label].name).or_insert(*label);
+            }
+        }
+        self.blocks.push(own);
+        for declaration in &block.declarations {
+            if let Declaration::Procedure(procedure) = declaration {
+                self.body(&procedure.body);
+            }
+        }
+        for item in &block.items {
+            match item {
+                Item::Statement(statement) => self.statement(statement),
+                Item::Label(label) => {
+                    self.set += 1;
+                    self.violations.add_if(self.set > LABEL_LIMIT, 13, *label);
+                }
+            }
+        }
+        self.blocks.pop();
+    }
+
+    /// "but never past the edge of a procedure body"
+    fn body(&mut self, body: &Statement) {
+        let outside = std::mem::take(&mut self.blocks);
+        self.statement(body);
+        self.blocks = outside;
+    }
+
+    fn statement(&mut self, statement: &Statement) {
+        match statement {
+            Statement::Goto(name) => self.goto(*name),
+            Statement::Block(block) => self.block(block),
+            Statement::Assignment(_) | Statement::Call(_) | Statement::Null => {}
+            Statement::If { then, otherwise, .. } => {
+                self.statement(then);
+                if let Some(otherwise) = otherwise {
+                    self.statement(otherwise);
+                }
+            }
+            Statement::While { body, .. } | Statement::For { body, .. } => self.statement(body),
+        }
+    }
+
+    fn goto(&mut self, name: TokenNo) {
+        let spelling = self.tokens[name].name;
+        let found = self.blocks.iter().rev().find_map(|own| own.get(&spelling));
+        self.violations.add_if(found.is_none(), 6, name);
+        self.found[name] = found.copied();
+    }
+}
