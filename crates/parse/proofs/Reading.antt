@@ -1,22 +1,17 @@
 -- Readers joined: what one reads after another. Assumes nothing.
 use mathlib.Core.Path.{_≡_, refl, _∙_, sym, ap, subst}
 use mathlib.Core.List.{List, [], _∷_, _++_, append-assoc}
-use mathlib.Core.Bool.{Bool, true, false, not, true≢false}
 use Prim.Native.Nat.{ℕ, zero, suc, _+_, _-_, _*_, _≤_, _<_}
 use native.Mathlib.Omega.{arith}
 use native.Mathlib.Nat.{mod-eq-of-lt}
 use native.Mathlib.Numerals.{add-one}
 use borrow.Author.Tests.{eq-eqb, ne-eqb}
-use lib.Dec.{T, lit<}
+use lib.Dec.{lit<}
 use lib.ListN.{getD, length, take, set, List·getD-eq-default}
 use lib.Seq.{take-suc-set}
-use Rattle.base.specs.Choose.{if_then_else_}
-use Rattle.base.specs.Lists.{member}
-use Rattle.base.specs.Tables.{allBelow}
-use Rattle.base.proofs.Tables.{all-below}
-use Rattle.grammar.specs.Reader.{Result, ok, bad, andThen, want, wantOne}
+use Rattle.grammar.specs.Reader.{Result, ok, bad, andThen, want}
 use Rattle.parse.specs.declared.tokens.Answer.{Answer}
-use Rattle.parse.specs.Tape.{event}
+use Rattle.tape.specs.Tape.{event}
 use Rattle.parse.specs.Reads.{Tells, Reads, Is, Pushed, Kind, Took}
 
 -- ── one event more ──
@@ -73,6 +68,11 @@ module _ {A B : Type 0} {P : A → ℕ → Type 0} {Q : B → ℕ → Type 0} {k
   gives {m = ok a j} g f h = record { tells = (h .tells .0, h .tells .1, f a (h .tells .2)); onward = h .onward; inside = h .inside }
   gives {m = bad n t} g f h = record { tells = h .tells; onward = h .onward; inside = h .inside }
 
+module _ {A B : Type 0} {P : A → ℕ → Type 0} {Q : B → ℕ → Type 0} {ks : List ℕ} {i : ℕ} {r : Answer} where
+  -- a part is refused, and its value dropped
+  pub halts : {s : Answer} {m : Result A} (f : A → ℕ → Result B) → Reads P ks i r m → (r .number ≡ 0 → ⊥) → Is (r .number) (r .at) 0 s → Reads Q ks i s (andThen m f)
+  halts f h e s = stops {P = P} f (refuses h e s) (λ z. e (sym (s .number-is) ∙ z))
+
 -- ── tokens ──
 pub past : (ks : List ℕ) (i : ℕ) → length ks ≤ i → i ≤ length ks → Kind ks i 0
 past ks i h l = record { is = sym (List·getD-eq-default ks 0 h); within = omega arith }
@@ -84,30 +84,3 @@ hit e l s = record { read = rw (eq-eqb _ _ e) (done s (omega arith) (omega arith
 pub miss : {ks : List ℕ} {k i : ℕ} {r : Answer} → (getD ks i 0 ≡ k → ⊥) → i ≤ length ks → Is 4 i 0 r → Took ks i r (want k ks i)
 unfolding want
 miss e l s = record { read = rw (ne-eqb _ _ e) (no s (lit< tt) l); moved = omega arith; none = s .value-is }
-
--- a test of a kind against a list, at a token of that kind
-pub among : (l : List ℕ) {ks : List ℕ} {i k : ℕ} {b t : Bool} → Kind ks i k → b ≡ member k l → b ≡ t → member (getD ks i 0) l ≡ t
-among l {t} h e f = subst (λ (x : ℕ). member x l ≡ t) (h .is) (sym e ∙ f)
-
-pub one-yes : (l : List ℕ) {ks : List ℕ} {i k : ℕ} {b : Bool} → Kind ks i k → b ≡ member k l → b ≡ true → wantOne l ks i ≡ ok i (i + 1)
-unfolding wantOne
-one-yes l h e f = rw (among l h e f)
-
-pub one-no : (l : List ℕ) {ks : List ℕ} {i k : ℕ} {b : Bool} → Kind ks i k → b ≡ member k l → b ≡ false → wantOne l ks i ≡ bad 4 i
-unfolding wantOne
-one-no l h e f = rw (among l h e f)
-
--- a kind of a list without 0 is that of a token
-pub is-token : (l : List ℕ) {ks : List ℕ} {i k : ℕ} {b : Bool} → Kind ks i k → b ≡ member k l → b ≡ true → member 0 l ≡ false → i < length ks
-is-token l {k = zero} h e f g = absurd (true≢false (sym f ∙ e ∙ g))
-is-token l {k = suc k} h e f g = omega arith
-
--- two tests that agree on every byte
-pub same-test : (f g : ℕ → Bool) → T (allBelow 256 (λ k. if f k then g k else not (g k))) → (k : ℕ) → k < 256 → f k ≡ g k
-same-test f g t k h = go (f k) (g k) (all-below 256 (λ k. if f k then g k else not (g k)) t k h)
-  where
-    go : (a b : Bool) → T (if a then b else not b) → a ≡ b
-    go true true t = refl
-    go true false t = absurd t
-    go false true t = absurd t
-    go false false t = refl

@@ -1,3 +1,2 @@
-pub mod Events
-pub mod Tape
 pub mod Reads
+pub mod Parts

@@ -4,8 +4,8 @@ use mathlib.Core.List.{List, _∷_, _++_}
 use Prim.Native.Nat.{ℕ, _+_, _-_, _*_, _≤_, _<_}
 use lib.ListN.{length, getD, take}
 use Rattle.grammar.specs.Reader.{Result, ok, bad}
-use Rattle.grammar.specs.Grammar.{inParens, designatorOf}
-use Rattle.parse.specs.Tape.{shape}
+use Rattle.grammar.specs.Grammar.{inParens, designatorOf, typeOf}
+use Rattle.tape.specs.Tape.{shape, widthOf}
 use Rattle.parse.specs.declared.tokens.Answer.{Answer}
 
 -- the answer is that of the reader: read on, with a value that fits what was read, or the refusal
@@ -33,7 +33,7 @@ pub record Ready (ks tape : List ℕ) (i p : ℕ) : Type 0 where
   pub inside : i ≤ length ks
   pub low : p ≤ i
   pub room : length ks ≤ length tape
-  pub small : length ks ≤ 67108864
+  pub small : length ks < 67108864
 
 -- ── tokens ──
 
@@ -58,6 +58,12 @@ pub record Enclosed (k : ℕ) (ks : List ℕ) (i : ℕ) (r : Answer) : Type 0 wh
 pub record Designated (ks : List ℕ) (n : ℕ) (r : Answer) : Type 0 where
   pub read : Reads (λ d v. (d .name ≡ n) × (v ≡ shape d)) ks (n + 1) r (designatorOf n ks (n + 1))
   pub small : r .value ≤ 3
+
+-- a type, as its width
+pub record Typed (ks : List ℕ) (i : ℕ) (r : Answer) : Type 0 where
+  pub read : Reads (λ w v. v ≡ widthOf w) ks i r (typeOf ks i)
+  pub moved : 4 * i + 4 ≤ 4 * r .at + r .number
+  pub small : r .value ≤ 1
 
 -- ── parts of answers ──
 

@@ -1,5 +1,5 @@
 // "designator", "operand", "condition", "assignment".
-use crate::events;
+use crate::events::write;
 use crate::tokens::Answer;
 use crate::tokens::in_parens;
 use crate::tokens::kind_at;
@@ -14,7 +14,7 @@ ghost use Rattle.base.specs.Lists.{member};
 ghost use Rattle.token.specs.Kinds as K;
 ghost use Rattle.grammar.specs.Reader.{wantOne};
 ghost use Rattle.grammar.specs.Grammar as G;
-ghost use Rattle.parse.specs.Tape.{tapeDesignator, tapeOperand, tapeCondition, tapeTerm, tapeEach, tapeSign, tapeAssignment};
+ghost use Rattle.tape.specs.Tape.{tapeDesignator, tapeOperand, tapeCondition, tapeTerm, tapeEach, tapeSign, tapeAssignment};
 ghost use Rattle.parse.specs.Reads.{Took, Designated, Ready, Wrote};
 use token::kinds;
 
@@ -73,7 +73,7 @@ fn place(kinds: &[u8], n: usize, op: u32, tape: &mut [u32], p: usize) -> Answer
     if d.number != 0 {
         return refused(d.number, d.at);
     }
-    events::write(tape, p, op + d.value as u32, n);
+    write(tape, p, op + d.value as u32, n);
     read(d.at, p + 1)
 }
 
@@ -83,7 +83,7 @@ pub fn operand(kinds: &[u8], i: usize, op: u32, tape: &mut [u32], p: usize) -> A
 {
     let k = kind_at(kinds, i);
     if k == kinds::NUMBER {
-        events::write(tape, p, op + 4, i);
+        write(tape, p, op + 4, i);
         return read(i + 1, p + 1);
     }
     if k == kinds::NAME {
@@ -112,12 +112,12 @@ pub fn condition(kinds: &[u8], i: usize, tape: &mut [u32], p: usize) -> Answer
     if k == kinds::NAME {
         let relation = i + 1;
         if is_relation(kind_at(kinds, relation)) {
-            return operand(kinds, relation + 1, events::COMPARED, tape, p);
+            return operand(kinds, relation + 1, tape::COMPARED, tape, p);
         }
         return refused(4, relation);
     }
     if begins_condition(k) {
-        events::write(tape, p, events::BARE, i);
+        write(tape, p, tape::BARE, i);
         return read(i + 1, p + 1);
     }
     refused(4, i)
@@ -136,7 +136,7 @@ fn terms(kinds: &[u8], i: usize, tape: &mut [u32], p: usize) -> Answer
     let mut at = i;
     let mut q = p;
     while is_operator(kind_at(kinds, at)) {
-        let a = operand(kinds, at + 1, events::TERM, tape, q);
+        let a = operand(kinds, at + 1, tape::TERM, tape, q);
         if a.number != 0 {
             return a;
         }
@@ -153,7 +153,7 @@ fn sign(kinds: &[u8], i: usize, tape: &mut [u32], p: usize) -> Answer
 {
     let k = kind_at(kinds, i);
     if k == kinds::ABS {
-        events::write(tape, p, events::ABS, i);
+        write(tape, p, tape::ABS, i);
         return read(i + 1, p + 1);
     }
     if k != kinds::NEG {
@@ -161,10 +161,10 @@ fn sign(kinds: &[u8], i: usize, tape: &mut [u32], p: usize) -> Answer
     }
     let second = i + 1;
     if kind_at(kinds, second) == kinds::ABS {
-        events::write(tape, p, events::NEG_ABS, i);
+        write(tape, p, tape::NEG_ABS, i);
         return read(second + 1, p + 1);
     }
-    events::write(tape, p, events::NEG, i);
+    write(tape, p, tape::NEG, i);
     read(second, p + 1)
 }
 
@@ -182,7 +182,7 @@ pub fn assignment(kinds: &[u8], n: usize, op: u32, tape: &mut [u32], p: usize) -
         return becomes;
     }
     let s = sign(kinds, becomes.at, tape, target.value);
-    let first = operand(kinds, s.at, events::FIRST, tape, s.value);
+    let first = operand(kinds, s.at, tape::FIRST, tape, s.value);
     if first.number != 0 {
         return first;
     }

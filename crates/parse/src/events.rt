@@ -1,72 +1,10 @@
-// The events of a tape, as specs/Tape.antt numbers them. To those of designators and operands their shape is added.
+// Events put on the tape.
 ghost use Prim.Native.Nat.{_<_};
 ghost use lib.ListN.{length};
-ghost use Rattle.parse.specs.Tape.{event};
+ghost use Rattle.tape.specs.Tape.{event};
 ghost use Rattle.parse.specs.Reads.{Pushed};
 
-pub const BLOCK: u32 = 0;
-
-pub const END_BLOCK: u32 = 1;
-
-pub const REGISTER: u32 = 2;
-
-pub const SINGLE_FULL: u32 = 3;
-
-pub const SINGLE_SHORT: u32 = 4;
-
-pub const ARRAY_FULL: u32 = 5;
-
-pub const ARRAY_SHORT: u32 = 6;
-
-pub const ITEM: u32 = 7;
-
-pub const VALUE: u32 = 8;
-
-pub const BASE: u32 = 9;
-
-pub const PROCEDURE: u32 = 10;
-
-pub const END_PROCEDURE: u32 = 11;
-
-pub const LABEL: u32 = 12;
-
-pub const TARGET: u32 = 13;
-
-pub const CONTROL: u32 = 17;
-
-pub const ABS: u32 = 21;
-
-pub const NEG: u32 = 22;
-
-pub const NEG_ABS: u32 = 23;
-
-pub const FIRST: u32 = 24;
-
-pub const TERM: u32 = 29;
-
-pub const COMPARED: u32 = 34;
-
-pub const LIMIT: u32 = 39;
-
-pub const BARE: u32 = 44;
-
-pub const WHILE: u32 = 45;
-
-pub const END_FOR: u32 = 46;
-
-pub const ELSE: u32 = 47;
-
-pub const END_ELSE: u32 = 48;
-
-pub const END_IF: u32 = 49;
-
-pub const END_WHILE: u32 = 50;
-
-pub const CALL: u32 = 51;
-
-pub const GOTO: u32 = 52;
-
-// Writes an event at p.
+// Writes at p the event of this kind at this token.
 pub fn write(tape: &mut [u32], p: usize, op: u32, token: usize)
     requires { ⌜ (p < length (now tape)) × ((op < 64) × (token < 67108864)) ⌝ }
     ensures { λ _. ⌜ Pushed (event op token) p (now (tape .entry)) (now (tape .exit)) ⌝ }

@@ -1,4 +1,4 @@
-use Rattle.parse.specs.Tape.{tapeAssignment}
+use Rattle.tape.specs.Tape.{tapeAssignment}
 use Rattle.grammar.specs.Grammar.{assignmentOf}
 use Rattle.parse.proofs.Reading.{stops, goes, gives}
 use mathlib.Core.Path.{_∙_}

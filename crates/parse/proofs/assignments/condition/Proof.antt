@@ -1,14 +1,15 @@
 use lib.Dec.{lit<}
 use native.Mathlib.Omega.{arith}
 use borrow.Author.Tests.{ne-eqb}
-use Rattle.parse.specs.Tape.{tapeCondition}
+use Rattle.tape.specs.Tape.{tapeCondition}
 use mathlib.Core.List.{_∷_}
 use Rattle.token.specs.Kinds as K
 use Rattle.grammar.specs.Grammar.{condition, relations}
 use Rattle.grammar.specs.Tree.{compared}
 use Rattle.grammar.specs.Reader.{andThen, look}
 use Rattle.base.proofs.Tests.{same, other}
-use Rattle.parse.proofs.Reading.{done, no, since, gives, one-yes, one-no, is-token}
+use Rattle.parse.proofs.Reading.{done, no, since, gives}
+use Rattle.parse.proofs.Choices.{one-yes, one-no, is-token}
 use mathlib.Core.Path.{refl}
 use borrow.Author.Needs.{needs}
 use Rattle.parse.proofs.assignments.condition.Statement.{statement}

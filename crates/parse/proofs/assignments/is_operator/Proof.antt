@@ -1,7 +1,7 @@
 use borrow.Author.Needs.{needs}
 use lib.Dec.{leb}
 use mathlib.Core.Bool.{_&&_, _||_}
-use Rattle.parse.proofs.Reading.{same-test}
+use Rattle.parse.proofs.Choices.{same-test}
 use Rattle.grammar.specs.Grammar.{operators}
 use Rattle.base.specs.Lists.{member}
 use Rattle.parse.proofs.assignments.is_operator.Statement.{statement}

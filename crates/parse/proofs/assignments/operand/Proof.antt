@@ -1,7 +1,7 @@
 use lib.Dec.{lit<}
 use native.Mathlib.Omega.{arith}
 use borrow.Author.Tests.{eq-eqb, ne-eqb}
-use Rattle.parse.specs.Tape.{tapeOperand}
+use Rattle.tape.specs.Tape.{tapeOperand}
 use Rattle.grammar.specs.Grammar.{operand}
 use Rattle.grammar.specs.Tree.{place}
 use Rattle.grammar.specs.Reader.{andThen, look, next, wantOne}

@@ -1,5 +1,5 @@
 use native.Mathlib.Omega.{arith}
-use Rattle.parse.specs.Tape.{tapeDesignator}
+use Rattle.tape.specs.Tape.{tapeDesignator}
 use Rattle.parse.proofs.Reading.{since, refuses, turns}
 use borrow.Author.Needs.{needs}
 use Rattle.parse.proofs.assignments.place.Statement.{statement}

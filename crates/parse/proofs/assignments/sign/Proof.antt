@@ -1,7 +1,7 @@
 use mathlib.Core.Path.{refl}
 use native.Mathlib.Omega.{arith}
 use borrow.Author.Tests.{eq-eqb, ne-eqb}
-use Rattle.parse.specs.Tape.{tapeSign}
+use Rattle.tape.specs.Tape.{tapeSign}
 use Rattle.grammar.specs.Grammar.{signOf}
 use Rattle.grammar.specs.Reader.{andThen, look, next}
 use Rattle.base.proofs.Tests.{same, other}

@@ -1,4 +1,5 @@
-use Rattle.parse.proofs.Reading.{done, since, stops, goes, gives, among, is-token}
+use Rattle.parse.proofs.Reading.{done, since, stops, goes, gives}
+use Rattle.parse.proofs.Choices.{among, is-token}
 use mathlib.Core.Path.{refl}
 use borrow.Author.Needs.{needs}
 use native.Mathlib.Omega.{arith}
@@ -6,7 +7,7 @@ use lib.ListN.{length}
 use Prim.Native.Nat.{_-_}
 use mathlib.Core.List.{_∷_}
 use mathlib.Core.Path.{_∙_}
-use Rattle.parse.specs.Tape.{tapeEach, tapeTerm}
+use Rattle.tape.specs.Tape.{tapeEach, tapeTerm}
 use Rattle.grammar.specs.Grammar.{terms, operators}
 use Rattle.grammar.specs.Reader.{andThen, look, next}
 use Rattle.parse.proofs.Loops.{Going, starts, leaves, turn}
