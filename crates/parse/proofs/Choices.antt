@@ -51,6 +51,10 @@ pub both : (a b : Bool) → (a && b) ≡ true → (a ≡ true) × (b ≡ true)
 both true b e = (refl, e)
 both false b e = never-true e
 
+pub either : {A : Type 0} (t : Bool) (a : A) → (if t then a else a) ≡ a
+either true a = refl
+either false a = refl
+
 -- ── after a type ──
 pub registered : (v : ℕ) {ks : List ℕ} {j k : ℕ} → Kind ks j k → (eqb v 0 && eqb k K.REGISTER) ≡ true → j < length ks
 registered v {k} h f = let e = eqb-true k K.REGISTER (both (eqb v 0) (eqb k K.REGISTER) f .1) in omega arith

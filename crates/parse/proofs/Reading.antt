@@ -1,14 +1,16 @@
 -- Readers joined: what one reads after another. Assumes nothing.
 use mathlib.Core.Path.{_≡_, refl, _∙_, sym, ap, subst}
 use mathlib.Core.List.{List, [], _∷_, _++_, append-assoc}
+use mathlib.Core.Bool.{Bool, true, false}
 use Prim.Native.Nat.{ℕ, zero, suc, _+_, _-_, _*_, _≤_, _<_}
 use native.Mathlib.Omega.{arith}
 use native.Mathlib.Nat.{mod-eq-of-lt}
 use native.Mathlib.Numerals.{add-one}
 use borrow.Author.Tests.{eq-eqb, ne-eqb}
-use lib.Dec.{lit<}
+use lib.Dec.{eqb, lit<}
 use lib.ListN.{getD, length, take, set, List·getD-eq-default}
 use lib.Seq.{take-suc-set}
+use Rattle.base.specs.Choose.{if_then_else_}
 use Rattle.grammar.specs.Reader.{Result, ok, bad, andThen, want}
 use Rattle.parse.specs.declared.tokens.Answer.{Answer}
 use Rattle.tape.specs.Tape.{event}
@@ -84,3 +86,12 @@ hit e l s = record { read = rw (eq-eqb _ _ e) (done s (omega arith) (omega arith
 pub miss : {ks : List ℕ} {k i : ℕ} {r : Answer} → (getD ks i 0 ≡ k → ⊥) → i ≤ length ks → Is 4 i 0 r → Took ks i r (want k ks i)
 unfolding want
 miss e l s = record { read = rw (ne-eqb _ _ e) (no s (lit< tt) l); moved = omega arith; none = s .value-is }
+
+-- the token i is taken, and then the rest is read
+pub takes : {B : Type 0} {Q : B → ℕ → Type 0} {ks : List ℕ} {i : ℕ} {r s : Answer} (k : ℕ) (f : ℕ → ℕ → Result B) → Took ks i r (want k ks i) → r .number ≡ 0 → Reads Q ks i s (f i (i + 1)) → Reads Q ks i s (andThen (want k ks i) f)
+unfolding want andThen
+takes {Q} {ks} {i} {r} {s} k f h e d = go (eqb (getD ks i 0) k) (h .read .tells)
+  where
+    go : (t : Bool) → Tells (λ t v. t ≡ i) r (if t then ok i (i + 1) else bad 4 i) → Reads Q ks i s (andThen (if t then ok i (i + 1) else bad 4 i) f)
+    go true x = d
+    go false x = absurd (let g = x .0 in omega arith)

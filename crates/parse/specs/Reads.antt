@@ -51,7 +51,7 @@ pub record Took (ks : List ℕ) (i : ℕ) (r : Answer) (m : Result ℕ) : Type 0
 -- "(number)" or "(name)" from i on, with the token of what is inside
 pub record Enclosed (k : ℕ) (ks : List ℕ) (i : ℕ) (r : Answer) : Type 0 where
   pub read : Reads (λ t v. t ≡ i + 1) ks i r (inParens k ks i)
-  pub moved : 4 * i + 4 ≤ 4 * r .at + r .number
+  pub moved : i < r .at + r .number
   pub none : r .value ≡ 0
 
 -- what follows the name n of a designator, as its shape
@@ -62,7 +62,7 @@ pub record Designated (ks : List ℕ) (n : ℕ) (r : Answer) : Type 0 where
 -- a type, as its width
 pub record Typed (ks : List ℕ) (i : ℕ) (r : Answer) : Type 0 where
   pub read : Reads (λ w v. v ≡ widthOf w) ks i r (typeOf ks i)
-  pub moved : 4 * i + 4 ≤ 4 * r .at + r .number
+  pub moved : i < r .at + r .number
   pub small : r .value ≤ 1
 
 -- ── parts of answers ──

@@ -3,4 +3,5 @@
 pub mod assignments;
 pub mod declarations;
 pub mod events;
+pub mod simple;
 pub mod tokens;
