@@ -1,3 +1,1 @@
-pub mod Reading
-pub mod Loops
-pub mod Choices
+pub mod Rules

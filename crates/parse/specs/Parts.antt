@@ -1,69 +1,42 @@
--- Parts of the grammar's rules that the code reads by functions of their own.
+-- Parts of the rules that hold statements, and their tapes.
 use mathlib.Core.List.{List, _∷_}
-use mathlib.Core.Option.{some}
 use Prim.Native.Nat.{ℕ}
 use Rattle.token.specs.Kinds as K
-use Rattle.grammar.specs.Tree.{Operand, Assignment, Condition, Declaration, base}
+use Rattle.grammar.specs.Tree.{Statement, while, for}
 use Rattle.grammar.specs.Reader.{Reader, _>>=_, _>>_, give, want}
-use Rattle.grammar.specs.Grammar.{inParens, operand, condition, assignmentOf, typeOf, cellsOf, afterType}
+use Rattle.grammar.specs.Grammar.{operand, condition, assignmentOf, ifOf, Procedure}
 use Rattle.tape.specs.Events as E
-use Rattle.tape.specs.Tape.{event}
+use Rattle.tape.specs.Tape.{event, tapeStatement}
 
--- ── declarations ──
-
--- after SEGMENT
-abbrev pub baseOf : Reader Declaration
-baseOf = do
-  want K.BASE
-  n ← want K.NAME
-  give (base n)
-
--- after ARRAY
-abbrev pub arrayOf : Reader Declaration
-arrayOf = do
-  c ← inParens K.NUMBER
-  w ← typeOf
-  cellsOf (some c) w
-
--- what begins with a type
-abbrev pub typedOf : Reader Declaration
-typedOf = do
-  w ← typeOf
-  afterType w
-
--- ── before the statement inside ──
-
--- a condition and the word after it, THEN or DO
-abbrev pub headOf : ℕ → Reader Condition
-headOf word = do
+-- after IF, WHILE and FOR, the token t; `inner` reads a statement inside
+abbrev pub ifPart : Reader Statement → ℕ → Reader Statement
+ifPart inner t = do
   c ← condition
-  want word
-  give c
+  want K.THEN
+  ifOf inner t c
 
--- "assignment STEP"
-abbrev pub controlOf : Reader Assignment
-controlOf = do
+abbrev pub whilePart : Reader Statement → ℕ → Reader Statement
+whilePart inner t = do
+  c ← condition
+  want K.DO
+  s ← inner
+  give (while t c s)
+
+abbrev pub forPart : Reader Statement → ℕ → Reader Statement
+forPart inner t = do
   n ← want K.NAME
   a ← assignmentOf n
   want K.STEP
-  give a
-
--- "number UNTIL operand DO"
-abbrev pub limitOf : Reader Operand
-limitOf = do
-  want K.NUMBER
+  v ← want K.NUMBER
   want K.UNTIL
   l ← operand
   want K.DO
-  give l
+  s ← inner
+  give (for t a v l s)
 
--- "name(name) ;", with the return register's name
-abbrev pub procedureHead : Reader ℕ
-procedureHead = do
-  want K.NAME
-  r ← inParens K.NAME
-  want K.SEMICOLON
-  give r
+abbrev pub tapeProcedure : Procedure → List ℕ → List ℕ
+tapeProcedure q k = event E.PROCEDURE (q .name) ∷ tapeStatement (q .body) (event E.END-PROCEDURE (q .name) ∷ k)
 
-abbrev pub tapeOpening : ℕ → ℕ → List ℕ → List ℕ
-tapeOpening n r k = event E.PROCEDURE n ∷ k
+-- what follows BEGIN, the token t
+abbrev pub tapeBlock : {A : Type 0} → (A → List ℕ → List ℕ) → ℕ → A → List ℕ → List ℕ
+tapeBlock out t a k = out a (event E.END-BLOCK t ∷ k)
