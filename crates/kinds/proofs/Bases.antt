@@ -128,7 +128,7 @@ module _ (kinds values found : List ℕ) where
 -- ── the number of base declarations ──
 
 -- a token that has a kind is one of the text
-in-text : (l : List ℕ) (n k : ℕ) → getD l n 0 ≡ suc k → n < length l
+pub in-text : (l : List ℕ) (n k : ℕ) → getD l n 0 ≡ suc k → n < length l
 in-text [] n k e = absurd (let z : _≡_ {A = ℕ} 0 (suc k) = e in omega arith)
 in-text (x ∷ l) zero k e = omega arith
 in-text (x ∷ l) (suc n) k e = let h = in-text l n k e in omega arith

@@ -49,6 +49,7 @@ use Rattle.translator.proofs.Ready.{Ready, ReadyCore, ready-code}
 use Rattle.translator.proofs.Encoded.{bytes-encodeAll}
 use Rattle.translator.proofs.Emitted.{core-ready}
 use Rattle.translator.proofs.Images.{Fitting, placed-bytes, first-data, data-from, length-data}
+use Rattle.translator.proofs.Tables.{length-map}
 use Rattle.translator.proofs.Answers.{Accepted}
 
 -- what is in a list of parts is a part of something in the list
@@ -91,10 +92,6 @@ module _ (ts : List Token) (x : Statement) (j : ℕ) (front : firstToken ≤ len
   known : Known j m
   unfolding meant
   known = grown-statement (kindsOf ts) (valuesOf ts) (n .found) x firstToken j 0 dataBase (standard (length ts - firstToken)) read (omega arith) (known-standard (length ts - firstToken)) .known
-
-  length-map : {A : Type 0} (g : A → ℕ) (l : List A) → length (map g l) ≡ length l
-  length-map g [] = refl
-  length-map g (a ∷ l) = ap (λ (k : ℕ). suc k) (length-map g l)
 
   -- "a third base declaration" is refused
   few : m .bases ≤ 2
