@@ -22,6 +22,12 @@ use Rattle.grammar.specs.Derives.{Part, isShape, isDesignator, isOperand
 use Rattle.grammar.proofs.Tests.{has, real, oneAt, one-real, isnt-one, passes, fails, inside, isnt}
 use Rattle.grammar.proofs.Kept.{Kept, keep-operand, keep-terms, keep-item, keep-register, keep-declaration, keep-statement}
 
+-- the reader of programs, with any room for constructs
+abbrev pub programIn : ℕ → Reader Statement
+programIn room = do
+  k ← look
+  if eqb k K.BEGIN then (do b ← statement room; want K.AT; give b) else refuse 4
+
 module _ (kinds : List ℕ) where
   -- ── "designator = name, name(number), name(name), name(number)(name). operand = number or designator." ──
 
@@ -394,11 +400,6 @@ module _ (kinds : List ℕ) where
   block-begin (ifElse t c s e u) i j h = never-true (h .0)
   block-begin (while t c s) i j h = never-true (h .0)
   block-begin (for t a v l s) i j h = never-true (h .0)
-
-  abbrev pub programIn : ℕ → Reader Statement
-  programIn room = do
-    k ← look
-    if eqb k K.BEGIN then (do b ← statement room; want K.AT; give b) else refuse 4
 
   pub complete-program : (room : ℕ) (x : Statement) (i j : ℕ) → isProgram kinds x i j → nestingOf x ≤ room → programIn room kinds i ≡ ok x j
   unfolding isProgram look andThen want

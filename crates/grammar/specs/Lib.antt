@@ -2,3 +2,5 @@ pub mod Tree
 pub mod Reader
 pub mod Grammar
 pub mod Derives
+pub mod Rising
+pub mod Refusals

@@ -230,63 +230,56 @@ unfolding tokensOf
 all-read-from s z = rw (le-ltb TEXT-LIMIT (length s) (not-too-long s z))
 
 -- what the entries answer before they read, and that they read
-module _ (s k v p : List ℕ) where
+module _ (s : List ℕ) {k v p : List ℕ} where
   pub too-long : (n : ℕ) → TEXT-LIMIT < length s → Laid (readInto n s) k v p k v p S.TooLong
   unfolding readInto
   too-long n h = rw (lt-ltb TEXT-LIMIT (length s) h) (record { is = refl; kinds-laid = refl; values-laid = refl; places-laid = refl })
 
-  module _ (m n : ℕ) (e : m ≡ n) (h : length s ≤ TEXT-LIMIT) where
+  module _ {m n : ℕ} (e : m ≡ n) (h : length s ≤ TEXT-LIMIT) where
     pub no-room : m ≤ length s → Laid (readInto n s) k v p k v p (S.Room (length s + 1))
     unfolding readInto
     no-room l =
         rw (le-ltb TEXT-LIMIT (length s) h, le-leb n (length s) (rw (← e) l))
         (record { is = refl; kinds-laid = refl; values-laid = refl; places-laid = refl })
 
-    pub in-room : (k′ v′ p′ : List ℕ) (a : Tokens) → length s < m → Laid (readFrom 0 0 s) k v p k′ v′ p′ a → Laid (readInto n s) k v p k′ v′ p′ a
+    pub in-room : {k′ v′ p′ : List ℕ} {a : Tokens} → length s < m → Laid (readFrom 0 0 s) k v p k′ v′ p′ a → Laid (readInto n s) k v p k′ v′ p′ a
     unfolding readInto
-    in-room k′ v′ p′ a l d = rw (le-ltb TEXT-LIMIT (length s) h, lt-leb n (length s) (rw (← e) l)) d
+    in-room l d = rw (le-ltb TEXT-LIMIT (length s) h, lt-leb n (length s) (rw (← e) l)) d
 
-  -- a checked text: refused, too large for the lists, or read
-  module _ (n : ℕ) (a : Tokens) (e : summaryOf a ≡ summed (tokensOf s)) where
-    said : {A : Type 0} (f : Summary → A) → f (summaryOf a) ≡ f (summed (tokensOf s))
-    said f = ap f e
+-- a checked text without a refusal: how many tokens it has
+module _ (s : List ℕ) (c : ℕ) (e : summaryOf (S.Read c) ≡ summed (tokensOf s)) where
+  none-refused : tokensOf s .number ≡ 0
+  none-refused = sym (ap (λ (x : Summary). x .number) e)
 
-    pub stays : eqb (summaryOf a .number) 0 ≡ false → summaryOf a .count ≡ 0 → Laid (tokensInto n s) k v p k v p a
-    unfolding tokensInto said
-    stays z c =
-        let y : eqb (tokensOf s .number) 0 ≡ false = sym (said (λ x. eqb (x .number) 0)) ∙ z in
-        rw y
-        (record {
-          is = e ∙ rw y;
-          kinds-laid = refl;
-          values-laid = refl;
-          places-laid = refl;
-        })
+  counted : length (tokensOf s .tokens) ≡ c
+  counted = sym (ap (λ (x : Summary). x .count) e ∙ rw none-refused)
 
-  module _ (n c : ℕ) (e : summaryOf (S.Read c) ≡ summed (tokensOf s)) where
-    none-refused : tokensOf s .number ≡ 0
-    none-refused = sym (ap (λ (x : Summary). x .number) e)
+  whole : tokensOf s ≡ readFrom 0 0 s
+  whole = all-read-from s none-refused
 
-    counted : length (tokensOf s .tokens) ≡ c
-    counted = sym (ap (λ (x : Summary). x .count) e ∙ rw none-refused)
+  pub checked-limit : length s ≤ TEXT-LIMIT
+  checked-limit = not-too-long s none-refused
 
-    pub within-limit : length s ≤ TEXT-LIMIT
-    within-limit = not-too-long s none-refused
+  pub checked-count : length (readFrom 0 0 s .tokens) ≡ c
+  checked-count = rw (← whole) counted
 
-    whole : tokensOf s ≡ readFrom 0 0 s
-    whole = all-read-from s none-refused
-
-    pub enough-room : c ≤ n → length (readFrom 0 0 s .tokens) ≤ n
-    enough-room l = rw (← whole) (omega (arith, counted))
-
+  -- there is no room for them, or there is
+  module _ (n : ℕ) {k v p : List ℕ} where
     pub too-many : n < c → Laid (tokensInto n s) k v p k v p (S.Room c)
     unfolding tokensInto
     too-many l =
         rw (none-refused, counted, lt-ltb n c l)
         (record { is = refl; kinds-laid = refl; values-laid = refl; places-laid = refl })
 
-    pub all-read : c ≤ n → (k′ v′ p′ : List ℕ) (a : Tokens) → Laid (readFrom 0 0 s) k v p k′ v′ p′ a → Laid (tokensInto n s) k v p k′ v′ p′ a
+    pub all-read : {k′ v′ p′ : List ℕ} {a : Tokens} → c ≤ n → Laid (readFrom 0 0 s) k v p k′ v′ p′ a → Laid (tokensInto n s) k v p k′ v′ p′ a
     unfolding tokensInto
-    all-read l k′ v′ p′ a d =
+    all-read l d =
         let y : eqb (tokensOf s .number) 0 ≡ true = eq-eqb _ _ none-refused in
         rw (y, counted, le-ltb n c l, whole) d
+
+-- a checked text with a refusal
+pub stays : (s : List ℕ) (n : ℕ) {k v p : List ℕ} (a : Tokens) → summaryOf a ≡ summed (tokensOf s) → eqb (summaryOf a .number) 0 ≡ false → Laid (tokensInto n s) k v p k v p a
+unfolding tokensInto
+stays s n a e z =
+    let y : eqb (tokensOf s .number) 0 ≡ false = sym (ap (λ (x : Summary). eqb (x .number) 0) e) ∙ z in
+    rw y (record { is = e ∙ rw y; kinds-laid = refl; values-laid = refl; places-laid = refl })

@@ -1,4 +1,5 @@
--- Bytes as digits: the classes of bytes are the digits to the bases 10, 16 and 36, and a name's key is never cut off. Assumes nothing.
+-- Bytes as digits: the classes of bytes are the digits to the bases 10, 16 and 36, a name's key is
+-- never cut off, and what digits at the front make. Assumes nothing.
 use Prim.Native.Nat.{ℕ, _+_, _-_, _*_, _^_, _≤_, _<_, min}
 use mathlib.Core.Path.{_≡_, refl, sym, ap, _∙_}
 use mathlib.Core.Bool.{Bool, true, false, and-false, Bool·beq}
@@ -8,7 +9,7 @@ use native.Mathlib.Decide.{decLe}
 use native.Mathlib.Nat.{pow-le-pow-right}
 use lib.Dec.{T, ltb, lit<}
 use lib.ListN.{length, take, drop, getD, length-take}
-use borrow.Author.Tests.{lt-leb, ltb-true}
+use borrow.Author.Tests.{lt-leb, lt-ltb, le-ltb, ltb-true, eq-eqb, ne-eqb}
 use Rattle.base.specs.Lists.{All}
 use Rattle.base.specs.Runs.{runLen}
 use Rattle.base.specs.Numbers.{numberFrom}
@@ -18,8 +19,10 @@ use Rattle.base.proofs.Numbers.{min-on, number-more, number-lt}
 use Rattle.base.proofs.Parts.{take-min}
 use Rattle.base.proofs.Runs.{run-all, run-le, run-take, run-past}
 use Rattle.base.proofs.Tables.{all-below}
-use Rattle.token.specs.Text.{isDigit, isHexadecimal, inName, digitOf, keyOf}
+use Rattle.token.specs.Text.{isDigit, isHexadecimal, inName, digitOf, keyOf, number}
 use Rattle.token.specs.Inner.{inBase, Digited, Named}
+use Rattle.token.specs.Kinds as K
+use Rattle.token.specs.declared.Lexeme.the-variants.{Token, NoToken, OutOfRange}
 use Rattle.token.specs.declared.Spelled.{Spelled}
 
 alike : (a b : Bool) → T (Bool·beq a b) → a ≡ b
@@ -101,3 +104,27 @@ module _ (s : List ℕ) (n : ℕ) (d : Spelled) (e : n ≡ min (length s) 10) (h
       let p : r ≡ 10 + runLen inName (drop 10 s) = run-past inName 10 s (omega arith) in
       let g : more ≡ runLen inName (drop 10 s) = m ∙ ap (λ (q : ℕ → Bool). runLen q (drop 10 s)) alphanumeric in
       record { size = omega arith; value = key (10 + more) (omega arith) (omega arith); fits = omega arith }
+
+-- what the digits at the front make: none, a number out of range, or a number
+module _ {base : ℕ} {s : List ℕ} {d : Spelled} (most : ℕ) (bits : ℕ → ℕ) (mark : ℕ) (g : Digited base s d) where
+  pub no-number : d .size ≡ 0 → NoToken ≡ number (inBase base) base most bits mark s
+  unfolding number
+  no-number e = rw (← g .size, eq-eqb (d .size) 0 e)
+
+  module _ (some : d .size ≡ 0 → ⊥) (limit : most < 2 ^ 32) where
+    v : ℕ
+    v = numberFrom digitOf base 0 (take (d .size) s)
+
+    cut : d .value ≡ min (2 ^ 52) v
+    unfolding v
+    cut = g .value
+
+    pub big-number : most < d .value → OutOfRange ≡ number (inBase base) base most bits mark s
+    unfolding number v
+    big-number h = rw (← g .size, ne-eqb (d .size) 0 some, lt-ltb most v (omega (arith, cut)))
+
+    pub a-number : d .value ≤ most → Token K.NUMBER (bits (d .value)) (mark + d .size) ≡ number (inBase base) base most bits mark s
+    unfolding number v
+    a-number h =
+        let e : v ≡ d .value = omega (arith, cut) in
+        rw (← g .size, ne-eqb (d .size) 0 some, e, le-ltb most (d .value) h)

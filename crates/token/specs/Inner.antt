@@ -1,5 +1,6 @@
 -- What the inner functions of the token reader promise, in the terms of the definition.
 use Prim.Native.Nat.{ℕ, _≤_, _^_, min}
+use Prim.Native.Char.{code}
 use Prim.Native.String.{String}
 use mathlib.Core.Path.{_≡_}
 use mathlib.Core.Bool.{Bool, true, false, not}
@@ -21,7 +22,7 @@ use Rattle.token.specs.declared.Class.the-variants.{Separator, InComment
 -- the bytes that a run of each class is made of
 abbrev pub inClass : Class → ℕ → Bool
 inClass Separator b = separates b
-inClass InComment b = not (eqb b 59)
+inClass InComment b = not (eqb b (code ";"))
 
 pub record Ran (c : Class) (s : List ℕ) (n : ℕ) : Type 0 where
   pub is : n ≡ runLen (inClass c) s

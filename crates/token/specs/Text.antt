@@ -1,5 +1,6 @@
 -- Document 01, "Text and tokens", in its order: what stands at the front of what remains of a text, the next token, all tokens of a text.
 use Prim.Native.Nat.{ℕ, zero, suc, pred, _+_, _-_, _%_}
+use Prim.Native.Char.{code}
 use Prim.Native.String.{String}
 use mathlib.Core.Bool.{Bool, true, false, not, _&&_, _||_}
 use mathlib.Core.List.{List, [], _∷_}
@@ -22,20 +23,20 @@ separates b = eqb b 32 || eqb b 10
 
 -- "Names: a capital letter, then capitals or digits; the first 10 characters count."
 abbrev pub isCapital : ℕ → Bool
-isCapital b = within 65 90 b
+isCapital b = within (code "A") (code "Z") b
 
 abbrev pub isDigit : ℕ → Bool
-isDigit b = within 48 57 b
+isDigit b = within (code "0") (code "9") b
 
 abbrev pub inName : ℕ → Bool
 inName b = isCapital b || isDigit b
 
 abbrev pub isHexadecimal : ℕ → Bool
-isHexadecimal b = isDigit b || within 65 70 b
+isHexadecimal b = isDigit b || within (code "A") (code "F") b
 
 -- what a digit or a capital stands for; any other byte is no digit to a base up to 36
 abbrev pub digitOf : ℕ → ℕ
-digitOf b = if isDigit b then b - 48 else if isCapital b then b - 55 else 36
+digitOf b = if isDigit b then b - code "0" else if isCapital b then b - (code "A" - 10) else 36
 
 -- the first 10 characters of a name as one number: no two have the same (proofs/Keys.antt, `key-one`)
 abbrev pub keyOf : List ℕ → ℕ
@@ -49,7 +50,7 @@ wordKind (w ∷ ws) name = elim (sameBytes name (bytes (w .1))) [ true ↦ w .0 
 -- "COMMENT opens a comment that ends at the next `;` and may hold any byte." Its word has n bytes; "unclosed comment: its first byte"
 unfoldable pub comment : ℕ → List ℕ → Lexeme
 comment n s =
-    let m : ℕ = n + runLen (λ b. not (eqb b 59)) (drop n s) in
+    let m : ℕ = n + runLen (λ b. not (eqb b (code ";"))) (drop n s) in
     if ltb m (length s) then Gap (m + 1) else NoToken
 
 unfoldable pub nameOrWord : List ℕ → Lexeme
@@ -93,8 +94,8 @@ lexeme s =
     if separates b then Gap (runLen separates s) else
     if isCapital b then nameOrWord s else
     if isDigit b then number isDigit 10 2147483647 plain 0 s else
-    if eqb b 95 then number isDigit 10 2147483648 negated 1 (drop 1 s) else
-    if eqb b 35 then number isHexadecimal 16 4294967295 plain 1 (drop 1 s) else
+    if eqb b (code "_") then number isDigit 10 2147483648 negated 1 (drop 1 s) else
+    if eqb b (code "#") then number isHexadecimal 16 4294967295 plain 1 (drop 1 s) else
     sign K.signs s
 
 -- a token: its kind; its value, which is a number's 32 bits and a name's key, and 0 for any other; and its place, "the offset of the first byte"

@@ -54,8 +54,8 @@ fn in_class(c: Class, b: u8) -> bool
     ensures { λ r. ⌜ r ≡ inClass c b ⌝ }
 {
     match c {
-        Class::Separator => (b == 32) | (b == 10),
-        Class::InComment => b != 59,
+        Class::Separator => (b == b' ') | (b == b'\n'),
+        Class::InComment => b != b';',
     }
 }
 
@@ -78,16 +78,16 @@ fn run(c: Class, s: &[u8]) -> usize
 fn digit(b: u8) -> u64
     ensures { λ r. ⌜ (r ≡ T.digitOf b) × (r ≤ 36) ⌝ }
 {
-    if b < 48 {
+    if b < b'0' {
         return 36;
     }
-    if b <= 57 {
-        return (b - 48) as u64;
+    if b <= b'9' {
+        return (b - b'0') as u64;
     }
-    if b < 65 {
+    if b < b'A' {
         return 36;
     }
-    if b <= 90 {
+    if b <= b'Z' {
         return (b - 55) as u64;
     }
     36
@@ -279,24 +279,29 @@ fn sign(s: &[u8]) -> Lexeme
 {
     let b = s[0];
     match b {
-        40 => Lexeme::Token(kinds::OPEN, 0, 1),
-        41 => Lexeme::Token(kinds::CLOSE, 0, 1),
-        42 => Lexeme::Token(kinds::TIMES, 0, 1),
-        43 => two_or(s, 43, kinds::ADD_LOGICAL, Lexeme::Token(kinds::PLUS, 0, 1)),
-        44 => Lexeme::Token(kinds::COMMA, 0, 1),
-        45 => two_or(
+        b'(' => Lexeme::Token(kinds::OPEN, 0, 1),
+        b')' => Lexeme::Token(kinds::CLOSE, 0, 1),
+        b'*' => Lexeme::Token(kinds::TIMES, 0, 1),
+        b'+' => two_or(
             s,
-            45,
+            b'+',
+            kinds::ADD_LOGICAL,
+            Lexeme::Token(kinds::PLUS, 0, 1),
+        ),
+        b',' => Lexeme::Token(kinds::COMMA, 0, 1),
+        b'-' => two_or(
+            s,
+            b'-',
             kinds::SUBTRACT_LOGICAL,
             Lexeme::Token(kinds::MINUS, 0, 1),
         ),
-        58 => two_or(s, 61, kinds::BECOMES, Lexeme::Token(kinds::COLON, 0, 1)),
-        59 => Lexeme::Token(kinds::SEMICOLON, 0, 1),
-        60 => two_or(s, 61, kinds::AT_MOST, Lexeme::Token(kinds::LESS, 0, 1)),
-        61 => Lexeme::Token(kinds::EQUAL, 0, 1),
-        62 => two_or(s, 61, kinds::AT_LEAST, Lexeme::Token(kinds::MORE, 0, 1)),
-        64 => Lexeme::Token(kinds::AT, 0, 1),
-        94 => two_or(s, 61, kinds::UNEQUAL, Lexeme::NoToken),
+        b':' => two_or(s, b'=', kinds::BECOMES, Lexeme::Token(kinds::COLON, 0, 1)),
+        b';' => Lexeme::Token(kinds::SEMICOLON, 0, 1),
+        b'<' => two_or(s, b'=', kinds::AT_MOST, Lexeme::Token(kinds::LESS, 0, 1)),
+        b'=' => Lexeme::Token(kinds::EQUAL, 0, 1),
+        b'>' => two_or(s, b'=', kinds::AT_LEAST, Lexeme::Token(kinds::MORE, 0, 1)),
+        b'@' => Lexeme::Token(kinds::AT, 0, 1),
+        b'^' => two_or(s, b'=', kinds::UNEQUAL, Lexeme::NoToken),
         _ => Lexeme::NoToken,
     }
 }
@@ -307,19 +312,19 @@ fn front(s: &[u8]) -> Lexeme
     ensures { λ r. ⌜ r ≡ T.lexeme (now (s .entry)) ⌝ }
 {
     let b = s[0];
-    if (b == 32) | (b == 10) {
+    if (b == b' ') | (b == b'\n') {
         return Lexeme::Gap(run(Class::Separator, s));
     }
-    if (65 <= b) & (b <= 90) {
+    if (b'A' <= b) & (b <= b'Z') {
         return name_or_word(s);
     }
-    if (48 <= b) & (b <= 57) {
+    if (b'0' <= b) & (b <= b'9') {
         return number(10, 2147483647, false, 0, s);
     }
-    if b == 95 {
+    if b == b'_' {
         return number(10, 2147483648, true, 1, &s[1..]);
     }
-    if b == 35 {
+    if b == b'#' {
         return number(16, 4294967295, false, 1, &s[1..]);
     }
     sign(s)

@@ -7,7 +7,7 @@ use Rattle.token.proofs.read_tokens.Statement.{statement}
 use Rattle.token.proofs.read_tokens.Tie as tie
 
 returns : tie.Need-returns
-returns c = let a = c .before .before .before .before .before .args in too-long (now (a .src)) (now (a .kinds)) (now (a .values)) (now (a .places)) _ (c .if1 .taken)
+returns c = too-long _ _ (c .if1 .taken)
 
 room-in-requires : tie.Need-room-in-requires
 room-in-requires c κs = search needs
@@ -25,7 +25,7 @@ same-length-3 : tie.Need-same-length-3
 same-length-3 c = search needs
 
 returns-2 : tie.Need-returns-2
-returns-2 c = let a = c .before .before .before .before .before .before .before .before .before .before .args in no-room (now (a .src)) (now (a .kinds)) (now (a .values)) (now (a .places)) (c .before .room-in .result) _ (c .before .room-in .ensures) (c .before .before .before .before .before .if1 .left) (c .if2 .taken)
+returns-2 c = no-room _ (c .before .room-in .ensures) (c .before .before .before .before .before .if1 .left) (c .if2 .taken)
 
 lay-tokens-requires : tie.Need-lay-tokens-requires
 lay-tokens-requires c κs = (c .before .before .before .before .before .before .before .before .if1 .left, omega (arith, few-tokens 0 0 (now (c .before .before .before .before .before .before .before .before .before .before .before .before .before .args .src)), c .before .before .before .before .room-in .ensures, c .before .before .before .if2 .left))
@@ -40,7 +40,7 @@ same-length-6 : tie.Need-same-length-6
 same-length-6 c = search needs
 
 returns-3 : tie.Need-returns-3
-returns-3 c = let a = c .before .before .before .before .before .before .before .before .before .before .before .before .before .before .before .before .before .before .before .before .args in in-room (now (a .src)) (now (a .kinds)) (now (a .values)) (now (a .places)) (c .before .before .before .before .before .before .before .before .before .before .before .room-in .result) _ (c .before .before .before .before .before .before .before .before .before .before .before .room-in .ensures) (c .before .before .before .before .before .before .before .before .before .before .before .before .before .before .before .if1 .left) _ _ _ _ (c .before .before .before .before .before .before .before .before .before .before .if2 .left) (c .before .before .before .before .before .before .lay-tokens .ensures)
+returns-3 c = in-room _ (c .before .before .before .before .before .before .before .before .before .before .before .room-in .ensures) (c .before .before .before .before .before .before .before .before .before .before .before .before .before .before .before .if1 .left) (c .before .before .before .before .before .before .before .before .before .before .if2 .left) (c .before .before .before .before .before .before .lay-tokens .ensures)
 
 pub read-tokens-spec : {M : Type 1} → statement M
 read-tokens-spec =

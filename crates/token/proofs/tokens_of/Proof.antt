@@ -3,7 +3,7 @@ use mathlib.Core.Path.{refl, _∙_, sym, ap}
 use native.Mathlib.Omega.{arith}
 use denote.Ref.{now}
 use borrow.Author.Needs.{needs}
-use Rattle.token.proofs.Readings.{stays, too-many, within-limit, enough-room, all-read}
+use Rattle.token.proofs.Readings.{stays, too-many, checked-limit, checked-count, all-read}
 use Rattle.token.specs.Answers.{summaryOf}
 use Rattle.token.proofs.tokens_of.Statement.{statement}
 use Rattle.token.proofs.tokens_of.Tie as tie
@@ -27,16 +27,12 @@ same-length-3 : tie.Need-same-length-3
 same-length-3 c = search needs
 
 returns : tie.Need-returns
-returns c = let a = c .before .before .before .before .before .before .before .before .before .before .before .before .before .args in
-    let e = sym (ap summaryOf (c .before .before .before .before .before .before .checked .given .1)) ∙ c .before .before .before .before .before .before .before .before .check-text .ensures in
-    too-many (now (a .src)) (now (a .kinds)) (now (a .values)) (now (a .places)) _ _ e (omega (arith, c .before .room-in .ensures, c .if1 .taken))
+returns c = too-many (now (c .before .before .before .before .before .before .before .before .before .before .before .before .before .args .src)) _ (sym (ap summaryOf (c .before .before .before .before .before .before .checked .given .1)) ∙ c .before .before .before .before .before .before .before .before .check-text .ensures) _ (omega (arith, c .before .room-in .ensures, c .if1 .taken))
 
 lay-tokens-requires : tie.Need-lay-tokens-requires
-lay-tokens-requires c κs = let a = c .before .before .before .before .before .before .before .before .before .before .before .before .before .before .before .before .args in
+lay-tokens-requires c κs = let s = now (c .before .before .before .before .before .before .before .before .before .before .before .before .before .before .before .before .args .src) in
     let e = sym (ap summaryOf (c .before .before .before .before .before .before .before .before .before .checked .given .1)) ∙ c .before .before .before .before .before .before .before .before .before .before .before .check-text .ensures in
-    let l = c .before .before .before .if1 .left in
-    let r = c .before .before .before .before .room-in .ensures in
-    (within-limit (now (a .src)) (now (a .kinds)) (now (a .values)) (now (a .places)) 0 _ e, enough-room (now (a .src)) (now (a .kinds)) (now (a .values)) (now (a .places)) _ _ e (omega arith))
+    (checked-limit s _ e, omega (arith, checked-count s _ e, c .before .before .before .before .room-in .ensures, c .before .before .before .if1 .left))
 
 enum-told : tie.Need-enum-told
 enum-told c = search needs
@@ -60,23 +56,19 @@ same-length-6 : tie.Need-same-length-6
 same-length-6 c = search needs
 
 returns-2 : tie.Need-returns-2
-returns-2 c = let a = c .before .before .before .before .before .before .before .before .before .before .before .before .before .before .before .before .before .before .before .before .before .before .before .args in
-    let e = sym (ap summaryOf (c .before .before .before .before .before .before .before .before .before .before .before .before .before .before .before .before .checked .given .1)) ∙ c .before .before .before .before .before .before .before .before .before .before .before .before .before .before .before .before .before .before .check-text .ensures in
-    let l = c .before .before .before .before .before .before .before .before .before .before .if1 .left in
-    let r = c .before .before .before .before .before .before .before .before .before .before .before .room-in .ensures in
-    all-read (now (a .src)) (now (a .kinds)) (now (a .values)) (now (a .places)) _ _ e (omega arith) _ _ _ _ (c .before .before .before .before .before .before .lay-tokens .ensures)
+returns-2 c = all-read (now (c .before .before .before .before .before .before .before .before .before .before .before .before .before .before .before .before .before .before .before .before .before .before .before .args .src)) _ (sym (ap summaryOf (c .before .before .before .before .before .before .before .before .before .before .before .before .before .before .before .before .checked .given .1)) ∙ c .before .before .before .before .before .before .before .before .before .before .before .before .before .before .before .before .before .before .check-text .ensures) _ (omega (arith, c .before .before .before .before .before .before .before .before .before .before .before .room-in .ensures, c .before .before .before .before .before .before .before .before .before .before .if1 .left)) (c .before .before .before .before .before .before .lay-tokens .ensures)
 
 returns-3 : tie.Need-returns-3
-returns-3 c = let a = c .before .before .before .before .before .before .before .args in stays (now (a .src)) (now (a .kinds)) (now (a .values)) (now (a .places)) _ _ (sym (ap summaryOf (c .enum-told .given .1)) ∙ c .before .before .check-text .ensures) refl refl
+returns-3 c = stays _ _ _ (sym (ap summaryOf (c .enum-told .given .1)) ∙ c .before .before .check-text .ensures) refl
 
 returns-4 : tie.Need-returns-4
-returns-4 c = let a = c .before .before .before .before .before .before .before .before .args in stays (now (a .src)) (now (a .kinds)) (now (a .values)) (now (a .places)) _ _ (sym (ap summaryOf (c .before .checked2 .given .1)) ∙ c .before .before .before .check-text .ensures) refl refl
+returns-4 c = stays _ _ _ (sym (ap summaryOf (c .before .checked2 .given .1)) ∙ c .before .before .before .check-text .ensures) refl
 
 returns-5 : tie.Need-returns-5
-returns-5 c = let a = c .before .before .before .before .before .before .before .before .args in stays (now (a .src)) (now (a .kinds)) (now (a .values)) (now (a .places)) _ _ (sym (ap summaryOf (c .before .checked3 .given .1)) ∙ c .before .before .before .check-text .ensures) refl refl
+returns-5 c = stays _ _ _ (sym (ap summaryOf (c .before .checked3 .given .1)) ∙ c .before .before .before .check-text .ensures) refl
 
 returns-6 : tie.Need-returns-6
-returns-6 c = let a = c .before .before .before .before .before .before .before .before .args in stays (now (a .src)) (now (a .kinds)) (now (a .values)) (now (a .places)) _ _ (sym (ap summaryOf (c .before .checked4 .given .1)) ∙ c .before .before .before .check-text .ensures) refl refl
+returns-6 c = stays _ _ _ (sym (ap summaryOf (c .before .checked4 .given .1)) ∙ c .before .before .before .check-text .ensures) refl
 
 pub tokens-of-spec : {M : Type 1} → statement M
 tokens-of-spec =
