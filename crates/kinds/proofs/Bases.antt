@@ -8,7 +8,7 @@ use native.Mathlib.Omega.{arith}
 use native.Mathlib.Decide.{decLe}
 use lib.Dec.{leb}
 use lib.ListN.{getD, set, length}
-use lib.Seq.{getD-set-same, getD-set-other}
+use lib.Seq.{getD-set-same}
 use borrow.Author.Tests.{leb-true}
 use Rattle.token.specs.Kinds as K
 use Rattle.grammar.specs.Tree.{Register, Item, Width, Statement, assign, call, block, goto, null, ifThen, ifElse, while, for, Body, declare, procedure, items, Items, ended, label, item, registers, cells, base}
@@ -24,6 +24,7 @@ use Rattle.kinds.specs.Meanings.{Meant, mean, write, writeAll, writeText
 use Rattle.kinds.specs.Tables.{Tables, meaningAt}
 use Rattle.kinds.specs.Rules.{registerRule, zeroRule, writeRule, baseRules, declarationRules, keptAfter, conditionRules, controlRules, operandRules, lastSegment}
 use Rattle.kinds.specs.Kinds.{kindStatement, kindBody, kindItems}
+use Rattle.kinds.proofs.Stays.{Stays, stays-statement, stays-body, stays-items}
 use Rattle.kinds.proofs.Lengths.{AsLong, open-long, meant-long}
 
 -- the segments opened and their number are as they were
@@ -60,75 +61,16 @@ unfolding writeText
 text-same own p s = record { of-opens = refl; of-bases = refl }
 
 -- an entry before token i stays
-abbrev Stays : ℕ → Meant → Meant → Type 0
-Stays i s t = (u : ℕ) → u < i → getD (t .opens) u 0 ≡ getD (s .opens) u 0
+abbrev Same : ℕ → Meant → Meant → Type 0
+Same i s t = (u : ℕ) → u < i → getD (t .opens) u 0 ≡ getD (s .opens) u 0
 
-same-stays : (i : ℕ) (s t : Meant) → SameBases s t → Stays i s t
+same-stays : (i : ℕ) (s t : Meant) → SameBases s t → Same i s t
 same-stays i s t h u k = ap (λ (l : List ℕ). getD l u 0) (h .of-opens)
-
-apart : (u n : ℕ) → u < n → u ≡ n → ⊥
-apart u n h e = omega arith
-
-opened-stays : (own r n i : ℕ) (s : Meant) → i ≤ n → Stays i s (openBase own r n s)
-unfolding openBase write
-opened-stays own r n i s h u k = getD-set-other (s .opens) n u _ 0 (apart u n (omega arith))
-
-module _ (kinds values found : List ℕ) where
-  mutual
-    unfolding isStatement meanStatement isDeclaration
-
-    pub opens-stay : (x : Statement) (i j own : ℕ) (b : Based) (s : Meant) → isStatement kinds x i j → Stays i s (meanStatement kinds values found x own b s)
-    opens-stay (assign a) i j own b s p = same-stays i s _ (write-all-same own _ s)
-    opens-stay (call n) i j own b s p = same-stays i s _ (call-same (meaningIn found s n) own (getD found n 0) s)
-    opens-stay (block t x) i j own b s p = λ u k. opens-stay-body x (i + 1) j own b s (p .2) u (omega arith)
-    opens-stay (goto t n) i j own b s p = λ u k. refl
-    opens-stay null i j own b s p = λ u k. refl
-    opens-stay (ifThen t c x) i j own b s p =
-        let r = keep-condition {kinds = kinds} {others = kinds} c .rises (p .2 .1) in λ u k. opens-stay x (p .2 .0 + 1) j own b s (p .2 .2 .1) u (omega arith)
-    opens-stay (ifElse t c x e y) i j own b s p =
-        let r = keep-condition {kinds = kinds} {others = kinds} c .rises (p .2 .1) in
-        let q = p .2 .2 .1 in
-        let z = keep-statement {kinds = kinds} {others = kinds} x .rises (q .1 .1) in
-        λ u k. opens-stay y (q .0 + 1) j own b _ (q .2 .2) u (omega arith) ∙ opens-stay x (p .2 .0 + 1) (q .0) own b s (q .1 .1) u (omega arith)
-    opens-stay (while t c x) i j own b s p =
-        let r = keep-condition {kinds = kinds} {others = kinds} c .rises (p .2 .1) in λ u k. opens-stay x (p .2 .0 + 1) j own b s (p .2 .2 .1) u (omega arith)
-    opens-stay (for t a v l x) i j own b s p =
-        let r = keep-assignment {kinds = kinds} {others = kinds} a .rises (p .2 .1) in
-        let q = p .2 .2 .1 .2 .1 in
-        let m = keep-operand {kinds = kinds} {others = kinds} l .rises (q .1) in
-        λ u k. opens-stay x (q .0 + 1) j own b _ (q .2 .1) u (omega arith) ∙ same-stays i s _ (write-all-same own (assignmentWrites kinds found (s .means) a) s) u k
-
-    pub opens-stay-body : (x : Body) (i j own : ℕ) (b : Based) (s : Meant) → isBody kinds x i j → Stays i s (meanBody kinds values found x own b s)
-    opens-stay-body (declare (registers rs) x) i j own b s p =
-        let r = keep-declaration {kinds = kinds} {others = kinds} (registers rs) .rises (p .1) in
-        λ u k. opens-stay-body x (p .0 + 1) j own b _ (p .2 .1) u (omega arith) ∙ same-stays i s _ (registers-same values rs s) u k
-    opens-stay-body (declare (cells c w is) x) i j own b s p =
-        let r = keep-declaration {kinds = kinds} {others = kinds} (cells c w is) .rises (p .1) in
-        λ u k. opens-stay-body x (p .0 + 1) j own b _ (p .2 .1) u (omega arith) ∙ same-stays i s _ (cells-same values c w b is s) u k
-    opens-stay-body (declare (base n) x) i j own b s p =
-        let r = keep-declaration {kinds = kinds} {others = kinds} (base n) .rises (p .1) in
-        let e = p .1 .1 .1 .0 in
-        λ u k. opens-stay-body x (p .0 + 1) j own _ _ (p .2 .1) u (omega arith) ∙ opened-stays own (registerOf (meaningIn found s n)) n i s (omega arith) u k
-    opens-stay-body (procedure n r x y) i j own b s p =
-        let q = p .1 .1 .2 .1 .2 .1 .1 in
-        let z = keep-statement {kinds = kinds} {others = kinds} x .rises q in
-        let s1 = mean n (routine (registerOf (meaningIn found s r))) s in
-        let s2 = meanStatement kinds values found x n b s1 in
-        λ u k. opens-stay-body y (p .0 + 1) j own b (writeText own n s2) (p .2 .1) u (omega arith)
-        ∙ (same-stays i s2 (writeText own n s2) (text-same own n s2) u k ∙ opens-stay x (i + 1 + 1 + 1 + 1 + 1 + 1) (p .0) n b s1 q u (omega arith))
-    opens-stay-body (items is) i j own b s p = opens-stay-items is i j own b s p
-
-    pub opens-stay-items : (is : Items) (i j own : ℕ) (b : Based) (s : Meant) → isItems kinds is i j → Stays i s (meanItems kinds values found is own b s)
-    opens-stay-items ended i j own b s p = λ u k. refl
-    opens-stay-items (label l is) i j own b s p = λ u k. opens-stay-items is (i + 1 + 1) j own b s (p .2 .1) u (omega arith)
-    opens-stay-items (item x is) i j own b s p =
-        let z = keep-statement {kinds = kinds} {others = kinds} x .rises (p .1) in
-        λ u k. opens-stay-items is (p .0 + 1) j own b _ (p .2 .1) u (omega arith) ∙ opens-stay x i (p .0) own b s (p .1) u k
 
 -- ── the number of base declarations ──
 
 -- a token that has a kind is one of the text
-in-text : (l : List ℕ) (n k : ℕ) → getD l n 0 ≡ suc k → n < length l
+pub in-text : (l : List ℕ) (n k : ℕ) → getD l n 0 ≡ suc k → n < length l
 in-text [] n k e = absurd (let z : _≡_ {A = ℕ} 0 (suc k) = e in omega arith)
 in-text (x ∷ l) zero k e = omega arith
 in-text (x ∷ l) (suc n) k e = let h = in-text l n k e in omega arith
@@ -151,7 +93,7 @@ module _ (f : Tables) where
       let c = getD-set-same (s .opens) n (2 + s .bases) 0 h in
       omega arith
 
-  back : (m j : ℕ) (s t : Meant) → m ≤ j → Stays m s t → Agrees f j t → Agrees f m s
+  back : (m j : ℕ) (s t : Meant) → m ≤ j → Same m s t → Agrees f j t → Agrees f m s
   back m j s t h k a u l = a u (omega arith) ∙ k u l
 
   abbrev Long : Meant → Type 0
@@ -176,7 +118,7 @@ module _ (f : Tables) where
         let z = keep-statement {kinds = f .kinds} {others = f .kinds} y .rises (w .2 .2) in
         let r = quiet-right (conditionRules f c) (kindStatement f x kept ⊕ kindStatement f y kept) q in
         let s1 = meanStatement (f .kinds) (f .values) (f .found) x own b s in
-        let v = opens-stay (f .kinds) (f .values) (f .found) y (w .0 + 1) j own b s1 (w .2 .2) in
+        let v = stays-statement (f .kinds) (f .values) (f .found) y (w .0 + 1) j own b s1 (w .2 .2) .of-opens in
         let one = few-bases x (p .2 .0 + 1) (w .0) own b kept s (w .1 .1) (quiet-left (kindStatement f x kept) _ r) h (back (w .0) j s1 (meanStatement (f .kinds) (f .values) (f .found) y own b s1) (omega arith) (λ u l. v u (omega arith)) a) k in
         few-bases y (w .0 + 1) j own b kept s1 (w .2 .2) (quiet-right (kindStatement f x kept) _ r)
         (still-long s s1 (meant-long (f .kinds) (f .values) (f .found) x own b s .of-opens) h) a one
@@ -209,7 +151,7 @@ module _ (f : Tables) where
         let r = registerOf (meaningIn (f .found) s n) in
         let bs : Based = record { register = r; segment = 2 + s .bases } in
         let s1 = openBase own r n s in
-        let v = opens-stay-body (f .kinds) (f .values) (f .found) x (p .0 + 1) j own bs s1 (p .2 .1) in
+        let v = stays-body (f .kinds) (f .values) (f .found) x (p .0 + 1) j own bs s1 (p .2 .1) .of-opens in
         let named : getD (f .kinds) n 0 ≡ 1 = ap (λ (u : ℕ). getD (f .kinds) u 0) n-is ∙ t .1 in
         let inside = in-text (f .kinds) n 0 named in
         let one = few-base kept n own r s (quiet-left (baseRules f kept n) (kindBody f x (keptAfter f (base n) kept)) q) (a n (omega arith) ∙ v n (omega arith)) (omega arith) in
@@ -224,7 +166,7 @@ module _ (f : Tables) where
         let s3 = writeText own n s2 in
         let e = text-same own n s2 in
         let eb = e .of-bases in
-        let v = opens-stay-body (f .kinds) (f .values) (f .found) y (p .0 + 1) j own b s3 (p .2 .1) in
+        let v = stays-body (f .kinds) (f .values) (f .found) y (p .0 + 1) j own b s3 (p .2 .1) .of-opens in
         let one =
         few-bases x (i + 1 + 1 + 1 + 1 + 1 + 1) (p .0) n b inner s1 w (quiet-left (kindStatement f x inner) (kindBody f y kept) u) h
         (back (p .0) j s2 (meanBody (f .kinds) (f .values) (f .found) y own b s3) (omega arith) (λ o l. v o (omega arith) ∙ same-stays (p .0) s2 s3 e o l) a) k in
@@ -239,7 +181,7 @@ module _ (f : Tables) where
     few-bases-items (item x is) i j own b kept s p q h a k =
         let z = keep-items {kinds = f .kinds} {others = f .kinds} is .rises (p .2 .1) in
         let s1 = meanStatement (f .kinds) (f .values) (f .found) x own b s in
-        let v = opens-stay-items (f .kinds) (f .values) (f .found) is (p .0 + 1) j own b s1 (p .2 .1) in
+        let v = stays-items (f .kinds) (f .values) (f .found) is (p .0 + 1) j own b s1 (p .2 .1) .of-opens in
         let one = few-bases x i (p .0) own b kept s (p .1) (quiet-left (kindStatement f x kept) _ q) h (back (p .0) j s1 (meanItems (f .kinds) (f .values) (f .found) is own b s1) (omega arith) (λ u l. v u (omega arith)) a) k in
         few-bases-items is (p .0 + 1) j own b kept s1 (p .2 .1) (quiet-right (kindStatement f x kept) _ q)
         (still-long s s1 (meant-long (f .kinds) (f .values) (f .found) x own b s .of-opens) h) a one

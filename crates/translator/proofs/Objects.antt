@@ -12,10 +12,7 @@ use Rattle.base.proofs.Lists.{all-both, all-getD, all-in}
 use Rattle.token.specs.declared.Token.{Token}
 use Rattle.token.specs.Text.{tokensOf}
 use Rattle.grammar.specs.Tree.{Width, full, Statement}
-use Rattle.grammar.specs.Reader.{ok}
-use Rattle.grammar.specs.Grammar as G
-use Rattle.grammar.specs.Derives.{isStatement, isProgram}
-use Rattle.grammar.proofs.Theorems.{read-is-program}
+use Rattle.grammar.specs.Derives.{isStatement}
 use Rattle.names.specs.declared.Broken.{Broken}
 use Rattle.names.specs.Broken.{_⊕_}
 use Rattle.names.specs.Search.{inFront, firstToken}
@@ -49,6 +46,7 @@ use Rattle.translator.proofs.Ready.{Ready, ReadyCore, ready-code}
 use Rattle.translator.proofs.Encoded.{bytes-encodeAll}
 use Rattle.translator.proofs.Emitted.{core-ready}
 use Rattle.translator.proofs.Images.{Fitting, placed-bytes, first-data, data-from, length-data}
+use Rattle.translator.proofs.Tables.{length-map, Derived, accepted-derived}
 use Rattle.translator.proofs.Answers.{Accepted}
 
 -- what is in a list of parts is a part of something in the list
@@ -91,10 +89,6 @@ module _ (ts : List Token) (x : Statement) (j : ℕ) (front : firstToken ≤ len
   known : Known j m
   unfolding meant
   known = grown-statement (kindsOf ts) (valuesOf ts) (n .found) x firstToken j 0 dataBase (standard (length ts - firstToken)) read (omega arith) (known-standard (length ts - firstToken)) .known
-
-  length-map : {A : Type 0} (g : A → ℕ) (l : List A) → length (map g l) ≡ length l
-  length-map g [] = refl
-  length-map g (a ∷ l) = ap (λ (k : ℕ). suc k) (length-map g l)
 
   -- "a third base declaration" is refused
   few : m .bases ≤ 2
@@ -165,11 +159,9 @@ front-long ts = let e = length-append inFront ts in omega arith
 
 -- every text that is accepted has the object text of an object
 pub accepted-object : (source object : List ℕ) (a : Accepted source object) → Object (segments (make (a .tokens) (a .tree) .bases) (make (a .tokens) (a .tree) .layout) (make (a .tokens) (a .tree) .instructions))
-unfolding isProgram
 accepted-object source object a =
-    let p = read-is-program (kindsOf (a .tokens)) firstToken (a .tree) (a .next) (a .read) in
-    object-is (a .tokens) (a .tree) (p .0) (subst (λ (l : List Token). firstToken ≤ length l) (sym (a .text)) (front-long (tokensOf source .tokens)))
-    (p .1 .1) (a .quiet) (a .short) (a .room)
+    let d = accepted-derived source object a in
+    object-is (a .tokens) (a .tree) (d .to) (subst (λ (l : List Token). firstToken ≤ length l) (sym (a .text)) (front-long (tokensOf source .tokens))) (d .derived) (a .quiet) (a .short) (a .room)
 
 -- and the reader of object texts gives its segments back
 pub accepted-read : (source object : List ℕ) (a : Accepted source object)
