@@ -5,13 +5,15 @@ use crate::runner::{run, RunAnswer, STORAGE_NEEDED};
 use crate::{cmd_text, codetable, genrun, hercules, runspeed, runvectors};
 use std::io::{self, BufReader, BufWriter, Write};
 
-const USAGE: &str = "  reference run OBJECT [--budget N] [--cc N] [--reg N=V]... [--storage BYTES] [--dump]   the result in words
+const USAGE: &str =
+    "  reference run OBJECT [--budget N] [--cc N] [--reg N=V]... [--storage BYTES] [--dump]   the result in words
   reference runbatch         cases from standard input, a line of the result for each
   reference genrun SEED COUNT   generated runs as cases for `runbatch`
   reference genrun-histogram SEED COUNT   how these are answered
   reference runspeed         million instructions in a second
   reference runvectors DIR   runs with their answers into DIR
   reference codetable        every row of the code table with its bytes, for the outside check
+  reference codesample SEED COUNT   the instructions of translated texts, for the same check
   reference hercules-image FILE, reference hercules-compare FILE   the two halves of the outside check";
 
 /// Carries out a command; the exit status is 0, 1 for a refused run, or 2 for a command or input that makes no sense.
@@ -37,6 +39,10 @@ pub fn main(args: &[String]) -> i32 {
             print!("{}", codetable::lines());
             Ok(0)
         }
+        ["codesample", seed, count] => numbers(seed, count).map(|(s, c)| {
+            print!("{}", codetable::sample(s, c));
+            0
+        }),
         ["hercules-image", file] => hercules::write_image(file).map(|report| {
             print!("{report}");
             0

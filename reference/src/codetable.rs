@@ -1,6 +1,10 @@
 //! Every row of document 01's "Code" as instructions with many fields, beside what an assembler is told.
 
 use crate::assemble::{four, two};
+use crate::gen::right_text;
+use crate::objread;
+use crate::random::Random;
+use crate::translate::translate;
 
 /// What stands in the text, IBM's name of the instruction, the opcode.
 type Row = (&'static str, &'static str, u8);
@@ -95,6 +99,23 @@ pub fn lines() -> String {
         }
     }
     line(two(END.2, 0, 0), END.1, "0".to_string());
+    text
+}
+
+/// Lines `bytes, name` for every instruction of the programs that `count` generated texts translate to.
+pub fn sample(seed: u64, count: u64) -> String {
+    let mut text = String::new();
+    for number in 0..count {
+        let answer = translate(&right_text(&mut Random::new(seed, number)), None);
+        let program = objread::read(&answer.object).expect("the object text of an accepted text").program;
+        let mut rest = &program[..];
+        while !rest.is_empty() {
+            let (instruction, behind) = rest.split_at(if rest[0] < 0x40 { 2 } else { 4 });
+            let hex: String = instruction.iter().map(|byte| format!("{byte:02X}")).collect();
+            text += &format!("{hex}\t{}\n", mnemonic(instruction[0]).expect("a listed opcode"));
+            rest = behind;
+        }
+    }
     text
 }
 

@@ -1,57 +1,24 @@
-//! Cases for the runner from a seed: programs of listed instructions, random bytes as code, damaged object texts.
+//! Cases for the runner from a seed: programs of listed instructions, translated texts, random bytes as code, damaged
+//! object texts.
 
 use crate::assemble::{data, four, text, two};
+use crate::gen::right_text;
 use crate::machine::{origin, step, State};
 use crate::objread::{self, DataSegment};
+use crate::random::Random;
 use crate::runcase::Case;
 use crate::runner::{self, STORAGE_NEEDED};
+use crate::translate::translate;
 
-/// A small generator of random numbers (splitmix64).
-#[derive(Clone)]
-pub struct Random(u64);
-
-impl Random {
-    pub fn new(seed: u64) -> Random {
-        Random(seed)
-    }
-
-    pub fn next(&mut self) -> u64 {
-        self.0 = self.0.wrapping_add(0x9E37_79B9_7F4A_7C15);
-        let mut z = self.0;
-        z = (z ^ (z >> 30)).wrapping_mul(0xBF58_476D_1CE4_E5B9);
-        z = (z ^ (z >> 27)).wrapping_mul(0x94D0_49BB_1331_11EB);
-        z ^ (z >> 31)
-    }
-
-    /// 0 to `limit` - 1.
-    pub fn below(&mut self, limit: usize) -> usize {
-        (self.next() % limit as u64) as usize
-    }
-
-    /// `low` to `high`, both included.
-    pub fn range(&mut self, low: usize, high: usize) -> usize {
-        low + self.below(high - low + 1)
-    }
-
-    /// True `times` times in `of`.
-    pub fn chance(&mut self, times: usize, of: usize) -> bool {
-        self.below(of) < times
-    }
-
-    pub fn pick<T: Copy>(&mut self, from: &[T]) -> T {
-        from[self.below(from.len())]
-    }
-
-    /// A 32-bit value, most often one at an edge.
-    pub fn value(&mut self) -> u32 {
-        match self.below(10) {
-            0..=4 => self.pick(&EDGES),
-            5 => self.pick(&EDGES).wrapping_add(self.pick(&[1, 2, 0xFFFF_FFFF, 0xFFFF_FFFE])),
-            6 => 1 << self.below(32),
-            7 => self.below(200) as u32,
-            8 => (self.below(200) as u32).wrapping_neg(),
-            _ => self.next() as u32,
-        }
+/// A 32-bit value, most often one at an edge.
+pub fn value(random: &mut Random) -> u32 {
+    match random.below(10) {
+        0..=4 => *random.of(&EDGES),
+        5 => random.of(&EDGES).wrapping_add(*random.of(&[1, 2, 0xFFFF_FFFF, 0xFFFF_FFFE])),
+        6 => 1 << random.below(32),
+        7 => random.below(200) as u32,
+        8 => (random.below(200) as u32).wrapping_neg(),
+        _ => random.next() as u32,
     }
 }
 
@@ -99,21 +66,11 @@ const LINK: u8 = 7;
 
 /// An endless row of cases, the same for the same seed.
 pub fn cases(seed: u64) -> impl Iterator<Item = Case> {
-    let mut seeds = Random::new(seed);
-    std::iter::repeat_with(move || case(&mut Random::new(seeds.next())))
+    (0..).map(move |number| case(&mut Random::new(seed, number)))
 }
 
 fn case(random: &mut Random) -> Case {
-    let segments = segments(random);
-    let program = match random.below(20) {
-        0..=7 => straight(random, &segments),
-        8..=13 => looping(random, &segments),
-        14..=16 => calling(random, &segments),
-        17 => listed_bytes(random),
-        18 => (0..random.range(0, 60)).map(|_| random.next() as u8).collect(),
-        _ => random.pick(&[&[][..], &[0x0A], &[0x18], &END, &[0x58, 0x10, 0xE0]]).to_vec(),
-    };
-    let mut object = text(&program, &segments);
+    let mut object = if random.chance(1, 10) { translated(random) } else { made(random) };
     if random.chance(1, 6) {
         object = damaged(random, object);
     }
@@ -124,6 +81,26 @@ fn case(random: &mut Random) -> Case {
         storage_length: storage_length(random),
         regs: registers(random),
     }
+}
+
+/// The object text of an accepted source text.
+fn translated(random: &mut Random) -> Vec<u8> {
+    let answer = translate(&right_text(random), None);
+    assert_eq!(answer.number, 0, "right texts are accepted");
+    answer.object
+}
+
+fn made(random: &mut Random) -> Vec<u8> {
+    let segments = segments(random);
+    let program = match random.below(20) {
+        0..=7 => straight(random, &segments),
+        8..=13 => looping(random, &segments),
+        14..=16 => calling(random, &segments),
+        17 => listed_bytes(random),
+        18 => (0..random.range(0, 60)).map(|_| random.next() as u8).collect(),
+        _ => random.of(&[&[][..], &[0x0A], &[0x18], &END, &[0x58, 0x10, 0xE0]]).to_vec(),
+    };
+    text(&program, &segments)
 }
 
 fn budget(random: &mut Random) -> u32 {
@@ -139,14 +116,14 @@ fn budget(random: &mut Random) -> u32 {
 
 fn code(random: &mut Random) -> u64 {
     match random.below(20) {
-        0 => random.pick(&[4, 5, 7, 255, 256, 259, 1 << 32, u64::MAX]),
+        0 => *random.of(&[4, 5, 7, 255, 256, 259, 1 << 32, u64::MAX]),
         _ => random.below(4) as u64,
     }
 }
 
 fn storage_length(random: &mut Random) -> usize {
     match random.below(20) {
-        0 => random.pick(&[0, 1, 4096, 16384, STORAGE_NEEDED - 2, STORAGE_NEEDED - 1]),
+        0 => *random.of(&[0, 1, 4096, 16384, STORAGE_NEEDED - 2, STORAGE_NEEDED - 1]),
         1 => STORAGE_NEEDED + 1,
         2 => STORAGE_NEEDED + random.range(2, 5000),
         _ => STORAGE_NEEDED,
@@ -156,17 +133,17 @@ fn storage_length(random: &mut Random) -> usize {
 fn registers(random: &mut Random) -> [u32; 16] {
     let mut regs = [0; 16];
     for register in &mut regs[..8] {
-        *register = random.value();
+        *register = value(random);
     }
     for index in &mut regs[8..12] {
         *index = index_value(random);
     }
     for k in [2, 3] {
         let high_byte = if random.chance(1, 4) { (random.next() as u32) << 24 } else { 0 };
-        regs[10 + k] = if random.chance(1, 12) { random.value() } else { origin(k) | high_byte };
+        regs[10 + k] = if random.chance(1, 12) { value(random) } else { origin(k) | high_byte };
     }
-    regs[14] = random.value();
-    regs[15] = random.value();
+    regs[14] = value(random);
+    regs[15] = value(random);
     regs
 }
 
@@ -180,13 +157,13 @@ fn index_value(random: &mut Random) -> u32 {
         11 => near | 0x0100_0000 | (random.next() as u32) << 25,
         12 => near + 2,
         13 => random.range(1, 9) as u32,
-        14 => random.pick(&[4096, 8192, 0x00FF_F000, 0xFFFF_F000, 0x00FF_FFFC]),
-        _ => random.value(),
+        14 => *random.of(&[4096, 8192, 0x00FF_F000, 0xFFFF_F000, 0x00FF_FFFC]),
+        _ => value(random),
     }
 }
 
 fn segments(random: &mut Random) -> Vec<DataSegment> {
-    let count = random.pick(&[1, 1, 2, 2, 3]);
+    let count = *random.of(&[1, 1, 2, 2, 3]);
     (1..=count).map(|k| segment(random, k)).collect()
 }
 
@@ -194,12 +171,12 @@ fn segment(random: &mut Random, k: usize) -> DataSegment {
     let length = match random.below(24) {
         0 | 1 => random.range(0, 19),
         2 => random.range(17, 80),
-        3 if random.chance(1, 6) => random.pick(&[4088, 4094, 4095, 4096]),
-        _ => random.pick(&[20, 24, 28, 32, 40, 48, 64]),
+        3 if random.chance(1, 6) => *random.of(&[4088, 4094, 4095, 4096]),
+        _ => *random.of(&[20, 24, 28, 32, 40, 48, 64]),
     };
     let mut bytes = Vec::new();
     while bytes.len() < length {
-        bytes.extend(random.value().to_be_bytes());
+        bytes.extend(value(random).to_be_bytes());
     }
     bytes.truncate(length);
     let start = if k == 1 { 16.min(length) } else { 0 };
@@ -239,7 +216,7 @@ fn looping(random: &mut Random, segments: &[DataSegment]) -> Vec<u8> {
         program.push(plain(random, segments));
     }
     let (count, again) =
-        random.pick(&[(0x1B, 2), (0x1B, 3), (0x1B, 7), (0x1F, 1), (0x1F, 1), (0x1B, 15), (0x1A, 2), (0x1E, 5)]);
+        *random.of(&[(0x1B, 2), (0x1B, 3), (0x1B, 7), (0x1F, 1), (0x1F, 1), (0x1B, 15), (0x1A, 2), (0x1E, 5)]);
     program.push(two(count, COUNTER, ONE));
     program.push(four(BRANCH, again, 0, 15, top));
     finish(random, &mut program);
@@ -301,11 +278,11 @@ fn plain(random: &mut Random, segments: &[DataSegment]) -> Vec<u8> {
     match random.below(24) {
         0..=7 => on_registers(random),
         8..=12 => {
-            let op = random.pick(&ON_WORDS);
+            let op = *random.of(&ON_WORDS);
             in_storage(random, segments, op, 4, false)
         }
         13..=16 => {
-            let op = random.pick(&ON_HALVES);
+            let op = *random.of(&ON_HALVES);
             in_storage(random, segments, op, 2, false)
         }
         17 | 18 => in_storage(random, segments, WORD_STORE, 4, true),
@@ -333,18 +310,18 @@ fn target(random: &mut Random, op: u8) -> u8 {
 }
 
 fn on_registers(random: &mut Random) -> Vec<u8> {
-    let op = random.pick(&ON_REGISTERS);
+    let op = *random.of(&ON_REGISTERS);
     two(op, target(random, op), random.below(16) as u8)
 }
 
 fn shift(random: &mut Random) -> Vec<u8> {
-    let op = random.pick(&SHIFTS);
+    let op = *random.of(&SHIFTS);
     let by_register = random.chance(1, 3);
     let base = if by_register { random.below(16) as u8 } else { 0 };
     let amount = match random.below(8) {
         0 => random.below(64),
         1 => random.below(4096),
-        _ => random.pick(&[0, 1, 2, 15, 16, 30, 31, 32, 33, 62, 63, 64, 95, 4095]),
+        _ => *random.of(&[0, 1, 2, 15, 16, 30, 31, 32, 33, 62, 63, 64, 95, 4095]),
     };
     let ignored = if random.chance(1, 4) { random.below(16) as u8 } else { 0 };
     four(op, target(random, op), ignored, base, amount as u16)
@@ -381,7 +358,7 @@ fn in_storage(random: &mut Random, segments: &[DataSegment], op: u8, size: usize
 fn listed_bytes(random: &mut Random) -> Vec<u8> {
     let mut bytes = Vec::new();
     for _ in 0..random.range(1, 12) {
-        let op = random.pick(&LISTED);
+        let op = *random.of(&LISTED);
         let length = if op < 0x40 { 2 } else { 4 };
         bytes.push(op);
         bytes.extend((1..length).map(|_| random.next() as u8));
@@ -402,12 +379,12 @@ fn damaged_bytes(random: &mut Random, mut object: Vec<u8>) -> Vec<u8> {
     let place = random.below(object.len());
     match random.below(6) {
         0 => object[place] = random.next() as u8,
-        1 => object[place] = random.pick(b"0123456789ABCDEF"),
-        2 => object[place] = random.pick(b"gG/:@`af \t\r\n\0"),
+        1 => object[place] = *random.of(b"0123456789ABCDEF"),
+        2 => object[place] = *random.of(b"gG/:@`af \t\r\n\0"),
         3 => {
             object.remove(place);
         }
-        4 => object.insert(place, random.pick(b"0F\n a")),
+        4 => object.insert(place, *random.of(b"0F\n a")),
         _ => {
             let other = random.below(object.len());
             object.swap(place, other);
@@ -429,14 +406,14 @@ fn damaged_lines(random: &mut Random, object: Vec<u8>) -> Vec<u8> {
         1 => lines.insert(i, lines[j].clone()),
         2 => lines.swap(i, j),
         3 => lines[i].make_ascii_lowercase(),
-        4 => lines[i].push(random.pick(b"0 \r")),
+        4 => lines[i].push(*random.of(b"0 \r")),
         _ => {
             // Fields of heads: kind, number, length, from, to; of content: number, offset, count.
             let heads: Vec<usize> =
                 (0..lines.len()).filter(|&n| lines[n].starts_with(b"01") || lines[n].starts_with(b"02")).collect();
-            let i = if random.chance(2, 3) { random.pick(&heads) } else { i };
+            let i = if random.chance(2, 3) { *random.of(&heads) } else { i };
             let field = 2 * random.below(8.min(lines[i].len() / 2).max(1));
-            let digits = random.pick(&[b"00", b"01", b"02", b"03", b"04", b"0F", b"10", b"11", b"FF"]);
+            let digits = *random.of(&[b"00", b"01", b"02", b"03", b"04", b"0F", b"10", b"11", b"FF"]);
             if field + 2 <= lines[i].len() {
                 lines[i][field..field + 2].copy_from_slice(digits);
             }
@@ -452,18 +429,18 @@ fn damaged_end(random: &mut Random, mut object: Vec<u8>) -> Vec<u8> {
     match random.below(10) {
         0 => object.truncate(object.len() - 1),
         1 => object.truncate(object.len() - 3),
-        2 => object.extend(random.pick(&[&b"FF\n"[..], b"\n", b" ", b"0", b"0204000000000000\nFF\n"])),
+        2 => object.extend(*random.of(&[&b"FF\n"[..], b"\n", b" ", b"0", b"0204000000000000\nFF\n"])),
         3 => {
             object =
-                String::from_utf8_lossy(&object).replace('\n', random.pick(&["\r\n", "\n\n", " \n", "\r"])).into_bytes()
+                String::from_utf8_lossy(&object).replace('\n', *random.of(&["\r\n", "\n\n", " \n", "\r"])).into_bytes()
         }
         4 => object.make_ascii_lowercase(),
         5 => object.truncate(random.below(object.len())),
         6 => object = text(&vec![0x07; 4097], &[data(vec![0; 16], 16, 16)]),
         7 => object = text(&END, &[data(vec![0; random.range(4097, 4100)], 16, 16)]),
-        8 => object = text(&END, &vec![data(vec![1; 4], 0, 4); random.pick(&[0, 4])]),
+        8 => object = text(&END, &vec![data(vec![1; 4], 0, 4); *random.of(&[0, 4])]),
         _ => {
-            let (from, to) = random.pick(&[(17, 16), (0, 21), (21, 21), (20, 0), (65535, 65535)]);
+            let (from, to) = *random.of(&[(17, 16), (0, 21), (21, 21), (20, 0), (65535, 65535)]);
             object = text(&END, &[data(vec![0; 20], from, to)]);
         }
     }

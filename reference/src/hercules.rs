@@ -5,9 +5,10 @@
 //! 4096 through register 15, and writes what came of it into the record.
 
 use crate::assemble::{data, four, text, two};
-use crate::genrun::Random;
+use crate::genrun::value;
 use crate::machine::origin;
 use crate::objread;
+use crate::random::Random;
 use crate::runcase::{answer_line, Case, STORAGE_BEFORE};
 use crate::runner::{self, RunAnswer, STORAGE_NEEDED};
 use std::io::{self, Write};
@@ -88,7 +89,7 @@ struct Trial {
 
 /// The same trials at every call.
 fn trials() -> Vec<Trial> {
-    let mut random = Random::new(SEED);
+    let mut random = Random::new(SEED, 0);
     let listed = (0..TRIED).map(|i| OPCODES[i % OPCODES.len()]);
     let products = (0..ODD_PRODUCTS).map(|i| [0x1C, 0x5C][i % 2]);
     let mut all: Vec<Trial> = listed.map(|op| trial(&mut random, op, false)).collect();
@@ -98,11 +99,11 @@ fn trials() -> Vec<Trial> {
 }
 
 fn trial(random: &mut Random, op: u8, odd: bool) -> Trial {
-    let mut regs: [u32; 16] = std::array::from_fn(|_| random.value());
+    let mut regs: [u32; 16] = std::array::from_fn(|_| value(random));
     (regs[14], regs[15]) = (origin(1), origin(0));
     let mut cells = Vec::new();
     while cells.len() < CELLS_1 + CELLS_2 {
-        cells.extend(random.value().to_be_bytes());
+        cells.extend(value(random).to_be_bytes());
     }
     let mut r1 = random.below(16) as u8;
     if op == 0x1C || op == 0x5C {
@@ -121,7 +122,7 @@ fn trial(random: &mut Random, op: u8, odd: bool) -> Trial {
             instruction
         }
         0x45 | 0x47 => {
-            let target = random.pick(&TARGETS);
+            let target = *random.of(&TARGETS);
             addressed(random, &mut regs, op, r1, target)
         }
         0x88..=0x8B => shift(random, op, r1),
@@ -136,7 +137,7 @@ fn trial(random: &mut Random, op: u8, odd: bool) -> Trial {
             instruction
         }
     };
-    let before = if op == 0x45 { random.below(20) } else { random.pick(&[0, 0, 0, 1, 5]) };
+    let before = if op == 0x45 { random.below(20) } else { *random.of(&[0, 0, 0, 1, 5]) };
     let program = [two(0x07, 0, 0).repeat(before), instruction.clone()].concat();
     let segments = [data(cells[..CELLS_1].to_vec(), 0, CELLS_1), data(cells[CELLS_1..].to_vec(), 0, CELLS_2)];
     let case = Case {
@@ -162,12 +163,12 @@ fn related(random: &mut Random, regs: &mut [u32; 16], instruction: &[u8]) -> Opt
         regs[r1] = 0;
     }
     let first = regs[r1];
-    Some(random.pick(&[first, first.wrapping_neg(), first.wrapping_neg(), !first]))
+    Some(*random.of(&[first, first.wrapping_neg(), first.wrapping_neg(), !first]))
 }
 
 fn branch_by_register(random: &mut Random, regs: &mut [u32; 16]) -> Vec<u8> {
-    let register = random.pick(&[0, 0, 1, 2, 3, 4, 5, 6, 7, 8, 9, 10, 11, 12, 13]);
-    regs[register] = random.pick(&TARGETS) | (random.next() as u32) << 24;
+    let register = *random.of(&[0, 0, 1, 2, 3, 4, 5, 6, 7, 8, 9, 10, 11, 12, 13]);
+    regs[register] = *random.of(&TARGETS) | (random.next() as u32) << 24;
     two(0x07, random.below(16) as u8, register as u8)
 }
 
@@ -175,7 +176,7 @@ fn shift(random: &mut Random, op: u8, r1: u8) -> Vec<u8> {
     let amount = match random.below(4) {
         0 => random.below(4096),
         1 => random.below(64),
-        _ => random.pick(&[0, 1, 2, 15, 16, 30, 31, 32, 33, 62, 63, 64]),
+        _ => *random.of(&[0, 1, 2, 15, 16, 30, 31, 32, 33, 62, 63, 64]),
     };
     let base = if random.chance(1, 3) { random.below(16) as u8 } else { 0 };
     four(op, r1, random.below(16) as u8, base, amount as u16)
@@ -186,7 +187,7 @@ fn addressed(random: &mut Random, regs: &mut [u32; 16], op: u8, r1: u8, address:
     loop {
         let (index, base) = (random.below(16), random.below(16));
         let displacement =
-            if random.chance(1, 2) { random.below(4096) } else { random.pick(&[0, 1, 2, 4, 2048, 4094, 4095]) };
+            if random.chance(1, 2) { random.below(4096) } else { *random.of(&[0, 1, 2, 4, 2048, 4094, 4095]) };
         let free = |register: usize| (1..14).contains(&register);
         let value = |register: usize| if register == 0 { 0 } else { regs[register] };
         let high_byte = (random.next() as u32) << 24;

@@ -1,5 +1,6 @@
 //! A case for the runner in the format of `runbatch`, and the line that answers it.
 
+use crate::cmd_text::fnv1a;
 use crate::runner::{run, RunAnswer};
 use std::io::{self, BufRead, Write};
 
@@ -67,11 +68,6 @@ impl Case {
 pub fn answer_line(answer: &RunAnswer, storage: &[u8]) -> String {
     let RunAnswer { number, place, stop, counter, regs, cc, count } = answer;
     format!("{number} {place} {stop} {counter} {cc} {count} {} {:016x}", words(regs), fnv1a(storage))
-}
-
-/// FNV-1a, 64 bits.
-pub fn fnv1a(bytes: &[u8]) -> u64 {
-    bytes.iter().fold(0xcbf2_9ce4_8422_2325, |hash, &byte| (hash ^ byte as u64).wrapping_mul(0x0000_0100_0000_01b3))
 }
 
 fn words(regs: &[u32; 16]) -> String {

@@ -29,11 +29,11 @@ abbrev pub mean : ℕ → Meaning → Meant → Meant
 mean t m s = record { means = set (s .means) t m; opens = s .opens; written = s .written; cells = s .cells; bases = s .bases }
 
 -- the text of the procedure `own` writes these registers too
-abbrev pub join : ℕ → (Registers → Registers) → Meant → Meant
-join own f s = record { means = s .means; opens = s .opens; written = set (s .written) own (f (getD (s .written) own noRegisters)); cells = s .cells; bases = s .bases }
+abbrev pub growWritten : ℕ → (Registers → Registers) → Meant → Meant
+growWritten own f s = record { means = s .means; opens = s .opens; written = set (s .written) own (f (getD (s .written) own noRegisters)); cells = s .cells; bases = s .bases }
 
 unfoldable pub write : ℕ → ℕ → Meant → Meant
-write own r s = join own (addRegister r) s
+write own r s = growWritten own (addRegister r) s
 
 unfoldable pub writeAll : ℕ → List ℕ → Meant → Meant
 writeAll own [] s = s
@@ -41,7 +41,7 @@ writeAll own (r ∷ rs) s = writeAll own rs (write own r s)
 
 -- all that the text of the procedure p writes
 unfoldable pub writeText : ℕ → ℕ → Meant → Meant
-writeText own p s = join own (union (getD (s .written) p noRegisters)) s
+writeText own p s = growWritten own (union (getD (s .written) p noRegisters)) s
 
 -- "A call writes the procedure's return register and all that its body's text writes, nested procedures and base declarations included, through calls too."
 unfoldable pub callWrites : Meaning → ℕ → ℕ → Meant → Meant
@@ -65,37 +65,38 @@ addCell c vs s = record {
   bases = s .bases;
 }
 
+unfoldable pub meanRegisters : List ℕ → List Register → Meant → Meant
+meanRegisters values [] s = s
+meanRegisters values (r ∷ rs) s = meanRegisters values rs (mean (r .name) (register (getD values (r .number) 0)) s)
+
+-- a cell declared without ARRAY is one element
+abbrev pub countOf : List ℕ → Option ℕ → ℕ
+countOf values none = 1
+countOf values (some t) = getD values t 0
+
+abbrev pub isArray : Option ℕ → Bool
+isArray none = false
+isArray (some t) = true
+
+abbrev pub cellOf : List ℕ → Option ℕ → Width → Based → Item → Cell
+cellOf values count w b i = record { name = i .name; base = b; width = w; elements = countOf values count; array = isArray count }
+
+unfoldable pub meanCells : List ℕ → Option ℕ → Width → Based → List Item → Meant → Meant
+meanCells values count w b [] s = s
+meanCells values count w b (i ∷ is) s = meanCells values count w b is (addCell (cellOf values count w b i) (map (λ (t : ℕ). getD values t 0) (i .numbers)) s)
+
+-- ── the whole text ──
+
+-- what the name at token t means so far
+abbrev pub meaningIn : List ℕ → Meant → ℕ → Meaning
+meaningIn found s t = meaningOf found (s .means) t
+
 module _ (kinds values found : List ℕ) where
-  abbrev pub valueAt : ℕ → ℕ
-  valueAt t = getD values t 0
-
-  abbrev pub meaningIn : Meant → ℕ → Meaning
-  meaningIn s t = meaningOf found (s .means) t
-
-  unfoldable pub meanRegisters : List Register → Meant → Meant
-  meanRegisters [] s = s
-  meanRegisters (r ∷ rs) s = meanRegisters rs (mean (r .name) (register (valueAt (r .number))) s)
-
-  -- a cell declared without ARRAY is one element
-  abbrev pub countOf : Option ℕ → ℕ
-  countOf none = 1
-  countOf (some t) = valueAt t
-
-  abbrev pub isArray : Option ℕ → Bool
-  isArray none = false
-  isArray (some t) = true
-
-  unfoldable pub meanCells : Option ℕ → Width → Based → List Item → Meant → Meant
-  meanCells count w b [] s = s
-  meanCells count w b (i ∷ is) s =
-      meanCells count w b is
-      (addCell (record { name = i .name; base = b; width = w; elements = countOf count; array = isArray count }) (map valueAt (i .numbers)) s)
-
   -- own: the token of the innermost procedure, 0 outside all; b: the data base in force
   unfoldable mutual
     pub meanStatement : Statement → ℕ → Based → Meant → Meant
     meanStatement (assign a) own b s = writeAll own (assignmentWrites kinds found (s .means) a) s
-    meanStatement (call n) own b s = callWrites (meaningIn s n) own (getD found n 0) s
+    meanStatement (call n) own b s = callWrites (meaningIn found s n) own (getD found n 0) s
     meanStatement (block t x) own b s = meanBody x own b s
     meanStatement (goto t n) own b s = s
     meanStatement null own b s = s
@@ -106,11 +107,11 @@ module _ (kinds values found : List ℕ) where
 
     -- "a base declaration … holds for the cells after it in that block and its inner blocks."
     pub meanBody : Body → ℕ → Based → Meant → Meant
-    meanBody (declare (registers rs) x) own b s = meanBody x own b (meanRegisters rs s)
-    meanBody (declare (cells c w is) x) own b s = meanBody x own b (meanCells c w b is s)
+    meanBody (declare (registers rs) x) own b s = meanBody x own b (meanRegisters values rs s)
+    meanBody (declare (cells c w is) x) own b s = meanBody x own b (meanCells values c w b is s)
     meanBody (declare (base n) x) own b s =
-        meanBody x own (record { register = registerOf (meaningIn s n); segment = 2 + s .bases }) (openBase own (registerOf (meaningIn s n)) n s)
-    meanBody (procedure n r x y) own b s = meanBody y own b (writeText own n (meanStatement x n b (mean n (routine (registerOf (meaningIn s r))) s)))
+        meanBody x own (record { register = registerOf (meaningIn found s n); segment = 2 + s .bases }) (openBase own (registerOf (meaningIn found s n)) n s)
+    meanBody (procedure n r x y) own b s = meanBody y own b (writeText own n (meanStatement x n b (mean n (routine (registerOf (meaningIn found s r))) s)))
     meanBody (items is) own b s = meanItems is own b s
 
     pub meanItems : Items → ℕ → Based → Meant → Meant

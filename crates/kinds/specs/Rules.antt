@@ -1,5 +1,5 @@
 -- Document 01, "Names, cells, protected registers": the rules on kinds, registers and values of each part of a text, refusals 8 to 11, and 12 of a base
--- declaration. A name that was not found breaks no further rule.
+-- declaration. A name that was not found fits nowhere: 6 at the same place is the smaller number.
 use mathlib.Core.List.{List, [], _∷_}
 use mathlib.Core.Bool.{Bool, true, false, _&&_, _||_, not}
 use mathlib.Core.Option.{Option, none, some}
@@ -27,12 +27,11 @@ writeRule kept r t = rule (not (member r kept)) 10 t
 
 -- ── registers ──
 
--- what is named is a register, as far as it was found
-abbrev pub fitsRegister : Meaning → Bool
-fitsRegister nothing = true
-fitsRegister (register r) = true
-fitsRegister (cell c) = false
-fitsRegister (routine r) = false
+abbrev pub isRegister : Meaning → Bool
+isRegister nothing = false
+isRegister (register r) = true
+isRegister (cell c) = false
+isRegister (routine r) = false
 
 abbrev pub isZero : Meaning → Bool
 isZero nothing = false
@@ -92,7 +91,7 @@ lastSegment = 3
 module _ (f : Tables) where
   -- "The first name in a condition, the FOR target and indexes are registers."
   unfoldable pub registerRule : ℕ → Broken
-  registerRule t = rule (fitsRegister (meaningAt f t)) 8 t
+  registerRule t = rule (isRegister (meaningAt f t)) 8 t
 
   -- "9: … 0 as base, return, index, shift"
   unfoldable pub zeroRule : ℕ → Broken
@@ -110,7 +109,7 @@ module _ (f : Tables) where
 
   -- "A subscript … belongs only to arrays (else 8 at the name before it)", and so does an index
   abbrev pub placeBy : Meaning → Designator → Broken
-  placeBy nothing d = unbroken
+  placeBy nothing d = broken 8 (d .name)
   placeBy (register r) d = rule (bareName d) 8 (d .name)
   placeBy (cell c) d = rule (c .array || bareName d) 8 (d .name) ⊕ subscriptRules c (d .subscript) ⊕ indexRules (d .index)
   placeBy (routine r) d = broken 8 (d .name)
@@ -122,10 +121,10 @@ module _ (f : Tables) where
   operandRules (number t) = unbroken
   operandRules (place d) = placeRules d
 
-  -- one register name and nothing else, as far as it was found
+  -- one register name and nothing else
   unfoldable pub onlyRegister : Operand → Broken
   onlyRegister (number t) = broken 8 t
-  onlyRegister (place d) = rule (fitsRegister (meaningAt f (d .name)) && bareName d) 8 (d .name)
+  onlyRegister (place d) = rule (isRegister (meaningAt f (d .name)) && bareName d) 8 (d .name)
 
   -- ── chains ──
 
@@ -168,7 +167,7 @@ module _ (f : Tables) where
   toCell a = placeRules (a .target) ⊕ noSign (a .sign) ⊕ onlyRegister (a .first) ⊕ noChain (a .rest)
 
   abbrev pub assignBy : Meaning → List ℕ → Assignment → Broken
-  assignBy nothing kept a = unbroken
+  assignBy nothing kept a = broken 8 (a .target .name)
   assignBy (register r) kept a = toRegister kept r a
   assignBy (cell c) kept a = toCell a
   assignBy (routine r) kept a = broken 8 (a .target .name)
@@ -178,7 +177,7 @@ module _ (f : Tables) where
 
   -- the FOR target is a register
   abbrev pub controlBy : Meaning → List ℕ → Assignment → Broken
-  controlBy nothing kept a = unbroken
+  controlBy nothing kept a = broken 8 (a .target .name)
   controlBy (register r) kept a = toRegister kept r a
   controlBy (cell c) kept a = broken 8 (a .target .name)
   controlBy (routine r) kept a = broken 8 (a .target .name)
@@ -194,7 +193,7 @@ module _ (f : Tables) where
 
   -- "A procedure's name is known in its own body; a call there is refused": its return register is protected there
   abbrev pub callBy : Meaning → List ℕ → ℕ → Broken
-  callBy nothing kept n = unbroken
+  callBy nothing kept n = broken 8 n
   callBy (register r) kept n = broken 8 n
   callBy (cell c) kept n = broken 8 n
   callBy (routine r) kept n = writeRule kept r n ⊕ rule (spares (getD (f .written) (getD (f .found) n 0) noRegisters) kept) 10 n

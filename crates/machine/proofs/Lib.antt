@@ -1,2 +1,5 @@
 pub mod Operands
 pub mod Runs
+pub mod Stops
+pub mod Resumes
+pub mod Outside

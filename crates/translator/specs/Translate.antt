@@ -9,7 +9,7 @@ use Rattle.token.specs.declared.Token.{Token}
 use Rattle.token.specs.Text.{Reading, tokensOf}
 use Rattle.grammar.specs.Tree.{Statement}
 use Rattle.grammar.specs.Reader.{Result, ok, bad}
-use Rattle.grammar.specs.Grammar as G
+use Rattle.grammar.specs.Grammar.{program}
 use Rattle.names.specs.declared.Broken.{Broken}
 use Rattle.names.specs.Broken.{unbroken, _⊕_}
 use Rattle.names.specs.Search.{inFront, firstToken, around}
@@ -105,33 +105,40 @@ make ts x =
 
 -- ── the groups ──
 
--- "14: program over 4,096 bytes … 0"; "15: literals end past 4,096 … 0"; "16: buffer shorter than the object text … length needed"
-unfoldable pub fits : ℕ → List ℕ → Answer
-fits room text = if ltb room (length text) then refused 16 (length text) else accepted text
-
-unfoldable pub finish : ℕ → Made → Answer
-finish room m =
+-- "14: program over 4,096 bytes … 0"; "15: literals end past 4,096 … 0"
+unfoldable pub finish : Made → Answer
+finish m =
     if ltb segmentLimit (sizes (m .instructions)) then refused 14 0 else
     if ltb segmentLimit (literalsEnd (m .layout)) then refused 15 0 else
-    fits room (objectText (segments (m .bases) (m .layout) (m .instructions)))
+    accepted (objectText (segments (m .bases) (m .layout) (m .instructions)))
 
--- "6 to 13 … Inside a group the smallest place wins, then the smaller number."
-abbrev pub judgeBy : ℕ → List Token → Made → ℕ → Answer
-judgeBy room ts m zero = finish room m
-judgeBy room ts m (suc n) = refused (suc n) (placeAt ts (m .broken .at))
+-- "6 to 13"
+abbrev pub judgeBy : List Token → Made → ℕ → Answer
+judgeBy ts m zero = finish m
+judgeBy ts m (suc n) = refused (suc n) (placeAt ts (m .broken .at))
 
-unfoldable pub judge : ℕ → List Token → Made → Answer
-judge room ts m = judgeBy room ts m (m .broken .number)
+unfoldable pub judge : List Token → Made → Answer
+judge ts m = judgeBy ts m (m .broken .number)
 
 -- "4 … 5 … token, or text length", which is the place of the end
-abbrev pub afterTokens : ℕ → List Token → Result Statement → Answer
-afterTokens room ts (ok x next) = judge room ts (make ts x)
-afterTokens room ts (bad n i) = refused n (placeAt ts i)
+abbrev pub afterTokens : List Token → Result Statement → Answer
+afterTokens ts (ok x next) = judge ts (make ts x)
+afterTokens ts (bad n i) = refused n (placeAt ts i)
 
 -- "1 … 2 … 3"
-abbrev pub afterText : ℕ → Reading → ℕ → Answer
-afterText room r zero = let ts = inFront ++ r .tokens in afterTokens room ts (G.program (kindsOf ts) firstToken)
-afterText room r (suc n) = refused (suc n) (r .place)
+abbrev pub afterText : Reading → ℕ → Answer
+afterText r zero = let ts = inFront ++ r .tokens in afterTokens ts (program (kindsOf ts) firstToken)
+afterText r (suc n) = refused (suc n) (r .place)
 
+-- all but 16: the object text, whatever the room
+unfoldable pub translated : List ℕ → Answer
+translated source = afterText (tokensOf source) (tokensOf source .number)
+
+-- "16: buffer shorter than the object text … length needed"
+unfoldable pub inRoom : ℕ → Answer → Answer
+inRoom room (accepted t) = if ltb room (length t) then refused 16 (length t) else accepted t
+inRoom room (refused n p) = refused n p
+
+-- the answer to a source and a buffer with this room
 unfoldable pub translate : List ℕ → ℕ → Answer
-translate source room = afterText room (tokensOf source) (tokensOf source .number)
+translate source room = inRoom room (translated source)

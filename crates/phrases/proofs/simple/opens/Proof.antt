@@ -1,0 +1,17 @@
+use lib.Dec.{eqb}
+use mathlib.Core.Bool.{_||_}
+use borrow.Author.Needs.{needs}
+use Rattle.phrases.proofs.Choices.{same-test}
+use Rattle.grammar.specs.Grammar.{openers}
+use Rattle.base.specs.Lists.{member}
+use Rattle.phrases.proofs.simple.opens.Statement.{statement}
+use Rattle.phrases.proofs.simple.opens.Tie as tie
+use Rattle.phrases.proofs.simple.opens.Reads as reads
+use Rattle.phrases.proofs.simple.opens.Lts as lts
+
+-- src/simple.rt:147:1
+returns : tie.Need-returns
+returns c = same-test (λ k. eqb k 3 || (eqb k 5 || (eqb k 8 || eqb k 10))) (λ k. member k openers) tt (c .args .k) (search needs)
+
+pub opens-spec : {M : Type 1} → statement M
+opens-spec = tie.close (tie.spec returns)

@@ -1,0 +1,176 @@
+// "simple", and what stands in a statement or a procedure before the statement inside it.
+use crate::assignments::assignment;
+use crate::assignments::condition;
+use crate::assignments::operand;
+use crate::events::write;
+use crate::tokens::Answer;
+use crate::tokens::in_parens;
+use crate::tokens::kind_at;
+use crate::tokens::read;
+use crate::tokens::refused;
+use crate::tokens::wanted;
+ghost use mathlib.Core.Path.{_≡_};
+ghost use mathlib.Core.Bool.{not, _&&_};
+ghost use mathlib.Core.List.{[], _∷_};
+ghost use Prim.Native.Nat.{_+_, _≤_, _<_};
+ghost use lib.Dec.{eqb};
+ghost use lib.ListN.{length, getD};
+ghost use Rattle.base.specs.Lists.{member};
+ghost use Rattle.token.specs.Kinds as K;
+ghost use Rattle.grammar.specs.Reader.{refuse};
+ghost use Rattle.grammar.specs.Grammar as G;
+ghost use Rattle.tape.specs.Events as E;
+ghost use Rattle.tape.specs.Tape.{tapeOperand, tapeCondition, tapeAssignment, tapeStatement};
+ghost use Rattle.phrases.specs.Reads.{Ready, Wrote};
+ghost use Rattle.phrases.specs.Parts.{headOf, controlOf, limitOf, procedureHead, tapeOpening};
+use token::kinds;
+
+// An assignment or a call that begins with the name n.
+pub fn after_name(kinds: &[u8], n: usize, tape: &mut [u32], p: usize) -> Answer
+    requires { ⌜ Ready (now kinds) (now tape) n p × (n < length (now kinds)) ⌝ }
+    ensures { λ r. ⌜ Wrote tapeStatement (now (kinds .entry)) n p (now (tape .entry)) (now (tape .exit)) r (G.afterName n (now (kinds .entry)) (n + 1)) ⌝ }
+{
+    let next = n + 1;
+    let k = kind_at(kinds, next);
+    if (k == kinds::BECOMES) | (k == kinds::OPEN) {
+        return assignment(kinds, n, tape::TARGET, tape, p);
+    }
+    write(tape, p, tape::CALL, n);
+    read(next, p + 1)
+}
+
+// A statement that is not BEGIN, IF, WHILE or FOR.
+pub fn simple(kinds: &[u8], i: usize, tape: &mut [u32], p: usize) -> Answer
+    requires { ⌜ Ready (now kinds) (now tape) i p ⌝ }
+    ensures { λ r. ⌜ Wrote tapeStatement (now (kinds .entry)) i p (now (tape .entry)) (now (tape .exit)) r (G.statementOf (refuse 4) (now (kinds .entry)) i) ⌝ }
+{
+    let k = kind_at(kinds, i);
+    if k == kinds::NAME {
+        return after_name(kinds, i, tape, p);
+    }
+    if k == kinds::NULL {
+        return read(i + 1, p);
+    }
+    if k != kinds::GOTO {
+        return refused(4, i);
+    }
+    let label = i + 1;
+    let name = wanted(kinds, label, kinds::NAME);
+    if name.number != 0 {
+        return name;
+    }
+    write(tape, p, tape::GOTO, label);
+    read(name.at, p + 1)
+}
+
+// A condition and the word after it, THEN or DO.
+pub fn head(kinds: &[u8], i: usize, word: u8, tape: &mut [u32], p: usize) -> Answer
+    requires { ⌜ Ready (now kinds) (now tape) i p × (0 < word) ⌝ }
+    ensures { λ r. ⌜ Wrote tapeCondition (now (kinds .entry)) i p (now (tape .entry)) (now (tape .exit)) r (headOf word (now (kinds .entry)) i) × (r .value + i < r .at + p + r .number) ⌝ }
+{
+    let c = condition(kinds, i, tape, p);
+    if c.number != 0 {
+        return c;
+    }
+    let w = wanted(kinds, c.at, word);
+    if w.number != 0 {
+        return w;
+    }
+    read(w.at, c.value)
+}
+
+// "assignment STEP"
+pub fn control(kinds: &[u8], i: usize, tape: &mut [u32], p: usize) -> Answer
+    requires { ⌜ Ready (now kinds) (now tape) i p ⌝ }
+    ensures { λ r. ⌜ Wrote (tapeAssignment E.CONTROL) (now (kinds .entry)) i p (now (tape .entry)) (now (tape .exit)) r (controlOf (now (kinds .entry)) i) × (r .value + i < r .at + p + r .number) ⌝ }
+{
+    let name = wanted(kinds, i, kinds::NAME);
+    if name.number != 0 {
+        return name;
+    }
+    let a = assignment(kinds, i, tape::CONTROL, tape, p);
+    if a.number != 0 {
+        return a;
+    }
+    let step = wanted(kinds, a.at, kinds::STEP);
+    if step.number != 0 {
+        return step;
+    }
+    read(step.at, a.value)
+}
+
+// "number UNTIL operand DO"
+pub fn limit(kinds: &[u8], i: usize, tape: &mut [u32], p: usize) -> Answer
+    requires { ⌜ Ready (now kinds) (now tape) i p ⌝ }
+    ensures { λ r. ⌜ Wrote (tapeOperand E.LIMIT) (now (kinds .entry)) i p (now (tape .entry)) (now (tape .exit)) r (limitOf (now (kinds .entry)) i) × (r .value + i < r .at + p + r .number) ⌝ }
+{
+    let number = wanted(kinds, i, kinds::NUMBER);
+    if number.number != 0 {
+        return number;
+    }
+    let until = wanted(kinds, number.at, kinds::UNTIL);
+    if until.number != 0 {
+        return until;
+    }
+    let a = operand(kinds, until.at, tape::LIMIT, tape, p);
+    if a.number != 0 {
+        return a;
+    }
+    let word = wanted(kinds, a.at, kinds::DO);
+    if word.number != 0 {
+        return word;
+    }
+    read(word.at, a.value)
+}
+
+// "name(name) ;"
+pub fn procedure_head(kinds: &[u8], i: usize, tape: &mut [u32], p: usize) -> Answer
+    requires { ⌜ Ready (now kinds) (now tape) i p ⌝ }
+    ensures { λ r. ⌜ Wrote (tapeOpening i) (now (kinds .entry)) i p (now (tape .entry)) (now (tape .exit)) r (procedureHead (now (kinds .entry)) i) × (r .value + i < r .at + p + r .number) ⌝ }
+{
+    let name = wanted(kinds, i, kinds::NAME);
+    if name.number != 0 {
+        return name;
+    }
+    let register = in_parens(kinds, name.at, kinds::NAME);
+    if register.number != 0 {
+        return register;
+    }
+    let semicolon = wanted(kinds, register.at, kinds::SEMICOLON);
+    if semicolon.number != 0 {
+        return semicolon;
+    }
+    write(tape, p, tape::PROCEDURE, i);
+    read(semicolon.at, p + 1)
+}
+
+pub fn opens(k: u8) -> bool
+    ensures { λ r. ⌜ r ≡ member k G.openers ⌝ }
+{
+    (k == kinds::BEGIN) | ((k == kinds::IF) | ((k == kinds::WHILE) | (k == kinds::FOR)))
+}
+
+pub fn declares(k: u8) -> bool
+    ensures { λ r. ⌜ r ≡ member k G.declarators ⌝ }
+{
+    ((16 <= k) & (k <= 19)) | (k == kinds::SEGMENT)
+}
+
+// Whether the token at `at` is an ELSE that goes with a true part of the kind k.
+pub fn has_else(kinds: &[u8], at: usize, k: u8) -> bool
+    requires { ⌜ at ≤ length (now kinds) ⌝ }
+    ensures { λ r. ⌜ r ≡ (eqb (getD (now (kinds .entry)) at 0) K.ELSE && not (member k (K.IF ∷ K.WHILE ∷ K.FOR ∷ []))) ⌝ }
+{
+    (kind_at(kinds, at) == kinds::ELSE)
+        & ((k != kinds::IF) & ((k != kinds::WHILE) & (k != kinds::FOR)))
+}
+
+pub fn has_label(kinds: &[u8], at: usize) -> bool
+    requires { ⌜ at ≤ length (now kinds) ⌝ }
+    ensures { λ r. ⌜ r ≡ (eqb (getD (now (kinds .entry)) at 0) K.NAME && eqb (getD (now (kinds .entry)) (at + 1) 0) K.COLON) ⌝ }
+{
+    if kind_at(kinds, at) == kinds::NAME {
+        return kind_at(kinds, at + 1) == kinds::COLON;
+    }
+    false
+}
