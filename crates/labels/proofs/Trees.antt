@@ -18,7 +18,7 @@ use Rattle.tape.specs.Pass.{pass}
 use Rattle.tape.proofs.Pass.{pass-none, pass-event}
 use Rattle.tape.proofs.Skips.{inner, not-inner, skip-assignment, skip-limit, skip-condition, skip-declaration}
 use Rattle.names.specs.Broken.{unbroken}
-use Rattle.names.specs.Labels.{Labelled, labelsOf, labelStatement, labelBody, labelItems}
+use Rattle.names.specs.Labels.{Labelled, labelsOnto, labelsOf, labelStatement, labelBody, labelItems}
 use Rattle.labels.specs.Chains.{after, chain, labelsIn, blocksIn}
 use Rattle.labels.specs.Linking.{Linking, blockAfter, outerAfter, linksAfter, linkOp}
 use Rattle.labels.specs.Labelling.{Labelling, labelAt, labelOp, linked, labelledBy, labelledAlong}
@@ -106,7 +106,7 @@ module _ (kinds keys links outer : List ℕ) where
 
   chained :
       (is : Items) (i j : ℕ) → isItems kinds is i j → (m : Linking) → Room i j m → Agrees i j (linkItems is m) → newest m < i
-      → (earlier : List ℕ) → chain links (newest m) ≡ earlier → chain links (getD (linkItems is m .links) (m .block) 0) ≡ labelsOf is earlier
+      → (earlier : List ℕ) → chain links (newest m) ≡ earlier → chain links (getD (linkItems is m .links) (m .block) 0) ≡ labelsOnto is earlier
   unfolding isStatement linkStatement linkOp blockAfter
   chained ended i j h m r a n earlier c = c
   chained (label l is) i j h m r a n earlier c =
@@ -278,9 +278,9 @@ module _ (kinds keys links outer : List ℕ) where
     body (items is) i j h m r a b e z o f ls q s k =
         let low = r .low in
         let c : chain links (newest m) ≡ [] = chain-end links (newest m) (omega arith) in
-        let full : labelsIn links b ≡ labelsOf is [] = ap (λ (t : ℕ). labelsIn links t) (sym e) ∙ (ap (λ (t : ℕ). chain links t) f ∙ chained is i j h m r a (omega arith) [] c) in
-        listing is i j h m r a b e [] c (omega arith) (labelsOf is [] ∷ ls)
-        (blocks-turn keys 0 links outer b z ∙ (ap (λ (l : List ℕ). l ∷ blocksIn links outer (after outer b)) full ∙ ap (λ (l : List (List ℕ)). labelsOf is [] ∷ l) q)) s k
+        let full : labelsIn links b ≡ labelsOf is = ap (λ (t : ℕ). labelsIn links t) (sym e) ∙ (ap (λ (t : ℕ). chain links t) f ∙ chained is i j h m r a (omega arith) [] c) in
+        listing is i j h m r a b e [] c (omega arith) (labelsOf is ∷ ls)
+        (blocks-turn keys 0 links outer b z ∙ (ap (λ (l : List ℕ). l ∷ blocksIn links outer (after outer b)) full ∙ ap (λ (l : List (List ℕ)). labelsOf is ∷ l) q)) s k
 
     listing :
         (is : Items) (i j : ℕ) → isItems kinds is i j → (m : Linking) → Room i j m → Agrees i j (linkItems is m)

@@ -20,11 +20,15 @@ pub record Labelled : Type 0 where
   pub count : ℕ
   pub broken : Broken
 
--- all labels of a block, the newest first, which its statements know from its start; `earlier` are those set so far
-abbrev pub labelsOf : Items → List ℕ → List ℕ
-labelsOf ended earlier = earlier
-labelsOf (label l is) earlier = labelsOf is (l ∷ earlier)
-labelsOf (item x is) earlier = labelsOf is earlier
+-- the labels among items, the newest first, before those set earlier
+abbrev pub labelsOnto : Items → List ℕ → List ℕ
+labelsOnto ended earlier = earlier
+labelsOnto (label l is) earlier = labelsOnto is (l ∷ earlier)
+labelsOnto (item x is) earlier = labelsOnto is earlier
+
+-- all labels of a block, which its statements know from its start
+abbrev pub labelsOf : Items → List ℕ
+labelsOf is = labelsOnto is []
 
 -- "6: … label not found"
 unfoldable pub noteLabel : ℕ → ℕ → Labelled → Labelled
@@ -56,7 +60,7 @@ module _ (keys : List ℕ) where
     pub labelBody : Body → List (List ℕ) → Labelled → Labelled
     labelBody (declare d b) ls s = labelBody b ls s
     labelBody (procedure n r x b) ls s = labelBody b ls (labelStatement x [] s)
-    labelBody (items is) ls s = labelItems is [] (labelsOf is [] ∷ ls) s
+    labelBody (items is) ls s = labelItems is [] (labelsOf is ∷ ls) s
 
     pub labelItems : Items → List ℕ → List (List ℕ) → Labelled → Labelled
     labelItems ended earlier ls s = s
