@@ -2,3 +2,5 @@
 pub mod Moves
 pub mod Changes
 pub mod Along
+pub mod Trees
+pub mod Start

@@ -8,7 +8,7 @@ use native.Mathlib.Nat.{add-zero, zero-add}
 use lib.Dec.{eqb, leb}
 use lib.ListN.{getD, set, length}
 use lib.Seq.{getD-set-same, getD-set-other}
-use borrow.Author.Tests.{eqb-true}
+use borrow.Author.Tests.{eqb-true, ne-eqb, le-leb}
 use Rattle.base.specs.Choose.{choose, if_then_else_}
 use Rattle.base.proofs.Tests.{by-test}
 use Rattle.grammar.specs.Tree.{full, short}
@@ -115,3 +115,15 @@ pub meaning-set-both :
     (ms bs : List ℕ) (i m b : ℕ) → length ms ≤ length bs → meaningsOf (set ms i m) (set bs i b) ≡ set (meaningsOf ms bs) i (unpacked i m (basedIn b))
 meaning-set-both ms bs i m b h =
     ap (λ (j : ℕ). meaningsOf (set ms i m) (set bs j b)) (sym (zero-add i)) ∙ (both-from ms bs 0 i m b (omega arith) ∙ ap (λ (j : ℕ). set (meaningsOf ms bs) i (unpacked j m (basedIn b))) (zero-add i))
+
+packed-even : (sort v : ℕ) → packed sort v % 2 ≡ sort % 2
+unfolding packed low
+packed-even sort v = omega arith
+
+-- what the sorts from 4 on are
+pub packed-cell :
+    (t v sort : ℕ) (b : Based) → 4 ≤ sort → sort < 8
+    → unpacked t (packed sort v) b ≡ cell (record { name = t; base = b; width = if eqb (sort % 2) 0 then full else short; elements = low v; array = leb 6 sort })
+unfolding unpacked
+packed-cell t v sort b l h =
+    rw (packed-sort sort v h, packed-number sort v h, packed-even sort v, ne-eqb sort 1 (λ e. omega arith), ne-eqb sort 2 (λ e. omega arith), le-leb 4 sort l)

@@ -99,7 +99,7 @@ pub set-same : (x m : ℕ) → 16 ≤ x → setOf m ≡ addRegister x (setOf m)
 unfolding setOf addRegister
 set-same x m h = flags-same _ _ (λ r k. sym (rw (ne-eqb r x (λ e. omega arith)) (has-flags (λ y. hasBit m y) r k)))
 
-set-none : setOf 0 ≡ noRegisters
+pub set-none : setOf 0 ≡ noRegisters
 unfolding setOf flags hasBit
 set-none = refl
 
