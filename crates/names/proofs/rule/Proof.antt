@@ -1,0 +1,18 @@
+use Rattle.names.specs.Broken.{rule}
+use Rattle.names.proofs.rule.Statement.{statement}
+use Rattle.names.proofs.rule.Tie as tie
+use Rattle.names.proofs.rule.Reads as reads
+use Rattle.names.proofs.rule.Lts as lts
+
+-- src/lib.rt:16:9
+returns : tie.Need-returns
+unfolding rule
+returns c = rw (c .if1 .taken)
+
+-- src/lib.rt:12:1
+returns-2 : tie.Need-returns-2
+unfolding rule
+returns-2 c = rw (c .if1 .left)
+
+pub rule-spec : {M : Type 1} → statement M
+rule-spec = tie.close (tie.spec returns returns-2)

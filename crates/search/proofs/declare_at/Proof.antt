@@ -1,0 +1,30 @@
+use Rattle.search.specs.Naming.{declareAt}
+use Rattle.base.proofs.Tests.{told}
+use borrow.Author.Needs.{needs}
+use Rattle.search.proofs.declare_at.Statement.{statement}
+use Rattle.search.proofs.declare_at.Tie as tie
+use Rattle.search.proofs.declare_at.Reads as reads
+use Rattle.search.proofs.declare_at.Lts as lts
+use Rattle.search.proofs.declare_name.Reads as declare-name-reads
+use Rattle.search.proofs.declares.Reads as declares-reads
+
+-- src/lib.rt:214:8
+declares-requires : tie.Need-declares-requires
+declares-requires c κs = search needs
+
+-- src/lib.rt:215:9
+declare-name-requires : tie.Need-declare-name-requires
+declare-name-requires c κs = search needs
+
+-- src/lib.rt:215:9
+returns : tie.Need-returns
+unfolding declareAt
+returns c = λ found. rw (told (c .before .before .declares .ensures) (c .before .if1 .taken)) (c .declare-name .ensures found)
+
+-- src/lib.rt:202:1
+returns-2 : tie.Need-returns-2
+unfolding declareAt
+returns-2 c = λ found. rw (told (c .before .declares .ensures) (c .if1 .left))
+
+pub declare-at-spec : {M : Type 1} → statement M
+declare-at-spec = tie.close (tie.spec declares-requires declare-name-requires returns returns-2)

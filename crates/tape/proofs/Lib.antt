@@ -1,0 +1,2 @@
+-- Laws of passes over a tape.
+pub mod Pass
