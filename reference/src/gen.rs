@@ -21,14 +21,14 @@ fn any_text(random: &mut Random) -> Vec<u8> {
         790..=804 => nesting(random),
         805..=819 => many_names(random),
         820..=834 => many_labels(random),
-        835..=859 => full_segment(random),
-        860..=879 => long_program(random),
-        880..=899 => many_literals(random),
-        900..=914 => twice(random),
-        915..=929 => bad_number(random),
-        930..=944 => bad_byte(random),
-        945..=964 => protected(random),
-        965..=979 => tiny(random),
+        835..=854 => full_segment(random),
+        855..=874 => long_program(random),
+        875..=889 => many_literals(random),
+        890..=904 => twice(random),
+        905..=919 => bad_number(random),
+        920..=934 => bad_byte(random),
+        935..=969 => protected(random),
+        970..=979 => tiny(random),
         _ => token_soup(random),
     }
 }
@@ -403,7 +403,7 @@ fn many_literals(random: &mut Random) -> Vec<u8> {
     let shorts = random.below(3);
     let cells = 4080 - 4 * fitting - 2 * shorts.next_multiple_of(2);
     let mut phrase = format!("BEGIN ARRAY ( {} ) INTEGER A ; ", cells / 4);
-    phrase += &["", "SHORT INTEGER S ; ", "SHORT INTEGER S , T ; "][shorts];
+    phrase += ["", "SHORT INTEGER S ; ", "SHORT INTEGER S , T ; "][shorts];
     phrase += "R1 := R1 ";
     let mut values: Vec<u32> = (0..(fitting + over) as u32).map(|n| n * 77 + 5).collect();
     let repeated: Vec<u32> = values.iter().take(random.below(3)).copied().collect();
@@ -472,30 +472,47 @@ fn bad_byte(random: &mut Random) -> Vec<u8> {
     text
 }
 
+const FEW_REGISTERS: [&str; 8] = ["R3", "R4", "R5", "R6", "R7", "R8", "RB", "RC"];
+
 /// Procedures that write or return by few registers, and calls among them.
 fn protected(random: &mut Random) -> Vec<u8> {
-    let registers = ["R4", "R5", "R6", "R7", "RC"];
     let mut phrase = "BEGIN ".to_string();
     let procedures = random.range(2, 5);
     for procedure in 0..procedures {
-        let own = *random.of(&registers);
-        let written = random.of(&registers);
-        let body = match random.below(6) {
-            0 => format!("{written} := R1"),
-            1 => format!("BEGIN SEGMENT BASE {written} ; END"),
-            2 => "R7 := R1 * R2".to_string(),
-            3 => format!("BEGIN PROCEDURE N ( {written} ) ; NULL ; N ; END"),
-            _ if procedure > 0 => format!("P{}", random.below(procedure)),
-            _ => "NULL".to_string(),
-        };
+        let own = *random.of(&FEW_REGISTERS);
+        let body = written_somehow(random, procedure, 3);
         phrase += &format!("PROCEDURE P{procedure} ( {own} ) ; {body} ; ");
     }
     if random.chance(1, 2) {
-        phrase += &format!("SEGMENT BASE {} ; ", random.of(&registers));
+        phrase += &format!("SEGMENT BASE {} ; ", random.of(&FEW_REGISTERS));
     }
     phrase += &format!("P{} ; END @", random.below(procedures));
     let tokens: Vec<String> = phrase.split_ascii_whitespace().map(str::to_string).collect();
     text(random, &tokens)
+}
+
+/// A statement that writes registers in one of the ways in which a text can, `depth` procedures deep, called or not; P0
+/// up to the `callable`th may be called.
+fn written_somehow(random: &mut Random, callable: usize, depth: usize) -> String {
+    let register = *random.of(&FEW_REGISTERS);
+    match random.below(11) {
+        0 => format!("{register} := R1"),
+        1 => format!("BEGIN SEGMENT BASE {register} ; END"),
+        2 => "R7 := R1 * R2".to_string(),
+        3 => format!("FOR {register} := R1 STEP 1 UNTIL R2 DO NULL"),
+        4 => "BEGIN GOTO L ; R6 := R1 ; L : END".to_string(),
+        5..=6 if depth > 0 => {
+            let body = written_somehow(random, callable, depth - 1);
+            let call = if random.chance(1, 2) { "N ;" } else { "" };
+            format!("BEGIN PROCEDURE N ( {register} ) ; {body} ; {call} END")
+        }
+        7..=8 if callable > 0 => format!("P{}", random.below(callable)),
+        9 if depth > 0 => {
+            let parts: Vec<String> = (0..3).map(|_| written_somehow(random, callable, depth - 1)).collect();
+            format!("BEGIN {} ; END", parts.join(" ; "))
+        }
+        _ => "NULL".to_string(),
+    }
 }
 
 /// A few bytes only.

@@ -1,17 +1,17 @@
 -- Numbers in digits to any base, and cells of any size: bounds, parts, that digits are told by their number, what a cell reads after a store, and that a
 -- store leaves every other byte. Each law is once over the base or the size. Assumes nothing.
 use Prim.Native.Nat.{ℕ, zero, suc, _+_, _-_, _*_, _/_, _%_, _^_, _≤_, _<_, min}
-use mathlib.Core.Path.{_≡_, refl, sym, ap, ap₂, _∙_, subst}
+use mathlib.Core.Path.{_≡_, refl, sym, ap, ap₂, _∙_}
 use mathlib.Core.Logic.{_⊎_}
 use mathlib.Core.List.{List, [], _∷_, _++_, map}
 use native.Mathlib.Omega.{arith}
 use native.Mathlib.Decide.{decLe}
 use native.Mathlib.Numerals.{add-one}
-use native.Mathlib.Nat.{mul-zero, mul-suc, suc-mul, min-eq-left, min-eq-right, pow-zero, pow-suc, pow-succ', pow-le-pow-right, one-le-pow, mul-assoc, add-mul, mul-one, mod-eq-of-lt, lt-of-lt-of-le, mul-le-mul-right}
-use lib.Arith.{digits-lt, digits-div, digits-mod, mod-mul}
+use native.Mathlib.Nat.{mul-zero, mul-suc, suc-mul, min-eq-left, min-eq-right, pow-zero, pow-suc, pow-succ', pow-le-pow-right, one-le-pow, mul-assoc, add-mul, mod-eq-of-lt, lt-of-lt-of-le, mul-le-mul-right}
+use lib.Arith.{digits-lt, mod-mul}
 use lib.Dec.{lit<}
 use lib.ListN.{length, take, drop, getD, set, length-append, drop-of-length-le}
-use lib.Seq.{drop-cons, sets, length-sets}
+use lib.Seq.{take-suc, drop-cons, length-sets}
 use Rattle.base.specs.Lists.{All}
 use Rattle.base.specs.Numbers.{numberFrom, valueOf, bytesOf, valueAt, stored}
 use Rattle.base.proofs.Lists.{all-both}
@@ -29,6 +29,17 @@ parts-told P a b u v hu hv e = go (decLe (suc a) b) (decLe (suc b) a)
         let r : a * P ≡ b * P = ap (λ (k : ℕ). k * P) q in
         (q, omega arith)
 
+-- a digit more after a number that is cut off
+pub min-on : (C base a d : ℕ) → min C (min C a * base + d) ≡ min C (a * base + d)
+min-on C zero a d = rw (mul-zero (min C a), mul-zero a)
+min-on C (suc k) a d = go (decLe a C)
+  where
+    go : Dec (a ≤ C) → min C (min C a * suc k + d) ≡ min C (a * suc k + d)
+    go (yes h) = rw (min-eq-right h)
+    go (no h) =
+        let l : C ≤ a = omega arith in
+        rw (min-eq-left l, mul-suc C k, mul-suc a k) (omega arith)
+
 module _ (digit : ℕ → ℕ) (base : ℕ) where
   pub number-append : (acc : ℕ) (xs ys : List ℕ) → numberFrom digit base acc (xs ++ ys) ≡ numberFrom digit base (numberFrom digit base acc xs) ys
   unfolding numberFrom
@@ -45,6 +56,11 @@ module _ (digit : ℕ → ℕ) (base : ℕ) where
       let e₂ = number-split (0 * base + digit x) xs in
       let e₃ : acc * base ^ suc (length xs) ≡ acc * base * P = rw (pow-succ' base (length xs)) (sym (mul-assoc acc base P)) in
       omega (arith, add-mul (acc * base) (digit x) P, add-mul (0 * base) (digit x) P)
+
+  -- one digit more in a part that is read
+  pub number-more : (s : List ℕ) (i : ℕ) → i < length s → numberFrom digit base 0 (take (i + 1) s) ≡ numberFrom digit base 0 (take i s) * base + digit (getD s i 0)
+  unfolding numberFrom
+  number-more s i h = rw (add-one i, take-suc s i 0 h) (number-append 0 (take i s) (getD s i 0 ∷ []))
 
   pub number-below : (acc : ℕ) (xs : List ℕ) → All (λ x. digit x < base) xs → numberFrom digit base acc xs < (acc + 1) * base ^ length xs
   unfolding numberFrom
@@ -85,22 +101,12 @@ module _ (digit : ℕ → ℕ) (base : ℕ) where
 
   -- a number that is cut off on the way is the number cut off
   module _ (C : ℕ) where
-    cap-step : (b a d : ℕ) → min C (min C a * b + d) ≡ min C (a * b + d)
-    cap-step zero a d = rw (mul-zero (min C a), mul-zero a)
-    cap-step (suc k) a d = go (decLe a C)
-      where
-        go : Dec (a ≤ C) → min C (min C a * suc k + d) ≡ min C (a * suc k + d)
-        go (yes h) = rw (min-eq-right h)
-        go (no h) =
-            let l : C ≤ a = omega arith in
-            rw (min-eq-left l, mul-suc C k, mul-suc a k) (omega arith)
-
     pub capped : (a : ℕ) (xs : List ℕ) → min C (numberFrom digit base (min C a) xs) ≡ min C (numberFrom digit base a xs)
     unfolding numberFrom
     capped a [] = omega arith
     capped a (x ∷ xs) =
         sym (capped (min C a * base + digit x) xs)
-        ∙ ap (λ (n : ℕ). min C (numberFrom digit base n xs)) (cap-step base a (digit x))
+        ∙ ap (λ (n : ℕ). min C (numberFrom digit base n xs)) (min-on C base a (digit x))
         ∙ capped (a * base + digit x) xs
 
 -- how many bytes, and each of them a byte

@@ -1,14 +1,15 @@
 -- Parts of lists as code cuts, reads and lays them: `to-end` for a part that goes to the end, `past-get` and `past-set` for places past the end,
--- laws of `sets`, and `drop-turn` for a loop that moves one element on. Assumes nothing.
+-- `take-min` for a part of a part, laws of `sets`, and `drop-turn` for a loop that moves one element on. Assumes nothing.
 use Prim.Native.Nat.{ℕ, zero, suc, _+_, _-_, _≤_, _<_, min}
-use mathlib.Core.Path.{_≡_, refl, sym, ap, _∙_, subst}
+use mathlib.Core.Path.{_≡_, refl, sym, ap, _∙_}
 use mathlib.Core.Logic.{_⊎_, inl, inr}
 use mathlib.Core.List.{List, [], _∷_, _++_}
 use native.Mathlib.Omega.{arith}
 use native.Mathlib.Numerals.{add-one}
+use native.Mathlib.Decide.{decLe}
 use native.Mathlib.Nat.{add-zero}
-use lib.ListN.{length, take, drop, getD, set, length-take, length-drop, length-set, length-append, List·getD-eq-default, List·getD-append}
-use lib.Seq.{take-all, drop-cons, drop-drop, set-out, getD-set-same, getD-set-other, take-set-le, drop-set-lt, sets, length-sets, set-comm, getD-drop, getD-take, ext-getD}
+use lib.ListN.{length, take, drop, getD, set, length-take, length-drop, length-set, List·getD-eq-default}
+use lib.Seq.{take-all, take-take, drop-cons, set-out, getD-set-same, getD-set-other, sets, length-sets, set-comm, getD-drop, getD-take, ext-getD}
 
 module _ {A : Type 0} where
   pub to-end : (s : List A) (n : ℕ) → take (length s - n) (drop n s) ≡ drop n s
@@ -23,6 +24,13 @@ module _ {A : Type 0} where
 
   pub past-set : (l : List A) (i n : ℕ) (v : A) → length l ≡ n → n ≤ i → l ≡ set l i v
   past-set l i n v e h = sym (set-out l i v (rw e h))
+
+  pub take-min : (m n : ℕ) (s : List A) → take m (take n s) ≡ take (min m n) s
+  take-min m n s = go (decLe m n)
+    where
+      go : Dec (m ≤ n) → take m (take n s) ≡ take (min m n) s
+      go (yes h) = let e : min m n ≡ m = omega arith in rw e (take-take m n s h)
+      go (no h) = let e : min m n ≡ n = omega arith in rw e (take-all m (take n s) (omega (arith, length-take n s)))
 
   -- a part of n elements from a place
   pub length-part : (s : List A) (at n : ℕ) → at + n ≤ length s → length (take n (drop at s)) ≡ n

@@ -1,5 +1,6 @@
--- A loop that counts a run: `run-on`, `run-stop` and `run-end` in the form of its invariant; `run-le` and `run-pos` bound the run. Assumes nothing.
-use Prim.Native.Nat.{ℕ, zero, suc, _+_, _≤_, _<_}
+-- A loop that counts a run: `run-on`, `run-stop` and `run-end` in the form of its invariant; `run-le`, `run-pos`, `run-all` say what a run is like,
+-- `run-take` and `run-past` how it goes over a cut. Assumes nothing.
+use Prim.Native.Nat.{ℕ, zero, suc, _+_, _≤_, _<_, min}
 use mathlib.Core.Path.{_≡_, refl}
 use mathlib.Core.Bool.{Bool, true, false}
 use mathlib.Core.List.{List, [], _∷_}
@@ -56,3 +57,26 @@ module _ (p : ℕ → Bool) where
       go : All (λ y. p y ≡ true) (take (runLen p xs) xs) → (t : Bool) → p x ≡ t → All (λ y. p y ≡ true) (take (runLen p (x ∷ xs)) (x ∷ xs))
       go h true e = rw (e, runLen) (e, h)
       go h false e = rw (e, runLen) tt
+
+  -- the run in the first n elements, and the run past n elements of it
+  pub run-take : (n : ℕ) (s : List ℕ) → runLen p (take n s) ≡ min n (runLen p s)
+  unfolding runLen
+  run-take zero s = omega arith
+  run-take (suc n) [] = omega arith
+  run-take (suc n) (x ∷ xs) = go (run-take n xs) (p x) refl
+    where
+      go : runLen p (take n xs) ≡ min n (runLen p xs) → (t : Bool) → p x ≡ t → runLen p (x ∷ take n xs) ≡ min (suc n) (runLen p (x ∷ xs))
+      go h true e = rw (e, runLen) (omega arith)
+      go h false e = rw (e, runLen) (omega arith)
+
+  pub run-past : (n : ℕ) (s : List ℕ) → n ≤ runLen p s → runLen p s ≡ n + runLen p (drop n s)
+  unfolding runLen
+  run-past zero s h = omega arith
+  run-past (suc n) [] h = absurd (omega arith)
+  run-past (suc n) (x ∷ xs) h = go (run-past n xs) (p x) refl
+    where
+      go : (n ≤ runLen p xs → runLen p xs ≡ n + runLen p (drop n xs)) → (t : Bool) → p x ≡ t → runLen p (x ∷ xs) ≡ suc n + runLen p (drop n xs)
+      go f true e =
+          let l : suc n ≤ suc (runLen p xs) = rw (e, runLen) at h in
+          rw (e, runLen) (omega (arith, f (omega arith)))
+      go f false e = let l : suc n ≤ 0 = rw (e, runLen) at h in absurd (omega arith)

@@ -1,12 +1,12 @@
 -- How tests in definitions are answered from the facts that branches leave: the rulesets `tests` and `picks`, `cases` and `by-test` for cases on a
 -- test, `told`, `same`, `other`, `tested` for the answer of a call, `never-true` for what cannot be. Assumes nothing.
-use Prim.Native.Nat.{ℕ, _<_, _≤_}
+use Prim.Native.Nat.{ℕ}
 use mathlib.Core.Path.{_≡_, refl, sym, ap, _∙_, subst}
-use mathlib.Core.Bool.{Bool, true, false, _&&_}
+use mathlib.Core.Bool.{Bool, true, false, not, _&&_, _||_}
 use lib.Dec.{T, eqb}
 use borrow.Author.Tests.{lt-ltb, le-ltb, le-leb, lt-leb, eq-eqb, ne-eqb}
-pub use borrow.Author.Tests.{not-true, not-false}
 use Rattle.base.specs.Choose.{choose}
+pub use borrow.Author.Tests.{not-true, not-false}
 
 -- `search tests` turns ltb, leb and eqb by the facts lt, le and eq in reach
 pub ruleset tests = (lt-ltb, le-ltb, le-leb, lt-leb, eq-eqb, ne-eqb)
@@ -56,3 +56,8 @@ and-left false b t = t
 pub and-right : (a b : Bool) → T (a && b) → T b
 and-right true b t = t
 and-right false b t = absurd t
+
+-- a rule on what passes a test, tested
+pub implied : (a b : Bool) → T (not a || b) → a ≡ true → T b
+implied true b t e = t
+implied false b t e = never-true e

@@ -1,6 +1,6 @@
 -- Tests over a whole constant table (`every`), and over all numbers below a bound (`allBelow`), which antt computes.
 use Prim.Native.Nat.{ℕ, zero, suc}
-use mathlib.Core.Bool.{Bool, true, false, _&&_}
+use mathlib.Core.Bool.{Bool, true, _&&_}
 use mathlib.Core.List.{List, [], _∷_}
 
 -- f passes at each entry, with its place counted from i

@@ -11,7 +11,7 @@ use Rattle.base.specs.Lists.{member}
 use Rattle.token.specs.Kinds as K
 use Rattle.grammar.specs.Tree.{Designator, Operand, number, place, Sign, plain, abs, neg, negAbs, Term, Assignment, Condition, compared, bare, Width, full, short, Register, Item, Declaration, registers, cells, base, Statement, assign, call, block, goto, null, ifThen, ifElse, while, for, Body, declare, procedure, items, Items, ended, label, item}
 use Rattle.grammar.specs.Grammar.{relations, operators}
-use Rattle.grammar.specs.Derives.{integerOrLogical, Part, end, never, _⟫_, only, _▸_, _#_▸_, _∋▸_, _∋_▸_, isShape, isDesignator, isOperand, isCondition, isSign, areTerms, isAssignment, areNumbers, isItem, isRegister, areMore, areSome, isType, isDeclaration, simple, isProcedure, isStatement, isBody, isItems, isBlock, isProgram, SameBefore}
+use Rattle.grammar.specs.Derives.{integerOrLogical, Part, end, never, _⟫_, only, _▸_, _#_▸_, _∋▸_, _∋_▸_, isShape, isDesignator, isOperand, isCondition, isSign, areTerms, isAssignment, areNumbers, isItem, isRegister, areMore, areSome, isType, isDeclaration, simple, aBlock, isProcedure, isStatement, isBody, isItems, isBlock, isProgram, SameBefore}
 
 -- what p says of a list of kinds begins no later than it ends, and q says it of another where the tokens before the end are the same
 pub record Kept (kinds others : List ℕ) (p q : Part) : Type 0 where
@@ -166,16 +166,7 @@ module _ {kinds others : List ℕ} where
     keep-items (item s xs) = keep-then (keep-statement s) (keep-token _ (keep-items xs))
 
   pub keep-block : (x : Statement) → Kept kinds others (isBlock kinds x) (isBlock others x)
-  unfolding isBlock
-  keep-block (block t b) = keep-statement (block t b)
-  keep-block (assign a) = keep-never
-  keep-block (call n) = keep-never
-  keep-block (goto t n) = keep-never
-  keep-block null = keep-never
-  keep-block (ifThen t c s) = keep-never
-  keep-block (ifElse t c s e u) = keep-never
-  keep-block (while t c s) = keep-never
-  keep-block (for t a v l s) = keep-never
+  keep-block x = keep-only (aBlock x) (keep-statement x)
 
   pub keep-program : (x : Statement) → Kept kinds others (isProgram kinds x) (isProgram others x)
   unfolding isProgram

@@ -18,21 +18,9 @@ use Rattle.grammar.specs.Tree.{Designator, Operand, number, place, Sign,
 use Rattle.grammar.specs.Reader.{Result, ok, bad, Reader, andThen, look, next, want}
 use Rattle.grammar.specs.Grammar.{designatorOf, operand, relations, condition, operators, terms, signOf, assignmentOf, numbers, cellItem, registerItem, listOf, typeOf, cellsOf, afterType, declaration, afterName, openers, statementOf, itemsOf, Procedure, declarators, bodyOf, ifOf, constructOf, statement, procedureOf, nesting, program}
 use Rattle.grammar.specs.Derives.{Part, Begins, only, constructs, isDesignator, isOperand, isCondition, isSign, areTerms, isAssignment, areNumbers, isItem, isRegister, areMore, areSome, integerOrLogical, isType, isDeclaration, simple, isProcedure, isStatement, isBody, isItems, isBlock, isProgram}
+use Rattle.grammar.proofs.Tests.{has, real, later, the-one, second, first, both}
 use Rattle.grammar.proofs.Kept.{keep-designator, keep-operand, keep-condition, keep-sign, keep-terms, keep-assignment, keep-numbers, keep-item, keep-register, keep-some, keep-type, keep-declaration, keep-procedure, keep-statement, keep-body, keep-items, keep-only, keep-block}
 use Rattle.grammar.proofs.Sequences.{Rule, Sequence, made, token, oneOf, part, parens, Each, Leads, Right, leads-token, leads-one, leads-part, leads-begins, starts, gives, refuses, needs, wants, wants-one, wants-parens, reads, either}
-
--- the tests of a member of a list, the first apart
-later : (k x : ℕ) (l : List ℕ) → member k (x ∷ l) ≡ true → eqb k x ≡ false → member k l ≡ true
-later k x l h e = rw e at h
-
-the-one : (k x : ℕ) → member k (x ∷ []) ≡ true → k ≡ x
-the-one k x h = each (λ z. z ≡ x) (x ∷ []) (refl, tt) k h
-
-second : (k x y : ℕ) → member k (x ∷ y ∷ []) ≡ true → eqb k x ≡ false → k ≡ y
-second k x y h e = the-one k y (later k x (y ∷ []) h e)
-
-first : (k x y : ℕ) → member k (x ∷ y ∷ []) ≡ true → eqb k y ≡ false → k ≡ x
-first k x y h e = each (λ z. eqb z y ≡ false → z ≡ x) (x ∷ y ∷ []) (λ d. refl, (λ d. never-true (sym d ∙ eq-eqb y y refl), tt)) k h e
 
 -- ── "designator = name, name(number), name(name), name(number)(name). operand = number or designator." ──
 
@@ -57,17 +45,14 @@ abbrev designators : Rule Designator
 designators = record { is = isDesignator; kept = keep-designator; some = λ kinds i. leads-begins (as-name i) }
 
 module _ (kinds : List ℕ) where
-  abbrev has : ℕ → ℕ → Bool
-  has i k = eqb (getD kinds i 0) k
-
   right-designator : (n : ℕ) → getD kinds n 0 ≡ K.NAME → Right isDesignator kinds n (designatorOf n kinds (n + 1))
   unfolding designatorOf andThen look next
-  right-designator n h = either (has (n + 1) K.OPEN) _ _ _
+  right-designator n h = either (has kinds (n + 1) K.OPEN) _ _ _
       (λ p. let o = eqb-true _ _ p in
-      wants-one _ _ (leads-token (leads-token (as-subscripted n) h) o) (λ m. cases (has (n + 1 + 1) K.NAME)
+      wants-one _ _ (leads-token (leads-token (as-subscripted n) h) o) (λ m. cases (has kinds (n + 1 + 1) K.NAME)
       (λ e. rw e (wants _ (leads-token (leads-token (leads-token (as-indexed n) h) o) (eqb-true _ _ e)) (λ c. gives)))
       (λ e. let s = first _ K.NUMBER K.NAME m e in
-      rw e (wants _ (leads-token (leads-token (leads-token (as-subscripted n) h) o) s) (λ c l. either (has (n + 1 + 1 + 1 + 1) K.OPEN) _ _ _
+      rw e (wants _ (leads-token (leads-token (leads-token (as-subscripted n) h) o) s) (λ c l. either (has kinds (n + 1 + 1 + 1 + 1) K.OPEN) _ _ _
       (λ q. wants-parens _ (leads-token (leads-token (leads-token (leads-token (as-both n) h) o) s) c) gives)
       (λ q. gives l))))))
       (λ p. gives (leads-token (as-name n) h))
@@ -224,15 +209,6 @@ module _ (kinds : List ℕ) where
   unfolding registerItem
   right-register i = wants _ (as-register i) (λ n l. wants-parens _ l gives)
 
--- a token that has a kind is one of the text
-in-text : (kinds : List ℕ) (i : ℕ) → 0 < getD kinds i 0 → i < length kinds
-in-text [] i h = absurd (omega arith)
-in-text (x ∷ xs) zero h = omega arith
-in-text (x ∷ xs) (suc i) h = (let l = in-text xs i h in omega arith)
-
-real : (kinds : List ℕ) (i k : ℕ) → 0 < k → has kinds i k ≡ true → i < length kinds
-real kinds i k h e = in-text kinds i (let d = eqb-true (getD kinds i 0) k e in omega arith)
-
 module _ {A : Type 0} (one : Rule A) where
   abbrev areList : List ℕ → List A → Part
   areList kinds = areSome kinds (one .is kinds)
@@ -262,7 +238,7 @@ module _ {A : Type 0} (one : Rule A) where
     right-list : (fuel i : ℕ) → length kinds < suc fuel + i → Right areList kinds i (listOf read (suc fuel) kinds i)
     unfolding listOf andThen look next
     right-list zero i enough = reads _ (as-one i) (right i) (λ x m h l. either (has kinds m K.COMMA) _ _ _
-        (λ c. absurd (let t = real kinds m K.COMMA (omega arith) c in let r = one .kept {kinds = kinds} {others = kinds} x .rises h in omega arith))
+        (λ c. absurd (let t = real kinds m K.COMMA (omega arith) (eqb-true _ _ c) in let r = one .kept {kinds = kinds} {others = kinds} x .rises h in omega arith))
         (λ c. gives l))
     right-list (suc fuel) i enough = reads _ (as-one i) (right i) (λ x m h l. either (has kinds m K.COMMA) _ _ _
         (λ c. reads _ (leads-token (leads-part (as-more i) h) (eqb-true _ _ c)) (right-list fuel (m + 1) (let r = one .kept {kinds = kinds} {others = kinds} x .rises h in omega arith)) (λ xs j hs. gives))
@@ -438,10 +414,6 @@ module _ {kinds : List ℕ} (i : ℕ) where
   unfolding Each isStatement
   as-if-else = starts (λ o t c m h e s n hs x u j hu. (refl, t, (m, h, (e, (n, hs, (refl, x, hu))))))
 
-both : (a b : Bool) → (a && b) ≡ true → (a ≡ true) × (b ≡ true)
-both true b h = (refl, h)
-both false b h = never-true h
-
 -- a statement that does not begin with IF, WHILE or FOR is simple
 simple-begin : (kinds : List ℕ) (s : Statement) (i j : ℕ) → isStatement kinds s i j → member (getD kinds i 0) (K.IF ∷ K.WHILE ∷ K.FOR ∷ []) ≡ false → simple s ≡ true
 unfolding isStatement
@@ -546,8 +518,8 @@ module _ (kinds : List ℕ) where
 
 module _ {kinds : List ℕ} (i : ℕ) where
   as-whole-block : Leads isBlock kinds i (token K.BEGIN (λ t. part bodies (λ b. made (block t b)))) i
-  unfolding Each isBlock isStatement
-  as-whole-block = starts (λ o t b j h. (refl, t, h))
+  unfolding Each isStatement
+  as-whole-block = starts (λ o t b j h. (refl, (refl, t, h)))
 
 abbrev blocks : Rule Statement
 blocks = record { is = isBlock; kept = keep-block; some = λ kinds i. leads-begins (as-whole-block i) }

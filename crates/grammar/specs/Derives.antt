@@ -44,6 +44,17 @@ simple (ifElse t c s e u) = false
 simple (while t c s) = false
 simple (for t a v l s) = false
 
+abbrev pub aBlock : Statement → Bool
+aBlock (assign a) = false
+aBlock (call n) = false
+aBlock (block t b) = true
+aBlock (goto t n) = false
+aBlock null = false
+aBlock (ifThen t c s) = false
+aBlock (ifElse t c s e u) = false
+aBlock (while t c s) = false
+aBlock (for t a v l s) = false
+
 abbrev pub integerOrLogical : List ℕ
 integerOrLogical = K.INTEGER ∷ K.LOGICAL ∷ []
 
@@ -175,16 +186,8 @@ module _ (kinds : List ℕ) where
   -- ── "program = block @." ──
 
   -- a statement that is a block
-  unfoldable pub isBlock : Statement → Part
-  isBlock (block t b) = isStatement (block t b)
-  isBlock (assign a) = never
-  isBlock (call n) = never
-  isBlock (goto t n) = never
-  isBlock null = never
-  isBlock (ifThen t c s) = never
-  isBlock (ifElse t c s e u) = never
-  isBlock (while t c s) = never
-  isBlock (for t a v l s) = never
+  abbrev pub isBlock : Statement → Part
+  isBlock x = only (aBlock x) (isStatement x)
 
   unfoldable pub isProgram : Statement → Part
   isProgram x = isBlock x ⟫ K.AT ▸ end

@@ -1,7 +1,8 @@
--- Where no rule is broken, every register that a name means is one of 0 to 15, and so are the bases of cells and the return registers of procedures.
+-- Where no rule is broken, every register that a name means is one of 0 to 15, and so are the bases of cells and the return registers of procedures; a cell
+-- has at least one element.
 use mathlib.Core.Path.{_≡_, refl, sym, ap, _∙_}
 use mathlib.Core.List.{List, [], _∷_, _++_, map}
-use mathlib.Core.Bool.{Bool, true, false}
+use mathlib.Core.Bool.{Bool, true, false, _&&_}
 use mathlib.Core.Option.{Option, none, some}
 use Prim.Native.Nat.{ℕ, zero, suc, _+_, _<_, _≤_}
 use native.Mathlib.Omega.{arith}
@@ -9,6 +10,7 @@ use lib.Dec.{leb}
 use lib.ListN.{getD, set, replicate}
 use borrow.Author.Tests.{leb-true}
 use Rattle.base.specs.Lists.{All}
+use Rattle.base.proofs.Tests.{never-true}
 use Rattle.base.proofs.Lists.{all-set, all-getD, all-replicate, all-both}
 use Rattle.grammar.specs.Tree.{Register, Item, Width, Declaration, registers, cells, base, Statement, assign, call, block, goto, null, ifThen, ifElse, while, for, Body, declare, procedure, items, Items, ended, label, item}
 use Rattle.names.specs.declared.Broken.{Broken}
@@ -16,15 +18,15 @@ use Rattle.names.specs.Broken.{_⊕_, rule}
 use Rattle.names.proofs.Joins.{quiet-left, quiet-right, rule-holds}
 use Rattle.kinds.specs.Registers.{sixteen, noRegisters}
 use Rattle.kinds.specs.Meaning.{Meaning, nothing, register, cell, routine, Based, Cell, meaningOf, registerOf}
-use Rattle.kinds.specs.Meanings.{Meant, mean, growWritten, write, writeAll, writeText, callWrites, openBase, addCell, cellOf, meaningIn, meanRegisters, meanCells, meanStatement, meanBody, meanItems, standard}
+use Rattle.kinds.specs.Meanings.{Meant, mean, growWritten, write, writeAll, writeText, callWrites, openBase, addCell, countOf, cellOf, meaningIn, meanRegisters, meanCells, meanStatement, meanBody, meanItems, standard}
 use Rattle.kinds.specs.Tables.{Tables, valueAt, meaningAt}
-use Rattle.kinds.specs.Rules.{registerRule, zeroRule, registersRules, declarationRules, keptAfter, conditionRules}
+use Rattle.kinds.specs.Rules.{registerRule, zeroRule, registersRules, itemRules, cellsRules, declarationRules, keptAfter, conditionRules}
 use Rattle.kinds.specs.Kinds.{kindStatement, kindBody, kindItems}
 
 abbrev pub Small : Meaning → Type 0
 Small nothing = Unit {0}
 Small (register r) = r < 16
-Small (cell c) = c .base .register < 16
+Small (cell c) = (c .base .register < 16) × (1 ≤ c .elements)
 Small (routine r) = r < 16
 
 abbrev pub AllSmall : Meant → Type 0
@@ -69,10 +71,22 @@ module _ (f : Tables) where
       let e : getD (f .values) (r .number) 0 ≤ 15 = leb-true _ _ (rule-holds (leb (valueAt f (r .number)) 15) 9 (r .number) (omega arith) (quiet-left _ (registersRules f rs) q)) in
       registers-small rs _ (quiet-right _ (registersRules f rs) q) (all-set Small (s .means) (r .name) (register (getD (f .values) (r .number) 0)) h (omega arith))
 
-  cells-small : (c : Option ℕ) (w : Width) (b : Based) (is : List Item) (s : Meant) → b .register < 16 → AllSmall s → AllSmall (meanCells (f .values) c w b is s)
+  items-small : (c : Option ℕ) (w : Width) (b : Based) (is : List Item) (s : Meant) → b .register < 16 → 1 ≤ countOf (f .values) c → AllSmall s → AllSmall (meanCells (f .values) c w b is s)
   unfolding meanCells addCell
-  cells-small c w b [] s k h = h
-  cells-small c w b (i ∷ is) s k h = cells-small c w b is _ k (all-set Small (s .means) (i .name) (cell (cellOf (f .values) c w b i)) h k)
+  items-small c w b [] s k n h = h
+  items-small c w b (i ∷ is) s k n h = items-small c w b is _ k n (all-set Small (s .means) (i .name) (cell (cellOf (f .values) c w b i)) h (k, n))
+
+  cells-small : (c : Option ℕ) (w : Width) (b : Based) (is : List Item) (s : Meant) → cellsRules f c w is .number ≡ 0 → b .register < 16 → AllSmall s
+      → AllSmall (meanCells (f .values) c w b is s)
+  unfolding cellsRules
+  cells-small none w b is s q k h = items-small none w b is s k (omega arith) h
+  cells-small (some t) w b is s q k h =
+      let v = rule-holds (leb 1 (valueAt f t) && leb (valueAt f t) 2048) 11 t (omega arith) (quiet-left _ (itemRules f w (valueAt f t) is) q) in
+      items-small (some t) w b is s k (leb-true 1 (valueAt f t) (first (leb 1 (valueAt f t)) (leb (valueAt f t) 2048) v)) h
+    where
+      first : (a b : Bool) → (a && b) ≡ true → a ≡ true
+      first true b h = refl
+      first false b h = never-true h
 
   -- ── the whole text ──
 
@@ -97,7 +111,7 @@ module _ (f : Tables) where
         → AllSmall (meanBody (f .kinds) (f .values) (f .found) x own b s)
     meant-small-body (declare (registers rs) x) kept own b s q k h =
         meant-small-body x kept own b _ (quiet-right _ _ q) k (registers-small rs s (quiet-left _ (kindBody f x kept) q) h)
-    meant-small-body (declare (cells c w is) x) kept own b s q k h = meant-small-body x kept own b _ (quiet-right _ _ q) k (cells-small c w b is s k h)
+    meant-small-body (declare (cells c w is) x) kept own b s q k h = meant-small-body x kept own b _ (quiet-right _ _ q) k (cells-small c w b is s (quiet-left _ (kindBody f x kept) q) k h)
     meant-small-body (declare (base n) x) kept own b s q k h =
         let m = meaningIn (f .found) s n in
         meant-small-body x (keptAfter f (base n) kept) own (record { register = registerOf m; segment = 2 + s .bases }) (openBase own (registerOf m) n s) (quiet-right _ _ q)

@@ -1,2 +1,4 @@
 pub mod Operands
 pub mod Runs
+pub mod Stops
+pub mod Resumes

@@ -1,3 +1,6 @@
 pub mod Cases
 pub mod Lines
 pub mod Written
+pub mod Places
+pub mod Segments
+pub mod Walks

@@ -46,7 +46,10 @@ line-of n f s e a = rw (← e) (line-back f s a)
 
 pub front-back : (f s : List ℕ) → Bytes f → frontBytes (length f) (hex f ++ s) ≡ f
 front-back [] s a = refl
-front-back (b ∷ f) s a = rw (byte-back b (hex f ++ s) (a .0), front-back f s (a .1))
+front-back (b ∷ f) s a =
+    let h = a .0 in
+    let e : b % 256 ≡ b = omega arith in
+    rw (byte-back b (hex f ++ s) h, e, front-back f s (a .1))
 
 pub length-hex : (f : List ℕ) → length (hex f) ≡ 2 * length f
 length-hex [] = refl

@@ -199,7 +199,7 @@ module _ (k : ℕ) (c : List ℕ) (from to : ℕ) (s : List ℕ) (hk : k < 256) 
       let b = segmentText k (cells c from to) s in
       let h = d .short in
       let l : isLine 8 b ≡ true = line-of 8 (headFrame k (cells c from to)) u refl (omega arith, (hk, (omega arith, (omega arith, (omega arith, (omega arith, (omega arith, (omega arith, tt)))))))) in
-      rw (l, byte-back 2 (drop 2 b) (omega arith), byte-back k (drop 4 b) hk, eq-eqb k k refl, data-length, le-leb (length c) 4096 h, data-from, data-to, le-leb from to (d .order), le-leb to (length c) (d .inside))
+      rw (l, byte-back 2 (drop 2 b) (omega arith), byte-back k (drop 4 b) hk, eq-eqb k k refl, data-length, data-from, data-to, le-leb from to (d .order), le-leb to (length c) (d .inside), le-leb (length c) 4096 h)
 
   pub is-data : isData k (segmentText k (cells c from to) s) ≡ true
   unfolding isData bytesOf

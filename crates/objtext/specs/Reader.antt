@@ -3,7 +3,7 @@
 use mathlib.Core.List.{List, [], _∷_, _++_}
 use mathlib.Core.Bool.{Bool, true, false, _&&_}
 use mathlib.Core.Option.{Option, none, some}
-use Prim.Native.Nat.{ℕ, zero, suc, _+_, _*_, _-_, min}
+use Prim.Native.Nat.{ℕ, zero, suc, _+_, _*_, _-_, _%_, min}
 use lib.Dec.{ltb, leb, eqb}
 use lib.ListN.{length, drop, getD}
 use Rattle.base.specs.Choose.{choose}
@@ -24,7 +24,7 @@ byteOf s = joinOf (digitOf (getD s 0 0)) (digitOf (getD s 1 0))
 -- the n bytes at the front
 abbrev pub frontBytes : ℕ → List ℕ → List ℕ
 frontBytes zero s = []
-frontBytes (suc n) s = byteOf s ∷ frontBytes n (drop 2 s)
+frontBytes (suc n) s = byteOf s % 256 ∷ frontBytes n (drop 2 s)
 
 -- the number in the two bytes at the front
 unfoldable pub twoOf : List ℕ → ℕ
@@ -72,7 +72,7 @@ headTo s = twoOf (drop 12 s)
 
 abbrev pub isDataHead : ℕ → List ℕ → Bool
 isDataHead k s =
-    isLine 8 s && eqb (byteOf s) 2 && eqb (byteOf (drop 2 s)) k && leb (headLength s) dataLimit && leb (headFrom s) (headTo s) && leb (headTo s) (headLength s)
+    isLine 8 s && eqb (byteOf s) 2 && eqb (byteOf (drop 2 s)) k && leb (headFrom s) (headTo s) && leb (headTo s) (headLength s) && leb (headLength s) dataLimit
 
 -- the second test only where the first is passed
 abbrev pub also : Bool → (Unit {0} → Bool) → Bool
@@ -132,3 +132,20 @@ unfoldable pub readObject : List ℕ → Read
 readObject s =
     onSegment (isProgram 0 s) (programAt s)
     (λ u. onSegment (isData 1 (afterProgram s)) (dataAt (afterProgram s)) (λ v. readData (mostData - 1) 2 (afterData (afterProgram s))))
+
+-- ── the answer as a count ──
+
+-- the n data segments at the front
+abbrev pub dataList : ℕ → List ℕ → List Segment
+dataList zero s = []
+dataList (suc n) s = dataAt s ∷ dataList n (afterData s)
+
+-- the program and the data segments behind it, n in all
+abbrev pub segmentList : ℕ → List ℕ → List Segment
+segmentList zero s = []
+segmentList (suc n) s = programAt s ∷ dataList n (afterProgram s)
+
+-- what n says of a text: its number of segments, 0 where it is no object's
+unfoldable pub readAs : ℕ → List ℕ → Read
+readAs zero s = none
+readAs (suc n) s = some (segmentList (suc n) s)

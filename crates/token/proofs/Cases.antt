@@ -10,7 +10,7 @@ use Rattle.base.specs.Runs.{runLen}
 use Rattle.base.specs.Numbers.{numberFrom}
 use Rattle.base.specs.Walk.{walk}
 use Rattle.token.specs.Kinds as K
-use Rattle.token.specs.Text.{keyOf, wordKind, comment, nameOrWord, number, begins, sign, lexeme, token, nextStep, nextToken, Reading, readFrom, tokensOf}
+use Rattle.token.specs.Text.{keyOf, wordKind, comment, nameOrWord, number, begins, sign, lexeme, token, nextStep, nextToken, readFrom, tokensOf}
 use Rattle.token.specs.declared.Token.{Token}
 
 -- 0, or a refusal's number, with the place

@@ -1,9 +1,10 @@
 -- Document 01, "Text and tokens", in its order: what stands at the front of what remains of a text, the next token, all tokens of a text.
-use Prim.Native.Nat.{ℕ, zero, suc, pred, _+_, _-_, _%_, _^_}
+use Prim.Native.Nat.{ℕ, zero, suc, pred, _+_, _-_, _%_}
+use Prim.Native.Char.{code}
 use Prim.Native.String.{String}
 use mathlib.Core.Bool.{Bool, true, false, not, _&&_, _||_}
 use mathlib.Core.List.{List, [], _∷_}
-use lib.Dec.{eqb, leb, ltb}
+use lib.Dec.{eqb, ltb}
 use lib.ListN.{length, take, drop, getD}
 use Rattle.base.specs.Choose.{if_then_else_}
 use Rattle.base.specs.Text.{bytes, sameBytes, within}
@@ -13,7 +14,7 @@ use Rattle.base.specs.Walk.{Step, walk}
 use Rattle.base.specs.Walk.Step.{stop, pass}
 use Rattle.token.specs.Kinds as K
 use Rattle.token.specs.declared.Lexeme.{Lexeme}
-use Rattle.token.specs.declared.Lexeme.the-variants.{Gap, Token, Refused}
+use Rattle.token.specs.declared.Lexeme.the-variants.{Gap, Token, NoToken, OutOfRange}
 use Rattle.token.specs.declared.Token as T
 
 -- "Blank (32) and newline (10) separate tokens."
@@ -22,20 +23,20 @@ separates b = eqb b 32 || eqb b 10
 
 -- "Names: a capital letter, then capitals or digits; the first 10 characters count."
 abbrev pub isCapital : ℕ → Bool
-isCapital b = within 65 90 b
+isCapital b = within (code "A") (code "Z") b
 
 abbrev pub isDigit : ℕ → Bool
-isDigit b = within 48 57 b
+isDigit b = within (code "0") (code "9") b
 
 abbrev pub inName : ℕ → Bool
 inName b = isCapital b || isDigit b
 
 abbrev pub isHexadecimal : ℕ → Bool
-isHexadecimal b = isDigit b || within 65 70 b
+isHexadecimal b = isDigit b || within (code "A") (code "F") b
 
--- what a digit or a capital stands for, to a base up to 36
+-- what a digit or a capital stands for; any other byte is no digit to a base up to 36
 abbrev pub digitOf : ℕ → ℕ
-digitOf b = if leb b 57 then b - 48 else b - 55
+digitOf b = if isDigit b then b - code "0" else if isCapital b then b - (code "A" - 10) else 36
 
 -- the first 10 characters of a name as one number: no two have the same (proofs/Keys.antt, `key-one`)
 abbrev pub keyOf : List ℕ → ℕ
@@ -49,8 +50,8 @@ wordKind (w ∷ ws) name = elim (sameBytes name (bytes (w .1))) [ true ↦ w .0 
 -- "COMMENT opens a comment that ends at the next `;` and may hold any byte." Its word has n bytes; "unclosed comment: its first byte"
 unfoldable pub comment : ℕ → List ℕ → Lexeme
 comment n s =
-    let m : ℕ = n + runLen (λ b. not (eqb b 59)) (drop n s) in
-    if ltb m (length s) then Gap (m + 1) else Refused 2
+    let m : ℕ = n + runLen (λ b. not (eqb b (code ";"))) (drop n s) in
+    if ltb m (length s) then Gap (m + 1) else NoToken
 
 unfoldable pub nameOrWord : List ℕ → Lexeme
 nameOrWord s =
@@ -64,8 +65,8 @@ unfoldable pub number : (ℕ → Bool) → ℕ → ℕ → (ℕ → ℕ) → ℕ
 number inside base most bits mark s =
     let n : ℕ = runLen inside s in
     let v : ℕ = numberFrom digitOf base 0 (take n s) in
-    if eqb n 0 then Refused 2 else
-    if ltb most v then Refused 3 else Token K.NUMBER (bits v) (mark + n)
+    if eqb n 0 then NoToken else
+    if ltb most v then OutOfRange else Token K.NUMBER (bits v) (mark + n)
 
 abbrev pub plain : ℕ → ℕ
 plain v = v
@@ -81,7 +82,7 @@ begins (x ∷ xs) (y ∷ ys) = eqb x y && begins xs ys
 
 -- "Signs, longest first": the first of the table with which the text begins
 unfoldable pub sign : List (ℕ × String) → List ℕ → Lexeme
-sign [] s = Refused 2
+sign [] s = NoToken
 sign (w ∷ ws) s = elim (begins (bytes (w .1)) s) [ true ↦ Token (w .0) 0 (length (bytes (w .1))) | false ↦ sign ws s ]
 
 -- what stands at the front of a text that is not empty, and how many bytes it has: a gap between tokens; a token; or what is refused at its first byte,
@@ -93,8 +94,8 @@ lexeme s =
     if separates b then Gap (runLen separates s) else
     if isCapital b then nameOrWord s else
     if isDigit b then number isDigit 10 2147483647 plain 0 s else
-    if eqb b 95 then number isDigit 10 2147483648 negated 1 (drop 1 s) else
-    if eqb b 35 then number isHexadecimal 16 4294967295 plain 1 (drop 1 s) else
+    if eqb b (code "_") then number isDigit 10 2147483648 negated 1 (drop 1 s) else
+    if eqb b (code "#") then number isHexadecimal 16 4294967295 plain 1 (drop 1 s) else
     sign K.signs s
 
 -- a token: its kind; its value, which is a number's 32 bits and a name's key, and 0 for any other; and its place, "the offset of the first byte"
@@ -109,7 +110,8 @@ pub data Outcome : Type 0 where
 abbrev pub nextBy : Lexeme → ℕ → Step Outcome
 nextBy (Gap n) at = pass n
 nextBy (Token kind value n) at = stop (read (token kind value at) (at + n))
-nextBy (Refused number) at = stop (refused number at)
+nextBy NoToken at = stop (refused 2 at)
+nextBy OutOfRange at = stop (refused 3 at)
 
 unfoldable pub nextStep : ℕ → List ℕ → Step Outcome
 nextStep at s = nextBy (lexeme s) at
@@ -141,9 +143,13 @@ abbrev pub lastOr : Bool → T.Token → ℕ → (ℕ → Reading) → Reading
 lastOr true t n rest = ended (t ∷ [])
 lastOr false t n rest = after t (rest n)
 
--- the token's place is made one of the whole text; what remains is read by `rest`, given the bytes to pass over
+-- a token's place as one of the whole text, from one counted from `at`
+abbrev pub moved : ℕ → T.Token → T.Token
+moved at t = token (t .kind) (t .value) (at + t .place)
+
+-- what remains after the token is read by `rest`, which is given the bytes to pass over
 abbrev pub readBy : Outcome → ℕ → (ℕ → Reading) → Reading
-readBy (read t end) at rest = lastOr (isLast (t .kind)) (token (t .kind) (t .value) (at + t .place)) end rest
+readBy (read t end) at rest = lastOr (isLast (t .kind)) (moved at t) end rest
 readBy (refused number place) at rest = refusedAt number (at + place)
 
 -- "Only the bytes up to the first `@` outside a comment are read." "The remaining text after each token is read from where that token ended."

@@ -10,15 +10,17 @@ use native.Mathlib.Decide.{decLe, ℕ-discrete}
 use lib.Dec.{eqb, leb}
 use lib.ListN.{length, getD, set, length-set, replicate, length-replicate}
 use lib.Seq.{getD-set-same, getD-set-other}
-use borrow.Author.Tests.{leb-true}
+use borrow.Author.Tests.{leb-true, eq-eqb, ne-eqb}
 use Rattle.base.specs.Lists.{_∈_, All}
+use Rattle.base.proofs.Lists.{all-in}
 use Rattle.grammar.specs.Tree.{Width, full, short}
 use Rattle.names.specs.declared.Broken.{Broken}
 use Rattle.names.specs.Broken.{_⊕_, rule}
 use Rattle.names.proofs.Joins.{quiet-left, quiet-right, rule-holds}
 use Rattle.kinds.specs.Meaning.{Cell, Based, elementSize}
 use Rattle.kinds.specs.Meanings.{Filled}
-use Rattle.translator.specs.Layout.{segmentLimit, tableBytes, Placed, roundUp, valueBytes, Room, offsetFor, endFor, placeCell, emptyEnds, placeCells}
+use Rattle.kinds.proofs.Known.{Falling}
+use Rattle.translator.specs.Layout.{segmentLimit, tableBytes, Placed, roundUp, valueBytes, Room, offsetFor, endFor, placeCell, emptyEnds, placeCells, offsetOf}
 
 -- ── "the next multiple" ──
 
@@ -110,46 +112,40 @@ start-first n [] (suc zero) = omega arith
 start-first n [] (suc (suc k)) = omega arith
 start-first n (d ∷ ds) k = let a = start-first n ds k in let b = ends-grow d (placeCells n ds) k in omega arith
 
--- a cell in its place: aligned, from its segment's start, and ending at or before the end of the cells
-pub record CellPlaced (c : Cell) (ends : List ℕ) (placed : List Placed) : Type 0 where
-  pub p : Placed
-  pub one : p ∈ placed
-  pub name : p .name ≡ c .name
-  pub segment : p .segment ≡ c .base .segment
-  pub aligned : p .offset % elementSize (c .width) ≡ 0
-  pub low : startOf (c .base .segment) ≤ p .offset
-  pub high : p .offset + elementSize (c .width) * c .elements ≤ getD ends (c .base .segment) 0
+-- a cell at an offset: aligned, from its segment's start, and ending at or before the end of the cells
+pub record CellAt (c : Cell) (ends : List ℕ) (offset : ℕ) : Type 0 where
+  pub aligned : offset % elementSize (c .width) ≡ 0
+  pub low : startOf (c .base .segment) ≤ offset
+  pub high : offset + elementSize (c .width) * c .elements ≤ getD ends (c .base .segment) 0
 
--- later cells leave it there
-placed-later : (c : Cell) (d : Filled) (s : Room) → CellPlaced c (s .ends) (s .placed) → CellPlaced c (placeCell d s .ends) (placeCell d s .placed)
+at-first : (n : ℕ) (d : Filled) (ds : List Filled) → d .cell .base .segment < 2 + n → CellAt (d .cell) (placeCell d (placeCells n ds) .ends) (offsetFor (d .cell) (placeCells n ds .ends))
 unfolding placeCell
-placed-later c d s h =
-    record { p = h .p; one = inr (h .one); name = h .name; segment = h .segment; aligned = h .aligned; low = h .low; high = le-trans (h .high) (ends-grow d s (c .base .segment)) }
-
-placed-now : (n : ℕ) (d : Filled) (ds : List Filled) → d .cell .base .segment < 2 + n
-    → CellPlaced (d .cell) (placeCell d (placeCells n ds) .ends) (placeCell d (placeCells n ds) .placed)
-unfolding placeCell
-placed-now n d ds h =
+at-first n d ds h =
     let c = d .cell in
     let s = placeCells n ds in
     let k = c .base .segment in
     let r = round-up (c .width) (getD (s .ends) k 0) in
-    let e = length-ends n ds in
     record {
-      p = record { name = c .name; segment = k; offset = offsetFor c (s .ends); content = valueBytes (c .width) (d .values) };
-      one = inl refl;
-      name = refl;
-      segment = refl;
       aligned = r .1;
       low = le-trans (start-first n ds k) (r .0);
-      high = le-of-eq (sym (getD-set-same (s .ends) k (endFor c (s .ends)) 0 (subst (λ (m : ℕ). k < m) (sym e) h)));
+      high = le-of-eq (sym (getD-set-same (s .ends) k (endFor c (s .ends)) 0 (subst (λ (m : ℕ). k < m) (sym (length-ends n ds)) h)));
     }
 
--- every declared cell of the segments 1 to 1 + n has its place
-pub cell-placed : (n : ℕ) (ds : List Filled) (d : Filled) → d ∈ ds → d .cell .base .segment < 2 + n → CellPlaced (d .cell) (placeCells n ds .ends) (placeCells n ds .placed)
-unfolding placeCells
-cell-placed n [] d i h = absurd i
-cell-placed n (x ∷ ds) d (inl i) h =
-    subst (λ (y : Filled). CellPlaced (y .cell) (placeCell x (placeCells n ds) .ends) (placeCell x (placeCells n ds) .placed)) (sym i)
-    (placed-now n x ds (subst (λ (y : Filled). y .cell .base .segment < 2 + n) i h))
-cell-placed n (x ∷ ds) d (inr i) h = placed-later (d .cell) x (placeCells n ds) (cell-placed n ds d i h)
+-- later cells leave it there
+at-later : (c : Cell) (d : Filled) (s : Room) (o : ℕ) → CellAt c (s .ends) o → CellAt c (placeCell d s .ends) o
+at-later c d s o h = record { aligned = h .aligned; low = h .low; high = le-trans (h .high) (ends-grow d s (c .base .segment)) }
+
+-- every declared cell of the segments 1 to 1 + n stands at the offset that its name has
+pub cell-at : (n : ℕ) (ds : List Filled) (d : Filled) → Falling ds → d ∈ ds → d .cell .base .segment < 2 + n
+    → CellAt (d .cell) (placeCells n ds .ends) (offsetOf (placeCells n ds .placed) (d .cell .name))
+unfolding placeCells placeCell offsetOf
+cell-at n [] d f i h = absurd i
+cell-at n (x ∷ ds) d f (inl i) h =
+    subst (λ (y : Filled). CellAt (y .cell) (placeCell x (placeCells n ds) .ends) (offsetOf (placeCell x (placeCells n ds) .placed) (y .cell .name))) (sym i)
+    (rw (eq-eqb (x .cell .name) (x .cell .name) refl) (at-first n x ds (subst (λ (y : Filled). y .cell .base .segment < 2 + n) i h)))
+cell-at n (x ∷ ds) d f (inr i) h =
+    rw (ne-eqb (x .cell .name) (d .cell .name) (apart (x .cell .name) (d .cell .name) (all-in (λ (y : Filled). y .cell .name < x .cell .name) ds (f .0) d i)))
+    (at-later (d .cell) x (placeCells n ds) _ (cell-at n ds d (f .1) i h))
+  where
+    apart : (a b : ℕ) → b < a → a ≡ b → ⊥
+    apart a b u v = omega arith

@@ -1,9 +1,9 @@
 -- `load` reads the number in n bytes. The invariant: what is read so far, read on over the bytes that are left, is the whole. Assumes nothing.
-use Prim.Native.Nat.{ℕ, _+_, _-_, _*_, _^_, _<_, _≤_}
+use Prim.Native.Nat.{_+_, _-_, _^_, _<_, _≤_}
 use mathlib.Core.Path.{_≡_}
-use borrow.Author.Needs.{needs}
 use native.Mathlib.Omega.{arith}
-use lib.ListN.{length, take, drop}
+use lib.ListN.{take, drop}
+use borrow.Author.Needs.{needs}
 use Rattle.base.specs.Numbers.{numberFrom, valueAt}
 use Rattle.base.proofs.Numbers.{load-turn, load-end, byte-on, some-room, fewer-bytes}
 use Rattle.base.proofs.load.Statement.{statement}

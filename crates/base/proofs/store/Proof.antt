@@ -1,8 +1,8 @@
 -- `store` lays the low bytes of a number, the last first. The invariant: laying what is left completes the whole. Assumes nothing.
-use Prim.Native.Nat.{ℕ, _≤_}
+use Prim.Native.Nat.{_≤_}
 use mathlib.Core.Path.{_≡_}
-use borrow.Author.Needs.{needs}
 use lib.ListN.{length}
+use borrow.Author.Needs.{needs}
 use Rattle.base.specs.Numbers.{stored}
 use Rattle.base.proofs.Numbers.{store-turn, store-end}
 use Rattle.base.proofs.store.Statement.{statement}

@@ -1,0 +1,112 @@
+-- The way to the next token: one step past a gap or to a token, from what stands at a place; and where the next token ends. Assumes nothing.
+use Prim.Native.Nat.{ℕ, zero, suc, _+_, _-_, _≤_, _<_}
+use mathlib.Core.Path.{_≡_, refl, ap, sym, _∙_}
+use mathlib.Core.Bool.{Bool, true, false}
+use mathlib.Core.List.{List}
+use native.Mathlib.Omega.{arith}
+use native.Mathlib.Decide.{decLe}
+use lib.ListN.{length, take, drop, length-drop}
+use Rattle.base.specs.Walk.{walk}
+use Rattle.base.proofs.Parts.{to-end}
+use Rattle.base.proofs.Tests.{never-true}
+use Rattle.base.proofs.Walk.{walk-end, walk-stop, walk-pass}
+use Rattle.token.specs.Kinds as K
+use Rattle.token.specs.Text.{lexeme, token, Outcome, read, refused, nextStep, nextToken, isLast}
+use Rattle.token.specs.declared.Lexeme.{Lexeme}
+use Rattle.token.specs.declared.Lexeme.the-variants.{Gap, Token, NoToken, OutOfRange}
+use Rattle.token.proofs.Sizes.{sizeOf, Sized, lexeme-sized}
+
+abbrev ending : ℕ → Outcome
+ending at = read (token K.END-OF-TEXT 0 at) at
+
+-- the next token, looked for from a place
+abbrev pub from : ℕ → List ℕ → Outcome
+from at s = walk nextStep ending at 0 (drop at s)
+
+pub start : (s : List ℕ) → nextToken s ≡ from 0 s
+unfolding nextToken
+start s = refl
+
+pub at-end : (s : List ℕ) (at : ℕ) → length s ≤ at → from at s ≡ read (token K.END-OF-TEXT 0 at) at
+at-end s at h = walk-end nextStep ending s at h
+
+module _ (s : List ℕ) (at : ℕ) (l : Lexeme) (h : at < length s) (e : l ≡ lexeme (take (length s - at) (drop at s))) where
+  stands : lexeme (drop at s) ≡ l
+  stands = ap lexeme (sym (to-end s at)) ∙ sym e
+
+  sized : Sized (drop at s) l
+  sized = rw (← stands) (lexeme-sized (drop at s) (omega (arith, length-drop at s)))
+
+  pub some : 0 < sizeOf l
+  some = sized .some
+
+  pub fits : at + sizeOf l ≤ length s
+  fits = omega (arith, sized .fits, length-drop at s)
+
+  pub past : (n : ℕ) → l ≡ Gap n → from at s ≡ from (at + n) s
+  unfolding nextStep
+  past n q =
+      let z : sizeOf l ≡ n = ap sizeOf q in
+      walk-pass nextStep ending s at n h (rw (stands, q)) (omega (arith, some)) (omega (arith, fits))
+
+  pub found : (kind value n : ℕ) → l ≡ Token kind value n → from at s ≡ read (token kind value at) (at + n)
+  unfolding nextStep
+  found kind value n q = walk-stop nextStep ending s at (read (token kind value at) (at + n)) h (rw (stands, q))
+
+  pub no-token : l ≡ NoToken → from at s ≡ refused 2 at
+  unfolding nextStep
+  no-token q = walk-stop nextStep ending s at (refused 2 at) h (rw (stands, q))
+
+  pub out-of-range : l ≡ OutOfRange → from at s ≡ refused 3 at
+  unfolding nextStep
+  out-of-range q = walk-stop nextStep ending s at (refused 3 at) h (rw (stands, q))
+
+-- where an outcome stands and ends, and whether reading goes on after it
+abbrev pub placed : Outcome → ℕ
+placed (read t end) = t .place
+placed (refused number place) = place
+
+abbrev pub ends : Outcome → ℕ
+ends (read t end) = end
+ends (refused number place) = place
+
+abbrev pub isFinal : Outcome → Bool
+isFinal (read t end) = isLast (t .kind)
+isFinal (refused number place) = true
+
+abbrev pub refusal : Outcome → ℕ
+refusal (read t end) = 1
+refusal (refused number place) = number
+
+pub record Held (s : List ℕ) (o : Outcome) : Type 0 where
+  pub before : placed o ≤ ends o
+  pub fits : ends o ≤ length s
+  pub some : isFinal o ≡ false → placed o < ends o
+  pub real : 0 < refusal o
+
+-- n is enough for what is left
+held-from : (n : ℕ) (s : List ℕ) (at : ℕ) → at ≤ length s → length s ≤ at + n → Held s (from at s)
+held-from zero s at h m = rw (at-end s at (omega arith)) (record { before = omega arith; fits = h; some = λ e. never-true (sym e); real = omega arith })
+held-from (suc n) s at h m = go (held-from n s) (decLe (length s) at)
+  where
+    go : ((i : ℕ) → i ≤ length s → length s ≤ i + n → Held s (from i s)) → Dec (length s ≤ at) → Held s (from at s)
+    go ih (yes l) = rw (at-end s at l) (record { before = omega arith; fits = h; some = λ e. never-true (sym e); real = omega arith })
+    go ih (no l) = by (lexeme (take (length s - at) (drop at s))) refl
+      where
+        b : at < length s
+        b = omega arith
+
+        by : (x : Lexeme) → x ≡ lexeme (take (length s - at) (drop at s)) → Held s (from at s)
+        by (Gap k) e =
+            let p = some s at (Gap k) b e in
+            let f = fits s at (Gap k) b e in
+            rw (past s at (Gap k) b e k refl) (ih (at + k) f (omega arith))
+        by (Token kind value k) e =
+            let p = some s at (Token kind value k) b e in
+            let f = fits s at (Token kind value k) b e in
+            rw (found s at (Token kind value k) b e kind value k refl) (record { before = omega arith; fits = f; some = λ z. omega arith; real = omega arith })
+        by NoToken e = rw (no-token s at NoToken b e refl) (record { before = omega arith; fits = h; some = λ z. never-true (sym z); real = omega arith })
+        by OutOfRange e = rw (out-of-range s at OutOfRange b e refl) (record { before = omega arith; fits = h; some = λ z. never-true (sym z); real = omega arith })
+
+pub held : (s : List ℕ) → Held s (nextToken s)
+held s = rw (start s) (held-from (length s) s 0 (omega arith) (omega arith))

@@ -1,0 +1,285 @@
+-- The loop over the tokens of a text: what is read from a place on, one token more, and what is laid into the lent lists. Assumes nothing.
+use Prim.Native.Nat.{ℕ, zero, suc, pred, _+_, _-_, _≤_, _<_}
+use mathlib.Core.Path.{_≡_, refl, ap, sym, _∙_}
+use mathlib.Core.Bool.{Bool, true, false}
+use mathlib.Core.List.{List, [], _∷_, map}
+use native.Mathlib.Omega.{arith}
+use native.Mathlib.Decide.{decLe}
+use native.Mathlib.Nat.{add-zero}
+use native.Mathlib.Numerals.{add-one}
+use lib.Dec.{eqb}
+use lib.ListN.{length, take, drop, set, length-drop, drop-of-length-le}
+use lib.Seq.{sets, drop-cons, drop-drop}
+use borrow.Author.Tests.{le-ltb, lt-ltb, le-leb, lt-leb, eq-eqb}
+use Rattle.base.proofs.Parts.{to-end}
+use Rattle.base.proofs.Tests.{cases, never-true}
+use Rattle.token.specs.Kinds as K
+use Rattle.token.specs.Text.{token, Outcome, read, refused, nextToken, Reading, ended, refusedAt, after, isLast, moved, readBy, readFrom, TEXT-LIMIT, tokensOf}
+use Rattle.token.specs.Answers.{outcomeOf, summary, summaryOf, summed, laid, Summary, Laid, readInto, tokensInto}
+use Rattle.token.specs.declared.Token.{Token}
+use Rattle.token.specs.declared.Next.{Next}
+use Rattle.token.specs.declared.Next.the-variants as N
+use Rattle.token.specs.declared.Tokens.{Tokens}
+use Rattle.token.specs.declared.Tokens.the-variants as S
+use Rattle.token.proofs.Gaps.{start, at-end, placed, ends, isFinal, Held, held}
+
+-- what is read from a place on
+abbrev pub rest : ℕ → List ℕ → Reading
+rest at s = readFrom at 0 (drop at s)
+
+skip : (at k : ℕ) (s : List ℕ) → k ≤ length s → readFrom at k s ≡ readFrom (at + k) 0 (drop k s)
+unfolding readFrom
+skip at zero s h = rw (add-zero at)
+skip at (suc k) [] h = absurd (omega arith)
+skip at (suc k) (x ∷ xs) h =
+    let e : suc at + k ≡ at + suc k = omega arith in
+    skip (suc at) k xs (omega arith) ∙ ap (λ (n : ℕ). readFrom n 0 (drop k xs)) e
+
+tokenIn : Outcome → Token
+tokenIn (read t end) = t
+tokenIn (refused number place) = token 0 0 0
+
+isRead : Outcome → Bool
+isRead (read t end) = true
+isRead (refused number place) = false
+
+-- what stands at a place, as the token reader finds it in the part of the text from there
+module _ (s : List ℕ) (at : ℕ) (o : Outcome) (h : at ≤ length s) (e : o ≡ nextToken (take (length s - at) (drop at s))) where
+  found : nextToken (drop at s) ≡ o
+  found = ap nextToken (sym (to-end s at)) ∙ sym e
+
+  holds : Held (drop at s) o
+  holds = rw (← found) (held (drop at s))
+
+  fits : at + ends o ≤ length s
+  fits = omega (arith, holds .fits, length-drop at s)
+
+  before : placed o ≤ ends o
+  before = holds .before
+
+  some : isFinal o ≡ false → placed o < ends o
+  some = holds .some
+
+  -- at the end of the text the next token says so
+  ended-here : length s ≤ at → o ≡ read (token K.END-OF-TEXT 0 0) 0
+  ended-here l = sym found ∙ ap nextToken (drop-of-length-le s l) ∙ start [] ∙ at-end [] 0 (omega arith)
+
+  next : at < length s → rest at s ≡ readBy o at (λ n. readFrom (suc at) (pred n) (drop (suc at) s))
+  unfolding readFrom
+  next l = rw (drop-cons s at 0 l) (ap (λ (x : Outcome). readBy x at (λ n. readFrom (suc at) (pred n) (drop (suc at) s))) (ap nextToken (sym (drop-cons s at 0 l)) ∙ found))
+
+  -- how reading goes on: with a token, after which the rest is read; with the last token; or with a refusal
+  read-on : (t : Token) (end : ℕ) → o ≡ read t end → isLast (t .kind) ≡ false → rest at s ≡ after (moved at t) (rest (at + end) s)
+  read-on t end q l = go (decLe (length s) at)
+    where
+      go : Dec (length s ≤ at) → rest at s ≡ after (moved at t) (rest (at + end) s)
+      go (yes m) = never-true (sym l ∙ ap isFinal (sym q ∙ ended-here m))
+      go (no m) =
+          let b : at < length s = omega arith in
+          let z : ends o ≡ end = ap ends q in
+          let p : 0 < end = (let u = some (ap isFinal q ∙ l) in omega arith) in
+          let f = fits in
+          let j : suc at + pred end ≡ at + end = omega arith in
+          next b ∙ rw (q, l)
+          (ap (λ (r : Reading). after (moved at t) r)
+          (skip (suc at) (pred end) (drop (suc at) s) (omega (arith, length-drop (suc at) s)) ∙ rw (drop-drop (pred end) (suc at) s, j)))
+
+  read-last : (t : Token) (end : ℕ) → o ≡ read t end → isLast (t .kind) ≡ true → rest at s ≡ ended (moved at t ∷ [])
+  unfolding readFrom tokenIn
+  read-last t end q l = go (decLe (length s) at)
+    where
+      go : Dec (length s ≤ at) → rest at s ≡ ended (moved at t ∷ [])
+      go (yes m) =
+          let z : t ≡ token K.END-OF-TEXT 0 0 = ap tokenIn (sym q ∙ ended-here m) in
+          rw (drop-of-length-le s m, z, add-zero at)
+      go (no m) = next (omega arith) ∙ rw (q, l)
+
+  read-no : (number place : ℕ) → o ≡ refused number place → rest at s ≡ refusedAt number (at + place)
+  unfolding isRead
+  read-no number place q = go (decLe (length s) at)
+    where
+      go : Dec (length s ≤ at) → rest at s ≡ refusedAt number (at + place)
+      go (yes m) = never-true (ap isRead (sym q ∙ ended-here m))
+      go (no m) = next (omega arith) ∙ rw q
+
+-- no more tokens than bytes, and one at the end
+pub few-tokens : (at k : ℕ) (s : List ℕ) → length (readFrom at k s .tokens) ≤ length s + 1
+unfolding readFrom
+few-tokens at k [] = omega arith
+few-tokens at (suc k) (x ∷ xs) = omega (arith, few-tokens (suc at) k xs)
+few-tokens at zero (x ∷ xs) = by (nextToken (x ∷ xs)) (λ n. few-tokens (suc at) (pred n) xs)
+  where
+    by : (o : Outcome) → ((n : ℕ) → length (readFrom (suc at) (pred n) xs .tokens) ≤ length xs + 1)
+        → length (readBy o at (λ n. readFrom (suc at) (pred n) xs) .tokens) ≤ suc (length xs) + 1
+    by (refused number place) ih = omega arith
+    by (read t end) ih =
+        cases (isLast (t .kind)) (λ e. rw e (omega arith)) (λ e. rw e (omega (arith, ih end)))
+
+-- what the loops know at a place with n tokens read: the whole reading is what is read from there on
+pub record Reads (s : List ℕ) (at n : ℕ) : Type 0 where
+  pub inside : at ≤ length s
+  pub few : n ≤ at
+  pub number : readFrom 0 0 s .number ≡ rest at s .number
+  pub place : readFrom 0 0 s .place ≡ rest at s .place
+  pub count : length (readFrom 0 0 s .tokens) ≡ n + length (rest at s .tokens)
+
+pub reads-start : (s : List ℕ) → Reads s 0 0
+reads-start s = record { inside = omega arith; few = omega arith; number = refl; place = refl; count = omega arith }
+
+-- what is laid so far over a list, by the part of each token that belongs there: the whole is what is left, laid over it
+abbrev pub LaidOn : (Token → ℕ) → List ℕ → List ℕ → List ℕ → ℕ → ℕ → Type 0
+LaidOn part s old now at n = laid part (readFrom 0 0 s .tokens) old ≡ sets now n (map part (rest at s .tokens))
+
+-- what they know when the token reader has answered
+pub record Answered (s : List ℕ) (at n : ℕ) (r : Next) : Type 0 where
+  pub reads : Reads s at n
+  pub next : outcomeOf r ≡ nextToken (take (length s - at) (drop at s))
+
+-- it answered with a token
+module _ {s : List ℕ} {at n : ℕ} {r : Next} {t : Token} {end : ℕ} (g : Answered s at n r) (q : r ≡ N.Token t end) where
+  is : outcomeOf r ≡ read t end
+  is = ap outcomeOf q
+
+  h : at ≤ length s
+  h = g .reads .inside
+
+  pub ends-inside : at + end ≤ length s
+  ends-inside = let f = fits s at (outcomeOf r) h (g .next) in let z : ends (outcomeOf r) ≡ end = ap ends is in omega arith
+
+  pub place-inside : at + t .place ≤ length s
+  place-inside =
+      let f = before s at (outcomeOf r) h (g .next) in
+      let z : placed (outcomeOf r) ≡ t .place = ap placed is in
+      let y : ends (outcomeOf r) ≡ end = ap ends is in
+      omega (arith, ends-inside)
+
+  pub one-more : isLast (t .kind) ≡ false → rest at s ≡ after (moved at t) (rest (at + end) s)
+  one-more l = read-on s at (outcomeOf r) h (g .next) t end is l
+
+  pub the-last : isLast (t .kind) ≡ true → rest at s ≡ ended (moved at t ∷ [])
+  the-last l = read-last s at (outcomeOf r) h (g .next) t end is l
+
+  pub some-bytes : isLast (t .kind) ≡ false → 0 < end
+  some-bytes l =
+      let f = some s at (outcomeOf r) h (g .next) (ap isFinal is ∙ l) in
+      let z : ends (outcomeOf r) ≡ end = ap ends is in
+      omega arith
+
+  -- there is room for the token where there is room for all
+  pub has-room : (m : ℕ) → length (readFrom 0 0 s .tokens) ≤ m → n < m
+  has-room m l =
+      let c = g .reads .count in
+      cases (isLast (t .kind))
+      (λ z. omega (arith, ap (λ (x : Reading). length (x .tokens)) (the-last z)))
+      (λ z. omega (arith, ap (λ (x : Reading). length (x .tokens)) (one-more z)))
+
+  pub reads-on : isLast (t .kind) ≡ false → Reads s (at + end) (n + 1)
+  reads-on l =
+      let p = some-bytes l in
+      let w = g .reads in
+      record {
+        inside = ends-inside;
+        few = omega arith;
+        number = w .number ∙ ap (λ (x : Reading). x .number) (one-more l);
+        place = w .place ∙ ap (λ (x : Reading). x .place) (one-more l);
+        count = omega (arith, ap (λ (x : Reading). length (x .tokens)) (one-more l));
+      }
+
+  pub reads-last : isLast (t .kind) ≡ true → summary 0 0 (n + 1) ≡ summed (readFrom 0 0 s)
+  reads-last l =
+      let w = g .reads in
+      rw (w .number ∙ ap (λ (x : Reading). x .number) (the-last l), w .place ∙ ap (λ (x : Reading). x .place) (the-last l), w .count ∙ ap (λ (x : Reading). n + length (x .tokens)) (the-last l))
+
+  module _ (part : Token → ℕ) (old now : List ℕ) (w : LaidOn part s old now at n) where
+    pub laid-on : isLast (t .kind) ≡ false → LaidOn part s old (set now n (part (moved at t))) (at + end) (n + 1)
+    laid-on l = rw (add-one n) (w ∙ ap (λ (x : Reading). sets now n (map part (x .tokens))) (one-more l))
+
+    pub laid-last : isLast (t .kind) ≡ true → set now n (part (moved at t)) ≡ laid part (readFrom 0 0 s .tokens) old
+    laid-last l = sym (w ∙ ap (λ (x : Reading). sets now n (map part (x .tokens))) (the-last l))
+
+-- it answered with a refusal
+module _ {s : List ℕ} {at n : ℕ} {r : Next} {number place : ℕ} (g : Answered s at n r) (q : outcomeOf r ≡ refused number place) where
+  none-more : rest at s ≡ refusedAt number (at + place)
+  none-more = read-no s at (outcomeOf r) (g .reads .inside) (g .next) number place q
+
+  pub refused-inside : at + place ≤ length s
+  refused-inside =
+      let f = fits s at (outcomeOf r) (g .reads .inside) (g .next) in
+      let z : ends (outcomeOf r) ≡ place = ap ends q in
+      omega arith
+
+  pub reads-no : eqb number 0 ≡ false → summary number (at + place) 0 ≡ summed (readFrom 0 0 s)
+  reads-no z =
+      let w = g .reads in
+      rw (w .number ∙ ap (λ (x : Reading). x .number) none-more, w .place ∙ ap (λ (x : Reading). x .place) none-more, z)
+
+  pub laid-no : (part : Token → ℕ) (old now : List ℕ) → LaidOn part s old now at n → now ≡ laid part (readFrom 0 0 s .tokens) old
+  laid-no part old now w = sym (w ∙ ap (λ (x : Reading). sets now n (map part (x .tokens))) none-more)
+
+-- a text without a refusal is not too long, so all of it is read
+pub not-too-long : (s : List ℕ) → tokensOf s .number ≡ 0 → length s ≤ TEXT-LIMIT
+unfolding tokensOf
+not-too-long s = go (decLe (length s) TEXT-LIMIT)
+  where
+    go : Dec (length s ≤ TEXT-LIMIT) → tokensOf s .number ≡ 0 → length s ≤ TEXT-LIMIT
+    go (yes h) z = h
+    go (no h) z = let y : _≡_ {A = ℕ} 1 0 = rw (lt-ltb TEXT-LIMIT (length s) (omega arith)) at z in absurd (omega arith)
+
+pub all-read-from : (s : List ℕ) → tokensOf s .number ≡ 0 → tokensOf s ≡ readFrom 0 0 s
+unfolding tokensOf
+all-read-from s z = rw (le-ltb TEXT-LIMIT (length s) (not-too-long s z))
+
+-- what the entries answer before they read, and that they read
+module _ (s : List ℕ) {k v p : List ℕ} where
+  pub too-long : (n : ℕ) → TEXT-LIMIT < length s → Laid (readInto n s) k v p k v p S.TooLong
+  unfolding readInto
+  too-long n h = rw (lt-ltb TEXT-LIMIT (length s) h) (record { is = refl; kinds-laid = refl; values-laid = refl; places-laid = refl })
+
+  module _ {m n : ℕ} (e : m ≡ n) (h : length s ≤ TEXT-LIMIT) where
+    pub no-room : m ≤ length s → Laid (readInto n s) k v p k v p (S.Room (length s + 1))
+    unfolding readInto
+    no-room l =
+        rw (le-ltb TEXT-LIMIT (length s) h, le-leb n (length s) (rw (← e) l))
+        (record { is = refl; kinds-laid = refl; values-laid = refl; places-laid = refl })
+
+    pub in-room : {k′ v′ p′ : List ℕ} {a : Tokens} → length s < m → Laid (readFrom 0 0 s) k v p k′ v′ p′ a → Laid (readInto n s) k v p k′ v′ p′ a
+    unfolding readInto
+    in-room l d = rw (le-ltb TEXT-LIMIT (length s) h, lt-leb n (length s) (rw (← e) l)) d
+
+-- a checked text without a refusal: how many tokens it has
+module _ (s : List ℕ) (c : ℕ) (e : summaryOf (S.Read c) ≡ summed (tokensOf s)) where
+  none-refused : tokensOf s .number ≡ 0
+  none-refused = sym (ap (λ (x : Summary). x .number) e)
+
+  counted : length (tokensOf s .tokens) ≡ c
+  counted = sym (ap (λ (x : Summary). x .count) e ∙ rw none-refused)
+
+  whole : tokensOf s ≡ readFrom 0 0 s
+  whole = all-read-from s none-refused
+
+  pub checked-limit : length s ≤ TEXT-LIMIT
+  checked-limit = not-too-long s none-refused
+
+  pub checked-count : length (readFrom 0 0 s .tokens) ≡ c
+  checked-count = rw (← whole) counted
+
+  -- there is no room for them, or there is
+  module _ (n : ℕ) {k v p : List ℕ} where
+    pub too-many : n < c → Laid (tokensInto n s) k v p k v p (S.Room c)
+    unfolding tokensInto
+    too-many l =
+        rw (none-refused, counted, lt-ltb n c l)
+        (record { is = refl; kinds-laid = refl; values-laid = refl; places-laid = refl })
+
+    pub all-read : {k′ v′ p′ : List ℕ} {a : Tokens} → c ≤ n → Laid (readFrom 0 0 s) k v p k′ v′ p′ a → Laid (tokensInto n s) k v p k′ v′ p′ a
+    unfolding tokensInto
+    all-read l d =
+        let y : eqb (tokensOf s .number) 0 ≡ true = eq-eqb _ _ none-refused in
+        rw (y, counted, le-ltb n c l, whole) d
+
+-- a checked text with a refusal
+pub stays : (s : List ℕ) (n : ℕ) {k v p : List ℕ} (a : Tokens) → summaryOf a ≡ summed (tokensOf s) → eqb (summaryOf a .number) 0 ≡ false → Laid (tokensInto n s) k v p k v p a
+unfolding tokensInto
+stays s n a e z =
+    let y : eqb (tokensOf s .number) 0 ≡ false = sym (ap (λ (x : Summary). eqb (x .number) 0) e) ∙ z in
+    rw y (record { is = e ∙ rw y; kinds-laid = refl; values-laid = refl; places-laid = refl })

@@ -1,0 +1,58 @@
+-- What the tokens of a text are like, whatever the text: the last of them, and only the last, is `@` or the end of the text; each stands after the one
+-- before it, and in the text. Assumes nothing.
+use Prim.Native.Nat.{ℕ, zero, suc, pred, _+_, _≤_, _<_}
+use mathlib.Core.Path.{_≡_, refl, subst}
+use mathlib.Core.Bool.{Bool, true, false}
+use mathlib.Core.List.{List, [], _∷_}
+use native.Mathlib.Omega.{arith}
+use lib.ListN.{length}
+use Rattle.token.specs.Kinds as K
+use Rattle.token.specs.Text.{token, Outcome, read, refused, nextToken, isLast, moved, readBy, readFrom, tokensOf}
+use Rattle.token.specs.declared.Token.{Token}
+use Rattle.token.proofs.Gaps.{Held, held}
+use Rattle.token.proofs.Readings.{all-read-from}
+
+-- tokens from a place on, in a text of so many bytes
+pub data Tokened : ℕ → ℕ → List Token → Type 0 where
+  last : {from size : ℕ} (t : Token) → from ≤ t .place → t .place ≤ size → isLast (t .kind) ≡ true → Tokened from size (t ∷ [])
+  more : {from size : ℕ} (t : Token) {ts : List Token} → from ≤ t .place → t .place < size → isLast (t .kind) ≡ false → Tokened (suc (t .place)) size ts → Tokened from size (t ∷ ts)
+
+lower : {a b size : ℕ} {ts : List Token} → a ≤ b → Tokened b size ts → Tokened a size ts
+lower {a} h (last t p q r) = let l : a ≤ t .place = omega arith in last t l q r
+lower {a} h (more t p q r m) = let l : a ≤ t .place = omega arith in more t l q r m
+
+tokened : (at k : ℕ) (s : List ℕ) (size : ℕ) → size ≡ at + length s → k ≤ length s → readFrom at k s .number ≡ 0 → Tokened (at + k) size (readFrom at k s .tokens)
+unfolding readFrom
+tokened at k [] size e h z =
+    let l : at + k ≤ at = omega arith in
+    let m : at ≤ size = omega arith in
+    last (token K.END-OF-TEXT 0 at) l m refl
+tokened at (suc k) (x ∷ xs) size e h z =
+    let j : suc at + k ≡ at + suc k = omega arith in
+    subst (λ (f : ℕ). Tokened f size (readFrom (suc at) k xs .tokens)) j (tokened (suc at) k xs size (omega arith) (omega arith) z)
+tokened at zero (x ∷ xs) size e h z = by (nextToken (x ∷ xs)) (held (x ∷ xs)) (λ n l. tokened (suc at) (pred n) xs size (omega arith) l) z
+  where
+    by : (o : Outcome) → Held (x ∷ xs) o
+        → ((n : ℕ) → pred n ≤ length xs → readFrom (suc at) (pred n) xs .number ≡ 0 → Tokened (suc at + pred n) size (readFrom (suc at) (pred n) xs .tokens))
+        → readBy o at (λ n. readFrom (suc at) (pred n) xs) .number ≡ 0 → Tokened (at + 0) size (readBy o at (λ n. readFrom (suc at) (pred n) xs) .tokens)
+    by (refused number place) g ih y = absurd (omega (arith, g .real))
+    by (read t end) g ih y = go (isLast (t .kind)) refl
+      where
+        from : at + 0 ≤ at + t .place
+        from = omega arith
+
+        go : (b : Bool) → isLast (t .kind) ≡ b → Tokened (at + 0) size (readBy (read t end) at (λ n. readFrom (suc at) (pred n) xs) .tokens)
+        go true l =
+            let m : at + t .place ≤ size = (let f = g .fits in let p = g .before in omega arith) in
+            rw l (last (moved at t) from m l)
+        go false l =
+            let p = g .some l in
+            let f = g .fits in
+            let m : at + t .place < size = omega arith in
+            let n : suc (at + t .place) ≤ suc at + pred end = omega arith in
+            rw l (more (moved at t) from m l (lower n (ih end (omega arith) (rw l at y))))
+
+pub tokens-whole : (s : List ℕ) → tokensOf s .number ≡ 0 → Tokened 0 (length s) (tokensOf s .tokens)
+tokens-whole s z =
+    let w = all-read-from s z in
+    rw w (tokened 0 0 s (length s) (omega arith) (omega arith) (rw w at z))
