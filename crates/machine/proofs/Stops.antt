@@ -50,7 +50,7 @@ short-ends unlisted rx c s = no-instruction
 long-ends : (k : Long) (m : Space) (rx b d : ℕ) (c : Cpu) (s : List ℕ) → Ends c s (longBy k m rx b d c s)
 long-ends (appliesTo n f) m rx b d c s = let a = address (c .regs) (rx % 16) b d in turns (eqb (a % n) 0) (turns (readable m a n) on forbidden) misaligned
 long-ends multipliesBy m rx b d c s =
-    let a = address (c .regs) (rx % 16) b d in 
+    let a = address (c .regs) (rx % 16) b d in
     turns (eqb (rx / 16 % 2) 0) (turns (eqb (a % 4) 0) (turns (readable m a 4) on forbidden) misaligned) no-instruction
 long-ends (stores n) m rx b d c s = let a = address (c .regs) (rx % 16) b d in either (eqb (a % n) 0) (either (writable m a n) on forbidden) misaligned
 long-ends branchesTo m rx b d c s = turns (asked (rx / 16) (c .code)) on on
