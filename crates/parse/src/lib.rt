@@ -1,4 +1,91 @@
 // Programs: document 01, "Grammar", the rules that hold a statement. A text that is a program is written out as a tape of events in the order of reading
 // (crate `tape`); one that is none is refused, 4 or 5, at a token.
+ghost use Prim.Native.Nat.{_≤_, _<_};
+ghost use lib.ListN.{length};
+ghost use mathlib.Core.Path.{_≡_};
+ghost use lib.ListN.{take, getD};
+ghost use Rattle.grammar.specs.Grammar as G;
+ghost use Rattle.parse.specs.Programs.{Parsed, judgedBy, judged, verdictOf};
+use phrases::tokens::Answer;
+use phrases::tokens::kind_at;
+use phrases::tokens::read;
+use phrases::tokens::refused;
+use phrases::tokens::wanted;
+use token::kinds;
 
 pub mod statements;
+
+// "inside 64 such constructs"
+const NESTING: usize = 64;
+
+// "program = block @.", whose first token is given: how many events are on the tape and the token after the program, or the refusal's token.
+pub fn program(kinds: &[u8], first: usize, tape: &mut [u32]) -> Answer
+    requires { ⌜ (first ≤ length (now kinds)) × ((length (now kinds) ≤ length (now tape)) × (length (now kinds) < 67108864)) ⌝ }
+    ensures { λ r. ⌜ Parsed (now (kinds .entry)) first (now (tape .exit)) r ⌝ }
+{
+    if kind_at(kinds, first) != kinds::BEGIN {
+        return refused(4, first);
+    }
+    let b = statements::statement(kinds, first, NESTING, tape, 0);
+    if b.number != 0 {
+        return refused(b.number, b.at);
+    }
+    let last = wanted(kinds, b.at, kinds::AT);
+    if last.number != 0 {
+        return last;
+    }
+    read(last.at, b.value)
+}
+
+// What is said of a text: it is a program, or why not and where.
+pub enum Verdict {
+    Program,
+    TooLong,
+    NoToken(usize),
+    OutOfRange(usize),
+    Unexpected(usize),
+    TooDeep(usize),
+}
+
+fn place_at(places: &[u32], i: usize) -> usize
+    ensures { λ r. ⌜ r ≡ getD (now (places .entry)) i 0 ⌝ }
+{
+    if i < places.len() {
+        return places[i] as usize;
+    }
+    0
+}
+
+// The first n tokens, by their kinds and places.
+fn judge(kinds: &[u8], places: &[u32], n: usize, tape: &mut [u32]) -> Verdict
+    requires { ⌜ (n ≤ length (now kinds)) × ((n ≤ length (now places)) × ((n ≤ length (now tape)) × (n < 67108864))) ⌝ }
+    ensures { λ r. ⌜ verdictOf r ≡ judgedBy (take n (now (places .entry))) (G.program (take n (now (kinds .entry))) 0) ⌝ }
+{
+    let r = program(&kinds[..n], 0, tape);
+    if r.number == 0 {
+        return Verdict::Program;
+    }
+    let place = place_at(&places[..n], r.at);
+    if r.number == 4 {
+        return Verdict::Unexpected(place);
+    }
+    Verdict::TooDeep(place)
+}
+
+// Is this text grammatical?
+pub fn grammatical(src: &[u8]) -> Verdict
+    ensures { λ r. ⌜ verdictOf r ≡ judged (now (src .entry)) ⌝ }
+{
+    let mut kinds = [0u8; 32769];
+    let mut values = [0u64; 32769];
+    let mut places = [0u32; 32769];
+    let mut tape = [0u32; 32769];
+    let read = token::read_tokens(src, &mut kinds, &mut values, &mut places);
+    match read {
+        token::Tokens::Read(n) => judge(&kinds, &places, n, &mut tape),
+        token::Tokens::TooLong => Verdict::TooLong,
+        token::Tokens::NoToken(place) => Verdict::NoToken(place),
+        token::Tokens::OutOfRange(place) => Verdict::OutOfRange(place),
+        token::Tokens::Room(needed) => Verdict::NoToken(needed),
+    }
+}

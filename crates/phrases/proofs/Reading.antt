@@ -1,15 +1,16 @@
 -- Readers joined: what one reads after another. Assumes nothing.
 use mathlib.Core.Path.{_≡_, refl, _∙_, sym, ap, subst}
 use mathlib.Core.List.{List, [], _∷_, _++_, append-assoc}
-use mathlib.Core.Bool.{Bool, true, false}
+use mathlib.Core.Bool.{Bool, true, false, _&&_}
 use Prim.Native.Nat.{ℕ, zero, suc, _+_, _-_, _*_, _≤_, _<_}
 use native.Mathlib.Omega.{arith}
 use native.Mathlib.Nat.{mod-eq-of-lt}
 use native.Mathlib.Numerals.{add-one}
 use borrow.Author.Tests.{eq-eqb, ne-eqb}
-use lib.Dec.{eqb, lit<}
+use lib.Dec.{T, eqb, leb, leb→le}
 use lib.ListN.{getD, length, take, set, List·getD-eq-default}
 use lib.Seq.{take-suc-set}
+use Rattle.base.proofs.Tests.{and-left, and-right}
 use Rattle.base.specs.Choose.{if_then_else_}
 use Rattle.grammar.specs.Reader.{Result, ok, bad, andThen, want}
 use Rattle.phrases.specs.declared.tokens.Answer.{Answer}
@@ -33,8 +34,8 @@ module _ {A : Type 0} {P : A → ℕ → Type 0} {ks : List ℕ} where
   done {a} s l h p = record { tells = (s .number-is, s .at-is, rw (s .value-is) p); onward = rw (s .at-is) l; inside = rw (s .at-is) h }
 
   -- refused here
-  pub no : {i n : ℕ} {r : Answer} → Is n i 0 r → 0 < n → i ≤ length ks → Reads P ks i r (bad n i)
-  no s l h = record { tells = (s .number-is, s .at-is, l); onward = omega arith; inside = omega arith }
+  pub no : {i n : ℕ} {r : Answer} → Is n i 0 r → T (leb 4 n && leb n 5) → i ≤ length ks → Reads P ks i r (bad n i)
+  no {n} s l h = record { tells = (s .number-is, s .at-is, leb→le 4 n (and-left (leb 4 n) (leb n 5) l), leb→le n 5 (and-right (leb 4 n) (leb n 5) l)); onward = omega arith; inside = omega arith }
 
   -- what a part answers is answered again: its refusal, or what it read with another value
   pub refuses : {Q : A → ℕ → Type 0} {i : ℕ} {r s : Answer} {m : Result A} → Reads P ks i r m → (r .number ≡ 0 → ⊥) → Is (r .number) (r .at) 0 s → Reads Q ks i s m
@@ -42,7 +43,7 @@ module _ {A : Type 0} {P : A → ℕ → Type 0} {ks : List ℕ} where
   refuses {m = bad n t} h e s =
       let o = h .onward in
       let l = h .inside in
-      record { tells = (s .number-is ∙ h .tells .0, s .at-is ∙ h .tells .1, h .tells .2); onward = omega arith; inside = omega arith }
+      record { tells = (s .number-is ∙ h .tells .0, s .at-is ∙ h .tells .1, h .tells .2, h .tells .3); onward = omega arith; inside = omega arith }
 
   pub turns : {Q : A → ℕ → Type 0} {i v : ℕ} {r s : Answer} {m : Result A} → Reads P ks i r m → r .number ≡ 0 → ((a : A) → P a (r .value) → Q a v) → Is 0 (r .at) v s → Reads Q ks i s m
   turns {m = ok a j} h e f s =
@@ -85,7 +86,7 @@ hit e l s = record { read = rw (eq-eqb _ _ e) (done s (omega arith) (omega arith
 
 pub miss : {ks : List ℕ} {k i : ℕ} {r : Answer} → (getD ks i 0 ≡ k → ⊥) → i ≤ length ks → Is 4 i 0 r → Took ks i r (want k ks i)
 unfolding want
-miss e l s = record { read = rw (ne-eqb _ _ e) (no s (lit< tt) l); moved = omega arith; none = s .value-is }
+miss e l s = record { read = rw (ne-eqb _ _ e) (no s tt l); moved = omega arith; none = s .value-is }
 
 -- the token i is taken, and then the rest is read
 pub takes : {B : Type 0} {Q : B → ℕ → Type 0} {ks : List ℕ} {i : ℕ} {r s : Answer} (k : ℕ) (f : ℕ → ℕ → Result B) → Took ks i r (want k ks i) → r .number ≡ 0 → Reads Q ks i s (f i (i + 1)) → Reads Q ks i s (andThen (want k ks i) f)

@@ -8,10 +8,10 @@ use Rattle.grammar.specs.Grammar.{inParens, designatorOf, typeOf}
 use Rattle.tape.specs.Tape.{shape, widthOf}
 use Rattle.phrases.specs.declared.tokens.Answer.{Answer}
 
--- the answer is that of the reader: read on, with a value that fits what was read, or the refusal
+-- the answer is that of the reader: read on, with a value that fits what was read, or the refusal, 4 or 5
 abbrev pub Tells : {A : Type 0} → (A → ℕ → Type 0) → Answer → Result A → Type 0
 Tells P r (ok a j) = (r .number ≡ 0) × (r .at ≡ j) × P a (r .value)
-Tells P r (bad n t) = (r .number ≡ n) × (r .at ≡ t) × (0 < n)
+Tells P r (bad n t) = (r .number ≡ n) × (r .at ≡ t) × (4 ≤ n) × (n ≤ 5)
 
 -- the same of a reader from token i on
 pub record Reads {A : Type 0} (P : A → ℕ → Type 0) (ks : List ℕ) (i : ℕ) (r : Answer) (m : Result A) : Type 0 where

@@ -47,8 +47,9 @@ pub fn wanted(kinds: &[u8], i: usize, k: u8) -> Answer
     requires { ⌜ (i ≤ length (now kinds)) × (0 < k) ⌝ }
     ensures { λ r. ⌜ Took (now (kinds .entry)) i r (want k (now (kinds .entry)) i) ⌝ }
 {
+    let next = i + 1;
     if kind_at(kinds, i) == k {
-        return read(i + 1, 0);
+        return read(next, 0);
     }
     refused(4, i)
 }

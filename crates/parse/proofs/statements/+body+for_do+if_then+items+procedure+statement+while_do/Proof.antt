@@ -10,7 +10,6 @@ use Rattle.grammar.specs.Reader.{andThen, look, next}
 use Rattle.grammar.specs.Tree as T
 use Rattle.base.proofs.Tests.{same, other}
 use lib.ListN.{length}
-use lib.Dec.{lit<}
 use Prim.Native.Nat.{_+_, _-_, _*_}
 use mathlib.Core.Path.{refl, _∙_}
 use denote.Ref.{now}
@@ -1599,7 +1598,7 @@ procedure-returns : (t : ℕ) → procedure-lts.Need-returns (
   read-reads.Asked,
   read-reads.Learnt,
 ) (procedure-at t) procedure.Post
-procedure-returns t c = record { read = along (procedure-too-deep _ _ _ (c .before .if1 .taken)) (no (c .refused .ensures) (lit< tt) (search needs)); low = search needs }
+procedure-returns t c = record { read = along (procedure-too-deep _ _ _ (c .before .if1 .taken)) (no (c .refused .ensures) tt (search needs)); low = search needs }
 
 -- src/statements.rt:121:35
 procedure-add-procedure-head : (t : ℕ) → procedure-lts.Need-add-procedure-head (
@@ -1901,7 +1900,7 @@ statement-returns : (t : ℕ) → statement-lts.Need-returns (
   simple-reads.Asked,
   simple-reads.Learnt,
 ) (statement-at t) statement′.Post
-statement-returns t c = record { read = along (too-deep _ (c .before .before .before .before .kind-at .ensures) (c .before .before .before .opens .ensures) (c .before .before .if1 .taken) (c .before .if2 .taken)) (no (c .refused .ensures) (lit< tt) (search needs)); low = search needs }
+statement-returns t c = record { read = along (too-deep _ (c .before .before .before .before .kind-at .ensures) (c .before .before .before .opens .ensures) (c .before .before .if1 .taken) (c .before .if2 .taken)) (no (c .refused .ensures) tt (search needs)); low = search needs }
 
 -- src/statements.rt:37:13
 statement-write-requires : (t : ℕ) → statement-lts.Need-write-requires (

@@ -1,5 +1,4 @@
 use mathlib.Core.Path.{refl}
-use lib.Dec.{lit<}
 use native.Mathlib.Omega.{arith}
 use borrow.Author.Tests.{ne-eqb}
 use Rattle.grammar.specs.Reader.{wantOne}
@@ -51,7 +50,7 @@ refused-requires c κs = search needs
 -- src/assignments.rt:21:1
 returns-3 : tie.Need-returns-3
 unfolding wantOne
-returns-3 c = record { read = rw (ne-eqb _ _ (other (c .before .before .before .kind-at .ensures .is) (c .before .before .if1 .left)), ne-eqb _ _ (other (c .before .before .before .kind-at .ensures .is) (c .before .if2 .left))) (no (c .refused .ensures) (lit< tt) (omega arith)); moved = search needs; none = search needs }
+returns-3 c = record { read = rw (ne-eqb _ _ (other (c .before .before .before .kind-at .ensures .is) (c .before .before .if1 .left)), ne-eqb _ _ (other (c .before .before .before .kind-at .ensures .is) (c .before .if2 .left))) (no (c .refused .ensures) tt (omega arith)); moved = search needs; none = search needs }
 
 pub number-or-name-spec : {M : Type 1} → statement M
 number-or-name-spec =

@@ -1,4 +1,3 @@
-use lib.Dec.{lit<}
 use native.Mathlib.Omega.{arith}
 use borrow.Author.Tests.{eq-eqb, ne-eqb}
 use Rattle.tape.specs.Tape.{tapeOperand}
@@ -71,7 +70,7 @@ refused-requires c κs = search needs
 -- src/assignments.rt:80:1
 returns-3 : tie.Need-returns-3
 unfolding operand andThen look next wantOne tapeOperand
-returns-3 c = record { read = rw (ne-eqb _ _ (other (c .before .before .before .kind-at .ensures .is) (c .before .before .if1 .left)), ne-eqb _ _ (other (c .before .before .before .kind-at .ensures .is) (c .before .if2 .left))) (no (c .refused .ensures) (lit< tt) (omega arith)); low = search needs }
+returns-3 c = record { read = rw (ne-eqb _ _ (other (c .before .before .before .kind-at .ensures .is) (c .before .before .if1 .left)), ne-eqb _ _ (other (c .before .before .before .kind-at .ensures .is) (c .before .if2 .left))) (no (c .refused .ensures) tt (omega arith)); low = search needs }
 
 pub operand-spec : {M : Type 1} → statement M
 operand-spec =

@@ -1,4 +1,3 @@
-use lib.Dec.{lit<}
 use native.Mathlib.Omega.{arith}
 use mathlib.Core.Path.{refl}
 use borrow.Author.Tests.{ne-eqb}
@@ -53,7 +52,7 @@ refused-requires c κs = search needs
 -- src/declarations.rt:115:9
 returns-3 : tie.Need-returns-3
 unfolding typeOf andThen look wantOne
-returns-3 c = record { read = rw (ne-eqb _ _ (other (c .before .before .before .before .kind-at .ensures .is) (c .before .before .before .if1 .left)), ne-eqb _ _ (other (c .before .before .before .before .kind-at .ensures .is) (c .before .before .if2 .left)), ne-eqb _ _ (other (c .before .before .before .before .kind-at .ensures .is) (c .before .if3 .taken))) (no (c .refused .ensures) (lit< tt) (omega arith)); moved = search needs; small = search needs }
+returns-3 c = record { read = rw (ne-eqb _ _ (other (c .before .before .before .before .kind-at .ensures .is) (c .before .before .before .if1 .left)), ne-eqb _ _ (other (c .before .before .before .before .kind-at .ensures .is) (c .before .before .if2 .left)), ne-eqb _ _ (other (c .before .before .before .before .kind-at .ensures .is) (c .before .if3 .taken))) (no (c .refused .ensures) tt (omega arith)); moved = search needs; small = search needs }
 
 -- src/declarations.rt:117:33
 add-wanted : tie.Need-add-wanted

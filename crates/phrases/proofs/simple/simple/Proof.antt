@@ -1,5 +1,4 @@
 use mathlib.Core.Path.{refl}
-use lib.Dec.{lit<}
 use lib.ListN.{getD}
 use denote.Ref.{now}
 use native.Mathlib.Omega.{arith}
@@ -60,7 +59,7 @@ refused-requires c κs = search needs
 -- src/simple.rt:55:9
 returns-3 : tie.Need-returns-3
 unfolding statementOf andThen look next
-returns-3 c = record { read = rw (ne-eqb _ 1 (other (c .before .before .before .before .kind-at .ensures .is) (c .before .before .before .if1 .left)), ne-eqb _ 13 (other (c .before .before .before .before .kind-at .ensures .is) (c .before .if3 .taken)), ne-eqb _ 14 (other (c .before .before .before .before .kind-at .ensures .is) (c .before .before .if2 .left)), either (member (getD (now (c .before .before .before .before .before .before .before .args .kinds)) (c .before .before .before .before .before .before .before .args .i) 0) openers) (refuse 4)) (no (c .refused .ensures) (lit< tt) (omega arith)); low = search needs }
+returns-3 c = record { read = rw (ne-eqb _ 1 (other (c .before .before .before .before .kind-at .ensures .is) (c .before .before .before .if1 .left)), ne-eqb _ 13 (other (c .before .before .before .before .kind-at .ensures .is) (c .before .if3 .taken)), ne-eqb _ 14 (other (c .before .before .before .before .kind-at .ensures .is) (c .before .before .if2 .left)), either (member (getD (now (c .before .before .before .before .before .before .before .args .kinds)) (c .before .before .before .before .before .before .before .args .i) 0) openers) (refuse 4)) (no (c .refused .ensures) tt (omega arith)); low = search needs }
 
 -- src/simple.rt:57:17
 add-label : tie.Need-add-label
