@@ -2,4 +2,5 @@
 pub mod checksum;
 pub mod decimal;
 pub mod output;
+pub mod tally;
 pub mod window;

@@ -1,7 +1,7 @@
 // Every stored run through the proved runner: the line that it answers against the stored line.
-ghost use Prim.Native.Nat.{_+_, _≤_, _<_};
+ghost use Prim.Native.Nat.{_+_, _≤_};
 ghost use lib.ListN.{length};
-use libc::STDOUT_FILENO;
+use lines::tally;
 use lines::window;
 
 // No vector is longer.
@@ -37,30 +37,6 @@ fn compare_at(input: &[u8], at: usize, to: usize, store: &mut [u8], out: &mut [u
     compare(&read[at..], store, out)
 }
 
-// Says how many were compared and how many were equal.
-fn say(name: &[u8], compared: u64, equal: u64) {
-    io::write_all(STDOUT_FILENO, name);
-    io::write_all(STDOUT_FILENO, b": ");
-    io::print_decimal(STDOUT_FILENO, compared);
-    io::write_all(STDOUT_FILENO, b" compared, ");
-    io::print_decimal(STDOUT_FILENO, equal);
-    io::write_all(STDOUT_FILENO, b" equal\n");
-}
-
-// Counts one more where it is equal, and names it where it is not.
-fn counted(is_equal: bool, number: u64, equal: u64) -> u64
-    requires { ⌜ equal < number ⌝ }
-    ensures { λ r. ⌜ r ≤ number ⌝ }
-{
-    if is_equal {
-        return equal + 1;
-    }
-    io::write_all(STDOUT_FILENO, b"vector ");
-    io::print_decimal(STDOUT_FILENO, number);
-    io::write_all(STDOUT_FILENO, b" differs\n");
-    equal
-}
-
 // A proved loop has to end, and nothing says that a file does: so the vectors are counted, up to a number that no file reaches.
 fn compare_all(name: &[u8], input: &mut [u8], store: &mut [u8], out: &mut [u8]) {
     let fd = os::open_read(name);
@@ -73,13 +49,13 @@ fn compare_all(name: &[u8], input: &mut [u8], store: &mut [u8], out: &mut [u8]) 
         let used = c.used;
         let is_equal = c.is_equal;
         compared += 1;
-        equal = counted(is_equal, compared, equal);
+        equal = tally::counted(is_equal, compared, equal);
         let next = window::keep(fd, input, at + used, to, VECTOR);
         at = next.at;
         to = next.to;
     }
     libc::close(fd);
-    say(name, compared, equal);
+    tally::say(name, compared, equal);
 }
 
 fn main() {
