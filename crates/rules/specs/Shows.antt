@@ -22,3 +22,11 @@ pub record Opens (f : Tables) (opens : List ℕ) : Type 0 where
 
 pub record Written (f : Tables) (written : List ℕ) : Type 0 where
   pub written-is : f .written ≡ setsOf written
+
+-- all of them
+pub record Shown (f : Tables) (kinds values found means opens written : List ℕ) : Type 0 where
+  pub names : Names f found means
+  pub values-are : Values f values
+  pub kinds-are : Kinds f kinds
+  pub opens-are : Opens f opens
+  pub written-are : Written f written

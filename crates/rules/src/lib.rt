@@ -121,7 +121,7 @@ fn subscript_rules(shape: u32, m: u64, values: &[u64], t: usize) -> Broken
     none()
 }
 
-fn is_bare(shape: u32) -> bool
+pub fn is_bare(shape: u32) -> bool
     ensures { λ r. ⌜ ((t : ℕ) → r ≡ isBare (subscriptAt shape t) (indexAt shape t)) ⌝ }
 {
     !((shape == 1) | ((shape == 2) | (shape == 3)))
