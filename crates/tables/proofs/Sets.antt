@@ -7,14 +7,14 @@ use native.Mathlib.Omega.{arith}
 use lib.Dec.{eqb, T}
 use lib.Bits.{bitOr, or-step, or-lt}
 use lib.Pow.{shr-shr, shl-exact, pow-lt}
-use lib.ListN.{getD, set, length}
+use lib.ListN.{getD, set, length, List·getD-eq-default}
 use borrow.Author.Tests.{ne-eqb}
 use Rattle.base.specs.Choose.{choose, if_then_else_}
 use Rattle.base.specs.Lists.{All}
 use Rattle.base.specs.Tables.{allBelow}
 use Rattle.base.proofs.Tables.{all-below}
 use Rattle.kinds.specs.Registers.{Registers, sixteen, flags, has, noRegisters, addRegister, union}
-use Rattle.kinds.proofs.Flags.{has-flags}
+use Rattle.kinds.proofs.Flags.{has-flags, length-flags}
 use Rattle.tables.specs.Packed.{hasBit, setOf, setsOf, grown}
 
 -- ── a bit of two numbers ──
@@ -66,6 +66,10 @@ flags-same f g h = go sixteen (omega arith)
 pub has-set : (m r : ℕ) → r < 16 → has (setOf m) r ≡ hasBit m r
 unfolding setOf
 has-set m r h = has-flags (λ x. hasBit m x) r h
+
+pub has-past : (m r : ℕ) → 16 ≤ r → has (setOf m) r ≡ false
+unfolding setOf has
+has-past m r h = rw (List·getD-eq-default (flags (λ x. hasBit m x)) 0 {n = r} (omega (arith, length-flags (λ x. hasBit m x))))
 
 pub set-union : (a b : ℕ) → setOf (bitOr a b) ≡ union (setOf a) (setOf b)
 unfolding setOf union

@@ -3,7 +3,7 @@ ghost use mathlib.Core.Path.{_≡_};
 ghost use Prim.Native.Nat.{_+_, _-_, _<_};
 ghost use lib.ListN.{getD, length};
 ghost use Rattle.base.specs.Choose.{if_then_else_};
-ghost use Rattle.kinds.specs.Registers.{noRegisters, addRegister, union};
+ghost use Rattle.kinds.specs.Registers.{noRegisters, addRegister, union, has as hasOf};
 ghost use Rattle.tables.specs.Packed.{low, packed as packedOf, numberIn, registerIn, longIn, packedAt, setOf, setsOf, grown};
 ghost use Rattle.tables.specs.Stacks.{stackOf, top as topOf};
 use arrays::get;
@@ -81,6 +81,15 @@ pub fn write_text(written: &mut [u32], own: usize, p: usize)
     ensures { λ _. ⌜ setsOf (now (written .exit)) ≡ grown own (union (getD (setsOf (now (written .entry))) p noRegisters)) (setsOf (now (written .entry))) ⌝ }
 {
     put(written, own, get(written, p) | get(written, own));
+}
+
+pub fn has(set: usize, r: u64) -> bool
+    ensures { λ x. ⌜ x ≡ hasOf (setOf set) r ⌝ }
+{
+    if r < 16 {
+        return (set >> r) % 2 == 1;
+    }
+    false
 }
 
 // ── stacks ──
