@@ -14,7 +14,7 @@ use Rattle.base.proofs.Tests.{by-test}
 use Rattle.tape.specs.Pass.{pass}
 use Rattle.tape.proofs.Pass.{pass-turn, pass-end}
 use Rattle.names.specs.declared.Broken.{Broken}
-use Rattle.names.specs.Broken.{unbroken, _⊕_}
+use Rattle.names.specs.Broken.{_⊕_}
 use Rattle.kinds.specs.Meaning.{registerOf}
 use Rattle.kinds.specs.Tables.{Tables, meaningAt}
 use Rattle.kinds.specs.Rules.{protected}
@@ -63,9 +63,9 @@ some-names : (found means : List ℕ) → Names (some-tables found means) found 
 unfolding some-tables
 some-names found means = record { bases = []; found-is = refl; means-is = refl }
 
-module _ (tape kinds values found means opens written : List ℕ) where
+module _ (tape kinds values found means opens written : List ℕ) (others : Broken) where
   pub record Going (kept counts : List ℕ) (d : Depths) (c : Cells) (target : ℕ) (b : Broken) (i : ℕ) : Type 0 where
-    pub is : (f : Tables) → Shown f kinds values found means opens written → pass (judgeEvent f) (judging (heldOf kept counts d) c target b) (drop i tape) ≡ pass (judgeEvent f) beginning tape
+    pub is : (f : Tables) → Shown f kinds values found means opens written → pass (judgeEvent f) (judging (heldOf kept counts d) c target b) (drop i tape) ≡ pass (judgeEvent f) (beginning others) tape
     pub inside : i ≤ length tape
     pub deep : d .kept ≤ i + 2
     pub wide : d .counts ≤ i
@@ -75,12 +75,12 @@ module _ (tape kinds values found means opens written : List ℕ) where
     pub rooms : length tape ≤ length counts
 
   pub going :
-      (kept kept′ kept″ counts : List ℕ) (b : Broken) → kept′ ≡ set kept 0 14 → kept″ ≡ set kept′ 1 15 → b ≡ unbroken → length kept′ ≡ length kept → length kept″ ≡ length kept′
+      (kept kept′ kept″ counts : List ℕ) → kept′ ≡ set kept 0 14 → kept″ ≡ set kept′ 1 15 → length kept′ ≡ length kept → length kept″ ≡ length kept′
       → length tape < 4294967296 → length tape + 2 ≤ length kept → length tape ≤ length counts
-      → Going kept″ counts (record { kept = 2; count = 0; counts = 0 }) (cellsOf false 0 0) 0 b 0
+      → Going kept″ counts (record { kept = 2; count = 0; counts = 0 }) (cellsOf false 0 0) 0 others 0
   unfolding stackOf
-  going kept kept′ kept″ counts b e f g l m h r s = record {
-    is = λ t q. ap₂ (λ (k : List ℕ) (x : Broken). pass (judgeEvent t) (judging (record { kept = k; count = 0; counts = [] }) (cellsOf false 0 0) 0 x) tape) first g;
+  going kept kept′ kept″ counts e f l m h r s = record {
+    is = λ t q. ap (λ (k : List ℕ). pass (judgeEvent t) (judging (record { kept = k; count = 0; counts = [] }) (cellsOf false 0 0) 0 others) tape) first;
     inside = omega arith;
     deep = omega arith;
     wide = omega arith;
@@ -132,5 +132,5 @@ module _ (tape kinds values found means opens written : List ℕ) where
         stepped : (f : Tables) → Shown f kinds values found means opens written → judging (heldOf kept′ counts′ d′) c′ target′ b′ ≡ judgeEvent f op t (judging (heldOf kept counts d) c target b)
         stepped f s = rw (moved f (s .names) .is, celled f (s .values-are), aimed f (s .names), joined, judged f s)
 
-    pub going-end : length tape ≤ i → (f : Tables) → Shown f kinds values found means opens written → b ≡ (pass (judgeEvent f) beginning tape) .broken
+    pub going-end : length tape ≤ i → (f : Tables) → Shown f kinds values found means opens written → b ≡ (pass (judgeEvent f) (beginning others) tape) .broken
     going-end h f s = ap (λ (x : Judging). x .broken) (pass-end (judgeEvent f) _ tape i h (g .is f s))

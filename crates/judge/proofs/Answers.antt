@@ -49,24 +49,24 @@ module _ {f : Tables} {found means : List ℕ} (s : Names f found means) (t m : 
   pub kept-is : (r : ℕ) → r ≡ registerIn m → registerOf (meaningAt f t) ≡ r
   kept-is r h = ap registerOf (meant-at s t m e) ∙ (register-is _ _ _ ∙ sym h)
 
-  pub aims-register : (kept : List ℕ) (shape : ℕ) {x : Broken} → m % 8 ≡ 1 → x ≡ registerTarget kept shape t (numberIn m) → x ≡ aimBy f kept shape t (meaningAt f t)
+  pub aims-register : (kept : List ℕ) (shape : ℕ) {x : Broken} → m % 8 ≡ 1 → x ≡ registerTarget kept (designatorAt shape t) (numberIn m) → x ≡ aimBy f kept (designatorAt shape t) (meaningAt f t)
   aims-register kept shape h p = rw (meant-at s t m e, as-register (getD found t 0) m (baseAt s t) h) p
 
   pub aims-cell :
-      (kept : List ℕ) (shape : ℕ) {x : Broken} → 4 ≤ m % 8 → ((n : ℕ) (b : Based) → x ≡ placeBy f (cell (cellIn n m b)) (designatorAt shape t)) → x ≡ aimBy f kept shape t (meaningAt f t)
+      (kept : List ℕ) (shape : ℕ) {x : Broken} → 4 ≤ m % 8 → ((n : ℕ) (b : Based) → x ≡ placeBy f (cell (cellIn n m b)) (designatorAt shape t)) → x ≡ aimBy f kept (designatorAt shape t) (meaningAt f t)
   aims-cell kept shape h p = rw (meant-at s t m e, as-cell (getD found t 0) m (baseAt s t) h) (p _ _)
 
-  pub aims-nowhere : (kept : List ℕ) (shape : ℕ) {x : Broken} → (m % 8 ≡ 1 → ⊥) → m % 8 < 4 → x ≡ broken 8 t → x ≡ aimBy f kept shape t (meaningAt f t)
+  pub aims-nowhere : (kept : List ℕ) (shape : ℕ) {x : Broken} → (m % 8 ≡ 1 → ⊥) → m % 8 < 4 → x ≡ broken 8 t → x ≡ aimBy f kept (designatorAt shape t) (meaningAt f t)
   aims-nowhere kept shape h g p =
       p ∙ rw (meant-at s t m e)
-      (by-sort (λ y. broken 8 t ≡ aimBy f kept shape t y) (getD found t 0) m (baseAt s t) (λ a. absurd (h (eqb-true _ _ a))) (λ a b. refl) (λ a b l. absurd (past m g (leb-true _ _ l))) (λ a b l. refl))
+      (by-sort (λ y. broken 8 t ≡ aimBy f kept (designatorAt shape t) y) (getD found t 0) m (baseAt s t) (λ a. absurd (h (eqb-true _ _ a))) (λ a b. refl) (λ a b l. absurd (past m g (leb-true _ _ l))) (λ a b l. refl))
 
-  pub control-register : (kept : List ℕ) (shape : ℕ) {x : Broken} → m % 8 ≡ 1 → x ≡ registerTarget kept shape t (numberIn m) → x ≡ controlBy kept shape t (meaningAt f t)
+  pub control-register : (kept : List ℕ) (shape : ℕ) {x : Broken} → m % 8 ≡ 1 → x ≡ registerTarget kept (designatorAt shape t) (numberIn m) → x ≡ controlBy kept (designatorAt shape t) (meaningAt f t)
   control-register kept shape h p = rw (meant-at s t m e, as-register (getD found t 0) m (baseAt s t) h) p
 
-  pub control-nothing : (kept : List ℕ) (shape : ℕ) {x : Broken} → (m % 8 ≡ 1 → ⊥) → x ≡ broken 8 t → x ≡ controlBy kept shape t (meaningAt f t)
+  pub control-nothing : (kept : List ℕ) (shape : ℕ) {x : Broken} → (m % 8 ≡ 1 → ⊥) → x ≡ broken 8 t → x ≡ controlBy kept (designatorAt shape t) (meaningAt f t)
   control-nothing kept shape h p =
-      p ∙ rw (meant-at s t m e) (by-sort (λ y. broken 8 t ≡ controlBy kept shape t y) (getD found t 0) m (baseAt s t) (λ a. absurd (h (eqb-true _ _ a))) (λ a b. refl) (λ a b l. refl) (λ a b l. refl))
+      p ∙ rw (meant-at s t m e) (by-sort (λ y. broken 8 t ≡ controlBy kept (designatorAt shape t) y) (getD found t 0) m (baseAt s t) (λ a. absurd (h (eqb-true _ _ a))) (λ a b. refl) (λ a b l. refl) (λ a b l. refl))
 
 -- ── by the target ──
 

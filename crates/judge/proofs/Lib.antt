@@ -2,3 +2,4 @@
 pub mod Moves
 pub mod Answers
 pub mod Along
+pub mod Trees

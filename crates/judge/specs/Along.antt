@@ -7,7 +7,7 @@ use lib.Dec.{eqb, leb, ltb}
 use lib.ListN.{getD, drop}
 use Rattle.base.specs.Choose.{if_then_else_}
 use Rattle.tape.specs.Events as E
-use Rattle.grammar.specs.Tree.{Operand, Width, full, short}
+use Rattle.grammar.specs.Tree.{Designator, Operand, Width, full, short}
 use Rattle.names.specs.declared.Broken.{Broken}
 use Rattle.names.specs.Broken.{unbroken, rule, broken, _⊕_}
 use Rattle.kinds.specs.Meaning.{Meaning, nothing, register, cell, routine, registerOf}
@@ -98,20 +98,20 @@ targetAfter f op t target =
     if ltb op E.ABS then controlOf (meaningAt f t) else
     target
 
-abbrev pub registerTarget : List ℕ → (shape t r : ℕ) → Broken
-registerTarget kept shape t r = rule (bareName (designatorAt shape t)) 8 t ⊕ writeRule kept r t
+abbrev pub registerTarget : List ℕ → Designator → ℕ → Broken
+registerTarget kept d r = rule (bareName d) 8 (d .name) ⊕ writeRule kept r (d .name)
 
-abbrev pub aimBy : Tables → List ℕ → (shape t : ℕ) → Meaning → Broken
-aimBy f kept shape t nothing = broken 8 t
-aimBy f kept shape t (register r) = registerTarget kept shape t r
-aimBy f kept shape t (cell c) = placeBy f (cell c) (designatorAt shape t)
-aimBy f kept shape t (routine r) = broken 8 t
+abbrev pub aimBy : Tables → List ℕ → Designator → Meaning → Broken
+aimBy f kept d nothing = broken 8 (d .name)
+aimBy f kept d (register r) = registerTarget kept d r
+aimBy f kept d (cell c) = placeBy f (cell c) d
+aimBy f kept d (routine r) = broken 8 (d .name)
 
-abbrev pub controlBy : List ℕ → (shape t : ℕ) → Meaning → Broken
-controlBy kept shape t nothing = broken 8 t
-controlBy kept shape t (register r) = registerTarget kept shape t r
-controlBy kept shape t (cell c) = broken 8 t
-controlBy kept shape t (routine r) = broken 8 t
+abbrev pub controlBy : List ℕ → Designator → Meaning → Broken
+controlBy kept d nothing = broken 8 (d .name)
+controlBy kept d (register r) = registerTarget kept d r
+controlBy kept d (cell c) = broken 8 (d .name)
+controlBy kept d (routine r) = broken 8 (d .name)
 
 -- "A register target takes the whole chain, left to right, a cell target one register name only."
 unfoldable pub signRule : (target t : ℕ) → Broken
@@ -142,8 +142,8 @@ declarationRule f kept c op t =
 
 unfoldable pub assignmentRule : Tables → List ℕ → (target op t : ℕ) → Broken
 assignmentRule f kept target op t =
-    if ltb op E.CONTROL then aimBy f kept (op - E.TARGET) t (meaningAt f t) else
-    if ltb op E.ABS then controlBy kept (op - E.CONTROL) t (meaningAt f t) else
+    if ltb op E.CONTROL then aimBy f kept (designatorAt (op - E.TARGET) t) (meaningAt f t) else
+    if ltb op E.ABS then controlBy kept (designatorAt (op - E.CONTROL) t) (meaningAt f t) else
     if ltb op E.FIRST then signRule target t else
     if ltb op E.TERM then firstRules f target (operandAt (op - E.FIRST) t) else
     chainRule f kept target (op - E.TERM) t
@@ -176,9 +176,9 @@ judgeEvent f op t j = record {
   broken = j .broken ⊕ eventRule f (j .held .kept) (j .cells) (j .target) op t;
 }
 
--- before the first event
-abbrev pub beginning : Judging
-beginning = record { held = record { kept = protected; count = 0; counts = [] }; cells = cellsOf false 0 0; target = 0; broken = unbroken }
+-- before the first event, with what else is broken in the text
+abbrev pub beginning : Broken → Judging
+beginning b = record { held = record { kept = protected; count = 0; counts = [] }; cells = cellsOf false 0 0; target = 0; broken = b }
 
 -- ── as arrays ──
 

@@ -11,7 +11,7 @@ ghost use Rattle.kinds.specs.Tables.{Tables, meaningAt};
 ghost use Rattle.kinds.specs.Rules.{registerRule, zeroRule, operandRules};
 ghost use Rattle.tables.specs.Packed.{numberIn, unpacked};
 ghost use Rattle.tables.specs.Stacks.{stackOf};
-ghost use Rattle.rules.specs.Parts.{operandAt};
+ghost use Rattle.rules.specs.Parts.{designatorAt, operandAt};
 ghost use Rattle.rules.specs.Shows.{Names, Values, Kinds, Opens, Written, Shown};
 ghost use Rattle.judge.specs.Along.{enterBlock, leaveBlock, keepBase, keepReturn, leaveProcedure, heldAfter, cellsAfter, valueRule, aimOf, controlOf, targetAfter, registerTarget, aimBy, controlBy, signRule, firstRules, chainRule, declarationRule, assignmentRule, statementRule, eventRule, judgeEvent, beginning, heldOf, Moved};
 use arrays::key;
@@ -251,7 +251,7 @@ fn target_after(op: u32, t: usize, found: &[u32], means: &[u64], target: usize) 
 
 // A register that a whole chain goes to.
 fn register_target(shape: u32, kept: &[u64], depth: usize, m: u64, t: usize) -> Broken
-    ensures { λ x. ⌜ x ≡ registerTarget (stackOf (now (kept .entry)) depth) shape t (numberIn m) ⌝ }
+    ensures { λ x. ⌜ x ≡ registerTarget (stackOf (now (kept .entry)) depth) (designatorAt shape t) (numberIn m) ⌝ }
 {
     let bare = rule(is_bare(shape), 8, t);
     join(bare, write_rule(kept, depth, number(m), t))
@@ -267,7 +267,7 @@ fn aim_rules(
     t: usize,
 ) -> Broken
     requires { ⌜ t < 4294967296 ⌝ }
-    ensures { λ x. ⌜ ((f : Tables) → Names f (now (found .entry)) (now (means .entry)) → Values f (now (values .entry)) → x ≡ aimBy f (stackOf (now (kept .entry)) depth) shape t (meaningAt f t)) ⌝ }
+    ensures { λ x. ⌜ ((f : Tables) → Names f (now (found .entry)) (now (means .entry)) → Values f (now (values .entry)) → x ≡ aimBy f (stackOf (now (kept .entry)) depth) (designatorAt shape t) (meaningAt f t)) ⌝ }
 {
     let m = meaning(found, means, t);
     if m % 8 == tables::REGISTER {
@@ -287,7 +287,7 @@ fn control_rules(
     depth: usize,
     t: usize,
 ) -> Broken
-    ensures { λ x. ⌜ ((f : Tables) → Names f (now (found .entry)) (now (means .entry)) → x ≡ controlBy (stackOf (now (kept .entry)) depth) shape t (meaningAt f t)) ⌝ }
+    ensures { λ x. ⌜ ((f : Tables) → Names f (now (found .entry)) (now (means .entry)) → x ≡ controlBy (stackOf (now (kept .entry)) depth) (designatorAt shape t) (meaningAt f t)) ⌝ }
 {
     let m = meaning(found, means, t);
     if m % 8 == tables::REGISTER {
@@ -487,7 +487,7 @@ fn event_rule(
 
 // ── the tape ──
 
-// The broken rule of a tape that is answered, by the tables of its tokens.
+// The broken rule of a tape that is answered, by the tables of its tokens, with what else is broken in the text.
 pub fn judge(
     tape: &[u32],
     kinds: &[u8],
@@ -498,9 +498,10 @@ pub fn judge(
     written: &[u32],
     kept: &mut [u64],
     counts: &mut [u64],
+    others: Broken,
 ) -> Broken
     requires { ⌜ (length (now tape) < 4294967296) × ((length (now tape) + 2 ≤ length (now kept)) × (length (now tape) ≤ length (now counts))) ⌝ }
-    ensures { λ r. ⌜ ((f : Tables) → Shown f (now (kinds .entry)) (now (values .entry)) (now (found .entry)) (now (means .entry)) (now (opens .entry)) (now (written .entry)) → r ≡ (pass (judgeEvent f) beginning (now (tape .entry))) .broken) ⌝ }
+    ensures { λ r. ⌜ ((f : Tables) → Shown f (now (kinds .entry)) (now (values .entry)) (now (found .entry)) (now (means .entry)) (now (opens .entry)) (now (written .entry)) → r ≡ (pass (judgeEvent f) (beginning others) (now (tape .entry))) .broken) ⌝ }
 {
     put_wide(kept, 0, 14);
     put_wide(kept, 1, 15);
@@ -515,7 +516,7 @@ pub fn judge(
         room: 0,
     };
     let mut target: usize = 0;
-    let mut least = none();
+    let mut least = others;
     let mut i: usize = 0;
     while i < tape.len() {
         let e = tape[i];
