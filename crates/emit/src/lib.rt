@@ -353,7 +353,7 @@ fn next(aim: Use, k: u8, u: Use) -> Code
 
 // ── sizes ──
 
-fn code_size(c: Code) -> usize
+pub fn code_size(c: Code) -> usize
     ensures { λ r. ⌜ (r ≡ codeSize c) × (r ≤ 4) ⌝ }
 {
     match c {

@@ -1,0 +1,156 @@
+-- Bytes of an instruction, and literals: a value is searched among those that are there, and entered behind them. Assumes nothing.
+use Prim.Native.Nat.{ℕ, suc, _+_, _*_, _/_, _%_, _<_, _≤_}
+use mathlib.Core.Path.{_≡_, refl, sym, ap, _∙_}
+use mathlib.Core.Bool.{true, false}
+use mathlib.Core.List.{List, [], _∷_, _++_}
+use native.Mathlib.Omega.{arith}
+use native.Mathlib.Numerals.{add-one}
+use lib.Dec.{eqb}
+use lib.ListN.{length, take, drop, getD, set}
+use lib.Seq.{sets, length-take-le, take-suc-set, getD-take}
+use borrow.Author.Tests.{eqb-true, eqb-false, eq-eqb, ne-eqb}
+use Rattle.base.specs.Lists.{member}
+use Rattle.base.specs.Runs.{runLen, indexOf}
+use Rattle.base.proofs.Tests.{cases}
+use Rattle.translator.specs.Instructions.{literal}
+use Rattle.translator.specs.Layout.{needs}
+use Rattle.translator.specs.Bytes.{twoBytes, fourBytes}
+use Rattle.emit.specs.declared.Code.{Code}
+use Rattle.emit.specs.declared.Code.the-variants.{Nothing, Two, Four, Literal}
+use Rattle.emit.specs.Codes.{codeSize, madeSize}
+use Rattle.emit.proofs.Tables.{index-on, index-stop, index-end}
+use Rattle.emit.specs.declared.Made.{Made}
+use Rattle.emit.specs.declared.Writing.{Writing}
+use Rattle.emit.specs.Events.{writingAfter, madeBy}
+use Rattle.code.specs.Coding.{bytesIn, Laid, laidOf, codeBytes, literalsAfter, layCode, layMade, Coding, codingOf, codeEvent, stopCode, codeAlong}
+use Rattle.code.specs.Places.{noWriting}
+use Rattle.tape.specs.Pass.{pass}
+
+-- ── bytes ──
+
+pub two-laid : (s t u : List ℕ) (at op r x : ℕ) → t ≡ set s at (op % 256) → u ≡ set t (at + 1) ((r % 256 * 16 + x % 256) % 256) → u ≡ sets s at (bytesIn (twoBytes op r x))
+two-laid s t u at op r x e q =
+    let b : (r % 256 * 16 + x % 256) % 256 ≡ (r * 16 + x) % 256 = omega arith in
+    let p : at + 1 ≡ suc at = omega arith in
+    q ∙ rw (e, b, p)
+
+pub four-laid : (s t u v w : List ℕ) (at op r x b d : ℕ) → t ≡ set s at (op % 256) → u ≡ set t (at + 1) ((r % 256 * 16 + x % 256) % 256)
+    → v ≡ set u (at + 2) ((b % 256 * 16 + d / 256) % 256) → w ≡ set v (at + 3) (d % 256 % 256) → w ≡ sets s at (bytesIn (fourBytes op r x b d))
+four-laid s t u v w at op r x b d e q y z =
+    let c : (r % 256 * 16 + x % 256) % 256 ≡ (r * 16 + x) % 256 = omega arith in
+    let f : (b % 256 * 16 + d / 256) % 256 ≡ (b * 16 + d / 256) % 256 = omega arith in
+    let p : at + 1 ≡ suc at = omega arith in
+    let p2 : at + 2 ≡ suc (suc at) = omega arith in
+    let p3 : at + 3 ≡ suc (suc (suc at)) = omega arith in
+    z ∙ rw (y, q, e, c, f, p, p2, p3)
+
+-- ── literals ──
+
+module _ (v : ℕ) where
+  not-member : (l : List ℕ) → indexOf v l ≡ length l → member v l ≡ false
+  unfolding runLen
+  not-member [] h = refl
+  not-member (y ∷ l) h =
+      cases (eqb y v)
+      (λ e. absurd (let q : indexOf v (y ∷ l) ≡ 0 = rw (e, runLen) in omega arith))
+      (λ e.
+      let n = eqb-false y v e in
+      let q : indexOf v (y ∷ l) ≡ suc (indexOf v l) = rw (e, runLen) in
+      rw (ne-eqb v y (λ z. n (sym z))) (not-member l (omega arith)))
+
+  is-member : (l : List ℕ) → indexOf v l < length l → member v l ≡ true
+  unfolding runLen
+  is-member [] h = absurd (omega arith)
+  is-member (y ∷ l) h =
+      cases (eqb y v)
+      (λ e. rw (eq-eqb v y (sym (eqb-true y v e))))
+      (λ e.
+      let n = eqb-false y v e in
+      let q : indexOf v (y ∷ l) ≡ suc (indexOf v l) = rw (e, runLen) in
+      rw (ne-eqb v y (λ z. n (sym z))) (is-member l (omega arith)))
+
+  index-new : (l : List ℕ) → indexOf v l ≡ length l → indexOf v (l ++ (v ∷ [])) ≡ length l
+  unfolding runLen
+  index-new [] h = rw (eq-eqb v v refl, runLen)
+  index-new (y ∷ l) h =
+      cases (eqb y v)
+      (λ e. absurd (let q : indexOf v (y ∷ l) ≡ 0 = rw (e, runLen) in omega arith))
+      (λ e.
+      let q : indexOf v (y ∷ l) ≡ suc (indexOf v l) = rw (e, runLen) in
+      let r : indexOf v ((y ∷ l) ++ (v ∷ [])) ≡ suc (indexOf v (l ++ (v ∷ []))) = rw (e, runLen) in
+      r ∙ ap suc (index-new l (omega arith)))
+
+  module _ (l : List ℕ) (count : ℕ) (h : count ≤ length l) where
+    pub find-on : (i : ℕ) → i < count → (getD l i 0 ≡ v → ⊥) → indexOf v (take count l) ≡ i + indexOf v (drop i (take count l))
+        → indexOf v (take count l) ≡ i + 1 + indexOf v (drop (i + 1) (take count l))
+    find-on i b n e = index-on v (take count l) i (omega (arith, length-take-le count l h)) (λ q. n (sym (getD-take count l i 0 b) ∙ q)) e
+
+    pub find-stop : (i : ℕ) → i < count → getD l i 0 ≡ v → indexOf v (take count l) ≡ i + indexOf v (drop i (take count l)) → i ≡ indexOf v (take count l)
+    find-stop i b n e = index-stop v (take count l) i (omega (arith, length-take-le count l h)) (getD-take count l i 0 b ∙ n) e
+
+    pub find-end : (i : ℕ) → count ≤ i → indexOf v (take count l) ≡ i + indexOf v (drop i (take count l)) → i ≡ indexOf v (take count l)
+    find-end i b e = index-end v (take count l) i (omega (arith, length-take-le count l h)) e
+
+    pub found-needs : (place : ℕ) → place ≡ indexOf v (take count l) → place ≤ count → (place ≡ count → ⊥) → take count l ≡ needs (literal v) (take count l)
+    found-needs place e b n = let n′ : indexOf v (take count l) < length (take count l) = omega (arith, length-take-le count l h, e, b, differ place count n b) in rw (is-member (take count l) n′)
+      where
+        differ : (a b : ℕ) → (a ≡ b → ⊥) → a ≤ b → a < b
+        differ a b n h = omega arith
+
+  module _ (l : List ℕ) (count : ℕ) (h : count < length l) (place : ℕ) (e : place ≡ indexOf v (take count l)) (c : place ≡ count) where
+    none-there : indexOf v (take count l) ≡ length (take count l)
+    none-there = omega (arith, length-take-le count l (omega arith), e, c)
+
+    longer : take (count + 1) (set l count v) ≡ take count l ++ (v ∷ [])
+    longer = rw (add-one count) (take-suc-set l count v h)
+
+    pub new-needs : (m : List ℕ) → m ≡ set l count v → take (count + 1) m ≡ needs (literal v) (take count l)
+    new-needs m q = rw q (longer ∙ rw (not-member (take count l) none-there))
+
+    pub new-place : (m : List ℕ) → m ≡ set l count v → place ≡ indexOf v (take (count + 1) m)
+    new-place m q = rw (q, longer, index-new (take count l) none-there) (c ∙ sym (length-take-le count l (omega arith)))
+
+-- ── an instruction ──
+
+module _ (start at : ℕ) (image seen : List ℕ) (c : Code) (next : ℕ) (n : next ≡ at + codeSize c) where
+  pub lay-nothing : c ≡ Nothing → laidOf next image seen ≡ layCode start c (laidOf at image seen)
+  unfolding layCode codeBytes literalsAfter
+  lay-nothing e = rw (n, e)
+
+  pub lay-two : {image′ : List ℕ} (op r s : ℕ) → c ≡ Two op r s → image′ ≡ sets image at (bytesIn (twoBytes op r s)) → laidOf next image′ seen ≡ layCode start c (laidOf at image seen)
+  unfolding layCode codeBytes literalsAfter
+  lay-two op r s e q = rw (n, q, e)
+
+  pub lay-four : {image′ : List ℕ} (op r x b d : ℕ) → c ≡ Four op r x b d → image′ ≡ sets image at (bytesIn (fourBytes op r x b d)) → laidOf next image′ seen ≡ layCode start c (laidOf at image seen)
+  unfolding layCode codeBytes literalsAfter
+  lay-four op r x b d e q = rw (n, q, e)
+
+  pub lay-literal : {image′ after : List ℕ} (op r v place : ℕ) → c ≡ Literal op r v → after ≡ needs (literal v) seen → place ≡ indexOf v after
+      → image′ ≡ sets image at (bytesIn (fourBytes op r 0 14 (start + 4 * place))) → laidOf next image′ after ≡ layCode start c (laidOf at image seen)
+  unfolding layCode codeBytes literalsAfter
+  lay-literal op r v place e a p q = rw (n, q, p, a, e)
+
+-- ── an event ──
+
+pub made-laid : (start at z next : ℕ) (m : Made) (s : Laid) {image seen image′ seen′ : List ℕ} → z ≡ codeSize (m .first) → next ≡ at + madeSize m
+    → ((n : ℕ) → n ≡ at + codeSize (m .first) → laidOf n image seen ≡ layCode start (m .first) s)
+    → ((n : ℕ) → n ≡ at + z + codeSize (m .second) → laidOf n image′ seen′ ≡ layCode start (m .second) (laidOf (at + z) image seen)) → laidOf next image′ seen′ ≡ layMade start m s
+unfolding layMade
+made-laid start at z next m s ez en e1 e2 = e2 next (omega (arith, ez, en)) ∙ ap (layCode start (m .second)) (e1 (at + z) (omega (arith, ez)))
+
+pub code-is :
+    (start : ℕ) (kinds values found goes means bases opens offsets marks : List ℕ) (op t : ℕ) (w : Writing) (l : Laid) {l′ : Laid} {w′ : Writing} {m : Made}
+    → m ≡ madeBy kinds values found goes means bases opens offsets marks op t w → l′ ≡ layMade start m l → w′ ≡ writingAfter values found means bases offsets op t w
+    → codingOf l′ w′ ≡ codeEvent start kinds values found goes means bases opens offsets marks op t (codingOf l w)
+unfolding codeEvent
+code-is start kinds values found goes means bases opens offsets marks op t w l em el ew = rw (el, ew, em)
+
+-- the last instruction behind all that the tape gives
+pub stop-laid :
+    (start : ℕ) (kinds values found goes means bases opens offsets marks image₀ tape : List ℕ) (p : ℕ) (image seen : List ℕ) (w : Writing) {image′ seen′ : List ℕ}
+    → codingOf (laidOf p image seen) w ≡ pass (codeEvent start kinds values found goes means bases opens offsets marks) (codingOf (laidOf 0 image₀ []) noWriting) tape
+    → ((n : ℕ) → n ≡ p + codeSize (Two 0x0a 0 0) → laidOf n image′ seen′ ≡ layCode start (Two 0x0a 0 0) (laidOf p image seen))
+    → laidOf (p + 2) image′ seen′ ≡ codeAlong start kinds values found goes means bases opens offsets marks image₀ tape
+unfolding codeAlong stopCode codeSize
+stop-laid start kinds values found goes means bases opens offsets marks image₀ tape p image seen w e h =
+    h (p + 2) refl ∙ ap (λ (c : Coding). layCode start (Two 0x0a 0 0) (c .laid)) e

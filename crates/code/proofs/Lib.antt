@@ -1,0 +1,3 @@
+-- Laws of addresses and code along a tape.
+pub mod Placing
+pub mod Coding

@@ -1,0 +1,68 @@
+-- By the event. Assumes nothing.
+use borrow.Author.Tests.{lt-ltb, le-ltb, eq-eqb, ne-eqb}
+use borrow.Author.Needs.{needs}
+use Rattle.code.specs.Places.{markClosing}
+use Rattle.code.proofs.mark_closing.Statement.{statement}
+use Rattle.code.proofs.mark_closing.Tie as tie
+
+before-requires : tie.Need-before-requires
+before-requires c κs = search needs
+
+put-requires : tie.Need-put-requires
+put-requires c κs = search needs
+
+same-length : tie.Need-same-length
+same-length c = search needs
+
+returns : tie.Need-returns
+unfolding markClosing
+returns c = rw (eq-eqb _ _ (c .before .before .before .before .before .if1 .taken), ← (c .before .before .before .before2 .ensures)) (c .before .before .put .ensures)
+
+add-put : tie.Need-add-put
+add-put c = search needs
+
+put-requires-2 : tie.Need-put-requires-2
+put-requires-2 c κs = search needs
+
+same-length-2 : tie.Need-same-length-2
+same-length-2 c = search needs
+
+returns-2 : tie.Need-returns-2
+unfolding markClosing
+returns-2 c = rw (ne-eqb _ _ (c .before .before .before .before .before .if1 .left), eq-eqb _ _ (c .before .before .before .before .if2 .taken)) (c .before .before .put2 .ensures)
+
+returns-3 : tie.Need-returns-3
+unfolding markClosing
+returns-3 c = rw (ne-eqb _ _ (c .before .before .if1 .left), ne-eqb _ _ (c .before .if2 .left), lt-ltb _ _ (c .if3 .taken))
+
+put-requires-3 : tie.Need-put-requires-3
+put-requires-3 c κs = search needs
+
+same-length-3 : tie.Need-same-length-3
+same-length-3 c = search needs
+
+returns-4 : tie.Need-returns-4
+unfolding markClosing
+returns-4 c = rw (ne-eqb _ _ (c .before .before .before .before .before .before .before .if1 .left), ne-eqb _ _ (c .before .before .before .before .before .before .if2 .left), le-ltb _ _ (c .before .before .before .before .before .if3 .left), lt-ltb _ _ (c .before .before .before .before .if4 .taken)) (c .before .before .put3 .ensures)
+
+returns-5 : tie.Need-returns-5
+unfolding markClosing
+returns-5 c = rw (ne-eqb _ _ (c .before .before .before .if1 .left), ne-eqb _ _ (c .before .before .if2 .left), le-ltb _ _ (c .before .if3 .left), le-ltb _ _ (c .if4 .left))
+
+pub mark-closing-spec : {M : Type 1} → statement M
+mark-closing-spec =
+    tie.close
+    (tie.spec
+    before-requires
+    put-requires
+    same-length
+    returns
+    add-put
+    put-requires-2
+    same-length-2
+    returns-2
+    returns-3
+    put-requires-3
+    same-length-3
+    returns-4
+    returns-5)

@@ -1,0 +1,24 @@
+-- Past the image nothing is written. Assumes nothing.
+use mathlib.Core.Path.{sym}
+use lib.Seq.{set-out}
+use borrow.Author.Needs.{needs}
+use Rattle.code.proofs.put_byte.Statement.{statement}
+use Rattle.code.proofs.put_byte.Tie as tie
+
+cast-image : tie.Need-cast-image
+cast-image c = search needs
+
+slice-write-image : tie.Need-slice-write-image
+slice-write-image c = search needs
+
+same-length : tie.Need-same-length
+same-length c = search needs
+
+returns : tie.Need-returns
+returns c = search needs
+
+returns-2 : tie.Need-returns-2
+returns-2 c = sym (set-out _ _ _ (search needs))
+
+pub put-byte-spec : {M : Type 1} → statement M
+put-byte-spec = tie.close (tie.spec cast-image slice-write-image same-length returns returns-2)

@@ -1,0 +1,309 @@
+// Document 01, "Code": where branches go, then the program's bytes and the literals that it needs, each in one loop along the tape.
+ghost use mathlib.Core.Path.{_≡_};
+ghost use Prim.Native.Nat.{ℕ, _+_, _-_, _*_, _%_, _≤_, _<_};
+ghost use lib.ListN.{length, take, set};
+ghost use lib.Seq.{sets};
+ghost use Rattle.base.specs.Runs.{indexOf};
+ghost use Rattle.translator.specs.Instructions.{literal};
+ghost use Rattle.translator.specs.Layout.{needs};
+ghost use Rattle.translator.specs.Bytes.{twoBytes, fourBytes};
+ghost use Rattle.emit.specs.Codes.{codeSize, madeSize};
+ghost use Rattle.code.specs.Places.{markLimit, markClosing, markAfter, placesAlong};
+ghost use Rattle.code.specs.Coding.{bytesIn, laidOf, layCode, layMade, codeAlong};
+use arrays::key;
+use arrays::put;
+use arrays::put_wide;
+use emit::Code;
+use emit::Made;
+use emit::Use;
+use emit::Writing;
+use emit::code_size;
+use emit::held;
+use emit::made_size;
+use emit::make;
+use emit::writing_after;
+
+// ── addresses ──
+
+fn before(t: usize, n: usize) -> usize
+    ensures { λ r. ⌜ r ≡ t - n ⌝ }
+{
+    if t < n { 0 } else { t - n }
+}
+
+fn mark_limit(t: usize, from: usize, aim: Use, marks: &mut [u32])
+    requires { ⌜ from < 4294967296 ⌝ }
+    ensures { λ _. ⌜ now (marks .exit) ≡ markLimit t from aim (now (marks .entry)) ⌝ }
+{
+    put(marks, before(t, 2), from);
+    put(marks, before(t, 1), (held(aim) % 4294967296) as usize);
+}
+
+fn mark_closing(op: u32, t: usize, to: usize, marks: &mut [u32])
+    requires { ⌜ (t < 67108864) × (to < 4294967296) ⌝ }
+    ensures { λ _. ⌜ now (marks .exit) ≡ markClosing op t to (now (marks .entry)) ⌝ }
+{
+    if op == tape::END_FOR {
+        put(marks, before(t, 1), to);
+        return;
+    }
+    if op == tape::END_ELSE {
+        put(marks, t + 1, to);
+        return;
+    }
+    if op < tape::ELSE {
+        return;
+    }
+    if op < tape::CALL {
+        put(marks, t, to);
+    }
+}
+
+fn mark_after(op: u32, t: usize, from: usize, to: usize, aim: Use, marks: &mut [u32])
+    requires { ⌜ (t < 67108864) × (from < 4294967296) × (to < 4294967296) ⌝ }
+    ensures { λ _. ⌜ now (marks .exit) ≡ markAfter op t from to aim (now (marks .entry)) ⌝ }
+{
+    if op == tape::LABEL {
+        put(marks, t, from);
+        return;
+    }
+    if op == tape::PROCEDURE {
+        put(marks, t, to);
+        return;
+    }
+    if op == tape::END_PROCEDURE {
+        put(marks, t + 1, to);
+        return;
+    }
+    if op < tape::LIMIT {
+        return;
+    }
+    if op < tape::BARE {
+        mark_limit(t, from, aim, marks);
+        return;
+    }
+    if op == tape::WHILE {
+        put(marks, t + 1, from);
+        return;
+    }
+    mark_closing(op, t, to, marks);
+}
+
+// Where branches go, by token; the length of the program but for its last instruction.
+pub fn places(
+    tape: &[u32],
+    kinds: &[u8],
+    values: &[u64],
+    found: &[u32],
+    goes: &[u32],
+    means: &[u64],
+    bases: &[u64],
+    opens: &[u32],
+    offsets: &[u64],
+    marks: &mut [u32],
+) -> usize
+    requires { ⌜ length (now tape) ≤ 67108864 ⌝ }
+    ensures { λ r. ⌜ (r ≡ placesAlong (now (kinds .entry)) (now (values .entry)) (now (found .entry)) (now (goes .entry)) (now (means .entry)) (now (bases .entry)) (now (opens .entry)) (now (offsets .entry)) (now (marks .entry)) (now (tape .entry)) .at) × (now (marks .exit) ≡ placesAlong (now (kinds .entry)) (now (values .entry)) (now (found .entry)) (now (goes .entry)) (now (means .entry)) (now (bases .entry)) (now (opens .entry)) (now (offsets .entry)) (now (marks .entry)) (now (tape .entry)) .marks) ⌝ }
+{
+    let mut p: usize = 0;
+    let mut w = Writing {
+        aim: Use::Absent,
+        sign: 0,
+    };
+    let mut i: usize = 0;
+    while i < tape.len() {
+        let e = tape[i];
+        let op = tape::op(e);
+        let t = tape::token(e);
+        let m = make(
+            op,
+            t,
+            kinds,
+            values,
+            found,
+            goes,
+            means,
+            bases,
+            opens,
+            offsets,
+            marks,
+            w,
+        );
+        let q = p + made_size(m);
+        let aim = w.aim;
+        mark_after(op, t, p, q, aim, marks);
+        w = writing_after(op, t, values, found, means, bases, offsets, w);
+        p = q;
+        i += 1;
+    }
+    p
+}
+
+// ── bytes ──
+
+fn put_byte(image: &mut [u8], i: usize, v: u64)
+    ensures { λ _. ⌜ now (image .exit) ≡ set (now (image .entry)) i (v % 256) ⌝ }
+{
+    if i < image.len() {
+        image[i] = (v % 256) as u8;
+    }
+}
+
+// "Two bytes: opcode, r·16+s."
+fn lay_two(image: &mut [u8], at: usize, op: u64, r: u64, s: u64)
+    requires { ⌜ at < 4294967296 ⌝ }
+    ensures { λ _. ⌜ now (image .exit) ≡ sets (now (image .entry)) at (bytesIn (twoBytes op r s)) ⌝ }
+{
+    put_byte(image, at, op);
+    put_byte(image, at + 1, r % 256 * 16 + s % 256);
+}
+
+// "Four bytes: opcode, r·16+index, base·16 + displacement/256, displacement mod 256."
+fn lay_four(image: &mut [u8], at: usize, op: u64, r: u64, x: u64, b: u64, d: u64)
+    requires { ⌜ at < 4294967296 ⌝ }
+    ensures { λ _. ⌜ now (image .exit) ≡ sets (now (image .entry)) at (bytesIn (fourBytes op r x b d)) ⌝ }
+{
+    put_byte(image, at, op);
+    put_byte(image, at + 1, r % 256 * 16 + x % 256);
+    put_byte(image, at + 2, b % 256 * 16 + d / 256);
+    put_byte(image, at + 3, d % 256);
+}
+
+// ── literals ──
+
+// The place of a value among the first literals; their number where it is not among them.
+fn find(literals: &[u64], count: usize, v: u64) -> usize
+    requires { ⌜ count ≤ length (now literals) ⌝ }
+    ensures { λ r. ⌜ (r ≡ indexOf v (take count (now (literals .entry)))) × (r ≤ count) ⌝ }
+{
+    let mut i: usize = 0;
+    while i < count {
+        if literals[i] == v {
+            return i;
+        }
+        i += 1;
+    }
+    i
+}
+
+// A literal that was found, or is entered as the last of them.
+fn enter(literals: &mut [u64], count: usize, place: usize, v: u64) -> usize
+    requires { ⌜ (count < length (now literals)) × (place ≡ indexOf v (take count (now literals))) × (place ≤ count) ⌝ }
+    ensures { λ r. ⌜ (take r (now (literals .exit)) ≡ needs (literal v) (take count (now (literals .entry)))) × (place ≡ indexOf v (take r (now (literals .exit)))) × (r ≤ count + 1) ⌝ }
+{
+    if place == count {
+        put_wide(literals, count, v);
+        return count + 1;
+    }
+    count
+}
+
+// Lays an instruction; the number of literals then.
+fn lay_code(
+    image: &mut [u8],
+    literals: &mut [u64],
+    count: usize,
+    start: u64,
+    at: usize,
+    c: Code,
+) -> usize
+    requires { ⌜ (count < length (now literals)) × (length (now literals) ≤ 4294967296) × (start < 1099511627776) × (at < 4294967296) ⌝ }
+    ensures { λ r. ⌜ ((next : ℕ) → next ≡ at + codeSize c → laidOf next (now (image .exit)) (take r (now (literals .exit))) ≡ layCode start c (laidOf at (now (image .entry)) (take count (now (literals .entry))))) × (r ≤ count + 1) ⌝ }
+{
+    match c {
+        Code::Nothing => count,
+        Code::Two(op, r, s) => {
+            lay_two(image, at, op, r, s);
+            count
+        }
+        Code::Four(op, r, x, b, d) => {
+            lay_four(image, at, op, r, x, b, d);
+            count
+        }
+        Code::Literal(op, r, v) => {
+            let place = find(literals, count, v);
+            lay_four(image, at, op, r, 0, 14, start + 4 * place as u64);
+            enter(literals, count, place, v)
+        }
+    }
+}
+
+// Lays the instructions of an event; the number of literals then.
+fn lay_made(
+    image: &mut [u8],
+    literals: &mut [u64],
+    count: usize,
+    start: u64,
+    at: usize,
+    m: Made,
+) -> usize
+    requires { ⌜ (count + 1 < length (now literals)) × (length (now literals) ≤ 4294967296) × (start < 1099511627776) × (at + 4 < 4294967296) ⌝ }
+    ensures { λ r. ⌜ ((next : ℕ) → next ≡ at + madeSize m → laidOf next (now (image .exit)) (take r (now (literals .exit))) ≡ layMade start m (laidOf at (now (image .entry)) (take count (now (literals .entry))))) × (r ≤ count + 2) ⌝ }
+{
+    let a = m.first;
+    let b = m.second;
+    let n = lay_code(image, literals, count, start, at, a);
+    lay_code(image, literals, n, start, at + code_size(a), b)
+}
+
+// The program's length, and the number of its literals.
+pub struct Ended {
+    pub length: usize,
+    pub literals: usize,
+}
+
+// The program's bytes in its image, and the literals that it needs.
+pub fn write_code(
+    tape: &[u32],
+    kinds: &[u8],
+    values: &[u64],
+    found: &[u32],
+    goes: &[u32],
+    means: &[u64],
+    bases: &[u64],
+    opens: &[u32],
+    offsets: &[u64],
+    marks: &[u32],
+    start: u64,
+    image: &mut [u8],
+    literals: &mut [u64],
+) -> Ended
+    requires { ⌜ (length (now tape) ≤ 67108864) × (2 * length (now tape) + 2 ≤ length (now literals)) × (length (now literals) ≤ 4294967296) × (start < 1099511627776) ⌝ }
+    ensures { λ r. ⌜ laidOf (r .length) (now (image .exit)) (take (r .literals) (now (literals .exit))) ≡ codeAlong start (now (kinds .entry)) (now (values .entry)) (now (found .entry)) (now (goes .entry)) (now (means .entry)) (now (bases .entry)) (now (opens .entry)) (now (offsets .entry)) (now (marks .entry)) (now (image .entry)) (now (tape .entry)) ⌝ }
+{
+    let mut p: usize = 0;
+    let mut count: usize = 0;
+    let mut w = Writing {
+        aim: Use::Absent,
+        sign: 0,
+    };
+    let mut i: usize = 0;
+    while i < tape.len() {
+        let e = tape[i];
+        let op = tape::op(e);
+        let t = tape::token(e);
+        let m = make(
+            op,
+            t,
+            kinds,
+            values,
+            found,
+            goes,
+            means,
+            bases,
+            opens,
+            offsets,
+            marks,
+            w,
+        );
+        count = lay_made(image, literals, count, start, p, m);
+        p += made_size(m);
+        w = writing_after(op, t, values, found, means, bases, offsets, w);
+        i += 1;
+    }
+    let n = lay_code(image, literals, count, start, p, Code::Two(0x0a, 0, 0));
+    Ended {
+        length: p + 2,
+        literals: n,
+    }
+}
