@@ -3,6 +3,7 @@
 //! careless breaks a rule now and then.
 
 use crate::kinds::{only, RegisterSet, DATA_BASE, PROGRAM_BASE};
+use crate::layout::next_multiple;
 use crate::random::Random;
 use crate::spell::{any_value, number};
 use std::collections::HashSet;
@@ -279,7 +280,7 @@ impl<'a> Builder<'a> {
             }
             let name = self.new_name();
             self.declare(name, Thing::Cell { short, count });
-            let offset = self.ends[segment].div_ceil(size) * size;
+            let offset = next_multiple(self.ends[segment], size);
             self.ends[segment] = offset + size * count.unwrap_or(1);
             self.values(short, count.unwrap_or(1));
         }
@@ -519,7 +520,10 @@ impl<'a> Builder<'a> {
         if self.slips() {
             labels = LABEL_POOL.iter().map(|label| label.to_string()).collect();
         }
-        let Some(label) = self.random.pick(&labels).cloned() else { return self.put("NULL") };
+        let label = match self.random.pick(&labels) {
+            Some(label) => label.clone(),
+            None => return self.put("NULL"),
+        };
         let label = self.spelled(&label);
         self.put("GOTO");
         self.put(&label);

@@ -74,16 +74,19 @@ pub fn lines() -> String {
     };
     for target in 0..16 {
         for &(construct, name, opcode) in REGISTER.iter().chain(&SIGNS) {
-            let Some(r) = field(construct, target) else { continue };
-            for s in 0..16 {
-                line(two(opcode, r, s), name, format!("{r},{s}"));
+            if let Some(r) = field(construct, target) {
+                for s in 0..16 {
+                    line(two(opcode, r, s), name, format!("{r},{s}"));
+                }
             }
         }
         for &(construct, name, opcode) in INTEGER_CELL.iter().chain(&SHORT_CELL).chain(&[BRANCH, CALL]) {
             let half_product = opcode == 0x4C;
-            let Some(r) = (if half_product { Some(target) } else { field(construct, target) }) else { continue };
-            for (index, base, displacement) in addresses() {
-                line(four(opcode, r, index, base, displacement), name, format!("{r},{displacement}({index},{base})"));
+            if let Some(r) = if half_product { Some(target) } else { field(construct, target) } {
+                for (index, base, displacement) in addresses() {
+                    let operands = format!("{r},{displacement}({index},{base})");
+                    line(four(opcode, r, index, base, displacement), name, operands);
+                }
             }
         }
         for &(_, name, opcode) in &SHIFTS {

@@ -103,7 +103,10 @@ impl Recognizer {
 
     /// Reads one more token; false, and nothing changed, if no program begins so.
     pub fn read(&self, reading: &mut Reading, token: Kind) -> bool {
-        let Some(last) = reading.sets.last() else { return false };
+        let last = match reading.sets.last() {
+            Some(last) => last,
+            None => return false,
+        };
         let set: Vec<State> = last
             .iter()
             .filter(|state| self.next_symbol(state) == Some(Symbol::Terminal(token)))

@@ -2,6 +2,7 @@
 //! a text can have comes up, each at least once in 200 texts, and at least a third of the texts are accepted.
 
 use crate::build::Builder;
+use crate::layout::next_multiple;
 use crate::random::Random;
 use crate::spell::{any_value, number, number_out_of_range, set_in_lines, text};
 use crate::token::{RESERVED, SIGNS, TEXT_LIMIT};
@@ -212,9 +213,9 @@ fn source_length(random: &mut Random) -> Vec<u8> {
     let filling = *random.of(b" \n@;");
     let room = length.saturating_sub(text.len());
     if random.chance(1, 2) {
-        text.extend(std::iter::repeat_n(filling, room));
+        text.extend(std::iter::repeat(filling).take(room));
     } else {
-        let blanks = std::iter::repeat_n(b' ', room);
+        let blanks = std::iter::repeat(b' ').take(room);
         text.splice(0..0, blanks);
     }
     text
@@ -244,7 +245,7 @@ fn nesting(random: &mut Random) -> Vec<u8> {
         may_declare = declares;
         tokens.extend(opening.split(' ').map(str::to_string));
     }
-    let innermost_is_block = closing.last().is_some_and(|close| close.starts_with("END"));
+    let innermost_is_block = matches!(closing.last(), Some(close) if close.starts_with("END"));
     if !innermost_is_block {
         tokens.push("NULL".to_string());
     }
@@ -350,7 +351,7 @@ fn full_segment(random: &mut Random) -> Vec<u8> {
     loop {
         let short = random.chance(1, 2);
         let size = if short { 2 } else { 4 };
-        let start = usize::next_multiple_of(end, size);
+        let start = next_multiple(end, size);
         let fitting = (4096 - start.min(4096)) / size;
         let last = item > 5 || random.chance(1, 3);
         let count = if last { fitting + over } else { random.range(1, 700).min(fitting.max(1)) };
@@ -401,7 +402,7 @@ fn many_literals(random: &mut Random) -> Vec<u8> {
     let fitting = random.range(0, 9);
     let over = *random.of(&[0, 1, 1, 1, 2]);
     let shorts = random.below(3);
-    let cells = 4080 - 4 * fitting - 2 * shorts.next_multiple_of(2);
+    let cells = 4080 - 4 * fitting - 2 * next_multiple(shorts, 2);
     let mut phrase = format!("BEGIN ARRAY ( {} ) INTEGER A ; ", cells / 4);
     phrase += ["", "SHORT INTEGER S ; ", "SHORT INTEGER S , T ; "][shorts];
     phrase += "R1 := R1 ";

@@ -3,6 +3,7 @@
 
 use crate::assemble::{data, four, text, two};
 use crate::gen::right_text;
+use crate::layout::next_multiple;
 use crate::machine::{origin, step, State};
 use crate::objread::{self, DataSegment};
 use crate::random::Random;
@@ -332,7 +333,7 @@ fn in_storage(random: &mut Random, segments: &[DataSegment], op: u8, size: usize
     let k = random.range(1, segments.len());
     let segment = &segments[k - 1];
     let (low, high) = if store { (segment.from, segment.to) } else { (0, segment.bytes.len()) };
-    let first = low.div_ceil(size) * size;
+    let first = next_multiple(low, size);
     let last = (high / size * size).saturating_sub(size);
     let offset = match random.below(40) {
         0 => first.saturating_sub(size),

@@ -59,7 +59,7 @@ pub fn cell_size(short: bool) -> usize {
 
 /// The next multiple of `size`, from `offset` on.
 pub fn next_multiple(offset: usize, size: usize) -> usize {
-    offset.div_ceil(size) * size
+    (offset + size - 1) / size * size
 }
 
 struct Layer<'a, 'b> {

@@ -55,7 +55,7 @@ impl Search<'_, '_> {
         let depth = self.blocks.len();
         let name = self.tokens[token].name;
         let same = self.in_force.entry(name).or_default();
-        let twice = same.last().is_some_and(|earlier| earlier.depth == depth);
+        let twice = matches!(same.last(), Some(earlier) if earlier.depth == depth);
         same.push(InForce { depth, token });
         self.blocks[depth - 1].push(name);
         self.declared += 1;

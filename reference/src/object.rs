@@ -64,7 +64,10 @@ impl Values<'_> {
 
     /// "A value for a short cell ... keeps its low 16 bits."
     fn item(&mut self, item: &CellItem, short: bool) {
-        let Some(Place { segment, offset }) = self.layout.cells[item.name] else { return };
+        let Place { segment, offset } = match self.layout.cells[item.name] {
+            Some(place) => place,
+            None => return,
+        };
         let size = cell_size(short);
         for (position, &value) in item.values.iter().enumerate() {
             let bytes = self.tokens[value].value.to_be_bytes();

@@ -21,8 +21,9 @@ pub struct RunAnswer {
 /// Loads the object text into storage and carries out at most `budget` instructions.
 pub fn run(object: &[u8], regs: [u32; 16], cc: u64, budget: u32, storage: &mut [u8]) -> RunAnswer {
     let refusal = |number| RunAnswer { number, place: 0, stop: 0, counter: 0, regs, cc, count: 0 };
-    let Some(object) = objread::read(object) else {
-        return refusal(17);
+    let object = match objread::read(object) {
+        Some(object) => object,
+        None => return refusal(17),
     };
     if cc > 3 {
         return refusal(18);

@@ -123,7 +123,10 @@ fn gap(random: &mut Random, style: Style, text: &mut Vec<u8>, token: &[u8]) {
 
 /// Would the token run together with what stands before it?
 fn touch_badly(text: &[u8], token: &[u8]) -> bool {
-    let (Some(&last), Some(&first)) = (text.last(), token.first()) else { return false };
+    let (last, first) = match (text.last(), token.first()) {
+        (Some(&last), Some(&first)) => (last, first),
+        _ => return false,
+    };
     let words = last.is_ascii_alphanumeric() && first.is_ascii_alphanumeric();
     words
         || (matches!(last, b':' | b'<' | b'>' | b'^') && first == b'=')
@@ -132,7 +135,7 @@ fn touch_badly(text: &[u8], token: &[u8]) -> bool {
 
 /// A comment with any bytes in it, set apart from a word before it.
 fn comment(random: &mut Random, text: &mut Vec<u8>) {
-    if text.last().is_some_and(|last| last.is_ascii_alphanumeric()) {
+    if matches!(text.last(), Some(last) if last.is_ascii_alphanumeric()) {
         text.push(b' ');
     }
     text.extend(b"COMMENT");

@@ -52,7 +52,7 @@ fn object_for(source: &[u8], room: Option<usize>) -> Result<Vec<u8>, Refusal> {
     let bytes = program_bytes(&code, &literals, first_literal);
     let data = data_segments(program, tokens, &layout, &literals, first_literal);
     let object = object_text(&bytes, &data);
-    refuse_if(room.is_some_and(|room| room < object.len()), 16, object.len())?;
+    refuse_if(matches!(room, Some(room) if room < object.len()), 16, object.len())?;
     Ok(object)
 }
 

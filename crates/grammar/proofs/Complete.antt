@@ -3,24 +3,28 @@
 use mathlib.Core.Path.{_≡_, refl, sym, _∙_}
 use mathlib.Core.Logic.{_⊎_, inl, inr}
 use mathlib.Core.List.{List, [], _∷_}
-use mathlib.Core.Bool.{Bool, true, false, _&&_, _||_, not}
+use mathlib.Core.Bool.{Bool, true, false, _||_}
 use mathlib.Core.Option.{Option, none, some}
-use Prim.Native.Nat.{ℕ, zero, suc, _+_, _≤_, _<_, max}
+use Prim.Native.Nat.{ℕ, zero, suc, _+_, _≤_, _<_}
 use native.Mathlib.Omega.{arith}
 use lib.Dec.{eqb}
 use lib.ListN.{getD, length}
-use borrow.Author.Tests.{eqb-true, eq-eqb}
 use Rattle.base.specs.Choose.{if_then_else_}
 use Rattle.base.specs.Lists.{member}
 use Rattle.base.proofs.Tests.{never-true}
-use Rattle.base.proofs.Lists.{each}
 use Rattle.token.specs.Kinds as K
 use Rattle.grammar.specs.Tree.{Designator, Operand, number, place, Sign, plain, abs, neg, negAbs, Term, Assignment, Condition, compared, bare, Width, full, short, Register, Item, Declaration, registers, cells, base, Statement, assign, call, block, goto, null, ifThen, ifElse, while, for, Body, declare, procedure, items, Items, ended, label, item}
-use Rattle.grammar.specs.Reader.{Result, ok, bad, Reader, andThen, look, next, want, wantOne, _>>=_, _>>_, give, refuse}
-use Rattle.grammar.specs.Grammar.{inParens, designatorOf, operand, relations, condition, operators, terms, signOf, assignmentOf, numbers, cellItem, registerItem, listOf, typeOf, cellsOf, afterType, declaration, afterName, openers, statementOf, itemsOf, Procedure, declarators, bodyOf, ifOf, constructOf, statement, procedureOf, nesting, program}
-use Rattle.grammar.specs.Derives.{Part, isShape, isDesignator, isOperand, isCondition, isSign, areTerms, isAssignment, areNumbers, isItem, isRegister, areMore, areSome, integerOrLogical, isType, isDeclaration, simple, isProcedure, isStatement, isBody, isItems, isBlock, isProgram, nestingOf, bodyNesting, itemsNesting}
+use Rattle.grammar.specs.Reader.{Result, ok, Reader, andThen, look, next, want, wantOne, give, refuse, _>>=_, _>>_}
+use Rattle.grammar.specs.Grammar.{designatorOf, operand, relations, condition, operators, terms, signOf, assignmentOf, numbers, cellItem, registerItem, listOf, typeOf, cellsOf, afterType, declaration, afterName, statementOf, itemsOf, Procedure, declarators, bodyOf, ifOf, constructOf, statement, procedureOf}
+use Rattle.grammar.specs.Derives.{Part, isShape, isDesignator, isOperand, isCondition, isSign, areTerms, isAssignment, areNumbers, isItem, isRegister, areMore, areSome, integerOrLogical, isType, isDeclaration, simple, isStatement, isBody, isItems, isBlock, isProgram, nestingOf, bodyNesting, itemsNesting}
 use Rattle.grammar.proofs.Tests.{has, real, oneAt, one-real, isnt-one, passes, fails, inside, isnt}
-use Rattle.grammar.proofs.Kept.{Kept, keep-operand, keep-terms, keep-item, keep-register, keep-declaration, keep-statement}
+use Rattle.grammar.proofs.Kept.{keep-operand, keep-item, keep-register, keep-declaration, keep-statement}
+
+-- the reader of programs, with any room for constructs
+abbrev pub programIn : ℕ → Reader Statement
+programIn room = do
+  k ← look
+  if eqb k K.BEGIN then (do b ← statement room; want K.AT; give b) else refuse 4
 
 module _ (kinds : List ℕ) where
   -- ── "designator = name, name(number), name(name), name(number)(name). operand = number or designator." ──
@@ -394,11 +398,6 @@ module _ (kinds : List ℕ) where
   block-begin (ifElse t c s e u) i j h = never-true (h .0)
   block-begin (while t c s) i j h = never-true (h .0)
   block-begin (for t a v l s) i j h = never-true (h .0)
-
-  abbrev pub programIn : ℕ → Reader Statement
-  programIn room = do
-    k ← look
-    if eqb k K.BEGIN then (do b ← statement room; want K.AT; give b) else refuse 4
 
   pub complete-program : (room : ℕ) (x : Statement) (i j : ℕ) → isProgram kinds x i j → nestingOf x ≤ room → programIn room kinds i ≡ ok x j
   unfolding isProgram look andThen want

@@ -1,17 +1,17 @@
 -- What is derived from one token up to another begins no later than it ends, and depends on the tokens between alone: it stands too wherever the tokens
 -- before its end are the same. Assumes nothing.
-use mathlib.Core.Path.{_≡_, refl, _∙_}
+use mathlib.Core.Path.{_≡_, _∙_}
 use mathlib.Core.List.{List, [], _∷_}
-use mathlib.Core.Bool.{Bool, true, false}
+use mathlib.Core.Bool.{Bool, true}
 use mathlib.Core.Option.{Option, none, some}
-use Prim.Native.Nat.{ℕ, zero, suc, _+_, _≤_, _<_}
+use Prim.Native.Nat.{ℕ, _≤_, _<_}
 use native.Mathlib.Omega.{arith}
 use lib.ListN.{getD}
 use Rattle.base.specs.Lists.{member}
 use Rattle.token.specs.Kinds as K
 use Rattle.grammar.specs.Tree.{Designator, Operand, number, place, Sign, plain, abs, neg, negAbs, Term, Assignment, Condition, compared, bare, Width, full, short, Register, Item, Declaration, registers, cells, base, Statement, assign, call, block, goto, null, ifThen, ifElse, while, for, Body, declare, procedure, items, Items, ended, label, item}
 use Rattle.grammar.specs.Grammar.{relations, operators}
-use Rattle.grammar.specs.Derives.{integerOrLogical, Part, end, never, _⟫_, only, _▸_, _#_▸_, _∋▸_, _∋_▸_, isShape, isDesignator, isOperand, isCondition, isSign, areTerms, isAssignment, areNumbers, isItem, isRegister, areMore, areSome, isType, isDeclaration, simple, aBlock, isProcedure, isStatement, isBody, isItems, isBlock, isProgram, SameBefore}
+use Rattle.grammar.specs.Derives.{integerOrLogical, Part, end, never, _⟫_, only, _▸_, _#_▸_, _∋▸_, _∋_▸_, isShape, isDesignator, isOperand, isCondition, isSign, areTerms, isAssignment, areNumbers, isItem, isRegister, areMore, areSome, isType, isDeclaration, simple, aBlock, isProcedure, isStatement, isBody, isItems, isBlock, isProgram, within, SameBefore}
 
 -- what p says of a list of kinds begins no later than it ends, and q says it of another where the tokens before the end are the same
 pub record Kept (kinds others : List ℕ) (p q : Part) : Type 0 where
@@ -36,6 +36,9 @@ module _ {kinds others : List ℕ} where
 
   pub keep-only : {p q : Part} (t : Bool) → Kept kinds others p q → Kept kinds others (only t p) (only t q)
   keep-only t h = record { rises = λ (e, r). h .rises r; stays = λ s (e, r). (e, h .stays s r) }
+
+  pub keep-within : {p q : Part} (its most : ℕ) → Kept kinds others p q → Kept kinds others (within its most p) (within its most q)
+  keep-within its most h = record { rises = λ (e, r). h .rises r; stays = λ s (e, r). (e, h .stays s r) }
 
   keep-token : {p q : Part} (k : ℕ) → Kept kinds others p q → Kept kinds others (_▸_ kinds k p) (_▸_ others k q)
   keep-token k h = record {

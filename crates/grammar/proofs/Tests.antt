@@ -2,7 +2,7 @@
 use mathlib.Core.Path.{_≡_, refl, sym, _∙_}
 use mathlib.Core.List.{List, [], _∷_}
 use mathlib.Core.Bool.{Bool, true, false, _&&_, not}
-use Prim.Native.Nat.{ℕ, zero, suc, _<_}
+use Prim.Native.Nat.{ℕ, zero, suc, _≤_, _<_}
 use native.Mathlib.Omega.{arith}
 use lib.Dec.{eqb}
 use lib.ListN.{getD, length}
@@ -19,6 +19,12 @@ pub in-text : (kinds : List ℕ) (i : ℕ) → 0 < getD kinds i 0 → i < length
 in-text [] i h = absurd (omega arith)
 in-text (x ∷ xs) zero h = omega arith
 in-text (x ∷ xs) (suc i) h = (let l = in-text xs i h in omega arith)
+
+-- and past the last token the kind is that of the end
+pub no-token : (kinds : List ℕ) (i : ℕ) → length kinds ≤ i → getD kinds i 0 ≡ 0
+no-token [] i h = refl
+no-token (x ∷ xs) zero h = absurd (omega arith)
+no-token (x ∷ xs) (suc i) h = no-token xs i (omega arith)
 
 pub real : (kinds : List ℕ) (i k : ℕ) → 0 < k → getD kinds i 0 ≡ k → i < length kinds
 real kinds i k h e = in-text kinds i (omega arith)

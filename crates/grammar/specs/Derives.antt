@@ -1,10 +1,11 @@
 -- Document 01, "Grammar", as it stands there: for each rule, and each tree that it makes, which tokens are exactly that tree. Nothing here reads or chooses; that the
 -- readers of `Grammar` give what is derived here, and nothing else, is shown in proofs/.
 use mathlib.Core.Path.{_≡_}
+use mathlib.Core.Logic.{_⊎_}
 use mathlib.Core.List.{List, [], _∷_}
 use mathlib.Core.Bool.{Bool, true, false}
 use mathlib.Core.Option.{Option, none, some}
-use Prim.Native.Nat.{ℕ, suc, _+_, _≤_, _<_, max}
+use Prim.Native.Nat.{ℕ, zero, suc, _+_, _≤_, _<_, max}
 use lib.ListN.{getD}
 use Rattle.base.specs.Lists.{member}
 use Rattle.token.specs.Kinds as K
@@ -216,13 +217,49 @@ unfoldable mutual
   itemsNesting (label n xs) = itemsNesting xs
   itemsNesting (item s xs) = max (nestingOf s) (itemsNesting xs)
 
+unfoldable mutual
+  -- the construct of a statement that token t opens stands inside n constructs of it; a PROCEDURE stands directly before its name
+  pub Inside : Statement → (n t : ℕ) → Type 0
+  Inside (assign a) n t = ⊥
+  Inside (call a) n t = ⊥
+  Inside (block a b) zero t = t ≡ a
+  Inside (block a b) (suc n) t = InsideBody b n t
+  Inside (goto a l) n t = ⊥
+  Inside null n t = ⊥
+  Inside (ifThen a c s) zero t = t ≡ a
+  Inside (ifThen a c s) (suc n) t = Inside s n t
+  Inside (ifElse a c s e u) zero t = t ≡ a
+  Inside (ifElse a c s e u) (suc n) t = Inside s n t ⊎ Inside u n t
+  Inside (while a c s) zero t = t ≡ a
+  Inside (while a c s) (suc n) t = Inside s n t
+  Inside (for a f v l s) zero t = t ≡ a
+  Inside (for a f v l s) (suc n) t = Inside s n t
+
+  pub InsideBody : Body → (n t : ℕ) → Type 0
+  InsideBody (declare d b) n t = InsideBody b n t
+  InsideBody (procedure a r s b) zero t = (t + 1 ≡ a) ⊎ InsideBody b zero t
+  InsideBody (procedure a r s b) (suc n) t = Inside s n t ⊎ InsideBody b (suc n) t
+  InsideBody (items xs) n t = InsideItems xs n t
+
+  pub InsideItems : Items → (n t : ℕ) → Type 0
+  InsideItems ended n t = ⊥
+  InsideItems (label a xs) n t = InsideItems xs n t
+  InsideItems (item s xs) n t = Inside s n t ⊎ InsideItems xs n t
+
+-- what is derived, with at most so many constructs one inside the other
+abbrev pub within : (its most : ℕ) → Part → Part
+within its most p i j = (its ≤ most) × p i j
+
+abbrev pub isProgramWithin : ℕ → List ℕ → Statement → Part
+isProgramWithin most kinds x = within (nestingOf x) most (isProgram kinds x)
+
 -- ── "no program begins with the tokens up to here" ──
 
 -- the tokens before number n are of the same kinds
 pub record SameBefore (n : ℕ) (kinds others : List ℕ) : Type 0 where
   pub same : (t : ℕ) → t < n → getD others t 0 ≡ getD kinds t 0
 
--- the tokens from i on and before number n begin something of this rule: with some tokens after them, they are it or more than its first part
+-- the tokens from i on and before number n begin something of this rule: with some tokens after them it stands there, and ends no sooner than they do
 pub record Begins {A : Type 0} (is : List ℕ → A → Part) (kinds : List ℕ) (i n : ℕ) : Type 0 where
   pub others : List ℕ
   pub tree : A

@@ -68,23 +68,23 @@ known-alike n s t e k = record {
 alike-grown : (n : ℕ) (s t : Meant) → Alike s t → Known n s → Grown n s t
 alike-grown n s t e k = record { known = known-alike n s t e k; bases = let b = e .of-bases in omega arith }
 
-write-alike : (own r : ℕ) (s : Meant) → Alike s (write own r s)
+pub write-alike : (own r : ℕ) (s : Meant) → Alike s (write own r s)
 unfolding write
 write-alike own r s = record { of-means = refl; of-cells = refl; of-bases = refl }
 
 alike-then : (s t u : Meant) → Alike s t → Alike t u → Alike s u
 alike-then s t u a b = record { of-means = b .of-means ∙ a .of-means; of-cells = b .of-cells ∙ a .of-cells; of-bases = b .of-bases ∙ a .of-bases }
 
-write-all-alike : (own : ℕ) (rs : List ℕ) (s : Meant) → Alike s (writeAll own rs s)
+pub write-all-alike : (own : ℕ) (rs : List ℕ) (s : Meant) → Alike s (writeAll own rs s)
 unfolding writeAll
 write-all-alike own [] s = record { of-means = refl; of-cells = refl; of-bases = refl }
 write-all-alike own (r ∷ rs) s = alike-then s (write own r s) (writeAll own rs (write own r s)) (write-alike own r s) (write-all-alike own rs (write own r s))
 
-text-alike : (own p : ℕ) (s : Meant) → Alike s (writeText own p s)
+pub text-alike : (own p : ℕ) (s : Meant) → Alike s (writeText own p s)
 unfolding writeText
 text-alike own p s = record { of-means = refl; of-cells = refl; of-bases = refl }
 
-call-alike : (m : Meaning) (own p : ℕ) (s : Meant) → Alike s (callWrites m own p s)
+pub call-alike : (m : Meaning) (own p : ℕ) (s : Meant) → Alike s (callWrites m own p s)
 unfolding callWrites writeText write
 call-alike nothing own p s = record { of-means = refl; of-cells = refl; of-bases = refl }
 call-alike (register r) own p s = record { of-means = refl; of-cells = refl; of-bases = refl }

@@ -48,7 +48,7 @@ call-long (register r) own p s = as-long s
 call-long (cell c) own p s = as-long s
 call-long (routine r) own p s = text-long own p (write own r s) then write-long own r s
 
-open-long : (own r n : ℕ) (s : Meant) → AsLong (openBase own r n s) s
+pub open-long : (own r n : ℕ) (s : Meant) → AsLong (openBase own r n s) s
 unfolding openBase
 open-long own r n s = write-long own r _ then record { of-means = refl; of-opens = length-set (s .opens) n _; of-written = refl }
 

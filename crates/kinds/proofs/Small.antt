@@ -55,7 +55,7 @@ call-means (register r) own p s = refl
 call-means (cell c) own p s = refl
 call-means (routine r) own p s = refl
 
-standard-small : (n : ℕ) → AllSmall (standard n)
+pub standard-small : (n : ℕ) → AllSmall (standard n)
 standard-small n = (tt, all-both Small (map register sixteen) (replicate n nothing) small (all-replicate Small n nothing tt))
   where
     small : All Small (map register sixteen)

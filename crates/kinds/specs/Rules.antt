@@ -73,9 +73,10 @@ noSign (abs t) = broken 8 t
 noSign (neg t) = broken 8 t
 noSign (negAbs t) = broken 8 t
 
+-- each term is judged: the first stands before the others
 abbrev pub noChain : List Term → Broken
 noChain [] = unbroken
-noChain (t ∷ ts) = broken 8 (t .operator)
+noChain (t ∷ ts) = broken 8 (t .operator) ⊕ noChain ts
 
 -- "A value for a short cell has signed value -32768 to 65535": a number's 32 bits are read as signed
 abbrev pub fitsWidth : Width → ℕ → Bool
@@ -208,10 +209,10 @@ module _ (f : Tables) where
   registersRules [] = unbroken
   registersRules (r ∷ rs) = rule (leb (valueAt f (r .number)) 15) 9 (r .number) ⊕ registersRules rs
 
-  -- "11: bad initial value or one too many", of the values for which there is room
+  -- "11: bad initial value or one too many", of the values for which there is room; each that is too many is judged, and the first stands before the others
   unfoldable pub valueRules : Width → ℕ → List ℕ → Broken
   valueRules w room [] = unbroken
-  valueRules w zero (t ∷ ts) = broken 11 t
+  valueRules w zero (t ∷ ts) = broken 11 t ⊕ valueRules w zero ts
   valueRules w (suc room) (t ∷ ts) = rule (fitsWidth w (valueAt f t)) 11 t ⊕ valueRules w room ts
 
   unfoldable pub itemRules : Width → ℕ → List Item → Broken

@@ -2,3 +2,4 @@ pub mod Operands
 pub mod Runs
 pub mod Stops
 pub mod Resumes
+pub mod Outside

@@ -10,42 +10,42 @@ use Rattle.names.specs.Names.{Named, noteFound, declares, enterAll, useN
 use Rattle.names.specs.Labels.{Labelled, noteLabel, labelsOf, setLabel, labelStatement, labelBody, labelItems}
 
 -- as long as before
-abbrev Same : Named → Named → Type 0
+abbrev pub Same : Named → Named → Type 0
 Same a b = length (a .found) ≡ length (b .found)
 
 module _ (keys : List ℕ) where
-  use-length : (t : ℕ) (bs : List (List ℕ)) (s : Named) → Same (useName keys t bs s) s
+  pub use-length : (t : ℕ) (bs : List (List ℕ)) (s : Named) → Same (useName keys t bs s) s
   unfolding useName noteFound
   use-length t bs s = length-set (s .found) t _
 
-  declare-length : (ts : List ℕ) (bs : List (List ℕ)) (s : Named) → Same (declareNames keys ts bs s) s
+  pub declare-length : (ts : List ℕ) (bs : List (List ℕ)) (s : Named) → Same (declareNames keys ts bs s) s
   unfolding declareName
   declare-length [] bs s = refl
   declare-length (t ∷ ts) bs s = declare-length ts (enter t bs) (declareName keys t bs s)
 
-  index-length : (x : Option ℕ) (bs : List (List ℕ)) (s : Named) → Same (nameIndex keys x bs s) s
+  pub index-length : (x : Option ℕ) (bs : List (List ℕ)) (s : Named) → Same (nameIndex keys x bs s) s
   index-length none bs s = refl
   index-length (some t) bs s = use-length t bs s
 
-  designator-length : (d : Designator) (bs : List (List ℕ)) (s : Named) → Same (nameDesignator keys d bs s) s
+  pub designator-length : (d : Designator) (bs : List (List ℕ)) (s : Named) → Same (nameDesignator keys d bs s) s
   designator-length d bs s = index-length (d .index) bs _ ∙ use-length (d .name) bs s
 
-  operand-length : (a : Operand) (bs : List (List ℕ)) (s : Named) → Same (nameOperand keys a bs s) s
+  pub operand-length : (a : Operand) (bs : List (List ℕ)) (s : Named) → Same (nameOperand keys a bs s) s
   operand-length (number t) bs s = refl
   operand-length (place d) bs s = designator-length d bs s
 
-  terms-length : (ts : List Term) (bs : List (List ℕ)) (s : Named) → Same (nameTerms keys ts bs s) s
+  pub terms-length : (ts : List Term) (bs : List (List ℕ)) (s : Named) → Same (nameTerms keys ts bs s) s
   terms-length [] bs s = refl
   terms-length (t ∷ ts) bs s = terms-length ts bs _ ∙ operand-length (t .operand) bs s
 
-  assignment-length : (a : Assignment) (bs : List (List ℕ)) (s : Named) → Same (nameAssignment keys a bs s) s
+  pub assignment-length : (a : Assignment) (bs : List (List ℕ)) (s : Named) → Same (nameAssignment keys a bs s) s
   assignment-length a bs s = terms-length (a .rest) bs _ ∙ (operand-length (a .first) bs _ ∙ designator-length (a .target) bs s)
 
-  condition-length : (c : Condition) (bs : List (List ℕ)) (s : Named) → Same (nameCondition keys c bs s) s
+  pub condition-length : (c : Condition) (bs : List (List ℕ)) (s : Named) → Same (nameCondition keys c bs s) s
   condition-length (compared n r a) bs s = operand-length a bs _ ∙ use-length n bs s
   condition-length (bare r) bs s = refl
 
-  declaration-length : (d : Declaration) (bs : List (List ℕ)) (s : Named) → Same (nameDeclaration keys d bs s) s
+  pub declaration-length : (d : Declaration) (bs : List (List ℕ)) (s : Named) → Same (nameDeclaration keys d bs s) s
   declaration-length (registers rs) bs s = declare-length (declares (registers rs)) bs s
   declaration-length (cells c w is) bs s = declare-length (declares (cells c w is)) bs s
   declaration-length (base n) bs s = use-length n bs s

@@ -1,2 +1,4 @@
 pub mod Joins
 pub mod Lengths
+pub mod Finding
+pub mod Leading

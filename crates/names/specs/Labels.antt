@@ -20,11 +20,15 @@ pub record Labelled : Type 0 where
   pub count : ℕ
   pub broken : Broken
 
+-- the labels among items, the newest first, before those set earlier
+abbrev pub labelsOnto : Items → List ℕ → List ℕ
+labelsOnto ended earlier = earlier
+labelsOnto (label l is) earlier = labelsOnto is (l ∷ earlier)
+labelsOnto (item x is) earlier = labelsOnto is earlier
+
 -- all labels of a block, which its statements know from its start
 abbrev pub labelsOf : Items → List ℕ
-labelsOf ended = []
-labelsOf (label l is) = l ∷ labelsOf is
-labelsOf (item x is) = labelsOf is
+labelsOf is = labelsOnto is []
 
 -- "6: … label not found"
 unfoldable pub noteLabel : ℕ → ℕ → Labelled → Labelled

@@ -70,7 +70,7 @@ data-walked (suc m) k s gs e =
         let l : length gs ≡ suc (length (b .others)) = ap length (b .whole) in
         (subst (λ (n : ℕ). Walked n k s) (sym l) (b .is, w .0), (let h = w .1 in omega arith))
 
-length-list : (n : ℕ) (s : List ℕ) → length (dataList n s) ≡ n
+pub length-list : (n : ℕ) (s : List ℕ) → length (dataList n s) ≡ n
 length-list zero s = refl
 length-list (suc n) s = ap suc (length-list n (afterData s))
 
@@ -97,6 +97,11 @@ object-walk (suc n) t h e = first (behind (isProgram 0 t) second (programAt t) (
             let o = length-list n (afterProgram t) in
             let q : suc (length (d .others)) ≡ suc n - 1 = omega arith in
             record { some = omega arith; few = omega arith; program = b .is; data-segments = subst (λ (j : ℕ). Walked j 1 (afterProgram t)) q (d .is, w .0) }
+
+pub read-as : (n : ℕ) (t : List ℕ) → (n ≡ 0 → ⊥) → readAs n t ≡ readObject t → readObject t ≡ some (segmentList n t)
+unfolding readAs
+read-as zero t h e = absurd (h refl)
+read-as (suc n) t h e = sym e
 
 -- ── lengths ──
 

@@ -1,3 +1,4 @@
 -- The tape that the grammar writes and every later pass reads.
 pub mod Events
 pub mod Tape
+pub mod Pass

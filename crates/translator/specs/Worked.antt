@@ -1,4 +1,5 @@
--- Document 01, "Cases and slips": cases 1 to 9, the limits and the slips, as tables of texts with their answers, by computing the definition.
+-- Document 01, "Cases and slips": cases 1 to 9, the limits, the slips and more, as tables of texts with their answers, by computing the
+-- definition.
 use mathlib.Core.Path.{_≡_, refl}
 use mathlib.Core.List.{List, [], _∷_, _++_, map}
 use mathlib.Core.Bool.{Bool, true, false}
@@ -121,11 +122,24 @@ slips =
     ∷ refuses (bytes "BEGIN PROCEDURE P(R5); BEGIN SEGMENT BASE RC; R1 := R2; END; PROCEDURE Q(R6); BEGIN SEGMENT BASE RC; P; END; END @") 10 101
     ∷ []
 
+-- ── more that a hasty translator gets wrong: a literal needed twice, the order of literals where the step of a FOR comes after its body, what is written by
+-- the callee of a callee, a base in an inner block, a missing label before another error ──
+
+abbrev pub traps : List Case
+traps =
+    makes (bytes "BEGIN R1 := 5; R2 := 5; END @") (program (hex "5810E010 5820E010 0A00") ∷ literals "00000005" ∷ [])
+    ∷ makes (bytes "BEGIN FOR R1 := 3 STEP 1 UNTIL 9 DO R2 := 8; END @")
+    (program (hex "5810E010 5910E014 4720F018 5820E018 5A10E01C 47F0F004 0A00") ∷ literals "00000003 00000009 00000008 00000001" ∷ [])
+    ∷ refuses (bytes "BEGIN PROCEDURE A(R1); R7 := R2; PROCEDURE B(R3); A; PROCEDURE C(R7); B; END @") 10 70
+    ∷ refuses (bytes "BEGIN SEGMENT BASE RC; BEGIN RC := R1; END; END @") 10 29
+    ∷ refuses (bytes "BEGIN GOTO L; RE := 1; END @") 6 11
+    ∷ []
+
 -- ── computed ──
 
-worked : Hold cases × Hold limits × Hold slips
+worked : Hold cases × Hold limits × Hold slips × Hold traps
 unfolding sameBytes runLen numberFrom bytesOf walk X.wordKind X.comment X.nameOrWord X.number X.begins X.sign X.lexeme X.nextStep X.nextToken X.readFrom X.tokensOf R.andThen R.look R.next R.want R.wantOne G.designatorOf G.operand G.condition G.terms G.signOf G.assignmentOf G.numbers G.cellItem G.registerItem G.listOf G.typeOf G.cellsOf G.afterType G.declaration G.afterName G.statementOf G.itemsOf G.bodyOf G.ifOf G.constructOf G.statement G.program B.rule B._⊕_ S.inBlock S.find N.noteFound N.useName N.declareName N.nameStatement L.noteLabel L.setLabel L.labelStatement Q.flags Q.has Q.addRegister Q.union Q.spares W.lowers W.assignmentWrites M.write M.writeAll M.writeText M.callWrites M.openBase M.addCell M.meanRegisters M.meanCells M.meanStatement J.registerRule J.zeroRule J.writeRule J.indexRules J.subscriptRules J.placeRules J.operandRules J.onlyRegister J.shiftRules J.noShort J.productRules J.termRules J.chainRules J.toRegister J.toCell J.assignmentRules J.controlRules J.conditionRules J.callRules J.registersRules J.valueRules J.itemRules J.cellsRules J.baseRules J.declarationRules K.kindStatement I.opcode I.shiftCode I.falseMask C.useOf C.shiftBy C.termOf C.chainOf C.toRegister C.assignmentOf C.compareWith C.testOf C.coreStatement D.sizeOf D.own D.markAt D.code D.instructions Y.valueBytes Y.placeCell Y.placeCells Y.offsetOf Y.literalsFrom Y.layout E.encode E.encodeAll H.fill H.words H.firstData H.dataOf H.segments T.named T.labelled T.meant T.make T.finish T.judge T.translated T.inRoom translate O.hexDigit objectText
-worked = (refl, refl, refl)
+worked = (refl, refl, refl, refl)
 
 pub cases-hold : Hold cases
 cases-hold = worked .0
@@ -135,3 +149,6 @@ limits-hold = worked .1
 
 pub slips-hold : Hold slips
 slips-hold = worked .2
+
+pub traps-hold : Hold traps
+traps-hold = worked .3

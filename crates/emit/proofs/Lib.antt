@@ -1,0 +1,2 @@
+-- Laws of the instructions of events.
+pub mod Tables

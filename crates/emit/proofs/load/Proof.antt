@@ -1,0 +1,31 @@
+-- With and without a sign. Assumes nothing.
+use borrow.Author.Tests.{eq-eqb, ne-eqb}
+use borrow.Author.Needs.{needs}
+use Rattle.emit.specs.Codes.{loadCode}
+use Rattle.emit.proofs.load.Statement.{statement}
+use Rattle.emit.proofs.load.Tie as tie
+
+apply-requires : tie.Need-apply-requires
+apply-requires c κs = search needs
+
+one-requires : tie.Need-one-requires
+one-requires c κs = search needs
+
+returns : tie.Need-returns
+unfolding loadCode
+returns c = rw (eq-eqb _ _ (c .before .before .if1 .taken), ← (c .before .apply .ensures)) (c .one .ensures)
+
+sign-code-requires : tie.Need-sign-code-requires
+sign-code-requires c κs = search needs
+
+signed-requires : tie.Need-signed-requires
+signed-requires c κs = search needs
+
+returns-2 : tie.Need-returns-2
+unfolding loadCode
+returns-2 c = rw (ne-eqb _ _ (c .before .before .if1 .left), ← (c .before .sign-code .ensures)) (c .signed .ensures)
+
+pub load-spec : {M : Type 1} → statement M
+load-spec =
+    tie.close
+    (tie.spec apply-requires one-requires returns sign-code-requires signed-requires returns-2)

@@ -1,0 +1,3 @@
+-- The instructions of each event of a tape.
+pub mod Codes
+pub mod Events

@@ -1,0 +1,16 @@
+-- The table holds the digits. Assumes nothing.
+use mathlib.Core.Path.{refl}
+use borrow.Author.Needs.{needs}
+use Rattle.objtext.specs.Object.{hexDigit}
+use Rattle.frames.proofs.digit.Statement.{statement}
+use Rattle.frames.proofs.digit.Tie as tie
+
+array-read-result : tie.Need-array-read-result
+array-read-result c = search needs
+
+returns : tie.Need-returns
+unfolding hexDigit
+returns c = refl
+
+pub digit-spec : {M : Type 1} → statement M
+digit-spec = tie.close (tie.spec array-read-result returns)

@@ -1,0 +1,90 @@
+-- What each function of the walk answers, by what its callees answer.
+use mathlib.Core.Path.{_≡_, refl, sym, ap, ap₂, _∙_}
+use mathlib.Core.Bool.{Bool, true, false}
+use mathlib.Core.List.{List, [], _∷_}
+use Prim.Native.Nat.{ℕ, zero, suc, _+_, _-_, _%_, _≤_, _<_}
+use native.Mathlib.Omega.{arith}
+use native.Mathlib.Numerals.{add-two}
+use lib.Dec.{eqb}
+use lib.ListN.{getD}
+use borrow.Author.Tests.{eqb-true, leb-true}
+use Rattle.names.specs.declared.Broken.{Broken}
+use Rattle.names.specs.Broken.{unbroken, rule, broken, _⊕_}
+use Rattle.grammar.specs.Tree.{Operand}
+use Rattle.kinds.specs.Meaning.{Meaning, nothing, register, cell, routine, Based, registerOf}
+use Rattle.kinds.specs.Tables.{Tables, meaningAt}
+use Rattle.kinds.specs.Rules.{isBare, writeRule, placeBy, operandRules, onlyRegister, termRules}
+use Rattle.tables.specs.Packed.{numberIn, unpacked, cellIn, registerIn, packedAt}
+use Rattle.tables.proofs.Meanings.{by-sort, register-is}
+use Rattle.rules.specs.Parts.{subscriptAt, indexAt, designatorAt, operandAt, termAt}
+use Rattle.rules.specs.Shows.{Names}
+use Rattle.rules.proofs.Sorts.{as-register, as-cell, baseAt, meant-at}
+use Rattle.judge.specs.Along.{aimOf, controlOf, registerTarget, aimBy, controlBy, signRule, firstRules, chainRule}
+
+-- ── what a target means ──
+
+module _ (m : ℕ) where
+  past : m % 8 < 4 → 4 ≤ m % 8 → ⊥
+  past h g = omega arith
+
+  pub aimed-register : (k : ℕ) → m % 8 ≡ 1 → k ≡ numberIn m → (n : ℕ) (b : Based) → k + 2 ≡ aimOf (unpacked n m b)
+  aimed-register k h e n b = rw (as-register n m b h, ← e) (add-two k)
+
+  pub aimed-cell : 4 ≤ m % 8 → (n : ℕ) (b : Based) → 1 ≡ aimOf (unpacked n m b)
+  aimed-cell h n b = rw (as-cell n m b h)
+
+  pub aimed-nowhere : (m % 8 ≡ 1 → ⊥) → m % 8 < 4 → (n : ℕ) (b : Based) → 0 ≡ aimOf (unpacked n m b)
+  aimed-nowhere h g n b = by-sort (λ x. 0 ≡ aimOf x) n m b (λ e. absurd (h (eqb-true _ _ e))) (λ e f. refl) (λ e f l. absurd (past g (leb-true _ _ l))) (λ e f l. refl)
+
+  pub controls-register : (k : ℕ) → m % 8 ≡ 1 → k ≡ numberIn m → (n : ℕ) (b : Based) → k + 2 ≡ controlOf (unpacked n m b)
+  controls-register k h e n b = rw (as-register n m b h, ← e) (add-two k)
+
+  pub controls-nothing : (m % 8 ≡ 1 → ⊥) → (n : ℕ) (b : Based) → 0 ≡ controlOf (unpacked n m b)
+  controls-nothing h n b = by-sort (λ x. 0 ≡ controlOf x) n m b (λ e. absurd (h (eqb-true _ _ e))) (λ e f. refl) (λ e f l. refl) (λ e f l. refl)
+
+module _ {f : Tables} {found means : List ℕ} (s : Names f found means) (t m : ℕ) (e : m ≡ packedAt found means t) where
+  pub told : (g : Meaning → ℕ) (x : ℕ) → ((n : ℕ) (b : Based) → x ≡ g (unpacked n m b)) → x ≡ g (meaningAt f t)
+  told g x p = p _ _ ∙ ap g (sym (meant-at s t m e))
+
+  pub kept-is : (r : ℕ) → r ≡ registerIn m → registerOf (meaningAt f t) ≡ r
+  kept-is r h = ap registerOf (meant-at s t m e) ∙ (register-is _ _ _ ∙ sym h)
+
+  pub aims-register : (kept : List ℕ) (shape : ℕ) {x : Broken} → m % 8 ≡ 1 → x ≡ registerTarget kept shape t (numberIn m) → x ≡ aimBy f kept shape t (meaningAt f t)
+  aims-register kept shape h p = rw (meant-at s t m e, as-register (getD found t 0) m (baseAt s t) h) p
+
+  pub aims-cell :
+      (kept : List ℕ) (shape : ℕ) {x : Broken} → 4 ≤ m % 8 → ((n : ℕ) (b : Based) → x ≡ placeBy f (cell (cellIn n m b)) (designatorAt shape t)) → x ≡ aimBy f kept shape t (meaningAt f t)
+  aims-cell kept shape h p = rw (meant-at s t m e, as-cell (getD found t 0) m (baseAt s t) h) (p _ _)
+
+  pub aims-nowhere : (kept : List ℕ) (shape : ℕ) {x : Broken} → (m % 8 ≡ 1 → ⊥) → m % 8 < 4 → x ≡ broken 8 t → x ≡ aimBy f kept shape t (meaningAt f t)
+  aims-nowhere kept shape h g p =
+      p ∙ rw (meant-at s t m e)
+      (by-sort (λ y. broken 8 t ≡ aimBy f kept shape t y) (getD found t 0) m (baseAt s t) (λ a. absurd (h (eqb-true _ _ a))) (λ a b. refl) (λ a b l. absurd (past m g (leb-true _ _ l))) (λ a b l. refl))
+
+  pub control-register : (kept : List ℕ) (shape : ℕ) {x : Broken} → m % 8 ≡ 1 → x ≡ registerTarget kept shape t (numberIn m) → x ≡ controlBy kept shape t (meaningAt f t)
+  control-register kept shape h p = rw (meant-at s t m e, as-register (getD found t 0) m (baseAt s t) h) p
+
+  pub control-nothing : (kept : List ℕ) (shape : ℕ) {x : Broken} → (m % 8 ≡ 1 → ⊥) → x ≡ broken 8 t → x ≡ controlBy kept shape t (meaningAt f t)
+  control-nothing kept shape h p =
+      p ∙ rw (meant-at s t m e) (by-sort (λ y. broken 8 t ≡ controlBy kept shape t y) (getD found t 0) m (baseAt s t) (λ a. absurd (h (eqb-true _ _ a))) (λ a b. refl) (λ a b l. refl) (λ a b l. refl))
+
+-- ── by the target ──
+
+pub sign-else : (target t : ℕ) {x : Broken} → (target ≡ 1 → ⊥) → x ≡ unbroken → x ≡ signRule target t
+unfolding signRule
+sign-else zero t h e = e
+sign-else (suc zero) t h e = absurd (h refl)
+sign-else (suc (suc r)) t h e = e
+
+pub first-else : (f : Tables) (target : ℕ) (a : Operand) {x : Broken} → (target ≡ 0 → ⊥) → (target ≡ 1 → ⊥) → x ≡ operandRules f a → x ≡ firstRules f target a
+unfolding firstRules
+first-else f zero a h g e = absurd (h refl)
+first-else f (suc zero) a h g e = absurd (g refl)
+first-else f (suc (suc r)) a h g e = e
+
+pub chain-else :
+    (f : Tables) (kept : List ℕ) (target shape t : ℕ) {x : Broken} → (target ≡ 0 → ⊥) → (target ≡ 1 → ⊥) → x ≡ termRules f kept (target - 2) (termAt shape t) → x ≡ chainRule f kept target shape t
+unfolding chainRule
+chain-else f kept zero shape t h g e = absurd (h refl)
+chain-else f kept (suc zero) shape t h g e = absurd (g refl)
+chain-else f kept (suc (suc r)) shape t h g e = let q : suc (suc r) - 2 ≡ r = omega arith in rw q at e

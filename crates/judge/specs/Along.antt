@@ -1,0 +1,191 @@
+-- The rules along a tape: what each event is judged by, and what of it the later events need.
+use mathlib.Core.Path.{_≡_}
+use mathlib.Core.List.{List, [], _∷_}
+use mathlib.Core.Bool.{Bool, true, false, _&&_, _||_}
+use Prim.Native.Nat.{ℕ, zero, suc, _+_, _-_, _≤_}
+use lib.Dec.{eqb, leb, ltb}
+use lib.ListN.{getD, drop}
+use Rattle.base.specs.Choose.{if_then_else_}
+use Rattle.tape.specs.Events as E
+use Rattle.grammar.specs.Tree.{Operand, Width, full, short}
+use Rattle.names.specs.declared.Broken.{Broken}
+use Rattle.names.specs.Broken.{unbroken, rule, broken, _⊕_}
+use Rattle.kinds.specs.Meaning.{Meaning, nothing, register, cell, routine, registerOf}
+use Rattle.kinds.specs.Tables.{Tables, valueAt, meaningAt}
+use Rattle.kinds.specs.Rules.{protected, bareName, fitsWidth, writeRule, registerRule, zeroRule, placeBy, operandRules, onlyRegister, termRules, callRules, baseRules}
+use Rattle.tables.specs.Stacks.{stackOf, top, under}
+use Rattle.rules.specs.Parts.{designatorAt, operandAt, termAt}
+use Rattle.judge.specs.declared.Cells.{Cells}
+use Rattle.judge.specs.declared.Depths.{Depths}
+
+-- ── the protected registers ──
+
+-- kept: the protected registers, the innermost first; count: how many of them are bases of the innermost block; counts: those of the blocks around it
+pub record Held : Type 0 where
+  pub kept : List ℕ
+  pub count : ℕ
+  pub counts : List ℕ
+
+abbrev pub enterBlock : Held → Held
+enterBlock h = record { kept = h .kept; count = 0; counts = h .count ∷ h .counts }
+
+-- "the bases of enclosing blocks declared so far"
+abbrev pub leaveBlock : Held → Held
+leaveBlock h = record { kept = drop (h .count) (h .kept); count = top (h .counts); counts = under (h .counts) }
+
+abbrev pub keepBase : ℕ → Held → Held
+keepBase r h = record { kept = r ∷ h .kept; count = suc (h .count); counts = h .counts }
+
+-- "the return registers of enclosing procedures"
+abbrev pub keepReturn : ℕ → Held → Held
+keepReturn r h = record { kept = r ∷ h .kept; count = h .count; counts = h .counts }
+
+abbrev pub leaveProcedure : Held → Held
+leaveProcedure h = record { kept = under (h .kept); count = h .count; counts = h .counts }
+
+unfoldable pub heldAfter : Tables → (op t : ℕ) → Held → Held
+heldAfter f op t h =
+    if eqb op E.BLOCK then enterBlock h else
+    if eqb op E.END-BLOCK then leaveBlock h else
+    if eqb op E.BASE then keepBase (registerOf (meaningAt f t)) h else
+    if eqb op E.PROCEDURE then keepReturn (registerOf (meaningAt f (t + 2))) h else
+    if eqb op E.END-PROCEDURE then leaveProcedure h else
+    h
+
+-- ── cells and their values ──
+
+-- what the cells that follow are, whether short and of how many elements, and for how many more values the last has room
+abbrev pub cellsOf : Bool → ℕ → ℕ → Cells
+cellsOf s n room = record { short = s; elements = n; room = room }
+
+unfoldable pub cellsAfter : Tables → (op t : ℕ) → Cells → Cells
+cellsAfter f op t c =
+    if ltb op E.SINGLE-FULL then c else
+    if ltb op E.ARRAY-FULL then cellsOf (eqb op E.SINGLE-SHORT) 1 (c .room) else
+    if ltb op E.ITEM then cellsOf (eqb op E.ARRAY-SHORT) (valueAt f t) (c .room) else
+    if eqb op E.ITEM then cellsOf (c .short) (c .elements) (c .elements) else
+    if eqb op E.VALUE then cellsOf (c .short) (c .elements) (c .room - 1) else
+    c
+
+abbrev pub widthOf : Bool → Width
+widthOf true = short
+widthOf false = full
+
+-- "11: bad initial value or one too many"
+unfoldable pub valueRule : Cells → (v t : ℕ) → Broken
+valueRule c v t = if eqb (c .room) 0 then broken 11 t else rule (fitsWidth (widthOf (c .short)) v) 11 t
+
+-- ── the target of an assignment ──
+
+-- by what it means: 0 where the assignment is not judged further, 1 for a cell, r + 2 for register r
+abbrev pub aimOf : Meaning → ℕ
+aimOf nothing = 0
+aimOf (register r) = suc (suc r)
+aimOf (cell c) = 1
+aimOf (routine r) = 0
+
+-- "the FOR target" is a register
+abbrev pub controlOf : Meaning → ℕ
+controlOf nothing = 0
+controlOf (register r) = suc (suc r)
+controlOf (cell c) = 0
+controlOf (routine r) = 0
+
+unfoldable pub targetAfter : Tables → (op t target : ℕ) → ℕ
+targetAfter f op t target =
+    if ltb op E.TARGET then target else
+    if ltb op E.CONTROL then aimOf (meaningAt f t) else
+    if ltb op E.ABS then controlOf (meaningAt f t) else
+    target
+
+abbrev pub registerTarget : List ℕ → (shape t r : ℕ) → Broken
+registerTarget kept shape t r = rule (bareName (designatorAt shape t)) 8 t ⊕ writeRule kept r t
+
+abbrev pub aimBy : Tables → List ℕ → (shape t : ℕ) → Meaning → Broken
+aimBy f kept shape t nothing = broken 8 t
+aimBy f kept shape t (register r) = registerTarget kept shape t r
+aimBy f kept shape t (cell c) = placeBy f (cell c) (designatorAt shape t)
+aimBy f kept shape t (routine r) = broken 8 t
+
+abbrev pub controlBy : List ℕ → (shape t : ℕ) → Meaning → Broken
+controlBy kept shape t nothing = broken 8 t
+controlBy kept shape t (register r) = registerTarget kept shape t r
+controlBy kept shape t (cell c) = broken 8 t
+controlBy kept shape t (routine r) = broken 8 t
+
+-- "A register target takes the whole chain, left to right, a cell target one register name only."
+unfoldable pub signRule : (target t : ℕ) → Broken
+signRule zero t = unbroken
+signRule (suc zero) t = broken 8 t
+signRule (suc (suc r)) t = unbroken
+
+unfoldable pub firstRules : Tables → ℕ → Operand → Broken
+firstRules f zero a = unbroken
+firstRules f (suc zero) a = onlyRegister f a
+firstRules f (suc (suc r)) a = operandRules f a
+
+unfoldable pub chainRule : Tables → List ℕ → (target shape t : ℕ) → Broken
+chainRule f kept zero shape t = unbroken
+chainRule f kept (suc zero) shape t = broken 8 (t - 1)
+chainRule f kept (suc (suc r)) shape t = termRules f kept r (termAt shape t)
+
+-- ── an event ──
+
+unfoldable pub declarationRule : Tables → List ℕ → Cells → (op t : ℕ) → Broken
+declarationRule f kept c op t =
+    if eqb op E.REGISTER then rule (leb (valueAt f (t + 2)) 15) 9 (t + 2) else
+    if leb E.ARRAY-FULL op && leb op E.ARRAY-SHORT then rule (leb 1 (valueAt f t) && leb (valueAt f t) 2048) 11 t else
+    if eqb op E.VALUE then valueRule c (valueAt f t) t else
+    if eqb op E.BASE then baseRules f kept t else
+    if eqb op E.PROCEDURE then registerRule f (t + 2) ⊕ zeroRule f (t + 2) else
+    unbroken
+
+unfoldable pub assignmentRule : Tables → List ℕ → (target op t : ℕ) → Broken
+assignmentRule f kept target op t =
+    if ltb op E.CONTROL then aimBy f kept (op - E.TARGET) t (meaningAt f t) else
+    if ltb op E.ABS then controlBy kept (op - E.CONTROL) t (meaningAt f t) else
+    if ltb op E.FIRST then signRule target t else
+    if ltb op E.TERM then firstRules f target (operandAt (op - E.FIRST) t) else
+    chainRule f kept target (op - E.TERM) t
+
+unfoldable pub statementRule : Tables → List ℕ → (op t : ℕ) → Broken
+statementRule f kept op t =
+    if ltb op E.LIMIT then registerRule f (t - 2) ⊕ operandRules f (operandAt (op - E.COMPARED) t) else
+    if ltb op E.BARE then operandRules f (operandAt (op - E.LIMIT) t) else
+    if eqb op E.CALL then callRules f kept t else
+    unbroken
+
+unfoldable pub eventRule : Tables → List ℕ → Cells → (target op t : ℕ) → Broken
+eventRule f kept c target op t =
+    if ltb op E.TARGET then declarationRule f kept c op t else
+    if ltb op E.COMPARED then assignmentRule f kept target op t else
+    statementRule f kept op t
+
+-- between two events: the protected registers; the cells; the target; the broken rules
+pub record Judging : Type 0 where
+  pub held : Held
+  pub cells : Cells
+  pub target : ℕ
+  pub broken : Broken
+
+unfoldable pub judgeEvent : Tables → (op t : ℕ) → Judging → Judging
+judgeEvent f op t j = record {
+  held = heldAfter f op t (j .held);
+  cells = cellsAfter f op t (j .cells);
+  target = targetAfter f op t (j .target);
+  broken = j .broken ⊕ eventRule f (j .held .kept) (j .cells) (j .target) op t;
+}
+
+-- before the first event
+abbrev pub beginning : Judging
+beginning = record { held = record { kept = protected; count = 0; counts = [] }; cells = cellsOf false 0 0; target = 0; broken = unbroken }
+
+-- ── as arrays ──
+
+abbrev pub heldOf : (kept counts : List ℕ) → Depths → Held
+heldOf kept counts d = record { kept = stackOf kept (d .kept); count = d .count; counts = stackOf counts (d .counts) }
+
+pub record Moved (h : Held) (kept counts : List ℕ) (d r : Depths) : Type 0 where
+  pub is : heldOf kept counts r ≡ h
+  pub deep : r .kept ≤ d .kept + 1
+  pub wide : r .counts ≤ d .counts + 1

@@ -1,0 +1,2 @@
+-- The rules along a tape.
+pub mod Along

@@ -1,0 +1,31 @@
+-- `label_at` does what the event asks: one law for each return. Assumes nothing.
+use borrow.Author.Needs.{needs}
+use borrow.Author.Tests.{eq-eqb, ne-eqb}
+use Rattle.labels.specs.Labelling.{labelAt}
+use Rattle.labels.proofs.label_at.Statement.{statement}
+use Rattle.labels.proofs.label_at.Tie as tie
+
+set-label-requires : tie.Need-set-label-requires
+set-label-requires c κs = search needs
+
+returns : tie.Need-returns
+unfolding labelAt
+returns c = rw (eq-eqb _ 12 (c .before .if1 .taken)) (c .set-label .ensures _)
+
+bind-requires : tie.Need-bind-requires
+bind-requires c κs = search needs
+
+same-length : tie.Need-same-length
+same-length c = search needs
+
+returns-2 : tie.Need-returns-2
+unfolding labelAt
+returns-2 c = rw (ne-eqb _ 12 (c .before .before .before .before .before .if1 .left), eq-eqb _ 52 (c .before .before .before .before .if2 .taken)) (c .before .before .bind .ensures)
+
+returns-3 : tie.Need-returns-3
+unfolding labelAt
+returns-3 c = rw (ne-eqb _ 12 (c .before .if1 .left), ne-eqb _ 52 (c .if2 .left))
+
+pub label-at-spec : {M : Type 1} → statement M
+label-at-spec =
+    tie.close (tie.spec set-label-requires returns bind-requires same-length returns-2 returns-3)

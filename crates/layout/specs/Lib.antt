@@ -1,0 +1,2 @@
+-- Layout and images along a tape.
+pub mod Along

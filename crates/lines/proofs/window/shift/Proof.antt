@@ -1,0 +1,56 @@
+-- `shift` stays in the room. Assumes nothing.
+use Prim.Native.Nat.{_≤_, _-_}
+use mathlib.Core.Path.{_≡_}
+use lib.ListN.{length}
+use borrow.Author.Needs.{needs}
+use Rattle.lines.proofs.window.shift.Statement.{statement}
+use Rattle.lines.proofs.window.shift.Tie as tie
+
+abbrev Inv-loop : tie.InvT-loop
+Inv-loop room₀ from to i₀ room i = (from ≤ i) × (i ≤ to) × (length room ≡ length room₀)
+
+abbrev μ-loop : tie.MeasureT-loop
+μ-loop room₀ from to i₀ room i = to - i
+
+loop-holds : tie.Need-loop-holds Inv-loop μ-loop
+loop-holds c = search needs
+
+slice-read-room : tie.Need-slice-read-room Inv-loop μ-loop
+slice-read-room c = search needs
+
+sub-room : tie.Need-sub-room Inv-loop μ-loop
+sub-room c = search needs
+
+slice-write-room : tie.Need-slice-write-room Inv-loop μ-loop
+slice-write-room c = search needs
+
+add-i : tie.Need-add-i Inv-loop μ-loop
+add-i c = search needs
+
+loop-less : tie.Need-loop-less Inv-loop μ-loop
+loop-less c = search needs
+
+loop-again : tie.Need-loop-again Inv-loop μ-loop
+loop-again c = search needs
+
+same-length : tie.Need-same-length Inv-loop μ-loop
+same-length c = search needs
+
+returns : tie.Need-returns Inv-loop μ-loop
+returns c = search needs
+
+pub shift-spec : {M : Type 1} → statement M
+shift-spec =
+    tie.close
+    (tie.spec
+    Inv-loop
+    μ-loop
+    loop-holds
+    slice-read-room
+    sub-room
+    slice-write-room
+    add-i
+    loop-less
+    loop-again
+    same-length
+    returns)

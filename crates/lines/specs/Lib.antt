@@ -1,0 +1,3 @@
+-- What the programs that compare read and write.
+pub mod Decimal
+pub mod Checksum

@@ -1,0 +1,48 @@
+-- Arrays of zeros, with the registers' names, are the tables before a text; so on the tape of a program the walk makes the definition's tables of it.
+use mathlib.Core.Path.{_≡_, refl, ap, ap₂, sym, _∙_}
+use mathlib.Core.List.{List, [], _∷_}
+use Prim.Native.Nat.{ℕ, zero, suc, _+_, _%_}
+use native.Mathlib.Omega.{arith}
+use lib.ListN.{getD, set, replicate}
+use Rattle.base.specs.Choose.{if_then_else_}
+use Rattle.names.specs.Search.{firstToken}
+use Rattle.grammar.specs.Tree.{Statement}
+use Rattle.grammar.specs.Derives.{isProgram}
+use Rattle.tape.specs.Tape.{tapeStatement}
+use Rattle.tape.specs.Pass.{pass}
+use Rattle.kinds.specs.Registers.{Registers, noRegisters}
+use Rattle.kinds.specs.Meaning.{Meaning, nothing}
+use Rattle.kinds.specs.Meanings.{Meant, meanStatement, dataBase, standard}
+use Rattle.tables.specs.Packed.{low, packed, numberIn, unpacked, meaningsFrom, meaningsOf, setOf, setsOf}
+use Rattle.tables.proofs.Sets.{set-none}
+use Rattle.meanings.specs.Along.{meanEvent, beginning}
+use Rattle.meanings.specs.Flat.{meantOf, registersNamed}
+use Rattle.meanings.proofs.Trees.{tabled, Small, meant-program}
+
+blank-means : (n t : ℕ) (bases : List ℕ) → meaningsFrom t (replicate n 0) bases ≡ replicate n nothing
+unfolding meaningsFrom unpacked
+blank-means zero t bases = refl
+blank-means (suc n) t bases = ap (λ (l : List Meaning). nothing ∷ l) (blank-means n (suc t) bases)
+
+blank-sets : (n : ℕ) → setsOf (replicate n 0) ≡ replicate n noRegisters
+unfolding setsOf
+blank-sets zero = refl
+blank-sets (suc n) = ap₂ (λ (x : Registers) (l : List Registers). x ∷ l) set-none (blank-sets n)
+
+named-means : (n : ℕ) (bases : List ℕ) → meaningsOf (registersNamed 16 (replicate (firstToken + n) 0)) bases ≡ standard n .means
+unfolding registersNamed meaningsFrom unpacked packed numberIn low
+named-means n bases =
+    let e : 17 + n ≡ suc (suc (suc (suc (suc (suc (suc (suc (suc (suc (suc (suc (suc (suc (suc (suc (suc n)))))))))))))))) = omega arith in
+    rw e (rw (blank-means n 17 bases))
+
+pub blank : (n : ℕ) (bases : List ℕ) → meantOf (registersNamed 16 (replicate (firstToken + n) 0)) bases (replicate (firstToken + n) 0) (replicate (firstToken + n) 0) 0 ≡ tabled (standard n)
+blank n bases =
+    ap₂ (λ (m : List Meaning) (w : List Registers). record { means = m; opens = replicate (firstToken + n) 0; written = w; cells = []; bases = 0 })
+    (named-means n bases) (blank-sets (firstToken + n))
+
+-- a program's tape, from arrays of zeros
+pub meant-text :
+    (kinds values found bases : List ℕ) (n : ℕ) → Small kinds values found → (x : Statement) (i j : ℕ) → isProgram kinds x i j
+    → pass (meanEvent kinds values found) (beginning (meantOf (registersNamed 16 (replicate (firstToken + n) 0)) bases (replicate (firstToken + n) 0) (replicate (firstToken + n) 0) 0)) (tapeStatement x []) .meant
+    ≡ tabled (meanStatement kinds values found x 0 dataBase (standard n))
+meant-text kinds values found bases n small x i j h = rw (blank n bases) (meant-program kinds values found small x i j h (standard n))

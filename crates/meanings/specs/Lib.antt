@@ -1,0 +1,3 @@
+-- Meanings along a tape, and their state as arrays.
+pub mod Along
+pub mod Flat

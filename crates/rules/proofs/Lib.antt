@@ -1,0 +1,3 @@
+-- Laws of the rules by packed meanings and parts by their tokens.
+pub mod Sorts
+pub mod Answers

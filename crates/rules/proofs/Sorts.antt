@@ -1,0 +1,141 @@
+-- What rules ask of a meaning, by its packed number.
+use mathlib.Core.Path.{_≡_, refl, sym, ap, ap₂, _∙_}
+use mathlib.Core.Bool.{Bool, true, false, _&&_, _||_, not}
+use mathlib.Core.List.{List, [], _∷_}
+use mathlib.Core.Option.{Option, none, some}
+use Prim.Native.Nat.{ℕ, zero, suc, _+_, _-_, _*_, _/_, _%_, _≤_, _<_}
+use native.Mathlib.Omega.{arith}
+use native.Mathlib.Nat.{mul-le-mul-right, div-add-mod'}
+use lib.Dec.{eqb, leb, ltb}
+use lib.ListN.{getD}
+use borrow.Author.Tests.{eqb-true, eq-eqb, ne-eqb, le-leb, lt-leb, ltb-true, ltb-false}
+use Rattle.base.specs.Choose.{choose, if_then_else_}
+use Rattle.base.specs.Lists.{member}
+use Rattle.base.proofs.Tests.{cases}
+use Rattle.grammar.specs.Tree.{Width, full, short}
+use Rattle.kinds.specs.Registers.{Registers, has, spares}
+use Rattle.kinds.specs.Meaning.{Meaning, nothing, register, cell, routine, Based, Cell, elementSize, isFull}
+use Rattle.kinds.specs.Tables.{Tables, meaningAt}
+use Rattle.kinds.specs.Rules.{isRegister, isZero, isShort, isBare, inside}
+use Rattle.tables.specs.Packed.{numberIn, basedIn, cellIn, widthIn, unpacked, meaningsOf, packedAt}
+use Rattle.tables.specs.Stacks.{stackOf}
+use Rattle.tables.proofs.Meanings.{by-sort, meaning-at}
+use Rattle.rules.specs.Parts.{subscriptAt, indexAt}
+use Rattle.rules.specs.Shows.{Names}
+
+-- ── what a name means ──
+
+module _ (n m : ℕ) (b : Based) where
+  pub as-register : m % 8 ≡ 1 → unpacked n m b ≡ register (numberIn m)
+  unfolding unpacked
+  as-register e = rw e
+
+  pub as-routine : m % 8 ≡ 2 → unpacked n m b ≡ routine (numberIn m)
+  unfolding unpacked
+  as-routine e = rw e
+
+  pub as-cell : 4 ≤ m % 8 → unpacked n m b ≡ cell (cellIn n m b)
+  unfolding unpacked
+  as-cell h = rw (ne-eqb (m % 8) 1 (λ e. omega arith), ne-eqb (m % 8) 2 (λ e. omega arith), le-leb 4 (m % 8) h)
+
+  pub register-sort : eqb (m % 8) 1 ≡ isRegister (unpacked n m b)
+  register-sort = by-sort (λ x. eqb (m % 8) 1 ≡ isRegister x) n m b (λ e. e) (λ e f. e) (λ e f g. e) (λ e f g. e)
+
+  pub zero-sort : (eqb (m % 8) 1 && eqb (numberIn m) 0) ≡ isZero (unpacked n m b)
+  zero-sort = by-sort (λ x. (eqb (m % 8) 1 && eqb (numberIn m) 0) ≡ isZero x) n m b (λ e. rw e) (λ e f. rw e) (λ e f g. rw e) (λ e f g. rw e)
+
+  pub short-sort : (leb 4 (m % 8) && not (eqb (m % 2) 0)) ≡ isShort (unpacked n m b)
+  short-sort =
+      by-sort (λ x. (leb 4 (m % 8) && not (eqb (m % 2) 0)) ≡ isShort x) n m b (λ e. rw (eqb-true (m % 8) 1 e)) (λ e f. rw (eqb-true (m % 8) 2 f))
+      (λ e f g. rw g (full-is (eqb (m % 2) 0))) (λ e f g. rw g)
+    where
+      full-is : (x : Bool) → not x ≡ not (isFull (if x then full else short))
+      full-is true = refl
+      full-is false = refl
+
+module _ {f : Tables} {found means : List ℕ} (s : Names f found means) where
+  -- the base of the name at token t
+  pub baseAt : ℕ → Based
+  baseAt t = basedIn (getD (s .bases) (getD found t 0) 0)
+
+  pub meant-at : (t m : ℕ) → m ≡ packedAt found means t → meaningAt f t ≡ unpacked (getD found t 0) m (baseAt t)
+  unfolding baseAt
+  meant-at t m e = rw (s .found-is, s .means-is, e) (meaning-at means (s .bases) (getD found t 0))
+
+-- ── parts ──
+
+pub bare-is : (shape t : ℕ) → not (eqb shape 1 || (eqb shape 2 || eqb shape 3)) ≡ isBare (subscriptAt shape t) (indexAt shape t)
+unfolding subscriptAt indexAt
+bare-is shape t = go (eqb shape 1) (eqb shape 2) (eqb shape 3)
+  where
+    go : (a b c : Bool) → not (a || (b || c)) ≡ isBare (if a || c then some (t + 2) else none) (if b then some (t + 2) else if c then some (t + 5) else none)
+    go true true true = refl
+    go true true false = refl
+    go true false true = refl
+    go true false false = refl
+    go false true true = refl
+    go false true false = refl
+    go false false true = refl
+    go false false false = refl
+
+pub size-is : (m : ℕ) (e : ℕ) → e ≡ (if eqb (m % 2) 0 then 4 else 2) → (e ≡ elementSize (widthIn m)) × ((2 ≤ e) × (e ≤ 4))
+size-is m e h = go (eqb (m % 2) 0) h
+  where
+    go : (x : Bool) → e ≡ (if x then 4 else 2) → (e ≡ elementSize (if x then full else short)) × ((2 ≤ e) × (e ≤ 4))
+    go true h = (h, (omega arith, omega arith))
+    go false h = (h, (omega arith, omega arith))
+
+-- a multiple of the size lies inside where so many elements stand before it
+within-is : (e v n : ℕ) → 0 < e → (eqb (v % e) 0 && ltb (v / e) n) ≡ (eqb (v % e) 0 && leb (v + e) (e * n))
+within-is e v n h = cases (eqb (v % e) 0) (λ z. rw z (go (eqb-true _ _ z))) (λ z. rw z)
+  where
+    go : v % e ≡ 0 → ltb (v / e) n ≡ leb (v + e) (e * n)
+    go z =
+        let q : v / e * e ≡ v = omega (arith, div-add-mod' v e) in
+        cases (ltb (v / e) n)
+        (λ x. rw (x, le-leb (v + e) (e * n) (omega (arith, q, mul-le-mul-right {m = suc (v / e)} {n = n} e (ltb-true _ _ x)))))
+        (λ x. rw (x, lt-leb (v + e) (e * n) (omega (arith, q, mul-le-mul-right {m = n} {n = v / e} e (ltb-false _ _ x)))))
+
+pub inside-is : (m e v k : ℕ) → e ≡ elementSize (widthIn m) → 2 ≤ e → k ≡ numberIn m → (n : ℕ) (b : Based) → (eqb (v % e) 0 && ltb (v / e) k) ≡ inside (cellIn n m b) v
+inside-is m e v k q h r n b = rw (← q, ← r) (within-is e v k (omega arith))
+
+-- ── protected registers ──
+
+one-less : (n : ℕ) → suc n - 1 ≡ n
+one-less n = omega arith
+
+module _ (a : List ℕ) (r : ℕ) where
+  kept-turn : (i : ℕ) → 0 < i → member r (stackOf a i) ≡ (eqb r (getD a (i - 1) 0) || member r (stackOf a (i - 1)))
+  unfolding stackOf
+  kept-turn zero h = absurd (omega arith)
+  kept-turn (suc i) h = rw (one-less i)
+
+module _ (a : List ℕ) (r : ℕ) {X : Bool} where
+  pub kept-hit : (i g : ℕ) → 0 < i → g ≡ getD a (i - 1) 0 → r ≡ g → X ≡ member r (stackOf a i) → X ≡ true
+  kept-hit i g h e q x = x ∙ (kept-turn a r i h ∙ rw (← e, eq-eqb r g q))
+
+  pub kept-miss : (i g : ℕ) → 0 < i → g ≡ getD a (i - 1) 0 → (r ≡ g → ⊥) → X ≡ member r (stackOf a i) → X ≡ member r (stackOf a (i - 1))
+  kept-miss i g h e q x = x ∙ (kept-turn a r i h ∙ rw (← e, ne-eqb r g q))
+
+  pub kept-none : (i : ℕ) → i ≤ 0 → X ≡ member r (stackOf a i) → X ≡ false
+  unfolding stackOf
+  kept-none zero h x = x
+  kept-none (suc i) h x = absurd (omega arith)
+
+module _ (a : List ℕ) (s : Registers) where
+  spares-turn : (i : ℕ) → 0 < i → spares s (stackOf a i) ≡ (not (has s (getD a (i - 1) 0)) && spares s (stackOf a (i - 1)))
+  unfolding stackOf spares
+  spares-turn zero h = absurd (omega arith)
+  spares-turn (suc i) h = rw (one-less i)
+
+module _ (a : List ℕ) (s : Registers) {X : Bool} where
+  pub spares-hit : (i g : ℕ) (y : Bool) → 0 < i → g ≡ getD a (i - 1) 0 → y ≡ has s g → y ≡ true → X ≡ spares s (stackOf a i) → X ≡ false
+  spares-hit i g y h e f q x = x ∙ (spares-turn a s i h ∙ rw (← e, ← f, q))
+
+  pub spares-miss : (i g : ℕ) (y : Bool) → 0 < i → g ≡ getD a (i - 1) 0 → y ≡ has s g → y ≡ false → X ≡ spares s (stackOf a i) → X ≡ spares s (stackOf a (i - 1))
+  spares-miss i g y h e f q x = x ∙ (spares-turn a s i h ∙ rw (← e, ← f, q))
+
+  pub spares-none : (i : ℕ) → i ≤ 0 → X ≡ spares s (stackOf a i) → X ≡ true
+  unfolding stackOf spares
+  spares-none zero h x = x
+  spares-none (suc i) h x = absurd (omega arith)

@@ -1,0 +1,85 @@
+-- `list` lays a number of each data head over the table by page. The invariant: the heads that are left, from the place reached, make the whole. Assumes nothing.
+use Prim.Native.Nat.{_-_, _*_, _≤_}
+use mathlib.Core.Path.{_≡_}
+use lib.ListN.{drop}
+use borrow.Author.Needs.{needs}
+use Rattle.objtext.proofs.Places.{after-program-place}
+use Rattle.objtext.proofs.Walks.{Walked, object-walk, program-short, data-short}
+use Rattle.objtext.specs.Reader.{afterProgram}
+use Rattle.runner.proofs.Loads.{walk-here, walk-on, list-on, list-end}
+use Rattle.runner.specs.Tables.{listed}
+use Rattle.runner.proofs.list.Statement.{statement}
+use Rattle.runner.proofs.list.Tie as tie
+
+abbrev Inv-loop : tie.InvT-loop
+Inv-loop t count o entries₀ at₀ k₀ entries at k =
+    (1 ≤ k) × (k ≤ count) × (count ≤ 4) × (at ≤ 11025 * k) × Walked (count - k) k (drop at t)
+    × (listed o (count - k) k (drop at t) entries ≡ listed o (count - 1) 1 (afterProgram t) entries₀)
+
+abbrev μ-loop : tie.MeasureT-loop
+μ-loop t count o entries₀ at₀ k₀ entries at k = count - k
+
+after-program-requires : tie.Need-after-program-requires Inv-loop μ-loop
+after-program-requires c κs = program-short 0 (c .before .args .t .now) (object-walk (c .before .args .count) (c .before .args .t .now) (c .before .pre .0) (c .before .pre .1) .program)
+
+loop-holds : tie.Need-loop-holds Inv-loop μ-loop
+loop-holds c =
+    (let w = object-walk (c .before .before .args .count) (c .before .before .args .t .now) (c .before .before .pre .0) (c .before .before .pre .1) in
+    let f = w .few in
+    (search needs, search needs, f, search needs, rw (c .after-program .ensures .0, after-program-place (c .before .before .args .t .now)) (w .data-segments), rw (c .after-program .ensures .0, after-program-place (c .before .before .args .t .now))))
+
+add-two-at : tie.Need-add-two-at Inv-loop μ-loop
+add-two-at c = search needs
+
+two-at-requires : tie.Need-two-at-requires Inv-loop μ-loop
+two-at-requires c κs = search needs
+
+add-entries : tie.Need-add-entries Inv-loop μ-loop
+add-entries c = search needs
+
+mul-entries : tie.Need-mul-entries Inv-loop μ-loop
+mul-entries c = search needs
+
+element-write-entries : tie.Need-element-write-entries Inv-loop μ-loop
+element-write-entries c = search needs
+
+after-data-requires : tie.Need-after-data-requires Inv-loop μ-loop
+after-data-requires c κs = (search needs, data-short (c .before .before .loop .k) (drop (c .before .before .loop .at) (c .before .before .before .before .before .args .t .now)) (walk-here (c .before .before .before .before .before .args .t .now) (c .before .before .before .before .before .args .count) (c .before .before .loop .k) (c .before .before .loop .at) (c .before .loop-test .taken) (c .before .before .loop .inv .4)))
+
+add-k : tie.Need-add-k Inv-loop μ-loop
+add-k c = search needs
+
+loop-less : tie.Need-loop-less Inv-loop μ-loop
+loop-less c = search needs
+
+loop-again : tie.Need-loop-again Inv-loop μ-loop
+loop-again c = (
+  search needs,
+  search needs,
+  search needs,
+  search needs,
+  rw (c .after-data .ensures .0) (walk-on (c .before .before .before .before .before .before .args .t .now) (c .before .before .before .before .before .before .args .count) (c .before .before .before .loop .k) (c .before .before .before .loop .at) (c .before .before .loop-test .taken) (c .before .before .before .loop .inv .4)),
+  rw (c .after-data .ensures .0, c .before .two-at .ensures .0) (list-on (c .before .before .before .before .before .before .args .t .now) (c .before .before .before .before .before .before .args .count) (c .before .before .before .loop .k) (c .before .before .before .loop .at) (c .before .before .loop-test .taken) (c .before .before .before .before .before .before .args .o) (c .before .before .before .loop .entries) (c .before .before .before .loop .inv .5)),
+)
+
+returns : tie.Need-returns Inv-loop μ-loop
+returns c = list-end (c .before .before .before .before .args .count) (c .before .loop .k) (c .loop-test .left) (c .before .before .before .before .args .o) (drop (c .before .loop .at) (c .before .before .before .before .args .t .now)) (c .before .loop .entries) (c .before .loop .inv .5)
+
+pub list-spec : {M : Type 1} → statement M
+list-spec =
+    tie.close
+    (tie.spec
+    Inv-loop
+    μ-loop
+    after-program-requires
+    loop-holds
+    add-two-at
+    two-at-requires
+    add-entries
+    mul-entries
+    element-write-entries
+    after-data-requires
+    add-k
+    loop-less
+    loop-again
+    returns)

@@ -1,0 +1,55 @@
+-- `use_register` uses the register that stands before or behind the event's token. Assumes nothing.
+use borrow.Author.Needs.{needs}
+use borrow.Author.Tests.{ne-eqb, lt-ltb, le-ltb}
+use Rattle.search.specs.Naming.{useRegister}
+use Rattle.search.proofs.use_register.Statement.{statement}
+use Rattle.search.proofs.use_register.Tie as tie
+
+add-use-name : tie.Need-add-use-name
+add-use-name c = search needs
+
+use-name-requires : tie.Need-use-name-requires
+use-name-requires c κs = search needs
+
+same-length : tie.Need-same-length
+same-length c = search needs
+
+returns : tie.Need-returns
+unfolding useRegister
+returns c = rw (c .before .before .before .before .if1 .taken) (c .before .before .use-name .ensures)
+
+returns-2 : tie.Need-returns-2
+unfolding useRegister
+returns-2 c = rw (ne-eqb _ 10 (c .before .if1 .left), lt-ltb _ 34 (c .if2 .taken))
+
+two-before-requires : tie.Need-two-before-requires
+two-before-requires c κs = search needs
+
+use-name-requires-2 : tie.Need-use-name-requires-2
+use-name-requires-2 c κs = search needs
+
+same-length-2 : tie.Need-same-length-2
+same-length-2 c = search needs
+
+returns-3 : tie.Need-returns-3
+unfolding useRegister
+returns-3 c = rw (ne-eqb _ 10 (c .before .before .before .before .before .before .before .if1 .left), le-ltb _ 34 (c .before .before .before .before .before .before .if2 .left), lt-ltb _ 39 (c .before .before .before .before .before .if3 .taken), ← (c .before .before .before .two-before .ensures)) (c .before .before .use-name2 .ensures)
+
+returns-4 : tie.Need-returns-4
+unfolding useRegister
+returns-4 c = rw (ne-eqb _ 10 (c .before .before .if1 .left), le-ltb _ 34 (c .before .if2 .left), le-ltb _ 39 (c .if3 .left))
+
+pub use-register-spec : {M : Type 1} → statement M
+use-register-spec =
+    tie.close
+    (tie.spec
+    add-use-name
+    use-name-requires
+    same-length
+    returns
+    returns-2
+    two-before-requires
+    use-name-requires-2
+    same-length-2
+    returns-3
+    returns-4)

@@ -1,0 +1,82 @@
+-- Naming along a tape: which declaration each name means, event by event.
+use mathlib.Core.List.{List, [], _∷_}
+use mathlib.Core.Bool.{Bool, _||_}
+use Prim.Native.Nat.{ℕ, _+_, _-_, _%_}
+use lib.Dec.{eqb, ltb}
+use Rattle.base.specs.Choose.{if_then_else_}
+use Rattle.tape.specs.Events as E
+use Rattle.names.specs.Broken.{unbroken}
+use Rattle.names.specs.Search.{enter, around}
+use Rattle.names.specs.Names.{Named, useName, declareName}
+
+-- between two events: the open blocks with what is declared in them so far, innermost first; what has been found
+pub record Naming : Type 0 where
+  pub blocks : List (List ℕ)
+  pub named : Named
+
+-- ── blocks ──
+
+abbrev pub outer : List (List ℕ) → List (List ℕ)
+outer [] = []
+outer (b ∷ bs) = bs
+
+-- the events that declare the name at their token
+abbrev pub declaring : ℕ → Bool
+declaring op = eqb op E.REGISTER || (eqb op E.ITEM || eqb op E.PROCEDURE)
+
+unfoldable pub blocksAfter : ℕ → ℕ → List (List ℕ) → List (List ℕ)
+blocksAfter op t bs =
+    if eqb op E.BLOCK then [] ∷ bs else
+    if eqb op E.END-BLOCK then outer bs else
+    if declaring op then enter t bs else
+    bs
+
+-- ── uses ──
+
+-- how the name at an event's token is used: alone, with a subscript, with an index, with both; 4 where no name stands there or its event uses none
+unfoldable pub shapeOf : ℕ → ℕ
+shapeOf op =
+    if eqb op E.BASE then 0 else
+    if eqb op E.CALL then 0 else
+    if ltb op E.TARGET then 4 else
+    if ltb op E.ABS then (op - E.TARGET) % 4 else
+    if ltb op E.FIRST then 4 else
+    if ltb op E.BARE then (op - E.FIRST) % 5 else
+    4
+
+-- how far behind its name an index stands: name(name), name(number)(name)
+abbrev pub indexAfter : ℕ → ℕ
+indexAfter shape = if eqb shape 2 then 2 else 5
+
+module _ (keys : List ℕ) where
+  unfoldable pub declareAt : ℕ → ℕ → List (List ℕ) → Named → Named
+  declareAt op t bs s = if declaring op then declareName keys t bs s else s
+
+  -- the register that stands before or behind an event's token: a procedure's return register, or what a condition compares
+  unfoldable pub useRegister : ℕ → ℕ → List (List ℕ) → Named → Named
+  useRegister op t bs s =
+      if eqb op E.PROCEDURE then useName keys (t + 2) bs s else
+      if ltb op E.COMPARED then s else
+      if ltb op E.LIMIT then useName keys (t - 2) bs s else
+      s
+
+  unfoldable pub usePlace : ℕ → ℕ → List (List ℕ) → Named → Named
+  usePlace shape t bs s =
+      if ltb 3 shape then s else
+      if ltb shape 2 then useName keys t bs s else
+      useName keys (t + indexAfter shape) bs (useName keys t bs s)
+
+  unfoldable pub useAt : ℕ → ℕ → List (List ℕ) → Named → Named
+  useAt op t bs s = usePlace (shapeOf op) t bs (useRegister op t bs s)
+
+  -- ── an event ──
+
+  unfoldable pub nameOp : ℕ → ℕ → Naming → Naming
+  nameOp op t m = record {
+    blocks = blocksAfter op t (m .blocks);
+    named = useAt op t (blocksAfter op t (m .blocks)) (declareAt op t (m .blocks) (m .named));
+  }
+
+-- before the first event, with whatever the list of what is found holds
+abbrev pub beginning : List ℕ → Naming
+beginning found = record { blocks = around; named = record { found = found; count = 0; broken = unbroken } }

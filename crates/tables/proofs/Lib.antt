@@ -1,0 +1,4 @@
+-- Laws of packed meanings, sets of registers and stacks.
+pub mod Meanings
+pub mod Sets
+pub mod Stacks

@@ -1,0 +1,23 @@
+use native.Mathlib.Omega.{arith}
+use Rattle.tables.specs.Packed.{low, packed}
+use borrow.Author.Needs.{needs}
+use Rattle.tables.proofs.packed.Statement.{statement}
+use Rattle.tables.proofs.packed.Tie as tie
+use Rattle.tables.proofs.packed.Reads as reads
+use Rattle.tables.proofs.packed.Lts as lts
+
+-- src/lib.rt:26:5
+mul-result : tie.Need-mul-result
+mul-result c = search needs
+
+-- src/lib.rt:26:5
+add-result : tie.Need-add-result
+add-result c = search needs
+
+-- src/lib.rt:22:1
+returns : tie.Need-returns
+unfolding low packed
+returns c = omega arith
+
+pub packed-spec : {M : Type 1} → statement M
+packed-spec = tie.close (tie.spec mul-result add-result returns)

@@ -1,0 +1,111 @@
+// What names mean and which registers procedures write, in arrays of numbers by token.
+ghost use mathlib.Core.Path.{_≡_};
+ghost use Prim.Native.Nat.{_+_, _-_, _<_};
+ghost use lib.ListN.{getD, length};
+ghost use Rattle.base.specs.Choose.{if_then_else_};
+ghost use Rattle.kinds.specs.Registers.{noRegisters, addRegister, union, has as hasOf};
+ghost use Rattle.tables.specs.Packed.{low, packed as packedOf, numberIn, registerIn, longIn, packedAt, setOf, setsOf, grown};
+ghost use Rattle.tables.specs.Stacks.{stackOf, top as topOf};
+use arrays::get;
+use arrays::key;
+use arrays::put;
+
+pub const REGISTER: u64 = 1;
+
+pub const ROUTINE: u64 = 2;
+
+pub const CELL: u64 = 4;
+
+pub const ARRAY: u64 = 6;
+
+// A number of 32 bits and what it is a number of.
+pub fn packed(sort: u64, v: u64) -> u64
+    requires { ⌜ sort < 8 ⌝ }
+    ensures { λ r. ⌜ r ≡ packedOf sort v ⌝ }
+{
+    v % 4294967296 * 8 + sort
+}
+
+pub fn number(m: u64) -> u64
+    ensures { λ r. ⌜ (r ≡ numberIn m) × (r < 4294967296) ⌝ }
+{
+    m / 8 % 4294967296
+}
+
+// The register that a packed meaning is, or 0.
+pub fn register(m: u64) -> u64
+    ensures { λ r. ⌜ (r ≡ registerIn m) × (r < 4294967296) ⌝ }
+{
+    if m % 8 == REGISTER {
+        return number(m);
+    }
+    0
+}
+
+// A register or a cell of full width.
+pub fn is_long(m: u64) -> bool
+    ensures { λ r. ⌜ r ≡ longIn m ⌝ }
+{
+    (m % 8 == REGISTER) | ((CELL <= m % 8) & (m % 2 == 0))
+}
+
+// What the name at token t means.
+pub fn meaning(found: &[u32], means: &[u64], t: usize) -> u64
+    ensures { λ r. ⌜ r ≡ packedAt (now (found .entry)) (now (means .entry)) t ⌝ }
+{
+    key(means, get(found, t))
+}
+
+// ── sets of registers ──
+
+// A set with one register more; only 0 to 15 are in sets.
+fn with_register(m: usize, r: u64) -> usize
+    requires { ⌜ m < 4294967296 ⌝ }
+    ensures { λ x. ⌜ (setOf x ≡ addRegister r (setOf m)) × (x < 4294967296) ⌝ }
+{
+    if r < 16 {
+        return m | (1usize << r);
+    }
+    m
+}
+
+// The text of procedure own writes register r.
+pub fn write(written: &mut [u32], own: usize, r: u64)
+    ensures { λ _. ⌜ setsOf (now (written .exit)) ≡ grown own (addRegister r) (setsOf (now (written .entry))) ⌝ }
+{
+    put(written, own, with_register(get(written, own), r));
+}
+
+// The text of procedure own writes all that the text of p writes.
+pub fn write_text(written: &mut [u32], own: usize, p: usize)
+    ensures { λ _. ⌜ setsOf (now (written .exit)) ≡ grown own (union (getD (setsOf (now (written .entry))) p noRegisters)) (setsOf (now (written .entry))) ⌝ }
+{
+    put(written, own, get(written, p) | get(written, own));
+}
+
+pub fn has(set: usize, r: u64) -> bool
+    ensures { λ x. ⌜ x ≡ hasOf (setOf set) r ⌝ }
+{
+    if r < 16 {
+        return (set >> r) % 2 == 1;
+    }
+    false
+}
+
+// ── stacks ──
+
+// The newest of the first d elements, or 0.
+pub fn top(a: &[u64], d: usize) -> u64
+    ensures { λ r. ⌜ r ≡ topOf (stackOf (now (a .entry)) d) ⌝ }
+{
+    if d == 0 {
+        return 0;
+    }
+    key(a, d - 1)
+}
+
+pub fn less(d: usize) -> usize
+    ensures { λ r. ⌜ r ≡ d - 1 ⌝ }
+{
+    if d == 0 { 0 } else { d - 1 }
+}

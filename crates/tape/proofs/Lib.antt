@@ -1,0 +1,3 @@
+-- Laws of passes over a tape.
+pub mod Pass
+pub mod Skips
