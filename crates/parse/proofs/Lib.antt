@@ -1,2 +1,3 @@
 pub mod Rules
 pub mod Texts
+pub mod Cases

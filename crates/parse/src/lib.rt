@@ -1,9 +1,9 @@
 // Programs: document 01, "Grammar", the rules that hold a statement. A text that is a program is written out as a tape of events in the order of reading
 // (crate `tape`); one that is none is refused, 4 or 5, at a token.
-ghost use Prim.Native.Nat.{_≤_, _<_};
-ghost use lib.ListN.{length};
 ghost use mathlib.Core.Path.{_≡_};
-ghost use lib.ListN.{take, getD};
+ghost use Prim.Native.Nat.{_≤_, _<_};
+ghost use lib.ListN.{length, take, getD};
+ghost use Rattle.phrases.specs.Reads.{TOKEN-LIMIT};
 ghost use Rattle.grammar.specs.Grammar as G;
 ghost use Rattle.parse.specs.Programs.{Parsed, judgedBy, judged, verdictOf};
 use phrases::tokens::Answer;
@@ -20,7 +20,7 @@ const NESTING: usize = 64;
 
 // "program = block @.", whose first token is given: how many events are on the tape and the token after the program, or the refusal's token.
 pub fn program(kinds: &[u8], first: usize, tape: &mut [u32]) -> Answer
-    requires { ⌜ (first ≤ length (now kinds)) × ((length (now kinds) ≤ length (now tape)) × (length (now kinds) < 67108864)) ⌝ }
+    requires { ⌜ (first ≤ length (now kinds)) × ((length (now kinds) ≤ length (now tape)) × (length (now kinds) < TOKEN-LIMIT)) ⌝ }
     ensures { λ r. ⌜ Parsed (now (kinds .entry)) first (now (tape .exit)) r ⌝ }
 {
     if kind_at(kinds, first) != kinds::BEGIN {
@@ -58,7 +58,7 @@ fn place_at(places: &[u32], i: usize) -> usize
 
 // The first n tokens, by their kinds and places.
 fn judge(kinds: &[u8], places: &[u32], n: usize, tape: &mut [u32]) -> Verdict
-    requires { ⌜ (n ≤ length (now kinds)) × ((n ≤ length (now places)) × ((n ≤ length (now tape)) × (n < 67108864))) ⌝ }
+    requires { ⌜ (n ≤ length (now kinds)) × ((n ≤ length (now places)) × ((n ≤ length (now tape)) × (n < TOKEN-LIMIT))) ⌝ }
     ensures { λ r. ⌜ verdictOf r ≡ judgedBy (take n (now (places .entry))) (G.program (take n (now (kinds .entry))) 0) ⌝ }
 {
     let r = program(&kinds[..n], 0, tape);
@@ -72,14 +72,17 @@ fn judge(kinds: &[u8], places: &[u32], n: usize, tape: &mut [u32]) -> Verdict
     Verdict::TooDeep(place)
 }
 
+// A text of 32,768 bytes has at most a token a byte, and the end.
+const ROOM: usize = 32769;
+
 // Is this text grammatical?
 pub fn grammatical(src: &[u8]) -> Verdict
     ensures { λ r. ⌜ verdictOf r ≡ judged (now (src .entry)) ⌝ }
 {
-    let mut kinds = [0u8; 32769];
-    let mut values = [0u64; 32769];
-    let mut places = [0u32; 32769];
-    let mut tape = [0u32; 32769];
+    let mut kinds = [0u8; ROOM];
+    let mut values = [0u64; ROOM];
+    let mut places = [0u32; ROOM];
+    let mut tape = [0u32; ROOM];
     let read = token::read_tokens(src, &mut kinds, &mut values, &mut places);
     match read {
         token::Tokens::Read(n) => judge(&kinds, &places, n, &mut tape),

@@ -95,7 +95,7 @@ pub fn operand(kinds: &[u8], i: usize, op: u32, tape: &mut [u32], p: usize) -> A
 fn is_relation(k: u8) -> bool
     ensures { λ r. ⌜ r ≡ member k G.relations ⌝ }
 {
-    ((35 <= k) & (k <= 37)) | ((43 <= k) & (k <= 45))
+    ((kinds::AT_MOST <= k) & (k <= kinds::UNEQUAL)) | ((kinds::EQUAL <= k) & (k <= kinds::MORE))
 }
 
 fn begins_condition(k: u8) -> bool
@@ -126,7 +126,9 @@ pub fn condition(kinds: &[u8], i: usize, tape: &mut [u32], p: usize) -> Answer
 fn is_operator(k: u8) -> bool
     ensures { λ r. ⌜ r ≡ member k G.operators ⌝ }
 {
-    ((24 <= k) & (k <= 26)) | ((29 <= k) & (k <= 32)) | ((38 <= k) & (k <= 42))
+    ((kinds::AND <= k) & (k <= kinds::XOR))
+        | ((kinds::SHLL <= k) & (k <= kinds::SHRA))
+        | ((kinds::ADD_LOGICAL <= k) & (k <= kinds::TIMES))
 }
 
 fn terms(kinds: &[u8], i: usize, tape: &mut [u32], p: usize) -> Answer

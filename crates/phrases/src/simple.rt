@@ -153,7 +153,7 @@ pub fn opens(k: u8) -> bool
 pub fn declares(k: u8) -> bool
     ensures { λ r. ⌜ r ≡ member k G.declarators ⌝ }
 {
-    ((16 <= k) & (k <= 19)) | (k == kinds::SEGMENT)
+    ((kinds::INTEGER <= k) & (k <= kinds::ARRAY)) | (k == kinds::SEGMENT)
 }
 
 // Whether the token at `at` is an ELSE that goes with a true part of the kind k.

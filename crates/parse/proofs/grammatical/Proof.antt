@@ -1,84 +1,62 @@
-use Rattle.parse.proofs.Texts.{few, judged-read, judged-refused, some-room}
-use denote.Ref.{now}
+-- `grammatical` reads the tokens into lists with room for any text, and then the program. Assumes nothing.
 use mathlib.Core.Path.{refl}
-use native.Mathlib.Omega.{arith}
+use denote.Ref.{now}
 use borrow.Author.Needs.{needs}
+use Rattle.parse.proofs.Texts.{few, judged-read, judged-refused, some-room}
 use Rattle.parse.proofs.grammatical.Statement.{statement}
 use Rattle.parse.proofs.grammatical.Tie as tie
-use Rattle.parse.proofs.grammatical.Reads as reads
-use Rattle.parse.proofs.grammatical.Lts as lts
-use Rattle.parse.proofs.judge.Reads as judge-reads
-use Rattle.token.proofs.read_tokens.Reads as read-tokens-reads
 
--- src/lib.rt:83:40
 slice-aggregate-read-tokens : tie.Need-slice-aggregate-read-tokens
 slice-aggregate-read-tokens c = search needs
 
--- src/lib.rt:83:52
 slice-aggregate-read-tokens-2 : tie.Need-slice-aggregate-read-tokens-2
 slice-aggregate-read-tokens-2 c = search needs
 
--- src/lib.rt:83:65
 slice-aggregate-read-tokens-3 : tie.Need-slice-aggregate-read-tokens-3
 slice-aggregate-read-tokens-3 c = search needs
 
--- src/lib.rt:83:9
 read-tokens-requires : tie.Need-read-tokens-requires
 read-tokens-requires c κs = search needs
 
--- src/lib.rt:85:29
 enum-known-read : tie.Need-enum-known-read
 enum-known-read c = search needs
 
--- src/lib.rt:85:41
 slice-aggregate-judge : tie.Need-slice-aggregate-judge
 slice-aggregate-judge c = search needs
 
--- src/lib.rt:85:49
 slice-aggregate-judge-2 : tie.Need-slice-aggregate-judge-2
 slice-aggregate-judge-2 c = search needs
 
--- src/lib.rt:85:61
 slice-aggregate-judge-3 : tie.Need-slice-aggregate-judge-3
 slice-aggregate-judge-3 c = search needs
 
--- src/lib.rt:85:35
 judge-requires : tie.Need-judge-requires
 judge-requires c κs = let h = few (now (c .before .before .before .before .before .before .before .before .before .before .before .before .before .before .args .src)) (c .before .before .before .before .before .before .before .before .before .read-tokens .ensures) (search needs) (c .before .before .before .before .read .given .1) in search needs
 
--- src/lib.rt:86:35
 enum-told : tie.Need-enum-told
 enum-told c = search needs
 
--- src/lib.rt:87:32
 enum-known-read-2 : tie.Need-enum-known-read-2
 enum-known-read-2 c = search needs
 
--- src/lib.rt:88:35
 enum-known-read-3 : tie.Need-enum-known-read-3
 enum-known-read-3 c = search needs
 
--- src/lib.rt:89:29
 enum-known-read-4 : tie.Need-enum-known-read-4
 enum-known-read-4 c = search needs
 
--- src/lib.rt:76:1
 returns : tie.Need-returns
 returns c = judged-read (now (c .before .before .before .before .before .before .before .before .before .before .before .before .before .before .before .before .args .src)) (c .before .before .before .before .before .before .before .before .before .before .before .read-tokens .ensures) (search needs) (c .before .before .before .before .before .before .read .given .1) (search needs) (search needs) (c .before .judge .ensures)
 
--- src/lib.rt:76:1
 returns-2 : tie.Need-returns-2
 returns-2 c = judged-refused (now (c .before .before .before .before .before .before .before .before .before .before .args .src)) (c .before .before .before .before .before .read-tokens .ensures) (search needs) 0 (c .enum-told .given .1) refl
 
--- src/lib.rt:76:1
 returns-3 : tie.Need-returns-3
 returns-3 c = judged-refused (now (c .before .before .before .before .before .before .before .before .before .before .before .args .src)) (c .before .before .before .before .before .before .read-tokens .ensures) (search needs) 1 (c .before .read2 .given .1) refl
 
--- src/lib.rt:76:1
 returns-4 : tie.Need-returns-4
 returns-4 c = judged-refused (now (c .before .before .before .before .before .before .before .before .before .before .before .args .src)) (c .before .before .before .before .before .before .read-tokens .ensures) (search needs) 2 (c .before .read3 .given .1) refl
 
--- src/lib.rt:76:1
 returns-5 : tie.Need-returns-5
 returns-5 c = absurd (some-room (now (c .before .before .before .before .before .before .before .before .before .before .before .args .src)) (c .before .before .before .before .before .before .read-tokens .ensures) (search needs) (c .before .read4 .given .1))
 

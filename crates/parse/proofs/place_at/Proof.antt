@@ -1,30 +1,24 @@
-use denote.Ref.{now}
-use Rattle.base.proofs.Parts.{past-get}
+-- `place_at` looks a place up, and gives 0 past the last. Assumes nothing.
 use mathlib.Core.Path.{refl}
 use native.Mathlib.Omega.{arith}
+use denote.Ref.{now}
 use borrow.Author.Needs.{needs}
+use Rattle.base.proofs.Parts.{past-get}
 use Rattle.parse.proofs.place_at.Statement.{statement}
 use Rattle.parse.proofs.place_at.Tie as tie
-use Rattle.parse.proofs.place_at.Reads as reads
-use Rattle.parse.proofs.place_at.Lts as lts
 
--- src/lib.rt:54:16
 mul-result : tie.Need-mul-result
 mul-result c = search needs
 
--- src/lib.rt:54:16
 shared-slice-read-result : tie.Need-shared-slice-read-result
 shared-slice-read-result c = search needs
 
--- src/lib.rt:54:16
 cast-result : tie.Need-cast-result
 cast-result c = omega (arith, c .shared-slice-known .given (c .before .before .args .i))
 
--- src/lib.rt:54:9
 returns : tie.Need-returns
 returns c = search needs
 
--- src/lib.rt:50:1
 returns-2 : tie.Need-returns-2
 returns-2 c = past-get (now (c .before .args .places)) (c .before .args .i) _ 0 refl (search needs)
 

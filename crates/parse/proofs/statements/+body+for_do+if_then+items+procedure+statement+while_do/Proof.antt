@@ -1,3 +1,5 @@
+-- The rules that hold statements meet their contracts: one recursion, whose measure is the room for constructs. Along a block the invariant is that whatever
+-- reads the rest from where the loop stands reads the whole. Assumes nothing.
 use Rattle.parse.proofs.Rules.{if-parts, while-parts, for-parts, no-construct, too-deep, construct, procedure-too-deep, procedure-parts, label-kinds, label-inside, item-is, else-inside}
 use Rattle.phrases.proofs.Choices.{among, is-token}
 use Rattle.parse.specs.Parts.{tapeBlock}
@@ -128,1045 +130,317 @@ abbrev while-do-below : ℕ → In 2 while-do-kinds.ps
 while-do-below t =
     and 2 while-do-kinds.ps (falls 2 while-do-kinds.ps _<_ μ-while-do t) while-do.Pre
 
+abbrev body-calls : ℕ → body-lts.Claims
+body-calls t = (
+  kind-at-reads.Asked,
+  kind-at-reads.Learnt,
+  declares-reads.Asked,
+  declares-reads.Learnt,
+  declaration-reads.Asked,
+  declaration-reads.Learnt,
+  wanted-reads.Asked,
+  wanted-reads.Learnt,
+  items-below t,
+  items.Post,
+  procedure-below t,
+  procedure.Post,
+)
+
+abbrev for-do-calls : ℕ → for-do-lts.Claims
+for-do-calls t = (
+  control-reads.Asked,
+  control-reads.Learnt,
+  limit-reads.Asked,
+  limit-reads.Learnt,
+  statement-below t,
+  statement′.Post,
+  write-reads.Asked,
+  write-reads.Learnt,
+  read-reads.Asked,
+  read-reads.Learnt,
+)
+
+abbrev if-then-calls : ℕ → if-then-lts.Claims
+if-then-calls t = (
+  head-reads.Asked,
+  head-reads.Learnt,
+  kind-at-reads.Asked,
+  kind-at-reads.Learnt,
+  statement-below t,
+  statement′.Post,
+  has-else-reads.Asked,
+  has-else-reads.Learnt,
+  write-reads.Asked,
+  write-reads.Learnt,
+  read-reads.Asked,
+  read-reads.Learnt,
+)
+
+abbrev items-calls : ℕ → items-lts.Claims
+items-calls t = (
+  kind-at-reads.Asked,
+  kind-at-reads.Learnt,
+  has-label-reads.Asked,
+  has-label-reads.Learnt,
+  write-reads.Asked,
+  write-reads.Learnt,
+  statement-below t,
+  statement′.Post,
+  wanted-reads.Asked,
+  wanted-reads.Learnt,
+  read-reads.Asked,
+  read-reads.Learnt,
+)
+
+abbrev procedure-calls : ℕ → procedure-lts.Claims
+procedure-calls t = (
+  refused-reads.Asked,
+  refused-reads.Learnt,
+  procedure-head-reads.Asked,
+  procedure-head-reads.Learnt,
+  statement-below t,
+  statement′.Post,
+  write-reads.Asked,
+  write-reads.Learnt,
+  read-reads.Asked,
+  read-reads.Learnt,
+)
+
+abbrev statement-calls : ℕ → statement-lts.Claims
+statement-calls t = (
+  kind-at-reads.Asked,
+  kind-at-reads.Learnt,
+  opens-reads.Asked,
+  opens-reads.Learnt,
+  refused-reads.Asked,
+  refused-reads.Learnt,
+  write-reads.Asked,
+  write-reads.Learnt,
+  body-below t,
+  body.Post,
+  if-then-below t,
+  if-then.Post,
+  while-do-below t,
+  while-do.Post,
+  for-do-below t,
+  for-do.Post,
+  simple-reads.Asked,
+  simple-reads.Learnt,
+)
+
+abbrev while-do-calls : ℕ → while-do-lts.Claims
+while-do-calls t = (
+  write-reads.Asked,
+  write-reads.Learnt,
+  head-reads.Asked,
+  head-reads.Learnt,
+  statement-below t,
+  statement′.Post,
+  read-reads.Asked,
+  read-reads.Learnt,
+)
+
 abbrev body-Inv-loop : body-lts.InvT-loop
 body-Inv-loop kinds i t room tape₀ p at₀ q₀ tape at q = Going (tapeBlock tapeBody t) (bodyOf (G.statement room) (procedureOf room)) kinds i p tape₀ tape at q
 
 abbrev body-μ-loop : body-lts.MeasureT-loop
 body-μ-loop kinds i t room tape₀ p at₀ q₀ tape at q = length kinds - at
 
--- src/statements.rt:140:5
-body-loop-holds : (t : ℕ) → body-lts.Need-loop-holds (
-  kind-at-reads.Asked,
-  kind-at-reads.Learnt,
-  declares-reads.Asked,
-  declares-reads.Learnt,
-  declaration-reads.Asked,
-  declaration-reads.Learnt,
-  wanted-reads.Asked,
-  wanted-reads.Learnt,
-  items-below t,
-  items.Post,
-  procedure-below t,
-  procedure.Post,
-) (body-at t) body.Post body-Inv-loop body-μ-loop
+body-loop-holds : (t : ℕ) → body-lts.Need-loop-holds (body-calls t) (body-at t) body.Post body-Inv-loop body-μ-loop
 body-loop-holds t c = starts (search needs)
 
--- src/statements.rt:141:13
-body-kind-at-requires : (t : ℕ) → body-lts.Need-kind-at-requires (
-  kind-at-reads.Asked,
-  kind-at-reads.Learnt,
-  declares-reads.Asked,
-  declares-reads.Learnt,
-  declaration-reads.Asked,
-  declaration-reads.Learnt,
-  wanted-reads.Asked,
-  wanted-reads.Learnt,
-  items-below t,
-  items.Post,
-  procedure-below t,
-  procedure.Post,
-) (body-at t) body.Post body-Inv-loop body-μ-loop
+body-kind-at-requires : (t : ℕ) → body-lts.Need-kind-at-requires (body-calls t) (body-at t) body.Post body-Inv-loop body-μ-loop
 body-kind-at-requires t c κs = search needs
 
--- src/statements.rt:142:12
-body-declares-requires : (t : ℕ) → body-lts.Need-declares-requires (
-  kind-at-reads.Asked,
-  kind-at-reads.Learnt,
-  declares-reads.Asked,
-  declares-reads.Learnt,
-  declaration-reads.Asked,
-  declaration-reads.Learnt,
-  wanted-reads.Asked,
-  wanted-reads.Learnt,
-  items-below t,
-  items.Post,
-  procedure-below t,
-  procedure.Post,
-) (body-at t) body.Post body-Inv-loop body-μ-loop
+body-declares-requires : (t : ℕ) → body-lts.Need-declares-requires (body-calls t) (body-at t) body.Post body-Inv-loop body-μ-loop
 body-declares-requires t c κs = search needs
 
--- src/statements.rt:143:17
-body-declaration-requires : (t : ℕ) → body-lts.Need-declaration-requires (
-  kind-at-reads.Asked,
-  kind-at-reads.Learnt,
-  declares-reads.Asked,
-  declares-reads.Learnt,
-  declaration-reads.Asked,
-  declaration-reads.Learnt,
-  wanted-reads.Asked,
-  wanted-reads.Learnt,
-  items-below t,
-  items.Post,
-  procedure-below t,
-  procedure.Post,
-) (body-at t) body.Post body-Inv-loop body-μ-loop
+body-declaration-requires : (t : ℕ) → body-lts.Need-declaration-requires (body-calls t) (body-at t) body.Post body-Inv-loop body-μ-loop
 body-declaration-requires t c κs = search needs
 
--- src/statements.rt:145:17
-body-same-length : (t : ℕ) → body-lts.Need-same-length (
-  kind-at-reads.Asked,
-  kind-at-reads.Learnt,
-  declares-reads.Asked,
-  declares-reads.Learnt,
-  declaration-reads.Asked,
-  declaration-reads.Learnt,
-  wanted-reads.Asked,
-  wanted-reads.Learnt,
-  items-below t,
-  items.Post,
-  procedure-below t,
-  procedure.Post,
-) (body-at t) body.Post body-Inv-loop body-μ-loop
+body-same-length : (t : ℕ) → body-lts.Need-same-length (body-calls t) (body-at t) body.Post body-Inv-loop body-μ-loop
 body-same-length t c = search needs
 
--- src/statements.rt:145:17
-body-returns : (t : ℕ) → body-lts.Need-returns (
-  kind-at-reads.Asked,
-  kind-at-reads.Learnt,
-  declares-reads.Asked,
-  declares-reads.Learnt,
-  declaration-reads.Asked,
-  declaration-reads.Learnt,
-  wanted-reads.Asked,
-  wanted-reads.Learnt,
-  items-below t,
-  items.Post,
-  procedure-below t,
-  procedure.Post,
-) (body-at t) body.Post body-Inv-loop body-μ-loop
+body-returns : (t : ℕ) → body-lts.Need-returns (body-calls t) (body-at t) body.Post body-Inv-loop body-μ-loop
 unfolding bodyOf andThen look
 body-returns t c = record { read = leaves (c .before .before .before .before .before .before .before .before .before .loop .inv) (λ f. rw (among declarators (c .before .before .before .before .before .before .before .before .kind-at .ensures) (c .before .before .before .before .before .before .before .declares .ensures) (c .before .before .before .before .before .before .if1 .taken)) (stops _ (c .before .before .before .before .declaration .ensures .read) (c .if2 .taken))); low = search needs }
 
--- src/statements.rt:147:17
-body-wanted-requires : (t : ℕ) → body-lts.Need-wanted-requires (
-  kind-at-reads.Asked,
-  kind-at-reads.Learnt,
-  declares-reads.Asked,
-  declares-reads.Learnt,
-  declaration-reads.Asked,
-  declaration-reads.Learnt,
-  wanted-reads.Asked,
-  wanted-reads.Learnt,
-  items-below t,
-  items.Post,
-  procedure-below t,
-  procedure.Post,
-) (body-at t) body.Post body-Inv-loop body-μ-loop
+body-wanted-requires : (t : ℕ) → body-lts.Need-wanted-requires (body-calls t) (body-at t) body.Post body-Inv-loop body-μ-loop
 body-wanted-requires t c κs = search needs
 
--- src/statements.rt:149:17
-body-same-length-2 : (t : ℕ) → body-lts.Need-same-length-2 (
-  kind-at-reads.Asked,
-  kind-at-reads.Learnt,
-  declares-reads.Asked,
-  declares-reads.Learnt,
-  declaration-reads.Asked,
-  declaration-reads.Learnt,
-  wanted-reads.Asked,
-  wanted-reads.Learnt,
-  items-below t,
-  items.Post,
-  procedure-below t,
-  procedure.Post,
-) (body-at t) body.Post body-Inv-loop body-μ-loop
+body-same-length-2 : (t : ℕ) → body-lts.Need-same-length-2 (body-calls t) (body-at t) body.Post body-Inv-loop body-μ-loop
 body-same-length-2 t c = search needs
 
--- src/statements.rt:149:17
-body-returns-2 : (t : ℕ) → body-lts.Need-returns-2 (
-  kind-at-reads.Asked,
-  kind-at-reads.Learnt,
-  declares-reads.Asked,
-  declares-reads.Learnt,
-  declaration-reads.Asked,
-  declaration-reads.Learnt,
-  wanted-reads.Asked,
-  wanted-reads.Learnt,
-  items-below t,
-  items.Post,
-  procedure-below t,
-  procedure.Post,
-) (body-at t) body.Post body-Inv-loop body-μ-loop
+body-returns-2 : (t : ℕ) → body-lts.Need-returns-2 (body-calls t) (body-at t) body.Post body-Inv-loop body-μ-loop
 unfolding bodyOf andThen look
 body-returns-2 t c = record { read = leaves (c .before .before .before .before .before .before .before .before .before .before .before .before .loop .inv) (λ f. rw (among declarators (c .before .before .before .before .before .before .before .before .before .before .before .kind-at .ensures) (c .before .before .before .before .before .before .before .before .before .before .declares .ensures) (c .before .before .before .before .before .before .before .before .before .if1 .taken)) (goes _ (c .before .before .before .before .before .before .before .declaration .ensures .read) (c .before .before .before .if2 .left) (λ d w. stops _ (c .before .before .wanted .ensures .read) (c .if3 .taken)))); low = search needs }
 
--- src/statements.rt:140:5
-body-loop-less : (t : ℕ) → body-lts.Need-loop-less (
-  kind-at-reads.Asked,
-  kind-at-reads.Learnt,
-  declares-reads.Asked,
-  declares-reads.Learnt,
-  declaration-reads.Asked,
-  declaration-reads.Learnt,
-  wanted-reads.Asked,
-  wanted-reads.Learnt,
-  items-below t,
-  items.Post,
-  procedure-below t,
-  procedure.Post,
-) (body-at t) body.Post body-Inv-loop body-μ-loop
+body-loop-less : (t : ℕ) → body-lts.Need-loop-less (body-calls t) (body-at t) body.Post body-Inv-loop body-μ-loop
 body-loop-less t c = search needs
 
--- src/statements.rt:140:5
-body-loop-again : (t : ℕ) → body-lts.Need-loop-again (
-  kind-at-reads.Asked,
-  kind-at-reads.Learnt,
-  declares-reads.Asked,
-  declares-reads.Learnt,
-  declaration-reads.Asked,
-  declaration-reads.Learnt,
-  wanted-reads.Asked,
-  wanted-reads.Learnt,
-  items-below t,
-  items.Post,
-  procedure-below t,
-  procedure.Post,
-) (body-at t) body.Post body-Inv-loop body-μ-loop
+body-loop-again : (t : ℕ) → body-lts.Need-loop-again (body-calls t) (body-at t) body.Post body-Inv-loop body-μ-loop
 unfolding bodyOf andThen look tapeBody
 body-loop-again t c = turn (c .before .before .before .before .before .before .before .before .before .before .before .before .loop .inv) (search needs) (search needs) (search needs) (search needs) (λ f s after r. rw (among declarators (c .before .before .before .before .before .before .before .before .before .before .before .kind-at .ensures) (c .before .before .before .before .before .before .before .before .before .before .declares .ensures) (c .before .before .before .before .before .before .before .before .before .if1 .taken)) (goes _ (c .before .before .before .before .before .before .before .declaration .ensures .read) (c .before .before .before .if2 .left) (λ d w. goes _ (c .before .before .wanted .ensures .read) (c .if3 .left) (λ u e. gives (T.declare d) (λ b l k. l k ∙ w _) r))))
 
--- src/statements.rt:156:13
-body-items-requires : (t : ℕ) → body-lts.Need-items-requires (
-  kind-at-reads.Asked,
-  kind-at-reads.Learnt,
-  declares-reads.Asked,
-  declares-reads.Learnt,
-  declaration-reads.Asked,
-  declaration-reads.Learnt,
-  wanted-reads.Asked,
-  wanted-reads.Learnt,
-  items-below t,
-  items.Post,
-  procedure-below t,
-  procedure.Post,
-) (body-at t) body.Post body-Inv-loop body-μ-loop
+body-items-requires : (t : ℕ) → body-lts.Need-items-requires (body-calls t) (body-at t) body.Post body-Inv-loop body-μ-loop
 body-items-requires t c κs = search needs
 
--- src/statements.rt:156:13
-body-same-length-3 : (t : ℕ) → body-lts.Need-same-length-3 (
-  kind-at-reads.Asked,
-  kind-at-reads.Learnt,
-  declares-reads.Asked,
-  declares-reads.Learnt,
-  declaration-reads.Asked,
-  declaration-reads.Learnt,
-  wanted-reads.Asked,
-  wanted-reads.Learnt,
-  items-below t,
-  items.Post,
-  procedure-below t,
-  procedure.Post,
-) (body-at t) body.Post body-Inv-loop body-μ-loop
+body-same-length-3 : (t : ℕ) → body-lts.Need-same-length-3 (body-calls t) (body-at t) body.Post body-Inv-loop body-μ-loop
 body-same-length-3 t c = search needs
 
--- src/statements.rt:156:13
-body-returns-3 : (t : ℕ) → body-lts.Need-returns-3 (
-  kind-at-reads.Asked,
-  kind-at-reads.Learnt,
-  declares-reads.Asked,
-  declares-reads.Learnt,
-  declaration-reads.Asked,
-  declaration-reads.Learnt,
-  wanted-reads.Asked,
-  wanted-reads.Learnt,
-  items-below t,
-  items.Post,
-  procedure-below t,
-  procedure.Post,
-) (body-at t) body.Post body-Inv-loop body-μ-loop
+body-returns-3 : (t : ℕ) → body-lts.Need-returns-3 (body-calls t) (body-at t) body.Post body-Inv-loop body-μ-loop
 unfolding bodyOf andThen look tapeBody
 body-returns-3 t c = record { read = leaves (c .before .before .before .before .before .before .before .before .loop .inv) (λ f. rw (among declarators (c .before .before .before .before .before .before .before .kind-at .ensures) (c .before .before .before .before .before .before .declares .ensures) (c .before .before .before .before .before .if1 .left), ne-eqb _ _ (other (c .before .before .before .before .before .before .before .kind-at .ensures .is) (c .before .before .before .before .if4 .taken))) (gives T.items (λ b l. l) (c .before .before .items .ensures .read))); low = search needs }
 
--- src/statements.rt:158:13
-body-procedure-requires : (t : ℕ) → body-lts.Need-procedure-requires (
-  kind-at-reads.Asked,
-  kind-at-reads.Learnt,
-  declares-reads.Asked,
-  declares-reads.Learnt,
-  declaration-reads.Asked,
-  declaration-reads.Learnt,
-  wanted-reads.Asked,
-  wanted-reads.Learnt,
-  items-below t,
-  items.Post,
-  procedure-below t,
-  procedure.Post,
-) (body-at t) body.Post body-Inv-loop body-μ-loop
+body-procedure-requires : (t : ℕ) → body-lts.Need-procedure-requires (body-calls t) (body-at t) body.Post body-Inv-loop body-μ-loop
 body-procedure-requires t c κs = search needs
 
--- src/statements.rt:160:13
-body-same-length-4 : (t : ℕ) → body-lts.Need-same-length-4 (
-  kind-at-reads.Asked,
-  kind-at-reads.Learnt,
-  declares-reads.Asked,
-  declares-reads.Learnt,
-  declaration-reads.Asked,
-  declaration-reads.Learnt,
-  wanted-reads.Asked,
-  wanted-reads.Learnt,
-  items-below t,
-  items.Post,
-  procedure-below t,
-  procedure.Post,
-) (body-at t) body.Post body-Inv-loop body-μ-loop
+body-same-length-4 : (t : ℕ) → body-lts.Need-same-length-4 (body-calls t) (body-at t) body.Post body-Inv-loop body-μ-loop
 body-same-length-4 t c = search needs
 
--- src/statements.rt:160:13
-body-returns-4 : (t : ℕ) → body-lts.Need-returns-4 (
-  kind-at-reads.Asked,
-  kind-at-reads.Learnt,
-  declares-reads.Asked,
-  declares-reads.Learnt,
-  declaration-reads.Asked,
-  declaration-reads.Learnt,
-  wanted-reads.Asked,
-  wanted-reads.Learnt,
-  items-below t,
-  items.Post,
-  procedure-below t,
-  procedure.Post,
-) (body-at t) body.Post body-Inv-loop body-μ-loop
+body-returns-4 : (t : ℕ) → body-lts.Need-returns-4 (body-calls t) (body-at t) body.Post body-Inv-loop body-μ-loop
 unfolding bodyOf andThen look
 body-returns-4 t c = record { read = leaves (c .before .before .before .before .before .before .before .before .before .before .loop .inv) (λ f. rw (among declarators (c .before .before .before .before .before .before .before .before .before .kind-at .ensures) (c .before .before .before .before .before .before .before .before .declares .ensures) (c .before .before .before .before .before .before .before .if1 .left), eq-eqb _ _ (same (c .before .before .before .before .before .before .before .before .before .kind-at .ensures .is) (c .before .before .before .before .before .before .if4 .left))) (stops _ (c .before .before .before .before .procedure .ensures .read) (c .if5 .taken))); low = search needs }
 
--- src/statements.rt:162:13
-body-wanted-requires-2 : (t : ℕ) → body-lts.Need-wanted-requires-2 (
-  kind-at-reads.Asked,
-  kind-at-reads.Learnt,
-  declares-reads.Asked,
-  declares-reads.Learnt,
-  declaration-reads.Asked,
-  declaration-reads.Learnt,
-  wanted-reads.Asked,
-  wanted-reads.Learnt,
-  items-below t,
-  items.Post,
-  procedure-below t,
-  procedure.Post,
-) (body-at t) body.Post body-Inv-loop body-μ-loop
+body-wanted-requires-2 : (t : ℕ) → body-lts.Need-wanted-requires-2 (body-calls t) (body-at t) body.Post body-Inv-loop body-μ-loop
 body-wanted-requires-2 t c κs = search needs
 
--- src/statements.rt:164:13
-body-same-length-5 : (t : ℕ) → body-lts.Need-same-length-5 (
-  kind-at-reads.Asked,
-  kind-at-reads.Learnt,
-  declares-reads.Asked,
-  declares-reads.Learnt,
-  declaration-reads.Asked,
-  declaration-reads.Learnt,
-  wanted-reads.Asked,
-  wanted-reads.Learnt,
-  items-below t,
-  items.Post,
-  procedure-below t,
-  procedure.Post,
-) (body-at t) body.Post body-Inv-loop body-μ-loop
+body-same-length-5 : (t : ℕ) → body-lts.Need-same-length-5 (body-calls t) (body-at t) body.Post body-Inv-loop body-μ-loop
 body-same-length-5 t c = search needs
 
--- src/statements.rt:164:13
-body-returns-5 : (t : ℕ) → body-lts.Need-returns-5 (
-  kind-at-reads.Asked,
-  kind-at-reads.Learnt,
-  declares-reads.Asked,
-  declares-reads.Learnt,
-  declaration-reads.Asked,
-  declaration-reads.Learnt,
-  wanted-reads.Asked,
-  wanted-reads.Learnt,
-  items-below t,
-  items.Post,
-  procedure-below t,
-  procedure.Post,
-) (body-at t) body.Post body-Inv-loop body-μ-loop
+body-returns-5 : (t : ℕ) → body-lts.Need-returns-5 (body-calls t) (body-at t) body.Post body-Inv-loop body-μ-loop
 unfolding bodyOf andThen look
 body-returns-5 t c = record { read = leaves (c .before .before .before .before .before .before .before .before .before .before .before .before .before .loop .inv) (λ f. rw (among declarators (c .before .before .before .before .before .before .before .before .before .before .before .before .kind-at .ensures) (c .before .before .before .before .before .before .before .before .before .before .before .declares .ensures) (c .before .before .before .before .before .before .before .before .before .before .if1 .left), eq-eqb _ _ (same (c .before .before .before .before .before .before .before .before .before .before .before .before .kind-at .ensures .is) (c .before .before .before .before .before .before .before .before .before .if4 .left))) (goes _ (c .before .before .before .before .before .before .before .procedure .ensures .read) (c .before .before .before .if5 .left) (λ d w. stops _ (c .before .before .wanted2 .ensures .read) (c .if6 .taken)))); low = search needs }
 
--- src/statements.rt:140:5
-body-loop-less-2 : (t : ℕ) → body-lts.Need-loop-less-2 (
-  kind-at-reads.Asked,
-  kind-at-reads.Learnt,
-  declares-reads.Asked,
-  declares-reads.Learnt,
-  declaration-reads.Asked,
-  declaration-reads.Learnt,
-  wanted-reads.Asked,
-  wanted-reads.Learnt,
-  items-below t,
-  items.Post,
-  procedure-below t,
-  procedure.Post,
-) (body-at t) body.Post body-Inv-loop body-μ-loop
+body-loop-less-2 : (t : ℕ) → body-lts.Need-loop-less-2 (body-calls t) (body-at t) body.Post body-Inv-loop body-μ-loop
 body-loop-less-2 t c = search needs
 
--- src/statements.rt:140:5
-body-loop-again-2 : (t : ℕ) → body-lts.Need-loop-again-2 (
-  kind-at-reads.Asked,
-  kind-at-reads.Learnt,
-  declares-reads.Asked,
-  declares-reads.Learnt,
-  declaration-reads.Asked,
-  declaration-reads.Learnt,
-  wanted-reads.Asked,
-  wanted-reads.Learnt,
-  items-below t,
-  items.Post,
-  procedure-below t,
-  procedure.Post,
-) (body-at t) body.Post body-Inv-loop body-μ-loop
+body-loop-again-2 : (t : ℕ) → body-lts.Need-loop-again-2 (body-calls t) (body-at t) body.Post body-Inv-loop body-μ-loop
 unfolding bodyOf andThen look tapeBody
 body-loop-again-2 t c = turn (c .before .before .before .before .before .before .before .before .before .before .before .before .before .loop .inv) (search needs) (search needs) (search needs) (search needs) (λ f s after r. rw (among declarators (c .before .before .before .before .before .before .before .before .before .before .before .before .kind-at .ensures) (c .before .before .before .before .before .before .before .before .before .before .before .declares .ensures) (c .before .before .before .before .before .before .before .before .before .before .if1 .left), eq-eqb _ _ (same (c .before .before .before .before .before .before .before .before .before .before .before .before .kind-at .ensures .is) (c .before .before .before .before .before .before .before .before .before .if4 .left))) (goes _ (c .before .before .before .before .before .before .before .procedure .ensures .read) (c .before .before .before .if5 .left) (λ d w. goes _ (c .before .before .wanted2 .ensures .read) (c .if6 .left) (λ u e. gives (T.procedure (d .name) (d .return) (d .body)) (λ b l k. l k ∙ w _) r))))
 
--- src/statements.rt:98:28
-for-do-add-control : (t : ℕ) → for-do-lts.Need-add-control (
-  control-reads.Asked,
-  control-reads.Learnt,
-  limit-reads.Asked,
-  limit-reads.Learnt,
-  statement-below t,
-  statement′.Post,
-  write-reads.Asked,
-  write-reads.Learnt,
-  read-reads.Asked,
-  read-reads.Learnt,
-) (for-do-at t) for-do.Post
+for-do-add-control : (t : ℕ) → for-do-lts.Need-add-control (for-do-calls t) (for-do-at t) for-do.Post
 for-do-add-control t c = search needs
 
--- src/statements.rt:98:9
-for-do-control-requires : (t : ℕ) → for-do-lts.Need-control-requires (
-  control-reads.Asked,
-  control-reads.Learnt,
-  limit-reads.Asked,
-  limit-reads.Learnt,
-  statement-below t,
-  statement′.Post,
-  write-reads.Asked,
-  write-reads.Learnt,
-  read-reads.Asked,
-  read-reads.Learnt,
-) (for-do-at t) for-do.Post
+for-do-control-requires : (t : ℕ) → for-do-lts.Need-control-requires (for-do-calls t) (for-do-at t) for-do.Post
 for-do-control-requires t c κs = search needs
 
--- src/statements.rt:100:9
-for-do-same-length : (t : ℕ) → for-do-lts.Need-same-length (
-  control-reads.Asked,
-  control-reads.Learnt,
-  limit-reads.Asked,
-  limit-reads.Learnt,
-  statement-below t,
-  statement′.Post,
-  write-reads.Asked,
-  write-reads.Learnt,
-  read-reads.Asked,
-  read-reads.Learnt,
-) (for-do-at t) for-do.Post
+for-do-same-length : (t : ℕ) → for-do-lts.Need-same-length (for-do-calls t) (for-do-at t) for-do.Post
 for-do-same-length t c = search needs
 
--- src/statements.rt:100:9
-for-do-returns : (t : ℕ) → for-do-lts.Need-returns (
-  control-reads.Asked,
-  control-reads.Learnt,
-  limit-reads.Asked,
-  limit-reads.Learnt,
-  statement-below t,
-  statement′.Post,
-  write-reads.Asked,
-  write-reads.Learnt,
-  read-reads.Asked,
-  read-reads.Learnt,
-) (for-do-at t) for-do.Post
+for-do-returns : (t : ℕ) → for-do-lts.Need-returns (for-do-calls t) (for-do-at t) for-do.Post
 for-do-returns t c = record { read = since (omega arith) (along (for-parts (G.statement (c .before .before .before .before .before .before .before .before .args .room)) (c .before .before .before .before .before .before .before .before .args .i) _ _) (stops _ (c .before .before .before .before .control .ensures .0 .read) (c .if1 .taken))); low = search needs }
 
--- src/statements.rt:102:9
-for-do-limit-requires : (t : ℕ) → for-do-lts.Need-limit-requires (
-  control-reads.Asked,
-  control-reads.Learnt,
-  limit-reads.Asked,
-  limit-reads.Learnt,
-  statement-below t,
-  statement′.Post,
-  write-reads.Asked,
-  write-reads.Learnt,
-  read-reads.Asked,
-  read-reads.Learnt,
-) (for-do-at t) for-do.Post
+for-do-limit-requires : (t : ℕ) → for-do-lts.Need-limit-requires (for-do-calls t) (for-do-at t) for-do.Post
 for-do-limit-requires t c κs = search needs
 
--- src/statements.rt:104:9
-for-do-same-length-2 : (t : ℕ) → for-do-lts.Need-same-length-2 (
-  control-reads.Asked,
-  control-reads.Learnt,
-  limit-reads.Asked,
-  limit-reads.Learnt,
-  statement-below t,
-  statement′.Post,
-  write-reads.Asked,
-  write-reads.Learnt,
-  read-reads.Asked,
-  read-reads.Learnt,
-) (for-do-at t) for-do.Post
+for-do-same-length-2 : (t : ℕ) → for-do-lts.Need-same-length-2 (for-do-calls t) (for-do-at t) for-do.Post
 for-do-same-length-2 t c = search needs
 
--- src/statements.rt:104:9
-for-do-returns-2 : (t : ℕ) → for-do-lts.Need-returns-2 (
-  control-reads.Asked,
-  control-reads.Learnt,
-  limit-reads.Asked,
-  limit-reads.Learnt,
-  statement-below t,
-  statement′.Post,
-  write-reads.Asked,
-  write-reads.Learnt,
-  read-reads.Asked,
-  read-reads.Learnt,
-) (for-do-at t) for-do.Post
+for-do-returns-2 : (t : ℕ) → for-do-lts.Need-returns-2 (for-do-calls t) (for-do-at t) for-do.Post
 for-do-returns-2 t c = record { read = since (omega arith) (along (for-parts (G.statement (c .before .before .before .before .before .before .before .before .before .before .before .before .before .before .args .room)) (c .before .before .before .before .before .before .before .before .before .before .before .before .before .before .args .i) _ _) (goes _ (c .before .before .before .before .before .before .before .before .before .before .control .ensures .0 .read) (c .before .before .before .before .before .before .if1 .left) (λ a w. stops _ (c .before .before .before .before .limit .ensures .0 .read) (c .if2 .taken)))); low = search needs }
 
--- src/statements.rt:106:9
-for-do-statement-requires : (t : ℕ) → for-do-lts.Need-statement-requires (
-  control-reads.Asked,
-  control-reads.Learnt,
-  limit-reads.Asked,
-  limit-reads.Learnt,
-  statement-below t,
-  statement′.Post,
-  write-reads.Asked,
-  write-reads.Learnt,
-  read-reads.Asked,
-  read-reads.Learnt,
-) (for-do-at t) for-do.Post
+for-do-statement-requires : (t : ℕ) → for-do-lts.Need-statement-requires (for-do-calls t) (for-do-at t) for-do.Post
 for-do-statement-requires t c κs = search needs
 
--- src/statements.rt:108:9
-for-do-same-length-3 : (t : ℕ) → for-do-lts.Need-same-length-3 (
-  control-reads.Asked,
-  control-reads.Learnt,
-  limit-reads.Asked,
-  limit-reads.Learnt,
-  statement-below t,
-  statement′.Post,
-  write-reads.Asked,
-  write-reads.Learnt,
-  read-reads.Asked,
-  read-reads.Learnt,
-) (for-do-at t) for-do.Post
+for-do-same-length-3 : (t : ℕ) → for-do-lts.Need-same-length-3 (for-do-calls t) (for-do-at t) for-do.Post
 for-do-same-length-3 t c = search needs
 
--- src/statements.rt:108:9
-for-do-returns-3 : (t : ℕ) → for-do-lts.Need-returns-3 (
-  control-reads.Asked,
-  control-reads.Learnt,
-  limit-reads.Asked,
-  limit-reads.Learnt,
-  statement-below t,
-  statement′.Post,
-  write-reads.Asked,
-  write-reads.Learnt,
-  read-reads.Asked,
-  read-reads.Learnt,
-) (for-do-at t) for-do.Post
+for-do-returns-3 : (t : ℕ) → for-do-lts.Need-returns-3 (for-do-calls t) (for-do-at t) for-do.Post
 for-do-returns-3 t c = record { read = since (omega arith) (along (for-parts (G.statement (c .before .before .before .before .before .before .before .before .before .before .before .before .before .before .before .before .before .before .before .before .args .room)) (c .before .before .before .before .before .before .before .before .before .before .before .before .before .before .before .before .before .before .before .before .args .i) _ _) (goes _ (c .before .before .before .before .before .before .before .before .before .before .before .before .before .before .before .before .control .ensures .0 .read) (c .before .before .before .before .before .before .before .before .before .before .before .before .if1 .left) (λ a w. goes _ (c .before .before .before .before .before .before .before .before .before .before .limit .ensures .0 .read) (c .before .before .before .before .before .before .if2 .left) (λ l x. stops _ (c .before .before .before .before .statement .ensures .read) (c .if3 .taken))))); low = let o = c .before .before .before .before .before .before .before .before .before .before .before .before .before .before .before .before .before .before .before .before .pre in let a = c .before .before .before .before .before .before .before .before .before .before .before .before .before .before .before .before .control in let l = c .before .before .before .before .before .before .before .before .before .before .limit in let s = c .before .before .before .before .statement in omega arith }
 
--- src/statements.rt:110:5
-for-do-write-requires : (t : ℕ) → for-do-lts.Need-write-requires (
-  control-reads.Asked,
-  control-reads.Learnt,
-  limit-reads.Asked,
-  limit-reads.Learnt,
-  statement-below t,
-  statement′.Post,
-  write-reads.Asked,
-  write-reads.Learnt,
-  read-reads.Asked,
-  read-reads.Learnt,
-) (for-do-at t) for-do.Post
+for-do-write-requires : (t : ℕ) → for-do-lts.Need-write-requires (for-do-calls t) (for-do-at t) for-do.Post
 for-do-write-requires t c κs = let o = c .before .before .before .before .before .before .before .before .before .before .before .before .before .before .before .before .before .before .before .before .before .pre in let a = c .before .before .before .before .before .before .before .before .before .before .before .before .before .before .before .before .before .control in let l = c .before .before .before .before .before .before .before .before .before .before .before .limit in let s = c .before .before .before .before .before .statement in omega arith
 
--- src/statements.rt:111:16
-for-do-add-read : (t : ℕ) → for-do-lts.Need-add-read (
-  control-reads.Asked,
-  control-reads.Learnt,
-  limit-reads.Asked,
-  limit-reads.Learnt,
-  statement-below t,
-  statement′.Post,
-  write-reads.Asked,
-  write-reads.Learnt,
-  read-reads.Asked,
-  read-reads.Learnt,
-) (for-do-at t) for-do.Post
+for-do-add-read : (t : ℕ) → for-do-lts.Need-add-read (for-do-calls t) (for-do-at t) for-do.Post
 for-do-add-read t c = let o = c .before .before .before .before .before .before .before .before .before .before .before .before .before .before .before .before .before .before .before .before .before .before .before .before .before .pre in let a = c .before .before .before .before .before .before .before .before .before .before .before .before .before .before .before .before .before .before .before .before .before .control in let l = c .before .before .before .before .before .before .before .before .before .before .before .before .before .before .before .limit in let s = c .before .before .before .before .before .before .before .before .before .statement in omega arith
 
--- src/statements.rt:111:5
-for-do-read-requires : (t : ℕ) → for-do-lts.Need-read-requires (
-  control-reads.Asked,
-  control-reads.Learnt,
-  limit-reads.Asked,
-  limit-reads.Learnt,
-  statement-below t,
-  statement′.Post,
-  write-reads.Asked,
-  write-reads.Learnt,
-  read-reads.Asked,
-  read-reads.Learnt,
-) (for-do-at t) for-do.Post
+for-do-read-requires : (t : ℕ) → for-do-lts.Need-read-requires (for-do-calls t) (for-do-at t) for-do.Post
 for-do-read-requires t c κs = search needs
 
--- src/statements.rt:94:1
-for-do-same-length-4 : (t : ℕ) → for-do-lts.Need-same-length-4 (
-  control-reads.Asked,
-  control-reads.Learnt,
-  limit-reads.Asked,
-  limit-reads.Learnt,
-  statement-below t,
-  statement′.Post,
-  write-reads.Asked,
-  write-reads.Learnt,
-  read-reads.Asked,
-  read-reads.Learnt,
-) (for-do-at t) for-do.Post
+for-do-same-length-4 : (t : ℕ) → for-do-lts.Need-same-length-4 (for-do-calls t) (for-do-at t) for-do.Post
 for-do-same-length-4 t c = let x = c .before .before .before .before .write in let o = c .before .before .before .before .before .before .before .before .before .before .before .before .before .before .before .before .before .before .before .before .before .before .before .before .before .before .pre in let a = c .before .before .before .before .before .before .before .before .before .before .before .before .before .before .before .before .before .before .before .before .before .before .control in let l = c .before .before .before .before .before .before .before .before .before .before .before .before .before .before .before .before .limit in let s = c .before .before .before .before .before .before .before .before .before .before .statement in omega arith
 
--- src/statements.rt:94:1
-for-do-returns-4 : (t : ℕ) → for-do-lts.Need-returns-4 (
-  control-reads.Asked,
-  control-reads.Learnt,
-  limit-reads.Asked,
-  limit-reads.Learnt,
-  statement-below t,
-  statement′.Post,
-  write-reads.Asked,
-  write-reads.Learnt,
-  read-reads.Asked,
-  read-reads.Learnt,
-) (for-do-at t) for-do.Post
+for-do-returns-4 : (t : ℕ) → for-do-lts.Need-returns-4 (for-do-calls t) (for-do-at t) for-do.Post
 unfolding tapeStatement
 for-do-returns-4 t c = record { read = since (omega arith) (along (for-parts (G.statement (c .before .before .before .before .before .before .before .before .before .before .before .before .before .before .before .before .before .before .before .before .before .before .before .before .before .before .args .room)) (c .before .before .before .before .before .before .before .before .before .before .before .before .before .before .before .before .before .before .before .before .before .before .before .before .before .before .args .i) _ _) (goes _ (c .before .before .before .before .before .before .before .before .before .before .before .before .before .before .before .before .before .before .before .before .before .before .control .ensures .0 .read) (c .before .before .before .before .before .before .before .before .before .before .before .before .before .before .before .before .before .before .if1 .left) (λ a w. goes _ (c .before .before .before .before .before .before .before .before .before .before .before .before .before .before .before .before .limit .ensures .0 .read) (c .before .before .before .before .before .before .before .before .before .before .before .before .if2 .left) (λ l x. goes _ (c .before .before .before .before .before .before .before .before .before .before .statement .ensures .read) (c .before .before .before .before .before .before .if3 .left) (λ s y. done (c .read .ensures) (omega arith) (omega arith) (λ k. c .before .before .before .before .write .ensures k ∙ (y _ ∙ (x _ ∙ w _)))))))); low = let x = c .read .ensures in let o = c .before .before .before .before .before .before .before .before .before .before .before .before .before .before .before .before .before .before .before .before .before .before .before .before .before .before .pre in let a = c .before .before .before .before .before .before .before .before .before .before .before .before .before .before .before .before .before .before .before .before .before .before .control in let l = c .before .before .before .before .before .before .before .before .before .before .before .before .before .before .before .before .limit in let s = c .before .before .before .before .before .before .before .before .before .before .statement in omega arith }
 
--- src/statements.rt:55:25
-if-then-add-head : (t : ℕ) → if-then-lts.Need-add-head (
-  head-reads.Asked,
-  head-reads.Learnt,
-  kind-at-reads.Asked,
-  kind-at-reads.Learnt,
-  statement-below t,
-  statement′.Post,
-  has-else-reads.Asked,
-  has-else-reads.Learnt,
-  write-reads.Asked,
-  write-reads.Learnt,
-  read-reads.Asked,
-  read-reads.Learnt,
-) (if-then-at t) if-then.Post
+if-then-add-head : (t : ℕ) → if-then-lts.Need-add-head (if-then-calls t) (if-then-at t) if-then.Post
 if-then-add-head t c = search needs
 
--- src/statements.rt:55:9
-if-then-head-requires : (t : ℕ) → if-then-lts.Need-head-requires (
-  head-reads.Asked,
-  head-reads.Learnt,
-  kind-at-reads.Asked,
-  kind-at-reads.Learnt,
-  statement-below t,
-  statement′.Post,
-  has-else-reads.Asked,
-  has-else-reads.Learnt,
-  write-reads.Asked,
-  write-reads.Learnt,
-  read-reads.Asked,
-  read-reads.Learnt,
-) (if-then-at t) if-then.Post
+if-then-head-requires : (t : ℕ) → if-then-lts.Need-head-requires (if-then-calls t) (if-then-at t) if-then.Post
 if-then-head-requires t c κs = search needs
 
--- src/statements.rt:57:9
-if-then-same-length : (t : ℕ) → if-then-lts.Need-same-length (
-  head-reads.Asked,
-  head-reads.Learnt,
-  kind-at-reads.Asked,
-  kind-at-reads.Learnt,
-  statement-below t,
-  statement′.Post,
-  has-else-reads.Asked,
-  has-else-reads.Learnt,
-  write-reads.Asked,
-  write-reads.Learnt,
-  read-reads.Asked,
-  read-reads.Learnt,
-) (if-then-at t) if-then.Post
+if-then-same-length : (t : ℕ) → if-then-lts.Need-same-length (if-then-calls t) (if-then-at t) if-then.Post
 if-then-same-length t c = search needs
 
--- src/statements.rt:57:9
-if-then-returns : (t : ℕ) → if-then-lts.Need-returns (
-  head-reads.Asked,
-  head-reads.Learnt,
-  kind-at-reads.Asked,
-  kind-at-reads.Learnt,
-  statement-below t,
-  statement′.Post,
-  has-else-reads.Asked,
-  has-else-reads.Learnt,
-  write-reads.Asked,
-  write-reads.Learnt,
-  read-reads.Asked,
-  read-reads.Learnt,
-) (if-then-at t) if-then.Post
+if-then-returns : (t : ℕ) → if-then-lts.Need-returns (if-then-calls t) (if-then-at t) if-then.Post
 if-then-returns t c = record { read = since (omega arith) (along (if-parts (G.statement (c .before .before .before .before .before .before .before .before .args .room)) (c .before .before .before .before .before .before .before .before .args .i) _ _) (stops _ (c .before .before .before .before .head .ensures .0 .read) (c .if1 .taken))); low = search needs }
 
--- src/statements.rt:59:9
-if-then-kind-at-requires : (t : ℕ) → if-then-lts.Need-kind-at-requires (
-  head-reads.Asked,
-  head-reads.Learnt,
-  kind-at-reads.Asked,
-  kind-at-reads.Learnt,
-  statement-below t,
-  statement′.Post,
-  has-else-reads.Asked,
-  has-else-reads.Learnt,
-  write-reads.Asked,
-  write-reads.Learnt,
-  read-reads.Asked,
-  read-reads.Learnt,
-) (if-then-at t) if-then.Post
+if-then-kind-at-requires : (t : ℕ) → if-then-lts.Need-kind-at-requires (if-then-calls t) (if-then-at t) if-then.Post
 if-then-kind-at-requires t c κs = search needs
 
--- src/statements.rt:60:9
-if-then-statement-requires : (t : ℕ) → if-then-lts.Need-statement-requires (
-  head-reads.Asked,
-  head-reads.Learnt,
-  kind-at-reads.Asked,
-  kind-at-reads.Learnt,
-  statement-below t,
-  statement′.Post,
-  has-else-reads.Asked,
-  has-else-reads.Learnt,
-  write-reads.Asked,
-  write-reads.Learnt,
-  read-reads.Asked,
-  read-reads.Learnt,
-) (if-then-at t) if-then.Post
+if-then-statement-requires : (t : ℕ) → if-then-lts.Need-statement-requires (if-then-calls t) (if-then-at t) if-then.Post
 if-then-statement-requires t c κs = search needs
 
--- src/statements.rt:62:9
-if-then-same-length-2 : (t : ℕ) → if-then-lts.Need-same-length-2 (
-  head-reads.Asked,
-  head-reads.Learnt,
-  kind-at-reads.Asked,
-  kind-at-reads.Learnt,
-  statement-below t,
-  statement′.Post,
-  has-else-reads.Asked,
-  has-else-reads.Learnt,
-  write-reads.Asked,
-  write-reads.Learnt,
-  read-reads.Asked,
-  read-reads.Learnt,
-) (if-then-at t) if-then.Post
+if-then-same-length-2 : (t : ℕ) → if-then-lts.Need-same-length-2 (if-then-calls t) (if-then-at t) if-then.Post
 if-then-same-length-2 t c = search needs
 
--- src/statements.rt:62:9
-if-then-returns-2 : (t : ℕ) → if-then-lts.Need-returns-2 (
-  head-reads.Asked,
-  head-reads.Learnt,
-  kind-at-reads.Asked,
-  kind-at-reads.Learnt,
-  statement-below t,
-  statement′.Post,
-  has-else-reads.Asked,
-  has-else-reads.Learnt,
-  write-reads.Asked,
-  write-reads.Learnt,
-  read-reads.Asked,
-  read-reads.Learnt,
-) (if-then-at t) if-then.Post
+if-then-returns-2 : (t : ℕ) → if-then-lts.Need-returns-2 (if-then-calls t) (if-then-at t) if-then.Post
 unfolding ifOf andThen look
 if-then-returns-2 t c = record { read = since (omega arith) (along (if-parts (G.statement (c .before .before .before .before .before .before .before .before .before .before .before .before .before .before .before .args .room)) (c .before .before .before .before .before .before .before .before .before .before .before .before .before .before .before .args .i) _ _) (goes _ (c .before .before .before .before .before .before .before .before .before .before .before .head .ensures .0 .read) (c .before .before .before .before .before .before .before .if1 .left) (λ h w. stops _ (c .before .before .before .before .statement .ensures .read) (c .if2 .taken)))); low = let o = c .before .before .before .before .before .before .before .before .before .before .before .before .before .before .before .pre in let h = c .before .before .before .before .before .before .before .before .before .before .before .head in let s = c .before .before .before .before .statement in omega arith }
 
--- src/statements.rt:64:8
-if-then-has-else-requires : (t : ℕ) → if-then-lts.Need-has-else-requires (
-  head-reads.Asked,
-  head-reads.Learnt,
-  kind-at-reads.Asked,
-  kind-at-reads.Learnt,
-  statement-below t,
-  statement′.Post,
-  has-else-reads.Asked,
-  has-else-reads.Learnt,
-  write-reads.Asked,
-  write-reads.Learnt,
-  read-reads.Asked,
-  read-reads.Learnt,
-) (if-then-at t) if-then.Post
+if-then-has-else-requires : (t : ℕ) → if-then-lts.Need-has-else-requires (if-then-calls t) (if-then-at t) if-then.Post
 if-then-has-else-requires t c κs = search needs
 
--- src/statements.rt:65:9
-if-then-write-requires : (t : ℕ) → if-then-lts.Need-write-requires (
-  head-reads.Asked,
-  head-reads.Learnt,
-  kind-at-reads.Asked,
-  kind-at-reads.Learnt,
-  statement-below t,
-  statement′.Post,
-  has-else-reads.Asked,
-  has-else-reads.Learnt,
-  write-reads.Asked,
-  write-reads.Learnt,
-  read-reads.Asked,
-  read-reads.Learnt,
-) (if-then-at t) if-then.Post
+if-then-write-requires : (t : ℕ) → if-then-lts.Need-write-requires (if-then-calls t) (if-then-at t) if-then.Post
 if-then-write-requires t c κs = let o = c .before .before .before .before .before .before .before .before .before .before .before .before .before .before .before .before .before .before .pre in let h = c .before .before .before .before .before .before .before .before .before .before .before .before .before .before .head in let s = c .before .before .before .before .before .before .before .statement in omega arith
 
--- src/statements.rt:66:34
-if-then-add-statement : (t : ℕ) → if-then-lts.Need-add-statement (
-  head-reads.Asked,
-  head-reads.Learnt,
-  kind-at-reads.Asked,
-  kind-at-reads.Learnt,
-  statement-below t,
-  statement′.Post,
-  has-else-reads.Asked,
-  has-else-reads.Learnt,
-  write-reads.Asked,
-  write-reads.Learnt,
-  read-reads.Asked,
-  read-reads.Learnt,
-) (if-then-at t) if-then.Post
+if-then-add-statement : (t : ℕ) → if-then-lts.Need-add-statement (if-then-calls t) (if-then-at t) if-then.Post
 if-then-add-statement t c = let o = c .before .before .before .before .before .before .before .before .before .before .before .before .before .before .before .before .before .before .before .before .before .before .pre in let h = c .before .before .before .before .before .before .before .before .before .before .before .before .before .before .before .before .before .before .head in let s = c .before .before .before .before .before .before .before .before .before .before .before .statement in omega arith
 
--- src/statements.rt:66:56
-if-then-add-statement-2 : (t : ℕ) → if-then-lts.Need-add-statement-2 (
-  head-reads.Asked,
-  head-reads.Learnt,
-  kind-at-reads.Asked,
-  kind-at-reads.Learnt,
-  statement-below t,
-  statement′.Post,
-  has-else-reads.Asked,
-  has-else-reads.Learnt,
-  write-reads.Asked,
-  write-reads.Learnt,
-  read-reads.Asked,
-  read-reads.Learnt,
-) (if-then-at t) if-then.Post
+if-then-add-statement-2 : (t : ℕ) → if-then-lts.Need-add-statement-2 (if-then-calls t) (if-then-at t) if-then.Post
 if-then-add-statement-2 t c = let o = c .before .before .before .before .before .before .before .before .before .before .before .before .before .before .before .before .before .before .before .before .before .before .before .before .pre in let h = c .before .before .before .before .before .before .before .before .before .before .before .before .before .before .before .before .before .before .before .before .head in let s = c .before .before .before .before .before .before .before .before .before .before .before .before .before .statement in omega arith
 
--- src/statements.rt:66:13
-if-then-statement-requires-2 : (t : ℕ) → if-then-lts.Need-statement-requires-2 (
-  head-reads.Asked,
-  head-reads.Learnt,
-  kind-at-reads.Asked,
-  kind-at-reads.Learnt,
-  statement-below t,
-  statement′.Post,
-  has-else-reads.Asked,
-  has-else-reads.Learnt,
-  write-reads.Asked,
-  write-reads.Learnt,
-  read-reads.Asked,
-  read-reads.Learnt,
-) (if-then-at t) if-then.Post
+if-then-statement-requires-2 : (t : ℕ) → if-then-lts.Need-statement-requires-2 (if-then-calls t) (if-then-at t) if-then.Post
 if-then-statement-requires-2 t c κs = let x = else-inside (now (c .before .before .before .before .before .before .before .before .before .before .before .before .before .before .before .before .before .before .before .before .before .before .before .before .args .kinds)) (c .before .before .before .before .before .before .before .before .before .before .before .before .before .statement .result .at) (c .before .before .before .before .before .before .before .before .before .before .before .before .before .before .before .kind-at .result) (c .before .before .before .before .before .before .before .before .has-else .ensures) (c .before .before .before .before .before .before .before .if3 .taken) in let o = c .before .before .before .before .before .before .before .before .before .before .before .before .before .before .before .before .before .before .before .before .before .before .before .before .pre in let h = c .before .before .before .before .before .before .before .before .before .before .before .before .before .before .before .before .before .before .before .before .head in let s = c .before .before .before .before .before .before .before .before .before .before .before .before .before .statement in let w = c .before .before .before .before .before .write in omega arith
 
--- src/statements.rt:68:13
-if-then-same-length-3 : (t : ℕ) → if-then-lts.Need-same-length-3 (
-  head-reads.Asked,
-  head-reads.Learnt,
-  kind-at-reads.Asked,
-  kind-at-reads.Learnt,
-  statement-below t,
-  statement′.Post,
-  has-else-reads.Asked,
-  has-else-reads.Learnt,
-  write-reads.Asked,
-  write-reads.Learnt,
-  read-reads.Asked,
-  read-reads.Learnt,
-) (if-then-at t) if-then.Post
+if-then-same-length-3 : (t : ℕ) → if-then-lts.Need-same-length-3 (if-then-calls t) (if-then-at t) if-then.Post
 if-then-same-length-3 t c = let o = c .before .before .before .before .before .before .before .before .before .before .before .before .before .before .before .before .before .before .before .before .before .before .before .before .before .before .before .before .before .pre in let h = c .before .before .before .before .before .before .before .before .before .before .before .before .before .before .before .before .before .before .before .before .before .before .before .before .before .head in let s = c .before .before .before .before .before .before .before .before .before .before .before .before .before .before .before .before .before .before .statement in let w = c .before .before .before .before .before .before .before .before .before .before .write in let u = c .before .before .before .before .statement2 in omega arith
 
--- src/statements.rt:68:13
-if-then-returns-3 : (t : ℕ) → if-then-lts.Need-returns-3 (
-  head-reads.Asked,
-  head-reads.Learnt,
-  kind-at-reads.Asked,
-  kind-at-reads.Learnt,
-  statement-below t,
-  statement′.Post,
-  has-else-reads.Asked,
-  has-else-reads.Learnt,
-  write-reads.Asked,
-  write-reads.Learnt,
-  read-reads.Asked,
-  read-reads.Learnt,
-) (if-then-at t) if-then.Post
+if-then-returns-3 : (t : ℕ) → if-then-lts.Need-returns-3 (if-then-calls t) (if-then-at t) if-then.Post
 unfolding ifOf andThen look next
 if-then-returns-3 t c = record { read = since (omega arith) (along (if-parts (G.statement (c .before .before .before .before .before .before .before .before .before .before .before .before .before .before .before .before .before .before .before .before .before .before .before .before .before .before .before .before .before .args .room)) (c .before .before .before .before .before .before .before .before .before .before .before .before .before .before .before .before .before .before .before .before .before .before .before .before .before .before .before .before .before .args .i) _ _) (goes _ (c .before .before .before .before .before .before .before .before .before .before .before .before .before .before .before .before .before .before .before .before .before .before .before .before .before .head .ensures .0 .read) (c .before .before .before .before .before .before .before .before .before .before .before .before .before .before .before .before .before .before .before .before .before .if1 .left) (λ h w. goes _ (c .before .before .before .before .before .before .before .before .before .before .before .before .before .before .before .before .before .before .statement .ensures .read) (c .before .before .before .before .before .before .before .before .before .before .before .before .before .before .if2 .left) (λ s y. rw (← (c .before .before .before .before .before .before .before .before .before .before .before .before .before .before .before .before .before .before .before .before .kind-at .ensures .is), ← (c .before .before .before .before .before .before .before .before .before .before .before .before .before .has-else .ensures), c .before .before .before .before .before .before .before .before .before .before .before .before .if3 .taken) (since (omega arith) (stops _ (c .before .before .before .before .statement2 .ensures .read) (c .if4 .taken))))))); low = let o = c .before .before .before .before .before .before .before .before .before .before .before .before .before .before .before .before .before .before .before .before .before .before .before .before .before .before .before .before .before .pre in let h = c .before .before .before .before .before .before .before .before .before .before .before .before .before .before .before .before .before .before .before .before .before .before .before .before .before .head in let s = c .before .before .before .before .before .before .before .before .before .before .before .before .before .before .before .before .before .before .statement in let w = c .before .before .before .before .before .before .before .before .before .before .write in let u = c .before .before .before .before .statement2 in omega arith }
 
--- src/statements.rt:70:9
-if-then-write-requires-2 : (t : ℕ) → if-then-lts.Need-write-requires-2 (
-  head-reads.Asked,
-  head-reads.Learnt,
-  kind-at-reads.Asked,
-  kind-at-reads.Learnt,
-  statement-below t,
-  statement′.Post,
-  has-else-reads.Asked,
-  has-else-reads.Learnt,
-  write-reads.Asked,
-  write-reads.Learnt,
-  read-reads.Asked,
-  read-reads.Learnt,
-) (if-then-at t) if-then.Post
+if-then-write-requires-2 : (t : ℕ) → if-then-lts.Need-write-requires-2 (if-then-calls t) (if-then-at t) if-then.Post
 if-then-write-requires-2 t c κs = let o = c .before .before .before .before .before .before .before .before .before .before .before .before .before .before .before .before .before .before .before .before .before .before .before .before .before .before .before .before .before .before .pre in let h = c .before .before .before .before .before .before .before .before .before .before .before .before .before .before .before .before .before .before .before .before .before .before .before .before .before .before .head in let s = c .before .before .before .before .before .before .before .before .before .before .before .before .before .before .before .before .before .before .before .statement in let w = c .before .before .before .before .before .before .before .before .before .before .before .write in let u = c .before .before .before .before .before .statement2 in omega arith
 
--- src/statements.rt:71:27
-if-then-add-read : (t : ℕ) → if-then-lts.Need-add-read (
-  head-reads.Asked,
-  head-reads.Learnt,
-  kind-at-reads.Asked,
-  kind-at-reads.Learnt,
-  statement-below t,
-  statement′.Post,
-  has-else-reads.Asked,
-  has-else-reads.Learnt,
-  write-reads.Asked,
-  write-reads.Learnt,
-  read-reads.Asked,
-  read-reads.Learnt,
-) (if-then-at t) if-then.Post
+if-then-add-read : (t : ℕ) → if-then-lts.Need-add-read (if-then-calls t) (if-then-at t) if-then.Post
 if-then-add-read t c = let o = c .before .before .before .before .before .before .before .before .before .before .before .before .before .before .before .before .before .before .before .before .before .before .before .before .before .before .before .before .before .before .before .before .before .before .pre in let h = c .before .before .before .before .before .before .before .before .before .before .before .before .before .before .before .before .before .before .before .before .before .before .before .before .before .before .before .before .before .before .head in let s = c .before .before .before .before .before .before .before .before .before .before .before .before .before .before .before .before .before .before .before .before .before .before .before .statement in let w = c .before .before .before .before .before .before .before .before .before .before .before .before .before .before .before .write in let u = c .before .before .before .before .before .before .before .before .before .statement2 in omega arith
 
--- src/statements.rt:71:9
-if-then-read-requires : (t : ℕ) → if-then-lts.Need-read-requires (
-  head-reads.Asked,
-  head-reads.Learnt,
-  kind-at-reads.Asked,
-  kind-at-reads.Learnt,
-  statement-below t,
-  statement′.Post,
-  has-else-reads.Asked,
-  has-else-reads.Learnt,
-  write-reads.Asked,
-  write-reads.Learnt,
-  read-reads.Asked,
-  read-reads.Learnt,
-) (if-then-at t) if-then.Post
+if-then-read-requires : (t : ℕ) → if-then-lts.Need-read-requires (if-then-calls t) (if-then-at t) if-then.Post
 if-then-read-requires t c κs = search needs
 
--- src/statements.rt:71:9
-if-then-same-length-4 : (t : ℕ) → if-then-lts.Need-same-length-4 (
-  head-reads.Asked,
-  head-reads.Learnt,
-  kind-at-reads.Asked,
-  kind-at-reads.Learnt,
-  statement-below t,
-  statement′.Post,
-  has-else-reads.Asked,
-  has-else-reads.Learnt,
-  write-reads.Asked,
-  write-reads.Learnt,
-  read-reads.Asked,
-  read-reads.Learnt,
-) (if-then-at t) if-then.Post
+if-then-same-length-4 : (t : ℕ) → if-then-lts.Need-same-length-4 (if-then-calls t) (if-then-at t) if-then.Post
 if-then-same-length-4 t c = let x = c .before .before .before .before .write2 in let o = c .before .before .before .before .before .before .before .before .before .before .before .before .before .before .before .before .before .before .before .before .before .before .before .before .before .before .before .before .before .before .before .before .before .before .before .pre in let h = c .before .before .before .before .before .before .before .before .before .before .before .before .before .before .before .before .before .before .before .before .before .before .before .before .before .before .before .before .before .before .before .head in let s = c .before .before .before .before .before .before .before .before .before .before .before .before .before .before .before .before .before .before .before .before .before .before .before .before .statement in let w = c .before .before .before .before .before .before .before .before .before .before .before .before .before .before .before .before .write in let u = c .before .before .before .before .before .before .before .before .before .before .statement2 in omega arith
 
--- src/statements.rt:71:9
-if-then-returns-4 : (t : ℕ) → if-then-lts.Need-returns-4 (
-  head-reads.Asked,
-  head-reads.Learnt,
-  kind-at-reads.Asked,
-  kind-at-reads.Learnt,
-  statement-below t,
-  statement′.Post,
-  has-else-reads.Asked,
-  has-else-reads.Learnt,
-  write-reads.Asked,
-  write-reads.Learnt,
-  read-reads.Asked,
-  read-reads.Learnt,
-) (if-then-at t) if-then.Post
+if-then-returns-4 : (t : ℕ) → if-then-lts.Need-returns-4 (if-then-calls t) (if-then-at t) if-then.Post
 unfolding ifOf andThen look next tapeStatement
 if-then-returns-4 t c = record { read = since (omega arith) (along (if-parts (G.statement (c .before .before .before .before .before .before .before .before .before .before .before .before .before .before .before .before .before .before .before .before .before .before .before .before .before .before .before .before .before .before .before .before .before .before .before .args .room)) (c .before .before .before .before .before .before .before .before .before .before .before .before .before .before .before .before .before .before .before .before .before .before .before .before .before .before .before .before .before .before .before .before .before .before .before .args .i) _ _) (goes _ (c .before .before .before .before .before .before .before .before .before .before .before .before .before .before .before .before .before .before .before .before .before .before .before .before .before .before .before .before .before .before .before .head .ensures .0 .read) (c .before .before .before .before .before .before .before .before .before .before .before .before .before .before .before .before .before .before .before .before .before .before .before .before .before .before .before .if1 .left) (λ h w. goes _ (c .before .before .before .before .before .before .before .before .before .before .before .before .before .before .before .before .before .before .before .before .before .before .before .before .statement .ensures .read) (c .before .before .before .before .before .before .before .before .before .before .before .before .before .before .before .before .before .before .before .before .if2 .left) (λ s y. rw (← (c .before .before .before .before .before .before .before .before .before .before .before .before .before .before .before .before .before .before .before .before .before .before .before .before .before .before .kind-at .ensures .is), ← (c .before .before .before .before .before .before .before .before .before .before .before .before .before .before .before .before .before .before .before .has-else .ensures), c .before .before .before .before .before .before .before .before .before .before .before .before .before .before .before .before .before .before .if3 .taken) (since (omega arith) (goes _ (c .before .before .before .before .before .before .before .before .before .before .statement2 .ensures .read) (c .before .before .before .before .before .before .if4 .left) (λ u z. done (c .read .ensures) (omega arith) (omega arith) (λ k. c .before .before .before .before .write2 .ensures k ∙ (z _ ∙ (c .before .before .before .before .before .before .before .before .before .before .before .before .before .before .before .before .write .ensures _ ∙ (y _ ∙ w _))))))))))); low = let x = c .read .ensures in let o = c .before .before .before .before .before .before .before .before .before .before .before .before .before .before .before .before .before .before .before .before .before .before .before .before .before .before .before .before .before .before .before .before .before .before .before .pre in let h = c .before .before .before .before .before .before .before .before .before .before .before .before .before .before .before .before .before .before .before .before .before .before .before .before .before .before .before .before .before .before .before .head in let s = c .before .before .before .before .before .before .before .before .before .before .before .before .before .before .before .before .before .before .before .before .before .before .before .before .statement in let w = c .before .before .before .before .before .before .before .before .before .before .before .before .before .before .before .before .write in let u = c .before .before .before .before .before .before .before .before .before .before .statement2 in omega arith }
 
--- src/statements.rt:73:5
-if-then-write-requires-3 : (t : ℕ) → if-then-lts.Need-write-requires-3 (
-  head-reads.Asked,
-  head-reads.Learnt,
-  kind-at-reads.Asked,
-  kind-at-reads.Learnt,
-  statement-below t,
-  statement′.Post,
-  has-else-reads.Asked,
-  has-else-reads.Learnt,
-  write-reads.Asked,
-  write-reads.Learnt,
-  read-reads.Asked,
-  read-reads.Learnt,
-) (if-then-at t) if-then.Post
+if-then-write-requires-3 : (t : ℕ) → if-then-lts.Need-write-requires-3 (if-then-calls t) (if-then-at t) if-then.Post
 if-then-write-requires-3 t c κs = let o = c .before .before .before .before .before .before .before .before .before .before .before .before .before .before .before .before .before .before .pre in let h = c .before .before .before .before .before .before .before .before .before .before .before .before .before .before .head in let s = c .before .before .before .before .before .before .before .statement in omega arith
 
--- src/statements.rt:74:16
-if-then-add-read-2 : (t : ℕ) → if-then-lts.Need-add-read-2 (
-  head-reads.Asked,
-  head-reads.Learnt,
-  kind-at-reads.Asked,
-  kind-at-reads.Learnt,
-  statement-below t,
-  statement′.Post,
-  has-else-reads.Asked,
-  has-else-reads.Learnt,
-  write-reads.Asked,
-  write-reads.Learnt,
-  read-reads.Asked,
-  read-reads.Learnt,
-) (if-then-at t) if-then.Post
+if-then-add-read-2 : (t : ℕ) → if-then-lts.Need-add-read-2 (if-then-calls t) (if-then-at t) if-then.Post
 if-then-add-read-2 t c = let o = c .before .before .before .before .before .before .before .before .before .before .before .before .before .before .before .before .before .before .before .before .before .before .pre in let h = c .before .before .before .before .before .before .before .before .before .before .before .before .before .before .before .before .before .before .head in let s = c .before .before .before .before .before .before .before .before .before .before .before .statement in omega arith
 
--- src/statements.rt:74:5
-if-then-read-requires-2 : (t : ℕ) → if-then-lts.Need-read-requires-2 (
-  head-reads.Asked,
-  head-reads.Learnt,
-  kind-at-reads.Asked,
-  kind-at-reads.Learnt,
-  statement-below t,
-  statement′.Post,
-  has-else-reads.Asked,
-  has-else-reads.Learnt,
-  write-reads.Asked,
-  write-reads.Learnt,
-  read-reads.Asked,
-  read-reads.Learnt,
-) (if-then-at t) if-then.Post
+if-then-read-requires-2 : (t : ℕ) → if-then-lts.Need-read-requires-2 (if-then-calls t) (if-then-at t) if-then.Post
 if-then-read-requires-2 t c κs = search needs
 
--- src/statements.rt:51:1
-if-then-same-length-5 : (t : ℕ) → if-then-lts.Need-same-length-5 (
-  head-reads.Asked,
-  head-reads.Learnt,
-  kind-at-reads.Asked,
-  kind-at-reads.Learnt,
-  statement-below t,
-  statement′.Post,
-  has-else-reads.Asked,
-  has-else-reads.Learnt,
-  write-reads.Asked,
-  write-reads.Learnt,
-  read-reads.Asked,
-  read-reads.Learnt,
-) (if-then-at t) if-then.Post
+if-then-same-length-5 : (t : ℕ) → if-then-lts.Need-same-length-5 (if-then-calls t) (if-then-at t) if-then.Post
 if-then-same-length-5 t c = search needs
 
--- src/statements.rt:51:1
-if-then-returns-5 : (t : ℕ) → if-then-lts.Need-returns-5 (
-  head-reads.Asked,
-  head-reads.Learnt,
-  kind-at-reads.Asked,
-  kind-at-reads.Learnt,
-  statement-below t,
-  statement′.Post,
-  has-else-reads.Asked,
-  has-else-reads.Learnt,
-  write-reads.Asked,
-  write-reads.Learnt,
-  read-reads.Asked,
-  read-reads.Learnt,
-) (if-then-at t) if-then.Post
+if-then-returns-5 : (t : ℕ) → if-then-lts.Need-returns-5 (if-then-calls t) (if-then-at t) if-then.Post
 unfolding ifOf andThen look next tapeStatement
 if-then-returns-5 t c = record { read = since (omega arith) (along (if-parts (G.statement (c .before .before .before .before .before .before .before .before .before .before .before .before .before .before .before .before .before .before .before .before .before .before .before .args .room)) (c .before .before .before .before .before .before .before .before .before .before .before .before .before .before .before .before .before .before .before .before .before .before .before .args .i) _ _) (goes _ (c .before .before .before .before .before .before .before .before .before .before .before .before .before .before .before .before .before .before .before .head .ensures .0 .read) (c .before .before .before .before .before .before .before .before .before .before .before .before .before .before .before .if1 .left) (λ h w. goes _ (c .before .before .before .before .before .before .before .before .before .before .before .before .statement .ensures .read) (c .before .before .before .before .before .before .before .before .if2 .left) (λ s y. rw (← (c .before .before .before .before .before .before .before .before .before .before .before .before .before .before .kind-at .ensures .is), ← (c .before .before .before .before .before .before .before .has-else .ensures), c .before .before .before .before .before .before .if3 .left) (done (c .read2 .ensures) (omega arith) (omega arith) (λ k. c .before .before .before .before .write3 .ensures k ∙ (y _ ∙ w _))))))); low = let x = c .read2 .ensures in let o = c .before .before .before .before .before .before .before .before .before .before .before .before .before .before .before .before .before .before .before .before .before .before .before .pre in let h = c .before .before .before .before .before .before .before .before .before .before .before .before .before .before .before .before .before .before .before .head in let s = c .before .before .before .before .before .before .before .before .before .before .before .before .statement in omega arith }
 
@@ -1176,1441 +450,254 @@ items-Inv-loop kinds i t room tape₀ p at₀ q₀ tape at q = Going (tapeBlock 
 abbrev items-μ-loop : items-lts.MeasureT-loop
 items-μ-loop kinds i t room tape₀ p at₀ q₀ tape at q = length kinds - at
 
--- src/statements.rt:178:5
-items-loop-holds : (t : ℕ) → items-lts.Need-loop-holds (
-  kind-at-reads.Asked,
-  kind-at-reads.Learnt,
-  has-label-reads.Asked,
-  has-label-reads.Learnt,
-  write-reads.Asked,
-  write-reads.Learnt,
-  statement-below t,
-  statement′.Post,
-  wanted-reads.Asked,
-  wanted-reads.Learnt,
-  read-reads.Asked,
-  read-reads.Learnt,
-) (items-at t) items.Post items-Inv-loop items-μ-loop
+items-loop-holds : (t : ℕ) → items-lts.Need-loop-holds (items-calls t) (items-at t) items.Post items-Inv-loop items-μ-loop
 items-loop-holds t c = starts (search needs)
 
--- src/statements.rt:178:11
-items-kind-at-requires : (t : ℕ) → items-lts.Need-kind-at-requires (
-  kind-at-reads.Asked,
-  kind-at-reads.Learnt,
-  has-label-reads.Asked,
-  has-label-reads.Learnt,
-  write-reads.Asked,
-  write-reads.Learnt,
-  statement-below t,
-  statement′.Post,
-  wanted-reads.Asked,
-  wanted-reads.Learnt,
-  read-reads.Asked,
-  read-reads.Learnt,
-) (items-at t) items.Post items-Inv-loop items-μ-loop
+items-kind-at-requires : (t : ℕ) → items-lts.Need-kind-at-requires (items-calls t) (items-at t) items.Post items-Inv-loop items-μ-loop
 items-kind-at-requires t c κs = search needs
 
--- src/statements.rt:179:12
-items-has-label-requires : (t : ℕ) → items-lts.Need-has-label-requires (
-  kind-at-reads.Asked,
-  kind-at-reads.Learnt,
-  has-label-reads.Asked,
-  has-label-reads.Learnt,
-  write-reads.Asked,
-  write-reads.Learnt,
-  statement-below t,
-  statement′.Post,
-  wanted-reads.Asked,
-  wanted-reads.Learnt,
-  read-reads.Asked,
-  read-reads.Learnt,
-) (items-at t) items.Post items-Inv-loop items-μ-loop
+items-has-label-requires : (t : ℕ) → items-lts.Need-has-label-requires (items-calls t) (items-at t) items.Post items-Inv-loop items-μ-loop
 items-has-label-requires t c κs = search needs
 
--- src/statements.rt:180:13
-items-write-requires : (t : ℕ) → items-lts.Need-write-requires (
-  kind-at-reads.Asked,
-  kind-at-reads.Learnt,
-  has-label-reads.Asked,
-  has-label-reads.Learnt,
-  write-reads.Asked,
-  write-reads.Learnt,
-  statement-below t,
-  statement′.Post,
-  wanted-reads.Asked,
-  wanted-reads.Learnt,
-  read-reads.Asked,
-  read-reads.Learnt,
-) (items-at t) items.Post items-Inv-loop items-μ-loop
+items-write-requires : (t : ℕ) → items-lts.Need-write-requires (items-calls t) (items-at t) items.Post items-Inv-loop items-μ-loop
 items-write-requires t c κs = let h = label-inside (now (c .before .before .before .before .before .before .before .before .args .kinds)) (c .before .before .before .before .before .loop .at) (c .before .before .has-label .ensures) (c .before .if2 .taken) in search needs
 
--- src/statements.rt:181:25
-items-add-colon : (t : ℕ) → items-lts.Need-add-colon (
-  kind-at-reads.Asked,
-  kind-at-reads.Learnt,
-  has-label-reads.Asked,
-  has-label-reads.Learnt,
-  write-reads.Asked,
-  write-reads.Learnt,
-  statement-below t,
-  statement′.Post,
-  wanted-reads.Asked,
-  wanted-reads.Learnt,
-  read-reads.Asked,
-  read-reads.Learnt,
-) (items-at t) items.Post items-Inv-loop items-μ-loop
+items-add-colon : (t : ℕ) → items-lts.Need-add-colon (items-calls t) (items-at t) items.Post items-Inv-loop items-μ-loop
 items-add-colon t c = search needs
 
--- src/statements.rt:182:18
-items-add-at : (t : ℕ) → items-lts.Need-add-at (
-  kind-at-reads.Asked,
-  kind-at-reads.Learnt,
-  has-label-reads.Asked,
-  has-label-reads.Learnt,
-  write-reads.Asked,
-  write-reads.Learnt,
-  statement-below t,
-  statement′.Post,
-  wanted-reads.Asked,
-  wanted-reads.Learnt,
-  read-reads.Asked,
-  read-reads.Learnt,
-) (items-at t) items.Post items-Inv-loop items-μ-loop
+items-add-at : (t : ℕ) → items-lts.Need-add-at (items-calls t) (items-at t) items.Post items-Inv-loop items-μ-loop
 items-add-at t c = let h = label-inside (now (c .before .before .before .before .before .before .before .before .before .before .before .args .kinds)) (c .before .before .before .before .before .before .before .before .loop .at) (c .before .before .before .before .before .has-label .ensures) (c .before .before .before .before .if2 .taken) in search needs
 
--- src/statements.rt:183:13
-items-add-q : (t : ℕ) → items-lts.Need-add-q (
-  kind-at-reads.Asked,
-  kind-at-reads.Learnt,
-  has-label-reads.Asked,
-  has-label-reads.Learnt,
-  write-reads.Asked,
-  write-reads.Learnt,
-  statement-below t,
-  statement′.Post,
-  wanted-reads.Asked,
-  wanted-reads.Learnt,
-  read-reads.Asked,
-  read-reads.Learnt,
-) (items-at t) items.Post items-Inv-loop items-μ-loop
+items-add-q : (t : ℕ) → items-lts.Need-add-q (items-calls t) (items-at t) items.Post items-Inv-loop items-μ-loop
 items-add-q t c = let h = label-inside (now (c .before .before .before .before .before .before .before .before .before .before .before .args .kinds)) (c .before .before .before .before .before .before .before .before .loop .at) (c .before .before .before .before .before .has-label .ensures) (c .before .before .before .before .if2 .taken) in search needs
 
--- src/statements.rt:178:5
-items-loop-less : (t : ℕ) → items-lts.Need-loop-less (
-  kind-at-reads.Asked,
-  kind-at-reads.Learnt,
-  has-label-reads.Asked,
-  has-label-reads.Learnt,
-  write-reads.Asked,
-  write-reads.Learnt,
-  statement-below t,
-  statement′.Post,
-  wanted-reads.Asked,
-  wanted-reads.Learnt,
-  read-reads.Asked,
-  read-reads.Learnt,
-) (items-at t) items.Post items-Inv-loop items-μ-loop
+items-loop-less : (t : ℕ) → items-lts.Need-loop-less (items-calls t) (items-at t) items.Post items-Inv-loop items-μ-loop
 items-loop-less t c = let h = label-inside (now (c .before .before .before .before .before .before .before .before .before .before .before .args .kinds)) (c .before .before .before .before .before .before .before .before .loop .at) (c .before .before .before .before .before .has-label .ensures) (c .before .before .before .before .if2 .taken) in search needs
 
--- src/statements.rt:178:5
-items-loop-again : (t : ℕ) → items-lts.Need-loop-again (
-  kind-at-reads.Asked,
-  kind-at-reads.Learnt,
-  has-label-reads.Asked,
-  has-label-reads.Learnt,
-  write-reads.Asked,
-  write-reads.Learnt,
-  statement-below t,
-  statement′.Post,
-  wanted-reads.Asked,
-  wanted-reads.Learnt,
-  read-reads.Asked,
-  read-reads.Learnt,
-) (items-at t) items.Post items-Inv-loop items-μ-loop
+items-loop-again : (t : ℕ) → items-lts.Need-loop-again (items-calls t) (items-at t) items.Post items-Inv-loop items-μ-loop
 unfolding itemsOf andThen look next tapeItems
 items-loop-again t c = let h = label-inside (now (c .before .before .before .before .before .before .before .before .before .before .before .args .kinds)) (c .before .before .before .before .before .before .before .before .loop .at) (c .before .before .before .before .before .has-label .ensures) (c .before .before .before .before .if2 .taken) in turn (c .before .before .before .before .before .before .before .before .loop .inv) (search needs) (search needs) (search needs) (search needs) (λ f s after r. rw (label-kinds (now (c .before .before .before .before .before .before .before .before .before .before .before .args .kinds)) (c .before .before .before .before .before .before .before .before .loop .at) (c .before .before .before .before .before .has-label .ensures) (c .before .before .before .before .if2 .taken) .0, label-kinds (now (c .before .before .before .before .before .before .before .before .before .before .before .args .kinds)) (c .before .before .before .before .before .before .before .before .loop .at) (c .before .before .before .before .before .has-label .ensures) (c .before .before .before .before .if2 .taken) .1) (since (omega arith) (gives (T.label (c .before .before .before .before .before .before .before .before .loop .at)) (λ b l k. l k ∙ c .before .before .write .ensures _) r)))
 
--- src/statements.rt:186:13
-items-statement-requires : (t : ℕ) → items-lts.Need-statement-requires (
-  kind-at-reads.Asked,
-  kind-at-reads.Learnt,
-  has-label-reads.Asked,
-  has-label-reads.Learnt,
-  write-reads.Asked,
-  write-reads.Learnt,
-  statement-below t,
-  statement′.Post,
-  wanted-reads.Asked,
-  wanted-reads.Learnt,
-  read-reads.Asked,
-  read-reads.Learnt,
-) (items-at t) items.Post items-Inv-loop items-μ-loop
+items-statement-requires : (t : ℕ) → items-lts.Need-statement-requires (items-calls t) (items-at t) items.Post items-Inv-loop items-μ-loop
 items-statement-requires t c κs = search needs
 
--- src/statements.rt:188:13
-items-same-length : (t : ℕ) → items-lts.Need-same-length (
-  kind-at-reads.Asked,
-  kind-at-reads.Learnt,
-  has-label-reads.Asked,
-  has-label-reads.Learnt,
-  write-reads.Asked,
-  write-reads.Learnt,
-  statement-below t,
-  statement′.Post,
-  wanted-reads.Asked,
-  wanted-reads.Learnt,
-  read-reads.Asked,
-  read-reads.Learnt,
-) (items-at t) items.Post items-Inv-loop items-μ-loop
+items-same-length : (t : ℕ) → items-lts.Need-same-length (items-calls t) (items-at t) items.Post items-Inv-loop items-μ-loop
 items-same-length t c = search needs
 
--- src/statements.rt:188:13
-items-returns : (t : ℕ) → items-lts.Need-returns (
-  kind-at-reads.Asked,
-  kind-at-reads.Learnt,
-  has-label-reads.Asked,
-  has-label-reads.Learnt,
-  write-reads.Asked,
-  write-reads.Learnt,
-  statement-below t,
-  statement′.Post,
-  wanted-reads.Asked,
-  wanted-reads.Learnt,
-  read-reads.Asked,
-  read-reads.Learnt,
-) (items-at t) items.Post items-Inv-loop items-μ-loop
+items-returns : (t : ℕ) → items-lts.Need-returns (items-calls t) (items-at t) items.Post items-Inv-loop items-μ-loop
 items-returns t c = record { read = leaves (c .before .before .before .before .before .before .before .before .before .before .loop .inv) (λ f. along (item-is (now (c .before .before .before .before .before .before .before .before .before .before .before .before .before .args .kinds)) (c .before .before .before .before .before .before .before .before .before .before .loop .at) (c .before .before .before .before .before .before .before .has-label .ensures) _ f (c .before .before .before .before .before .before .if2 .left) (other (c .before .before .before .before .before .before .before .before .before .kind-at .ensures .is) (c .before .before .before .before .before .before .before .before .if1 .taken))) (stops _ (c .before .before .before .before .statement .ensures .read) (c .if3 .taken))); low = search needs }
 
--- src/statements.rt:190:13
-items-wanted-requires : (t : ℕ) → items-lts.Need-wanted-requires (
-  kind-at-reads.Asked,
-  kind-at-reads.Learnt,
-  has-label-reads.Asked,
-  has-label-reads.Learnt,
-  write-reads.Asked,
-  write-reads.Learnt,
-  statement-below t,
-  statement′.Post,
-  wanted-reads.Asked,
-  wanted-reads.Learnt,
-  read-reads.Asked,
-  read-reads.Learnt,
-) (items-at t) items.Post items-Inv-loop items-μ-loop
+items-wanted-requires : (t : ℕ) → items-lts.Need-wanted-requires (items-calls t) (items-at t) items.Post items-Inv-loop items-μ-loop
 items-wanted-requires t c κs = search needs
 
--- src/statements.rt:192:13
-items-same-length-2 : (t : ℕ) → items-lts.Need-same-length-2 (
-  kind-at-reads.Asked,
-  kind-at-reads.Learnt,
-  has-label-reads.Asked,
-  has-label-reads.Learnt,
-  write-reads.Asked,
-  write-reads.Learnt,
-  statement-below t,
-  statement′.Post,
-  wanted-reads.Asked,
-  wanted-reads.Learnt,
-  read-reads.Asked,
-  read-reads.Learnt,
-) (items-at t) items.Post items-Inv-loop items-μ-loop
+items-same-length-2 : (t : ℕ) → items-lts.Need-same-length-2 (items-calls t) (items-at t) items.Post items-Inv-loop items-μ-loop
 items-same-length-2 t c = search needs
 
--- src/statements.rt:192:13
-items-returns-2 : (t : ℕ) → items-lts.Need-returns-2 (
-  kind-at-reads.Asked,
-  kind-at-reads.Learnt,
-  has-label-reads.Asked,
-  has-label-reads.Learnt,
-  write-reads.Asked,
-  write-reads.Learnt,
-  statement-below t,
-  statement′.Post,
-  wanted-reads.Asked,
-  wanted-reads.Learnt,
-  read-reads.Asked,
-  read-reads.Learnt,
-) (items-at t) items.Post items-Inv-loop items-μ-loop
+items-returns-2 : (t : ℕ) → items-lts.Need-returns-2 (items-calls t) (items-at t) items.Post items-Inv-loop items-μ-loop
 items-returns-2 t c = record { read = leaves (c .before .before .before .before .before .before .before .before .before .before .before .before .before .loop .inv) (λ f. along (item-is (now (c .before .before .before .before .before .before .before .before .before .before .before .before .before .before .before .before .args .kinds)) (c .before .before .before .before .before .before .before .before .before .before .before .before .before .loop .at) (c .before .before .before .before .before .before .before .before .before .before .has-label .ensures) _ f (c .before .before .before .before .before .before .before .before .before .if2 .left) (other (c .before .before .before .before .before .before .before .before .before .before .before .before .kind-at .ensures .is) (c .before .before .before .before .before .before .before .before .before .before .before .if1 .taken))) (goes _ (c .before .before .before .before .before .before .before .statement .ensures .read) (c .before .before .before .if3 .left) (λ x w. stops _ (c .before .before .wanted .ensures .read) (c .if4 .taken)))); low = search needs }
 
--- src/statements.rt:178:5
-items-loop-less-2 : (t : ℕ) → items-lts.Need-loop-less-2 (
-  kind-at-reads.Asked,
-  kind-at-reads.Learnt,
-  has-label-reads.Asked,
-  has-label-reads.Learnt,
-  write-reads.Asked,
-  write-reads.Learnt,
-  statement-below t,
-  statement′.Post,
-  wanted-reads.Asked,
-  wanted-reads.Learnt,
-  read-reads.Asked,
-  read-reads.Learnt,
-) (items-at t) items.Post items-Inv-loop items-μ-loop
+items-loop-less-2 : (t : ℕ) → items-lts.Need-loop-less-2 (items-calls t) (items-at t) items.Post items-Inv-loop items-μ-loop
 items-loop-less-2 t c = search needs
 
--- src/statements.rt:178:5
-items-loop-again-2 : (t : ℕ) → items-lts.Need-loop-again-2 (
-  kind-at-reads.Asked,
-  kind-at-reads.Learnt,
-  has-label-reads.Asked,
-  has-label-reads.Learnt,
-  write-reads.Asked,
-  write-reads.Learnt,
-  statement-below t,
-  statement′.Post,
-  wanted-reads.Asked,
-  wanted-reads.Learnt,
-  read-reads.Asked,
-  read-reads.Learnt,
-) (items-at t) items.Post items-Inv-loop items-μ-loop
+items-loop-again-2 : (t : ℕ) → items-lts.Need-loop-again-2 (items-calls t) (items-at t) items.Post items-Inv-loop items-μ-loop
 unfolding tapeItems
 items-loop-again-2 t c = turn (c .before .before .before .before .before .before .before .before .before .before .before .before .before .loop .inv) (search needs) (search needs) (search needs) (search needs) (λ f s after r. along (item-is (now (c .before .before .before .before .before .before .before .before .before .before .before .before .before .before .before .before .args .kinds)) (c .before .before .before .before .before .before .before .before .before .before .before .before .before .loop .at) (c .before .before .before .before .before .before .before .before .before .before .has-label .ensures) _ f (c .before .before .before .before .before .before .before .before .before .if2 .left) (other (c .before .before .before .before .before .before .before .before .before .before .before .before .kind-at .ensures .is) (c .before .before .before .before .before .before .before .before .before .before .before .if1 .taken))) (goes _ (c .before .before .before .before .before .before .before .statement .ensures .read) (c .before .before .before .if3 .left) (λ x w. goes _ (c .before .before .wanted .ensures .read) (c .if4 .left) (λ u e. gives (T.item x) (λ b l k. l k ∙ w _) r))))
 
--- src/statements.rt:197:5
-items-write-requires-2 : (t : ℕ) → items-lts.Need-write-requires-2 (
-  kind-at-reads.Asked,
-  kind-at-reads.Learnt,
-  has-label-reads.Asked,
-  has-label-reads.Learnt,
-  write-reads.Asked,
-  write-reads.Learnt,
-  statement-below t,
-  statement′.Post,
-  wanted-reads.Asked,
-  wanted-reads.Learnt,
-  read-reads.Asked,
-  read-reads.Learnt,
-) (items-at t) items.Post items-Inv-loop items-μ-loop
+items-write-requires-2 : (t : ℕ) → items-lts.Need-write-requires-2 (items-calls t) (items-at t) items.Post items-Inv-loop items-μ-loop
 items-write-requires-2 t c κs = search needs
 
--- src/statements.rt:198:10
-items-add-read : (t : ℕ) → items-lts.Need-add-read (
-  kind-at-reads.Asked,
-  kind-at-reads.Learnt,
-  has-label-reads.Asked,
-  has-label-reads.Learnt,
-  write-reads.Asked,
-  write-reads.Learnt,
-  statement-below t,
-  statement′.Post,
-  wanted-reads.Asked,
-  wanted-reads.Learnt,
-  read-reads.Asked,
-  read-reads.Learnt,
-) (items-at t) items.Post items-Inv-loop items-μ-loop
+items-add-read : (t : ℕ) → items-lts.Need-add-read (items-calls t) (items-at t) items.Post items-Inv-loop items-μ-loop
 items-add-read t c = search needs
 
--- src/statements.rt:198:18
-items-add-read-2 : (t : ℕ) → items-lts.Need-add-read-2 (
-  kind-at-reads.Asked,
-  kind-at-reads.Learnt,
-  has-label-reads.Asked,
-  has-label-reads.Learnt,
-  write-reads.Asked,
-  write-reads.Learnt,
-  statement-below t,
-  statement′.Post,
-  wanted-reads.Asked,
-  wanted-reads.Learnt,
-  read-reads.Asked,
-  read-reads.Learnt,
-) (items-at t) items.Post items-Inv-loop items-μ-loop
+items-add-read-2 : (t : ℕ) → items-lts.Need-add-read-2 (items-calls t) (items-at t) items.Post items-Inv-loop items-μ-loop
 items-add-read-2 t c = search needs
 
--- src/statements.rt:198:5
-items-read-requires : (t : ℕ) → items-lts.Need-read-requires (
-  kind-at-reads.Asked,
-  kind-at-reads.Learnt,
-  has-label-reads.Asked,
-  has-label-reads.Learnt,
-  write-reads.Asked,
-  write-reads.Learnt,
-  statement-below t,
-  statement′.Post,
-  wanted-reads.Asked,
-  wanted-reads.Learnt,
-  read-reads.Asked,
-  read-reads.Learnt,
-) (items-at t) items.Post items-Inv-loop items-μ-loop
+items-read-requires : (t : ℕ) → items-lts.Need-read-requires (items-calls t) (items-at t) items.Post items-Inv-loop items-μ-loop
 items-read-requires t c κs = search needs
 
--- src/statements.rt:172:1
-items-same-length-3 : (t : ℕ) → items-lts.Need-same-length-3 (
-  kind-at-reads.Asked,
-  kind-at-reads.Learnt,
-  has-label-reads.Asked,
-  has-label-reads.Learnt,
-  write-reads.Asked,
-  write-reads.Learnt,
-  statement-below t,
-  statement′.Post,
-  wanted-reads.Asked,
-  wanted-reads.Learnt,
-  read-reads.Asked,
-  read-reads.Learnt,
-) (items-at t) items.Post items-Inv-loop items-μ-loop
+items-same-length-3 : (t : ℕ) → items-lts.Need-same-length-3 (items-calls t) (items-at t) items.Post items-Inv-loop items-μ-loop
 items-same-length-3 t c = search needs
 
--- src/statements.rt:172:1
-items-returns-3 : (t : ℕ) → items-lts.Need-returns-3 (
-  kind-at-reads.Asked,
-  kind-at-reads.Learnt,
-  has-label-reads.Asked,
-  has-label-reads.Learnt,
-  write-reads.Asked,
-  write-reads.Learnt,
-  statement-below t,
-  statement′.Post,
-  wanted-reads.Asked,
-  wanted-reads.Learnt,
-  read-reads.Asked,
-  read-reads.Learnt,
-) (items-at t) items.Post items-Inv-loop items-μ-loop
+items-returns-3 : (t : ℕ) → items-lts.Need-returns-3 (items-calls t) (items-at t) items.Post items-Inv-loop items-μ-loop
 unfolding itemsOf andThen look next tapeItems
 items-returns-3 t c = record { read = leaves (c .before .before .before .before .before .before .before .loop .inv) (λ f. rw (same (c .before .before .before .before .before .before .kind-at .ensures .is) (c .before .before .before .before .before .if1 .left)) (done (c .read .ensures) (omega arith) (omega arith) (c .before .before .before .write2 .ensures))); low = search needs }
 
--- src/statements.rt:119:9
-procedure-refused-requires : (t : ℕ) → procedure-lts.Need-refused-requires (
-  refused-reads.Asked,
-  refused-reads.Learnt,
-  procedure-head-reads.Asked,
-  procedure-head-reads.Learnt,
-  statement-below t,
-  statement′.Post,
-  write-reads.Asked,
-  write-reads.Learnt,
-  read-reads.Asked,
-  read-reads.Learnt,
-) (procedure-at t) procedure.Post
+procedure-refused-requires : (t : ℕ) → procedure-lts.Need-refused-requires (procedure-calls t) (procedure-at t) procedure.Post
 procedure-refused-requires t c κs = search needs
 
--- src/statements.rt:119:9
-procedure-returns : (t : ℕ) → procedure-lts.Need-returns (
-  refused-reads.Asked,
-  refused-reads.Learnt,
-  procedure-head-reads.Asked,
-  procedure-head-reads.Learnt,
-  statement-below t,
-  statement′.Post,
-  write-reads.Asked,
-  write-reads.Learnt,
-  read-reads.Asked,
-  read-reads.Learnt,
-) (procedure-at t) procedure.Post
+procedure-returns : (t : ℕ) → procedure-lts.Need-returns (procedure-calls t) (procedure-at t) procedure.Post
 procedure-returns t c = record { read = along (procedure-too-deep _ _ _ (c .before .if1 .taken)) (no (c .refused .ensures) tt (search needs)); low = search needs }
 
--- src/statements.rt:121:35
-procedure-add-procedure-head : (t : ℕ) → procedure-lts.Need-add-procedure-head (
-  refused-reads.Asked,
-  refused-reads.Learnt,
-  procedure-head-reads.Asked,
-  procedure-head-reads.Learnt,
-  statement-below t,
-  statement′.Post,
-  write-reads.Asked,
-  write-reads.Learnt,
-  read-reads.Asked,
-  read-reads.Learnt,
-) (procedure-at t) procedure.Post
+procedure-add-procedure-head : (t : ℕ) → procedure-lts.Need-add-procedure-head (procedure-calls t) (procedure-at t) procedure.Post
 procedure-add-procedure-head t c = search needs
 
--- src/statements.rt:121:9
-procedure-procedure-head-requires : (t : ℕ) → procedure-lts.Need-procedure-head-requires (
-  refused-reads.Asked,
-  refused-reads.Learnt,
-  procedure-head-reads.Asked,
-  procedure-head-reads.Learnt,
-  statement-below t,
-  statement′.Post,
-  write-reads.Asked,
-  write-reads.Learnt,
-  read-reads.Asked,
-  read-reads.Learnt,
-) (procedure-at t) procedure.Post
+procedure-procedure-head-requires : (t : ℕ) → procedure-lts.Need-procedure-head-requires (procedure-calls t) (procedure-at t) procedure.Post
 procedure-procedure-head-requires t c κs = search needs
 
--- src/statements.rt:123:9
-procedure-same-length : (t : ℕ) → procedure-lts.Need-same-length (
-  refused-reads.Asked,
-  refused-reads.Learnt,
-  procedure-head-reads.Asked,
-  procedure-head-reads.Learnt,
-  statement-below t,
-  statement′.Post,
-  write-reads.Asked,
-  write-reads.Learnt,
-  read-reads.Asked,
-  read-reads.Learnt,
-) (procedure-at t) procedure.Post
+procedure-same-length : (t : ℕ) → procedure-lts.Need-same-length (procedure-calls t) (procedure-at t) procedure.Post
 procedure-same-length t c = search needs
 
--- src/statements.rt:123:9
-procedure-returns-2 : (t : ℕ) → procedure-lts.Need-returns-2 (
-  refused-reads.Asked,
-  refused-reads.Learnt,
-  procedure-head-reads.Asked,
-  procedure-head-reads.Learnt,
-  statement-below t,
-  statement′.Post,
-  write-reads.Asked,
-  write-reads.Learnt,
-  read-reads.Asked,
-  read-reads.Learnt,
-) (procedure-at t) procedure.Post
+procedure-returns-2 : (t : ℕ) → procedure-lts.Need-returns-2 (procedure-calls t) (procedure-at t) procedure.Post
 procedure-returns-2 t c = record { read = along (procedure-parts _ _ _ (c .before .before .before .before .before .before .if1 .left)) (since (omega arith) (stops _ (c .before .before .before .before .procedure-head .ensures .0 .read) (c .if2 .taken))); low = search needs }
 
--- src/statements.rt:125:36
-procedure-sub-statement : (t : ℕ) → procedure-lts.Need-sub-statement (
-  refused-reads.Asked,
-  refused-reads.Learnt,
-  procedure-head-reads.Asked,
-  procedure-head-reads.Learnt,
-  statement-below t,
-  statement′.Post,
-  write-reads.Asked,
-  write-reads.Learnt,
-  read-reads.Asked,
-  read-reads.Learnt,
-) (procedure-at t) procedure.Post
+procedure-sub-statement : (t : ℕ) → procedure-lts.Need-sub-statement (procedure-calls t) (procedure-at t) procedure.Post
 procedure-sub-statement t c = search needs
 
--- src/statements.rt:125:9
-procedure-statement-requires : (t : ℕ) → procedure-lts.Need-statement-requires (
-  refused-reads.Asked,
-  refused-reads.Learnt,
-  procedure-head-reads.Asked,
-  procedure-head-reads.Learnt,
-  statement-below t,
-  statement′.Post,
-  write-reads.Asked,
-  write-reads.Learnt,
-  read-reads.Asked,
-  read-reads.Learnt,
-) (procedure-at t) procedure.Post
+procedure-statement-requires : (t : ℕ) → procedure-lts.Need-statement-requires (procedure-calls t) (procedure-at t) procedure.Post
 procedure-statement-requires t c κs = search needs
 
--- src/statements.rt:127:9
-procedure-same-length-2 : (t : ℕ) → procedure-lts.Need-same-length-2 (
-  refused-reads.Asked,
-  refused-reads.Learnt,
-  procedure-head-reads.Asked,
-  procedure-head-reads.Learnt,
-  statement-below t,
-  statement′.Post,
-  write-reads.Asked,
-  write-reads.Learnt,
-  read-reads.Asked,
-  read-reads.Learnt,
-) (procedure-at t) procedure.Post
+procedure-same-length-2 : (t : ℕ) → procedure-lts.Need-same-length-2 (procedure-calls t) (procedure-at t) procedure.Post
 procedure-same-length-2 t c = search needs
 
--- src/statements.rt:127:9
-procedure-returns-3 : (t : ℕ) → procedure-lts.Need-returns-3 (
-  refused-reads.Asked,
-  refused-reads.Learnt,
-  procedure-head-reads.Asked,
-  procedure-head-reads.Learnt,
-  statement-below t,
-  statement′.Post,
-  write-reads.Asked,
-  write-reads.Learnt,
-  read-reads.Asked,
-  read-reads.Learnt,
-) (procedure-at t) procedure.Post
+procedure-returns-3 : (t : ℕ) → procedure-lts.Need-returns-3 (procedure-calls t) (procedure-at t) procedure.Post
 procedure-returns-3 t c = record { read = along (procedure-parts _ _ _ (c .before .before .before .before .before .before .before .before .before .before .before .before .if1 .left)) (since (omega arith) (goes _ (c .before .before .before .before .before .before .before .before .before .before .procedure-head .ensures .0 .read) (c .before .before .before .before .before .before .if2 .left) (λ r w. stops _ (c .before .before .before .before .statement .ensures .read) (c .if3 .taken)))); low = search needs }
 
--- src/statements.rt:129:47
-procedure-add-write : (t : ℕ) → procedure-lts.Need-add-write (
-  refused-reads.Asked,
-  refused-reads.Learnt,
-  procedure-head-reads.Asked,
-  procedure-head-reads.Learnt,
-  statement-below t,
-  statement′.Post,
-  write-reads.Asked,
-  write-reads.Learnt,
-  read-reads.Asked,
-  read-reads.Learnt,
-) (procedure-at t) procedure.Post
+procedure-add-write : (t : ℕ) → procedure-lts.Need-add-write (procedure-calls t) (procedure-at t) procedure.Post
 procedure-add-write t c = search needs
 
--- src/statements.rt:129:5
-procedure-write-requires : (t : ℕ) → procedure-lts.Need-write-requires (
-  refused-reads.Asked,
-  refused-reads.Learnt,
-  procedure-head-reads.Asked,
-  procedure-head-reads.Learnt,
-  statement-below t,
-  statement′.Post,
-  write-reads.Asked,
-  write-reads.Learnt,
-  read-reads.Asked,
-  read-reads.Learnt,
-) (procedure-at t) procedure.Post
+procedure-write-requires : (t : ℕ) → procedure-lts.Need-write-requires (procedure-calls t) (procedure-at t) procedure.Post
 procedure-write-requires t c κs = search needs
 
--- src/statements.rt:130:16
-procedure-add-read : (t : ℕ) → procedure-lts.Need-add-read (
-  refused-reads.Asked,
-  refused-reads.Learnt,
-  procedure-head-reads.Asked,
-  procedure-head-reads.Learnt,
-  statement-below t,
-  statement′.Post,
-  write-reads.Asked,
-  write-reads.Learnt,
-  read-reads.Asked,
-  read-reads.Learnt,
-) (procedure-at t) procedure.Post
+procedure-add-read : (t : ℕ) → procedure-lts.Need-add-read (procedure-calls t) (procedure-at t) procedure.Post
 procedure-add-read t c = let o = c .before .before .before .before .before .before .before .before .before .before .before .before .before .before .before .before .before .before .before .before .pre in let h = c .before .before .before .before .before .before .before .before .before .before .before .before .before .before .before .procedure-head in let s = c .before .before .before .before .before .before .before .before .before .statement in omega arith
 
--- src/statements.rt:130:5
-procedure-read-requires : (t : ℕ) → procedure-lts.Need-read-requires (
-  refused-reads.Asked,
-  refused-reads.Learnt,
-  procedure-head-reads.Asked,
-  procedure-head-reads.Learnt,
-  statement-below t,
-  statement′.Post,
-  write-reads.Asked,
-  write-reads.Learnt,
-  read-reads.Asked,
-  read-reads.Learnt,
-) (procedure-at t) procedure.Post
+procedure-read-requires : (t : ℕ) → procedure-lts.Need-read-requires (procedure-calls t) (procedure-at t) procedure.Post
 procedure-read-requires t c κs = search needs
 
--- src/statements.rt:114:1
-procedure-same-length-3 : (t : ℕ) → procedure-lts.Need-same-length-3 (
-  refused-reads.Asked,
-  refused-reads.Learnt,
-  procedure-head-reads.Asked,
-  procedure-head-reads.Learnt,
-  statement-below t,
-  statement′.Post,
-  write-reads.Asked,
-  write-reads.Learnt,
-  read-reads.Asked,
-  read-reads.Learnt,
-) (procedure-at t) procedure.Post
+procedure-same-length-3 : (t : ℕ) → procedure-lts.Need-same-length-3 (procedure-calls t) (procedure-at t) procedure.Post
 procedure-same-length-3 t c = search needs
 
--- src/statements.rt:114:1
-procedure-returns-4 : (t : ℕ) → procedure-lts.Need-returns-4 (
-  refused-reads.Asked,
-  refused-reads.Learnt,
-  procedure-head-reads.Asked,
-  procedure-head-reads.Learnt,
-  statement-below t,
-  statement′.Post,
-  write-reads.Asked,
-  write-reads.Learnt,
-  read-reads.Asked,
-  read-reads.Learnt,
-) (procedure-at t) procedure.Post
+procedure-returns-4 : (t : ℕ) → procedure-lts.Need-returns-4 (procedure-calls t) (procedure-at t) procedure.Post
 procedure-returns-4 t c = record { read = along (procedure-parts _ _ _ (c .before .before .before .before .before .before .before .before .before .before .before .before .before .before .before .before .before .before .if1 .left)) (since (omega arith) (goes _ (c .before .before .before .before .before .before .before .before .before .before .before .before .before .before .before .before .procedure-head .ensures .0 .read) (c .before .before .before .before .before .before .before .before .before .before .before .before .if2 .left) (λ r w. goes _ (c .before .before .before .before .before .before .before .before .before .before .statement .ensures .read) (c .before .before .before .before .before .before .if3 .left) (λ s y. done (c .read .ensures) (omega arith) (omega arith) (λ k. c .before .before .before .before .write .ensures k ∙ (y _ ∙ w _)))))); low = search needs }
 
--- src/statements.rt:31:9
-statement-kind-at-requires : (t : ℕ) → statement-lts.Need-kind-at-requires (
-  kind-at-reads.Asked,
-  kind-at-reads.Learnt,
-  opens-reads.Asked,
-  opens-reads.Learnt,
-  refused-reads.Asked,
-  refused-reads.Learnt,
-  write-reads.Asked,
-  write-reads.Learnt,
-  body-below t,
-  body.Post,
-  if-then-below t,
-  if-then.Post,
-  while-do-below t,
-  while-do.Post,
-  for-do-below t,
-  for-do.Post,
-  simple-reads.Asked,
-  simple-reads.Learnt,
-) (statement-at t) statement′.Post
+statement-kind-at-requires : (t : ℕ) → statement-lts.Need-kind-at-requires (statement-calls t) (statement-at t) statement′.Post
 statement-kind-at-requires t c κs = search needs
 
--- src/statements.rt:32:8
-statement-opens-requires : (t : ℕ) → statement-lts.Need-opens-requires (
-  kind-at-reads.Asked,
-  kind-at-reads.Learnt,
-  opens-reads.Asked,
-  opens-reads.Learnt,
-  refused-reads.Asked,
-  refused-reads.Learnt,
-  write-reads.Asked,
-  write-reads.Learnt,
-  body-below t,
-  body.Post,
-  if-then-below t,
-  if-then.Post,
-  while-do-below t,
-  while-do.Post,
-  for-do-below t,
-  for-do.Post,
-  simple-reads.Asked,
-  simple-reads.Learnt,
-) (statement-at t) statement′.Post
+statement-opens-requires : (t : ℕ) → statement-lts.Need-opens-requires (statement-calls t) (statement-at t) statement′.Post
 statement-opens-requires t c κs = search needs
 
--- src/statements.rt:34:13
-statement-refused-requires : (t : ℕ) → statement-lts.Need-refused-requires (
-  kind-at-reads.Asked,
-  kind-at-reads.Learnt,
-  opens-reads.Asked,
-  opens-reads.Learnt,
-  refused-reads.Asked,
-  refused-reads.Learnt,
-  write-reads.Asked,
-  write-reads.Learnt,
-  body-below t,
-  body.Post,
-  if-then-below t,
-  if-then.Post,
-  while-do-below t,
-  while-do.Post,
-  for-do-below t,
-  for-do.Post,
-  simple-reads.Asked,
-  simple-reads.Learnt,
-) (statement-at t) statement′.Post
+statement-refused-requires : (t : ℕ) → statement-lts.Need-refused-requires (statement-calls t) (statement-at t) statement′.Post
 statement-refused-requires t c κs = search needs
 
--- src/statements.rt:34:13
-statement-returns : (t : ℕ) → statement-lts.Need-returns (
-  kind-at-reads.Asked,
-  kind-at-reads.Learnt,
-  opens-reads.Asked,
-  opens-reads.Learnt,
-  refused-reads.Asked,
-  refused-reads.Learnt,
-  write-reads.Asked,
-  write-reads.Learnt,
-  body-below t,
-  body.Post,
-  if-then-below t,
-  if-then.Post,
-  while-do-below t,
-  while-do.Post,
-  for-do-below t,
-  for-do.Post,
-  simple-reads.Asked,
-  simple-reads.Learnt,
-) (statement-at t) statement′.Post
+statement-returns : (t : ℕ) → statement-lts.Need-returns (statement-calls t) (statement-at t) statement′.Post
 statement-returns t c = record { read = along (too-deep _ (c .before .before .before .before .kind-at .ensures) (c .before .before .before .opens .ensures) (c .before .before .if1 .taken) (c .before .if2 .taken)) (no (c .refused .ensures) tt (search needs)); low = search needs }
 
--- src/statements.rt:37:13
-statement-write-requires : (t : ℕ) → statement-lts.Need-write-requires (
-  kind-at-reads.Asked,
-  kind-at-reads.Learnt,
-  opens-reads.Asked,
-  opens-reads.Learnt,
-  refused-reads.Asked,
-  refused-reads.Learnt,
-  write-reads.Asked,
-  write-reads.Learnt,
-  body-below t,
-  body.Post,
-  if-then-below t,
-  if-then.Post,
-  while-do-below t,
-  while-do.Post,
-  for-do-below t,
-  for-do.Post,
-  simple-reads.Asked,
-  simple-reads.Learnt,
-) (statement-at t) statement′.Post
+statement-write-requires : (t : ℕ) → statement-lts.Need-write-requires (statement-calls t) (statement-at t) statement′.Post
 statement-write-requires t c κs = search needs
 
--- src/statements.rt:38:32
-statement-add-body : (t : ℕ) → statement-lts.Need-add-body (
-  kind-at-reads.Asked,
-  kind-at-reads.Learnt,
-  opens-reads.Asked,
-  opens-reads.Learnt,
-  refused-reads.Asked,
-  refused-reads.Learnt,
-  write-reads.Asked,
-  write-reads.Learnt,
-  body-below t,
-  body.Post,
-  if-then-below t,
-  if-then.Post,
-  while-do-below t,
-  while-do.Post,
-  for-do-below t,
-  for-do.Post,
-  simple-reads.Asked,
-  simple-reads.Learnt,
-) (statement-at t) statement′.Post
+statement-add-body : (t : ℕ) → statement-lts.Need-add-body (statement-calls t) (statement-at t) statement′.Post
 statement-add-body t c = search needs
 
--- src/statements.rt:38:42
-statement-sub-body : (t : ℕ) → statement-lts.Need-sub-body (
-  kind-at-reads.Asked,
-  kind-at-reads.Learnt,
-  opens-reads.Asked,
-  opens-reads.Learnt,
-  refused-reads.Asked,
-  refused-reads.Learnt,
-  write-reads.Asked,
-  write-reads.Learnt,
-  body-below t,
-  body.Post,
-  if-then-below t,
-  if-then.Post,
-  while-do-below t,
-  while-do.Post,
-  for-do-below t,
-  for-do.Post,
-  simple-reads.Asked,
-  simple-reads.Learnt,
-) (statement-at t) statement′.Post
+statement-sub-body : (t : ℕ) → statement-lts.Need-sub-body (statement-calls t) (statement-at t) statement′.Post
 statement-sub-body t c = search needs
 
--- src/statements.rt:38:58
-statement-add-body-2 : (t : ℕ) → statement-lts.Need-add-body-2 (
-  kind-at-reads.Asked,
-  kind-at-reads.Learnt,
-  opens-reads.Asked,
-  opens-reads.Learnt,
-  refused-reads.Asked,
-  refused-reads.Learnt,
-  write-reads.Asked,
-  write-reads.Learnt,
-  body-below t,
-  body.Post,
-  if-then-below t,
-  if-then.Post,
-  while-do-below t,
-  while-do.Post,
-  for-do-below t,
-  for-do.Post,
-  simple-reads.Asked,
-  simple-reads.Learnt,
-) (statement-at t) statement′.Post
+statement-add-body-2 : (t : ℕ) → statement-lts.Need-add-body-2 (statement-calls t) (statement-at t) statement′.Post
 statement-add-body-2 t c = search needs
 
--- src/statements.rt:38:13
-statement-body-requires : (t : ℕ) → statement-lts.Need-body-requires (
-  kind-at-reads.Asked,
-  kind-at-reads.Learnt,
-  opens-reads.Asked,
-  opens-reads.Learnt,
-  refused-reads.Asked,
-  refused-reads.Learnt,
-  write-reads.Asked,
-  write-reads.Learnt,
-  body-below t,
-  body.Post,
-  if-then-below t,
-  if-then.Post,
-  while-do-below t,
-  while-do.Post,
-  for-do-below t,
-  for-do.Post,
-  simple-reads.Asked,
-  simple-reads.Learnt,
-) (statement-at t) statement′.Post
+statement-body-requires : (t : ℕ) → statement-lts.Need-body-requires (statement-calls t) (statement-at t) statement′.Post
 statement-body-requires t c κs = search needs
 
--- src/statements.rt:38:13
-statement-same-length : (t : ℕ) → statement-lts.Need-same-length (
-  kind-at-reads.Asked,
-  kind-at-reads.Learnt,
-  opens-reads.Asked,
-  opens-reads.Learnt,
-  refused-reads.Asked,
-  refused-reads.Learnt,
-  write-reads.Asked,
-  write-reads.Learnt,
-  body-below t,
-  body.Post,
-  if-then-below t,
-  if-then.Post,
-  while-do-below t,
-  while-do.Post,
-  for-do-below t,
-  for-do.Post,
-  simple-reads.Asked,
-  simple-reads.Learnt,
-) (statement-at t) statement′.Post
+statement-same-length : (t : ℕ) → statement-lts.Need-same-length (statement-calls t) (statement-at t) statement′.Post
 statement-same-length t c = search needs
 
--- src/statements.rt:38:13
-statement-returns-2 : (t : ℕ) → statement-lts.Need-returns-2 (
-  kind-at-reads.Asked,
-  kind-at-reads.Learnt,
-  opens-reads.Asked,
-  opens-reads.Learnt,
-  refused-reads.Asked,
-  refused-reads.Learnt,
-  write-reads.Asked,
-  write-reads.Learnt,
-  body-below t,
-  body.Post,
-  if-then-below t,
-  if-then.Post,
-  while-do-below t,
-  while-do.Post,
-  for-do-below t,
-  for-do.Post,
-  simple-reads.Asked,
-  simple-reads.Learnt,
-) (statement-at t) statement′.Post
+statement-returns-2 : (t : ℕ) → statement-lts.Need-returns-2 (statement-calls t) (statement-at t) statement′.Post
 unfolding constructOf andThen look next tapeStatement
 statement-returns-2 t c = record { read = along (construct _ (c .before .before .before .before .before .before .before .before .before .before .before .before .kind-at .ensures) (c .before .before .before .before .before .before .before .before .before .before .before .opens .ensures) (c .before .before .before .before .before .before .before .before .before .before .if1 .taken) (c .before .before .before .before .before .before .before .before .before .if2 .left)) (rw (same (c .before .before .before .before .before .before .before .before .before .before .before .before .kind-at .ensures .is) (c .before .before .before .before .before .before .before .before .if3 .taken)) (since (omega arith) (gives (T.block (c .before .before .before .before .before .before .before .before .before .before .before .before .before .before .before .args .i)) (λ b l k. l k ∙ c .before .before .before .before .before .before .write .ensures _) (c .before .before .body .ensures .read)))); low = search needs }
 
--- src/statements.rt:41:38
-statement-sub-if-then : (t : ℕ) → statement-lts.Need-sub-if-then (
-  kind-at-reads.Asked,
-  kind-at-reads.Learnt,
-  opens-reads.Asked,
-  opens-reads.Learnt,
-  refused-reads.Asked,
-  refused-reads.Learnt,
-  write-reads.Asked,
-  write-reads.Learnt,
-  body-below t,
-  body.Post,
-  if-then-below t,
-  if-then.Post,
-  while-do-below t,
-  while-do.Post,
-  for-do-below t,
-  for-do.Post,
-  simple-reads.Asked,
-  simple-reads.Learnt,
-) (statement-at t) statement′.Post
+statement-sub-if-then : (t : ℕ) → statement-lts.Need-sub-if-then (statement-calls t) (statement-at t) statement′.Post
 statement-sub-if-then t c = search needs
 
--- src/statements.rt:41:13
-statement-if-then-requires : (t : ℕ) → statement-lts.Need-if-then-requires (
-  kind-at-reads.Asked,
-  kind-at-reads.Learnt,
-  opens-reads.Asked,
-  opens-reads.Learnt,
-  refused-reads.Asked,
-  refused-reads.Learnt,
-  write-reads.Asked,
-  write-reads.Learnt,
-  body-below t,
-  body.Post,
-  if-then-below t,
-  if-then.Post,
-  while-do-below t,
-  while-do.Post,
-  for-do-below t,
-  for-do.Post,
-  simple-reads.Asked,
-  simple-reads.Learnt,
-) (statement-at t) statement′.Post
+statement-if-then-requires : (t : ℕ) → statement-lts.Need-if-then-requires (statement-calls t) (statement-at t) statement′.Post
 statement-if-then-requires t c κs = search needs
 
--- src/statements.rt:41:13
-statement-same-length-2 : (t : ℕ) → statement-lts.Need-same-length-2 (
-  kind-at-reads.Asked,
-  kind-at-reads.Learnt,
-  opens-reads.Asked,
-  opens-reads.Learnt,
-  refused-reads.Asked,
-  refused-reads.Learnt,
-  write-reads.Asked,
-  write-reads.Learnt,
-  body-below t,
-  body.Post,
-  if-then-below t,
-  if-then.Post,
-  while-do-below t,
-  while-do.Post,
-  for-do-below t,
-  for-do.Post,
-  simple-reads.Asked,
-  simple-reads.Learnt,
-) (statement-at t) statement′.Post
+statement-same-length-2 : (t : ℕ) → statement-lts.Need-same-length-2 (statement-calls t) (statement-at t) statement′.Post
 statement-same-length-2 t c = search needs
 
--- src/statements.rt:41:13
-statement-returns-3 : (t : ℕ) → statement-lts.Need-returns-3 (
-  kind-at-reads.Asked,
-  kind-at-reads.Learnt,
-  opens-reads.Asked,
-  opens-reads.Learnt,
-  refused-reads.Asked,
-  refused-reads.Learnt,
-  write-reads.Asked,
-  write-reads.Learnt,
-  body-below t,
-  body.Post,
-  if-then-below t,
-  if-then.Post,
-  while-do-below t,
-  while-do.Post,
-  for-do-below t,
-  for-do.Post,
-  simple-reads.Asked,
-  simple-reads.Learnt,
-) (statement-at t) statement′.Post
+statement-returns-3 : (t : ℕ) → statement-lts.Need-returns-3 (statement-calls t) (statement-at t) statement′.Post
 unfolding constructOf andThen look next
 statement-returns-3 t c = record { read = along (construct _ (c .before .before .before .before .before .before .before .before .before .kind-at .ensures) (c .before .before .before .before .before .before .before .before .opens .ensures) (c .before .before .before .before .before .before .before .if1 .taken) (c .before .before .before .before .before .before .if2 .left)) (rw (same (c .before .before .before .before .before .before .before .before .before .kind-at .ensures .is) (c .before .before .before .before .if4 .taken)) (c .before .before .if-then .ensures .read)); low = search needs }
 
--- src/statements.rt:44:39
-statement-sub-while-do : (t : ℕ) → statement-lts.Need-sub-while-do (
-  kind-at-reads.Asked,
-  kind-at-reads.Learnt,
-  opens-reads.Asked,
-  opens-reads.Learnt,
-  refused-reads.Asked,
-  refused-reads.Learnt,
-  write-reads.Asked,
-  write-reads.Learnt,
-  body-below t,
-  body.Post,
-  if-then-below t,
-  if-then.Post,
-  while-do-below t,
-  while-do.Post,
-  for-do-below t,
-  for-do.Post,
-  simple-reads.Asked,
-  simple-reads.Learnt,
-) (statement-at t) statement′.Post
+statement-sub-while-do : (t : ℕ) → statement-lts.Need-sub-while-do (statement-calls t) (statement-at t) statement′.Post
 statement-sub-while-do t c = search needs
 
--- src/statements.rt:44:13
-statement-while-do-requires : (t : ℕ) → statement-lts.Need-while-do-requires (
-  kind-at-reads.Asked,
-  kind-at-reads.Learnt,
-  opens-reads.Asked,
-  opens-reads.Learnt,
-  refused-reads.Asked,
-  refused-reads.Learnt,
-  write-reads.Asked,
-  write-reads.Learnt,
-  body-below t,
-  body.Post,
-  if-then-below t,
-  if-then.Post,
-  while-do-below t,
-  while-do.Post,
-  for-do-below t,
-  for-do.Post,
-  simple-reads.Asked,
-  simple-reads.Learnt,
-) (statement-at t) statement′.Post
+statement-while-do-requires : (t : ℕ) → statement-lts.Need-while-do-requires (statement-calls t) (statement-at t) statement′.Post
 statement-while-do-requires t c κs = search needs
 
--- src/statements.rt:44:13
-statement-same-length-3 : (t : ℕ) → statement-lts.Need-same-length-3 (
-  kind-at-reads.Asked,
-  kind-at-reads.Learnt,
-  opens-reads.Asked,
-  opens-reads.Learnt,
-  refused-reads.Asked,
-  refused-reads.Learnt,
-  write-reads.Asked,
-  write-reads.Learnt,
-  body-below t,
-  body.Post,
-  if-then-below t,
-  if-then.Post,
-  while-do-below t,
-  while-do.Post,
-  for-do-below t,
-  for-do.Post,
-  simple-reads.Asked,
-  simple-reads.Learnt,
-) (statement-at t) statement′.Post
+statement-same-length-3 : (t : ℕ) → statement-lts.Need-same-length-3 (statement-calls t) (statement-at t) statement′.Post
 statement-same-length-3 t c = search needs
 
--- src/statements.rt:44:13
-statement-returns-4 : (t : ℕ) → statement-lts.Need-returns-4 (
-  kind-at-reads.Asked,
-  kind-at-reads.Learnt,
-  opens-reads.Asked,
-  opens-reads.Learnt,
-  refused-reads.Asked,
-  refused-reads.Learnt,
-  write-reads.Asked,
-  write-reads.Learnt,
-  body-below t,
-  body.Post,
-  if-then-below t,
-  if-then.Post,
-  while-do-below t,
-  while-do.Post,
-  for-do-below t,
-  for-do.Post,
-  simple-reads.Asked,
-  simple-reads.Learnt,
-) (statement-at t) statement′.Post
+statement-returns-4 : (t : ℕ) → statement-lts.Need-returns-4 (statement-calls t) (statement-at t) statement′.Post
 unfolding constructOf andThen look next
 statement-returns-4 t c = record { read = along (construct _ (c .before .before .before .before .before .before .before .before .before .before .kind-at .ensures) (c .before .before .before .before .before .before .before .before .before .opens .ensures) (c .before .before .before .before .before .before .before .before .if1 .taken) (c .before .before .before .before .before .before .before .if2 .left)) (rw (same (c .before .before .before .before .before .before .before .before .before .before .kind-at .ensures .is) (c .before .before .before .before .if5 .taken)) (c .before .before .while-do .ensures .read)); low = search needs }
 
--- src/statements.rt:46:33
-statement-sub-for-do : (t : ℕ) → statement-lts.Need-sub-for-do (
-  kind-at-reads.Asked,
-  kind-at-reads.Learnt,
-  opens-reads.Asked,
-  opens-reads.Learnt,
-  refused-reads.Asked,
-  refused-reads.Learnt,
-  write-reads.Asked,
-  write-reads.Learnt,
-  body-below t,
-  body.Post,
-  if-then-below t,
-  if-then.Post,
-  while-do-below t,
-  while-do.Post,
-  for-do-below t,
-  for-do.Post,
-  simple-reads.Asked,
-  simple-reads.Learnt,
-) (statement-at t) statement′.Post
+statement-sub-for-do : (t : ℕ) → statement-lts.Need-sub-for-do (statement-calls t) (statement-at t) statement′.Post
 statement-sub-for-do t c = search needs
 
--- src/statements.rt:46:9
-statement-for-do-requires : (t : ℕ) → statement-lts.Need-for-do-requires (
-  kind-at-reads.Asked,
-  kind-at-reads.Learnt,
-  opens-reads.Asked,
-  opens-reads.Learnt,
-  refused-reads.Asked,
-  refused-reads.Learnt,
-  write-reads.Asked,
-  write-reads.Learnt,
-  body-below t,
-  body.Post,
-  if-then-below t,
-  if-then.Post,
-  while-do-below t,
-  while-do.Post,
-  for-do-below t,
-  for-do.Post,
-  simple-reads.Asked,
-  simple-reads.Learnt,
-) (statement-at t) statement′.Post
+statement-for-do-requires : (t : ℕ) → statement-lts.Need-for-do-requires (statement-calls t) (statement-at t) statement′.Post
 statement-for-do-requires t c κs = let o = c .before .before .before .before .before .before .before .before .before .before .pre in let k = c .before .before .before .before .before .before .before .kind-at in let z = c .before .before .before .before .if2 .left in ((omega arith), (record { inside = omega arith; low = omega arith; room = omega arith; small = omega arith }, is-token openers (c .before .before .before .before .before .before .before .kind-at .ensures) (c .before .before .before .before .before .before .opens .ensures) (c .before .before .before .before .before .if1 .taken) refl))
 
--- src/statements.rt:46:9
-statement-same-length-4 : (t : ℕ) → statement-lts.Need-same-length-4 (
-  kind-at-reads.Asked,
-  kind-at-reads.Learnt,
-  opens-reads.Asked,
-  opens-reads.Learnt,
-  refused-reads.Asked,
-  refused-reads.Learnt,
-  write-reads.Asked,
-  write-reads.Learnt,
-  body-below t,
-  body.Post,
-  if-then-below t,
-  if-then.Post,
-  while-do-below t,
-  while-do.Post,
-  for-do-below t,
-  for-do.Post,
-  simple-reads.Asked,
-  simple-reads.Learnt,
-) (statement-at t) statement′.Post
+statement-same-length-4 : (t : ℕ) → statement-lts.Need-same-length-4 (statement-calls t) (statement-at t) statement′.Post
 statement-same-length-4 t c = search needs
 
--- src/statements.rt:46:9
-statement-returns-5 : (t : ℕ) → statement-lts.Need-returns-5 (
-  kind-at-reads.Asked,
-  kind-at-reads.Learnt,
-  opens-reads.Asked,
-  opens-reads.Learnt,
-  refused-reads.Asked,
-  refused-reads.Learnt,
-  write-reads.Asked,
-  write-reads.Learnt,
-  body-below t,
-  body.Post,
-  if-then-below t,
-  if-then.Post,
-  while-do-below t,
-  while-do.Post,
-  for-do-below t,
-  for-do.Post,
-  simple-reads.Asked,
-  simple-reads.Learnt,
-) (statement-at t) statement′.Post
+statement-returns-5 : (t : ℕ) → statement-lts.Need-returns-5 (statement-calls t) (statement-at t) statement′.Post
 unfolding constructOf andThen look next
 statement-returns-5 t c = record { read = along (construct _ (c .before .before .before .before .before .before .before .before .before .before .kind-at .ensures) (c .before .before .before .before .before .before .before .before .before .opens .ensures) (c .before .before .before .before .before .before .before .before .if1 .taken) (c .before .before .before .before .before .before .before .if2 .left)) (rw (ne-eqb _ _ (other (c .before .before .before .before .before .before .before .before .before .before .kind-at .ensures .is) (c .before .before .before .before .before .before .if3 .left)), ne-eqb _ _ (other (c .before .before .before .before .before .before .before .before .before .before .kind-at .ensures .is) (c .before .before .before .before .before .if4 .left)), ne-eqb _ _ (other (c .before .before .before .before .before .before .before .before .before .before .kind-at .ensures .is) (c .before .before .before .before .if5 .left))) (c .before .before .for-do .ensures .read)); low = search needs }
 
--- src/statements.rt:48:5
-statement-simple-requires : (t : ℕ) → statement-lts.Need-simple-requires (
-  kind-at-reads.Asked,
-  kind-at-reads.Learnt,
-  opens-reads.Asked,
-  opens-reads.Learnt,
-  refused-reads.Asked,
-  refused-reads.Learnt,
-  write-reads.Asked,
-  write-reads.Learnt,
-  body-below t,
-  body.Post,
-  if-then-below t,
-  if-then.Post,
-  while-do-below t,
-  while-do.Post,
-  for-do-below t,
-  for-do.Post,
-  simple-reads.Asked,
-  simple-reads.Learnt,
-) (statement-at t) statement′.Post
+statement-simple-requires : (t : ℕ) → statement-lts.Need-simple-requires (statement-calls t) (statement-at t) statement′.Post
 statement-simple-requires t c κs = search needs
 
--- src/statements.rt:27:1
-statement-same-length-5 : (t : ℕ) → statement-lts.Need-same-length-5 (
-  kind-at-reads.Asked,
-  kind-at-reads.Learnt,
-  opens-reads.Asked,
-  opens-reads.Learnt,
-  refused-reads.Asked,
-  refused-reads.Learnt,
-  write-reads.Asked,
-  write-reads.Learnt,
-  body-below t,
-  body.Post,
-  if-then-below t,
-  if-then.Post,
-  while-do-below t,
-  while-do.Post,
-  for-do-below t,
-  for-do.Post,
-  simple-reads.Asked,
-  simple-reads.Learnt,
-) (statement-at t) statement′.Post
+statement-same-length-5 : (t : ℕ) → statement-lts.Need-same-length-5 (statement-calls t) (statement-at t) statement′.Post
 statement-same-length-5 t c = search needs
 
--- src/statements.rt:27:1
-statement-returns-6 : (t : ℕ) → statement-lts.Need-returns-6 (
-  kind-at-reads.Asked,
-  kind-at-reads.Learnt,
-  opens-reads.Asked,
-  opens-reads.Learnt,
-  refused-reads.Asked,
-  refused-reads.Learnt,
-  write-reads.Asked,
-  write-reads.Learnt,
-  body-below t,
-  body.Post,
-  if-then-below t,
-  if-then.Post,
-  while-do-below t,
-  while-do.Post,
-  for-do-below t,
-  for-do.Post,
-  simple-reads.Asked,
-  simple-reads.Learnt,
-) (statement-at t) statement′.Post
+statement-returns-6 : (t : ℕ) → statement-lts.Need-returns-6 (statement-calls t) (statement-at t) statement′.Post
 statement-returns-6 t c = record { read = along (no-construct _ (c .before .before .before .before .before .before .kind-at .ensures) (c .before .before .before .before .before .opens .ensures) (c .before .before .before .before .if1 .left)) (c .before .before .simple .ensures .read); low = search needs }
 
--- src/statements.rt:81:5
-while-do-write-requires : (t : ℕ) → while-do-lts.Need-write-requires (
-  write-reads.Asked,
-  write-reads.Learnt,
-  head-reads.Asked,
-  head-reads.Learnt,
-  statement-below t,
-  statement′.Post,
-  read-reads.Asked,
-  read-reads.Learnt,
-) (while-do-at t) while-do.Post
+while-do-write-requires : (t : ℕ) → while-do-lts.Need-write-requires (while-do-calls t) (while-do-at t) while-do.Post
 while-do-write-requires t c κs = search needs
 
--- src/statements.rt:82:25
-while-do-add-head : (t : ℕ) → while-do-lts.Need-add-head (
-  write-reads.Asked,
-  write-reads.Learnt,
-  head-reads.Asked,
-  head-reads.Learnt,
-  statement-below t,
-  statement′.Post,
-  read-reads.Asked,
-  read-reads.Learnt,
-) (while-do-at t) while-do.Post
+while-do-add-head : (t : ℕ) → while-do-lts.Need-add-head (while-do-calls t) (while-do-at t) while-do.Post
 while-do-add-head t c = search needs
 
--- src/statements.rt:82:49
-while-do-add-head-2 : (t : ℕ) → while-do-lts.Need-add-head-2 (
-  write-reads.Asked,
-  write-reads.Learnt,
-  head-reads.Asked,
-  head-reads.Learnt,
-  statement-below t,
-  statement′.Post,
-  read-reads.Asked,
-  read-reads.Learnt,
-) (while-do-at t) while-do.Post
+while-do-add-head-2 : (t : ℕ) → while-do-lts.Need-add-head-2 (while-do-calls t) (while-do-at t) while-do.Post
 while-do-add-head-2 t c = search needs
 
--- src/statements.rt:82:9
-while-do-head-requires : (t : ℕ) → while-do-lts.Need-head-requires (
-  write-reads.Asked,
-  write-reads.Learnt,
-  head-reads.Asked,
-  head-reads.Learnt,
-  statement-below t,
-  statement′.Post,
-  read-reads.Asked,
-  read-reads.Learnt,
-) (while-do-at t) while-do.Post
+while-do-head-requires : (t : ℕ) → while-do-lts.Need-head-requires (while-do-calls t) (while-do-at t) while-do.Post
 while-do-head-requires t c κs = search needs
 
--- src/statements.rt:84:9
-while-do-same-length : (t : ℕ) → while-do-lts.Need-same-length (
-  write-reads.Asked,
-  write-reads.Learnt,
-  head-reads.Asked,
-  head-reads.Learnt,
-  statement-below t,
-  statement′.Post,
-  read-reads.Asked,
-  read-reads.Learnt,
-) (while-do-at t) while-do.Post
+while-do-same-length : (t : ℕ) → while-do-lts.Need-same-length (while-do-calls t) (while-do-at t) while-do.Post
 while-do-same-length t c = search needs
 
--- src/statements.rt:84:9
-while-do-returns : (t : ℕ) → while-do-lts.Need-returns (
-  write-reads.Asked,
-  write-reads.Learnt,
-  head-reads.Asked,
-  head-reads.Learnt,
-  statement-below t,
-  statement′.Post,
-  read-reads.Asked,
-  read-reads.Learnt,
-) (while-do-at t) while-do.Post
+while-do-returns : (t : ℕ) → while-do-lts.Need-returns (while-do-calls t) (while-do-at t) while-do.Post
 while-do-returns t c = record { read = since (omega arith) (along (while-parts (G.statement (c .before .before .before .before .before .before .before .before .before .before .before .before .args .room)) (c .before .before .before .before .before .before .before .before .before .before .before .before .args .i) _ _) (stops _ (c .before .before .before .before .head .ensures .0 .read) (c .if1 .taken))); low = search needs }
 
--- src/statements.rt:86:9
-while-do-statement-requires : (t : ℕ) → while-do-lts.Need-statement-requires (
-  write-reads.Asked,
-  write-reads.Learnt,
-  head-reads.Asked,
-  head-reads.Learnt,
-  statement-below t,
-  statement′.Post,
-  read-reads.Asked,
-  read-reads.Learnt,
-) (while-do-at t) while-do.Post
+while-do-statement-requires : (t : ℕ) → while-do-lts.Need-statement-requires (while-do-calls t) (while-do-at t) while-do.Post
 while-do-statement-requires t c κs = search needs
 
--- src/statements.rt:88:9
-while-do-same-length-2 : (t : ℕ) → while-do-lts.Need-same-length-2 (
-  write-reads.Asked,
-  write-reads.Learnt,
-  head-reads.Asked,
-  head-reads.Learnt,
-  statement-below t,
-  statement′.Post,
-  read-reads.Asked,
-  read-reads.Learnt,
-) (while-do-at t) while-do.Post
+while-do-same-length-2 : (t : ℕ) → while-do-lts.Need-same-length-2 (while-do-calls t) (while-do-at t) while-do.Post
 while-do-same-length-2 t c = search needs
 
--- src/statements.rt:88:9
-while-do-returns-2 : (t : ℕ) → while-do-lts.Need-returns-2 (
-  write-reads.Asked,
-  write-reads.Learnt,
-  head-reads.Asked,
-  head-reads.Learnt,
-  statement-below t,
-  statement′.Post,
-  read-reads.Asked,
-  read-reads.Learnt,
-) (while-do-at t) while-do.Post
+while-do-returns-2 : (t : ℕ) → while-do-lts.Need-returns-2 (while-do-calls t) (while-do-at t) while-do.Post
 while-do-returns-2 t c = record { read = since (omega arith) (along (while-parts (G.statement (c .before .before .before .before .before .before .before .before .before .before .before .before .before .before .before .before .before .before .args .room)) (c .before .before .before .before .before .before .before .before .before .before .before .before .before .before .before .before .before .before .args .i) _ _) (goes _ (c .before .before .before .before .before .before .before .before .before .before .head .ensures .0 .read) (c .before .before .before .before .before .before .if1 .left) (λ h w. stops _ (c .before .before .before .before .statement .ensures .read) (c .if2 .taken)))); low = let z = c .before .before .before .before .before .before .if1 .left in let o = c .before .before .before .before .before .before .before .before .before .before .before .before .before .before .before .before .before .before .pre in let w = c .before .before .before .before .before .before .before .before .before .before .before .before .before .before .write in let h = c .before .before .before .before .before .before .before .before .before .before .head in let s = c .before .before .before .before .statement in omega arith }
 
--- src/statements.rt:90:5
-while-do-write-requires-2 : (t : ℕ) → while-do-lts.Need-write-requires-2 (
-  write-reads.Asked,
-  write-reads.Learnt,
-  head-reads.Asked,
-  head-reads.Learnt,
-  statement-below t,
-  statement′.Post,
-  read-reads.Asked,
-  read-reads.Learnt,
-) (while-do-at t) while-do.Post
+while-do-write-requires-2 : (t : ℕ) → while-do-lts.Need-write-requires-2 (while-do-calls t) (while-do-at t) while-do.Post
 while-do-write-requires-2 t c κs = let z = c .before .before .before .before .before .before .before .if1 .left in let o = c .before .before .before .before .before .before .before .before .before .before .before .before .before .before .before .before .before .before .before .pre in let w = c .before .before .before .before .before .before .before .before .before .before .before .before .before .before .before .write in let h = c .before .before .before .before .before .before .before .before .before .before .before .head in let s = c .before .before .before .before .before .statement in omega arith
 
--- src/statements.rt:91:16
-while-do-add-read : (t : ℕ) → while-do-lts.Need-add-read (
-  write-reads.Asked,
-  write-reads.Learnt,
-  head-reads.Asked,
-  head-reads.Learnt,
-  statement-below t,
-  statement′.Post,
-  read-reads.Asked,
-  read-reads.Learnt,
-) (while-do-at t) while-do.Post
+while-do-add-read : (t : ℕ) → while-do-lts.Need-add-read (while-do-calls t) (while-do-at t) while-do.Post
 while-do-add-read t c = let z = c .before .before .before .before .before .before .before .before .before .before .before .if1 .left in let o = c .before .before .before .before .before .before .before .before .before .before .before .before .before .before .before .before .before .before .before .before .before .before .before .pre in let w = c .before .before .before .before .before .before .before .before .before .before .before .before .before .before .before .before .before .before .before .write in let h = c .before .before .before .before .before .before .before .before .before .before .before .before .before .before .before .head in let s = c .before .before .before .before .before .before .before .before .before .statement in omega arith
 
--- src/statements.rt:91:5
-while-do-read-requires : (t : ℕ) → while-do-lts.Need-read-requires (
-  write-reads.Asked,
-  write-reads.Learnt,
-  head-reads.Asked,
-  head-reads.Learnt,
-  statement-below t,
-  statement′.Post,
-  read-reads.Asked,
-  read-reads.Learnt,
-) (while-do-at t) while-do.Post
+while-do-read-requires : (t : ℕ) → while-do-lts.Need-read-requires (while-do-calls t) (while-do-at t) while-do.Post
 while-do-read-requires t c κs = search needs
 
--- src/statements.rt:77:1
-while-do-same-length-3 : (t : ℕ) → while-do-lts.Need-same-length-3 (
-  write-reads.Asked,
-  write-reads.Learnt,
-  head-reads.Asked,
-  head-reads.Learnt,
-  statement-below t,
-  statement′.Post,
-  read-reads.Asked,
-  read-reads.Learnt,
-) (while-do-at t) while-do.Post
+while-do-same-length-3 : (t : ℕ) → while-do-lts.Need-same-length-3 (while-do-calls t) (while-do-at t) while-do.Post
 while-do-same-length-3 t c = search needs
 
--- src/statements.rt:77:1
-while-do-returns-3 : (t : ℕ) → while-do-lts.Need-returns-3 (
-  write-reads.Asked,
-  write-reads.Learnt,
-  head-reads.Asked,
-  head-reads.Learnt,
-  statement-below t,
-  statement′.Post,
-  read-reads.Asked,
-  read-reads.Learnt,
-) (while-do-at t) while-do.Post
+while-do-returns-3 : (t : ℕ) → while-do-lts.Need-returns-3 (while-do-calls t) (while-do-at t) while-do.Post
 unfolding tapeStatement
 while-do-returns-3 t c = record { read = since (omega arith) (along (while-parts (G.statement (c .before .before .before .before .before .before .before .before .before .before .before .before .before .before .before .before .before .before .before .before .before .before .before .before .args .room)) (c .before .before .before .before .before .before .before .before .before .before .before .before .before .before .before .before .before .before .before .before .before .before .before .before .args .i) _ _) (goes _ (c .before .before .before .before .before .before .before .before .before .before .before .before .before .before .before .before .head .ensures .0 .read) (c .before .before .before .before .before .before .before .before .before .before .before .before .if1 .left) (λ h w. goes _ (c .before .before .before .before .before .before .before .before .before .before .statement .ensures .read) (c .before .before .before .before .before .before .if2 .left) (λ s y. done (c .read .ensures) (omega arith) (omega arith) (λ k. c .before .before .before .before .write2 .ensures k ∙ (y _ ∙ (w _ ∙ c .before .before .before .before .before .before .before .before .before .before .before .before .before .before .before .before .before .before .before .before .write .ensures _))))))); low = let x = c .read .ensures in let z = c .before .before .before .before .before .before .before .before .before .before .before .before .if1 .left in let o = c .before .before .before .before .before .before .before .before .before .before .before .before .before .before .before .before .before .before .before .before .before .before .before .before .pre in let w = c .before .before .before .before .before .before .before .before .before .before .before .before .before .before .before .before .before .before .before .before .write in let h = c .before .before .before .before .before .before .before .before .before .before .before .before .before .before .before .before .head in let s = c .before .before .before .before .before .before .before .before .before .before .statement in omega arith }
 
 pub +body+for-do+if-then+items+procedure+statement+while-do-spec : {M : Type 1} → statement M
 +body+for-do+if-then+items+procedure+statement+while-do-spec =
-    close μ-body μ-for-do μ-if-then μ-items μ-procedure μ-statement μ-while-do (λ t. body-lts.spec (
-      kind-at-reads.Asked,
-      kind-at-reads.Learnt,
-      declares-reads.Asked,
-      declares-reads.Learnt,
-      declaration-reads.Asked,
-      declaration-reads.Learnt,
-      wanted-reads.Asked,
-      wanted-reads.Learnt,
-      items-below t,
-      items.Post,
-      procedure-below t,
-      procedure.Post,
-    )
+    close μ-body μ-for-do μ-if-then μ-items μ-procedure μ-statement μ-while-do (λ t. body-lts.spec (body-calls t)
     (body-at t)
     body.Post
     body-Inv-loop
@@ -2637,18 +724,7 @@ pub +body+for-do+if-then+items+procedure+statement+while-do-spec : {M : Type 1} 
     (body-returns-5 t)
     (body-loop-less-2 t)
     (body-loop-again-2 t))
-    (λ t. for-do-lts.spec (
-      control-reads.Asked,
-      control-reads.Learnt,
-      limit-reads.Asked,
-      limit-reads.Learnt,
-      statement-below t,
-      statement′.Post,
-      write-reads.Asked,
-      write-reads.Learnt,
-      read-reads.Asked,
-      read-reads.Learnt,
-    )
+    (λ t. for-do-lts.spec (for-do-calls t)
     (for-do-at t)
     for-do.Post
     (for-do-add-control t)
@@ -2666,20 +742,7 @@ pub +body+for-do+if-then+items+procedure+statement+while-do-spec : {M : Type 1} 
     (for-do-read-requires t)
     (for-do-same-length-4 t)
     (for-do-returns-4 t))
-    (λ t. if-then-lts.spec (
-      head-reads.Asked,
-      head-reads.Learnt,
-      kind-at-reads.Asked,
-      kind-at-reads.Learnt,
-      statement-below t,
-      statement′.Post,
-      has-else-reads.Asked,
-      has-else-reads.Learnt,
-      write-reads.Asked,
-      write-reads.Learnt,
-      read-reads.Asked,
-      read-reads.Learnt,
-    )
+    (λ t. if-then-lts.spec (if-then-calls t)
     (if-then-at t)
     if-then.Post
     (if-then-add-head t)
@@ -2707,20 +770,7 @@ pub +body+for-do+if-then+items+procedure+statement+while-do-spec : {M : Type 1} 
     (if-then-read-requires-2 t)
     (if-then-same-length-5 t)
     (if-then-returns-5 t))
-    (λ t. items-lts.spec (
-      kind-at-reads.Asked,
-      kind-at-reads.Learnt,
-      has-label-reads.Asked,
-      has-label-reads.Learnt,
-      write-reads.Asked,
-      write-reads.Learnt,
-      statement-below t,
-      statement′.Post,
-      wanted-reads.Asked,
-      wanted-reads.Learnt,
-      read-reads.Asked,
-      read-reads.Learnt,
-    )
+    (λ t. items-lts.spec (items-calls t)
     (items-at t)
     items.Post
     items-Inv-loop
@@ -2748,18 +798,7 @@ pub +body+for-do+if-then+items+procedure+statement+while-do-spec : {M : Type 1} 
     (items-read-requires t)
     (items-same-length-3 t)
     (items-returns-3 t))
-    (λ t. procedure-lts.spec (
-      refused-reads.Asked,
-      refused-reads.Learnt,
-      procedure-head-reads.Asked,
-      procedure-head-reads.Learnt,
-      statement-below t,
-      statement′.Post,
-      write-reads.Asked,
-      write-reads.Learnt,
-      read-reads.Asked,
-      read-reads.Learnt,
-    )
+    (λ t. procedure-lts.spec (procedure-calls t)
     (procedure-at t)
     procedure.Post
     (procedure-refused-requires t)
@@ -2778,26 +817,7 @@ pub +body+for-do+if-then+items+procedure+statement+while-do-spec : {M : Type 1} 
     (procedure-read-requires t)
     (procedure-same-length-3 t)
     (procedure-returns-4 t))
-    (λ t. statement-lts.spec (
-      kind-at-reads.Asked,
-      kind-at-reads.Learnt,
-      opens-reads.Asked,
-      opens-reads.Learnt,
-      refused-reads.Asked,
-      refused-reads.Learnt,
-      write-reads.Asked,
-      write-reads.Learnt,
-      body-below t,
-      body.Post,
-      if-then-below t,
-      if-then.Post,
-      while-do-below t,
-      while-do.Post,
-      for-do-below t,
-      for-do.Post,
-      simple-reads.Asked,
-      simple-reads.Learnt,
-    )
+    (λ t. statement-lts.spec (statement-calls t)
     (statement-at t)
     statement′.Post
     (statement-kind-at-requires t)
@@ -2826,16 +846,7 @@ pub +body+for-do+if-then+items+procedure+statement+while-do-spec : {M : Type 1} 
     (statement-simple-requires t)
     (statement-same-length-5 t)
     (statement-returns-6 t))
-    λ t. while-do-lts.spec (
-      write-reads.Asked,
-      write-reads.Learnt,
-      head-reads.Asked,
-      head-reads.Learnt,
-      statement-below t,
-      statement′.Post,
-      read-reads.Asked,
-      read-reads.Learnt,
-    )
+    λ t. while-do-lts.spec (while-do-calls t)
     (while-do-at t)
     while-do.Post
     (while-do-write-requires t)

@@ -1,104 +1,77 @@
+-- `condition` reads and writes by the kind of its first token. Assumes nothing.
+use mathlib.Core.List.{_∷_}
+use mathlib.Core.Path.{refl}
 use native.Mathlib.Omega.{arith}
 use borrow.Author.Tests.{ne-eqb}
-use Rattle.tape.specs.Tape.{tapeCondition}
-use mathlib.Core.List.{_∷_}
+use borrow.Author.Needs.{needs}
+use Rattle.base.proofs.Tests.{same, other}
 use Rattle.token.specs.Kinds as K
 use Rattle.grammar.specs.Grammar.{condition, relations}
 use Rattle.grammar.specs.Tree.{compared}
 use Rattle.grammar.specs.Reader.{andThen, look}
-use Rattle.base.proofs.Tests.{same, other}
+use Rattle.tape.specs.Tape.{tapeCondition}
 use Rattle.phrases.proofs.Reading.{done, no, since, gives}
 use Rattle.phrases.proofs.Choices.{one-yes, one-no, is-token}
-use mathlib.Core.Path.{refl}
-use borrow.Author.Needs.{needs}
 use Rattle.phrases.proofs.assignments.condition.Statement.{statement}
 use Rattle.phrases.proofs.assignments.condition.Tie as tie
-use Rattle.phrases.proofs.assignments.condition.Reads as reads
-use Rattle.phrases.proofs.assignments.condition.Lts as lts
-use Rattle.phrases.proofs.assignments.begins_condition.Reads as begins-condition-reads
-use Rattle.phrases.proofs.assignments.is_relation.Reads as is-relation-reads
-use Rattle.phrases.proofs.assignments.operand.Reads as operand-reads
-use Rattle.phrases.proofs.events.write.Reads as write-reads
-use Rattle.phrases.proofs.tokens.kind_at.Reads as kind-at-reads
-use Rattle.phrases.proofs.tokens.read.Reads as read-reads
-use Rattle.phrases.proofs.tokens.refused.Reads as refused-reads
 
--- src/assignments.rt:111:9
 kind-at-requires : tie.Need-kind-at-requires
 kind-at-requires c κs = search needs
 
--- src/assignments.rt:113:24
 add-relation : tie.Need-add-relation
 add-relation c = search needs
 
--- src/assignments.rt:114:24
 kind-at-requires-2 : tie.Need-kind-at-requires-2
 kind-at-requires-2 c κs = search needs
 
--- src/assignments.rt:114:12
 is-relation-requires : tie.Need-is-relation-requires
 is-relation-requires c κs = search needs
 
--- src/assignments.rt:115:35
 add-operand : tie.Need-add-operand
 add-operand c = search needs
 
--- src/assignments.rt:115:13
 operand-requires : tie.Need-operand-requires
 operand-requires c κs = let h = is-token relations (c .before .before .before .kind-at2 .ensures) (c .before .before .is-relation .ensures) (c .before .if2 .taken) refl in search needs
 
--- src/assignments.rt:115:13
 same-length : tie.Need-same-length
 same-length c = search needs
 
--- src/assignments.rt:115:13
 returns : tie.Need-returns
 unfolding condition andThen look tapeCondition
 returns c = let h = is-token relations (c .before .before .before .before .before .before .kind-at2 .ensures) (c .before .before .before .before .before .is-relation .ensures) (c .before .before .before .before .if2 .taken) refl in record { read = rw (one-yes (K.NAME ∷ K.OVERFLOW ∷ relations) (c .before .before .before .before .before .before .before .before .kind-at .ensures) (rw (c .before .before .before .before .before .before .before .if1 .taken)) refl, same (c .before .before .before .before .before .before .before .before .kind-at .ensures .is) (c .before .before .before .before .before .before .before .if1 .taken), one-yes relations (c .before .before .before .before .before .before .kind-at2 .ensures) (c .before .before .before .before .before .is-relation .ensures) (c .before .before .before .before .if2 .taken)) (since (omega arith) (gives (compared _ _) (λ a w. w) (c .before .before .operand .ensures .read))); low = search needs }
 
--- src/assignments.rt:117:9
 refused-requires : tie.Need-refused-requires
 refused-requires c κs = search needs
 
--- src/assignments.rt:117:9
 returns-2 : tie.Need-returns-2
 unfolding condition andThen look
 returns-2 c = record { read = rw (one-yes (K.NAME ∷ K.OVERFLOW ∷ relations) (c .before .before .before .before .before .kind-at .ensures) (rw (c .before .before .before .before .if1 .taken)) refl, same (c .before .before .before .before .before .kind-at .ensures .is) (c .before .before .before .before .if1 .taken), one-no relations (c .before .before .before .kind-at2 .ensures) (c .before .before .is-relation .ensures) (c .before .if2 .left)) (since (omega arith) (no (c .refused .ensures) tt (omega arith))); low = search needs }
 
--- src/assignments.rt:119:8
 begins-condition-requires : tie.Need-begins-condition-requires
 begins-condition-requires c κs = search needs
 
--- src/assignments.rt:120:9
 write-requires : tie.Need-write-requires
 write-requires c κs = let h = is-token (K.NAME ∷ K.OVERFLOW ∷ relations) (c .before .before .before .before .kind-at .ensures) (c .before .before .begins-condition .ensures) (c .before .if3 .taken) refl in search needs
 
--- src/assignments.rt:121:21
 add-read : tie.Need-add-read
 add-read c = search needs
 
--- src/assignments.rt:121:28
 add-read-2 : tie.Need-add-read-2
 add-read-2 c = search needs
 
--- src/assignments.rt:121:9
 read-requires : tie.Need-read-requires
 read-requires c κs = search needs
 
--- src/assignments.rt:121:9
 same-length-2 : tie.Need-same-length-2
 same-length-2 c = search needs
 
--- src/assignments.rt:121:9
 returns-3 : tie.Need-returns-3
 unfolding condition andThen look tapeCondition
 returns-3 c = let h = is-token (K.NAME ∷ K.OVERFLOW ∷ relations) (c .before .before .before .before .before .before .before .before .kind-at .ensures) (c .before .before .before .before .before .before .begins-condition .ensures) (c .before .before .before .before .before .if3 .taken) refl in record { read = rw (one-yes (K.NAME ∷ K.OVERFLOW ∷ relations) (c .before .before .before .before .before .before .before .before .kind-at .ensures) (c .before .before .before .before .before .before .begins-condition .ensures) (c .before .before .before .before .before .if3 .taken), ne-eqb _ _ (other (c .before .before .before .before .before .before .before .before .kind-at .ensures .is) (c .before .before .before .before .before .before .before .if1 .left))) (done (c .read .ensures) (omega arith) (omega arith) (c .before .before .before .write .ensures)); low = search needs }
 
--- src/assignments.rt:123:5
 refused-requires-2 : tie.Need-refused-requires-2
 refused-requires-2 c κs = search needs
 
--- src/assignments.rt:107:1
 returns-4 : tie.Need-returns-4
 unfolding condition andThen look
 returns-4 c = record { read = rw (one-no (K.NAME ∷ K.OVERFLOW ∷ relations) (c .before .before .before .before .kind-at .ensures) (c .before .before .begins-condition .ensures) (c .before .if3 .left)) (no (c .refused2 .ensures) tt (omega arith)); low = search needs }

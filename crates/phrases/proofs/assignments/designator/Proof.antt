@@ -1,100 +1,75 @@
+-- `designator` reads what follows a name: a chain of parts, or the first that is refused. Assumes nothing.
 use mathlib.Core.Path.{refl}
 use native.Mathlib.Omega.{arith}
 use borrow.Author.Tests.{eq-eqb, ne-eqb}
+use borrow.Author.Needs.{needs}
+use Rattle.base.proofs.Tests.{same, other}
 use Rattle.grammar.specs.Grammar.{designatorOf}
 use Rattle.grammar.specs.Reader.{andThen, look, next}
-use Rattle.base.proofs.Tests.{same, other}
 use Rattle.phrases.proofs.Reading.{done, since, stops, goes}
-use borrow.Author.Needs.{needs}
 use Rattle.phrases.proofs.assignments.designator.Statement.{statement}
 use Rattle.phrases.proofs.assignments.designator.Tie as tie
-use Rattle.phrases.proofs.assignments.designator.Reads as reads
-use Rattle.phrases.proofs.assignments.designator.Lts as lts
-use Rattle.phrases.proofs.assignments.number_or_name.Reads as number-or-name-reads
-use Rattle.phrases.proofs.tokens.in_parens.Reads as in-parens-reads
-use Rattle.phrases.proofs.tokens.kind_at.Reads as kind-at-reads
-use Rattle.phrases.proofs.tokens.read.Reads as read-reads
-use Rattle.phrases.proofs.tokens.wanted.Reads as wanted-reads
 
--- src/assignments.rt:40:13
 add-i : tie.Need-add-i
 add-i c = search needs
 
--- src/assignments.rt:41:8
 kind-at-requires : tie.Need-kind-at-requires
 kind-at-requires c κs = search needs
 
--- src/assignments.rt:42:9
 read-requires : tie.Need-read-requires
 read-requires c κs = search needs
 
--- src/assignments.rt:42:9
 returns : tie.Need-returns
 unfolding designatorOf andThen look next
 returns c = record { read = rw (ne-eqb _ _ (other (c .before .before .kind-at .ensures .is) (c .before .if1 .taken))) (done (c .read .ensures) (omega arith) (omega arith) (refl, refl)); small = search needs }
 
--- src/assignments.rt:44:17
 add-first : tie.Need-add-first
 add-first c = search needs
 
--- src/assignments.rt:45:9
 kind-at-requires-2 : tie.Need-kind-at-requires-2
 kind-at-requires-2 c κs = search needs
 
--- src/assignments.rt:46:9
 number-or-name-requires : tie.Need-number-or-name-requires
 number-or-name-requires c κs = search needs
 
--- src/assignments.rt:48:9
 returns-2 : tie.Need-returns-2
 unfolding designatorOf andThen look next
 returns-2 c = record { read = rw (eq-eqb _ _ (same (c .before .before .before .before .before .kind-at .ensures .is) (c .before .before .before .before .if1 .left))) (since (omega arith) (stops _ (c .before .before .number-or-name .ensures .read) (c .if2 .taken))); small = search needs }
 
--- src/assignments.rt:50:9
 wanted-requires : tie.Need-wanted-requires
 wanted-requires c κs = search needs
 
--- src/assignments.rt:52:9
 returns-3 : tie.Need-returns-3
 unfolding designatorOf andThen look next
 returns-3 c = record { read = rw (eq-eqb _ _ (same (c .before .before .before .before .before .before .before .before .kind-at .ensures .is) (c .before .before .before .before .before .before .before .if1 .left))) (since (omega arith) (goes _ (c .before .before .before .before .before .number-or-name .ensures .read) (c .before .before .before .if2 .left) (λ s e. stops _ (c .before .before .wanted .ensures .read) (c .if3 .taken)))); small = search needs }
 
--- src/assignments.rt:55:9
 read-requires-2 : tie.Need-read-requires-2
 read-requires-2 c κs = search needs
 
--- src/assignments.rt:55:9
 returns-4 : tie.Need-returns-4
 unfolding designatorOf andThen look next
 returns-4 c = record { read = rw (eq-eqb _ _ (same (c .before .before .before .before .before .before .before .before .before .before .kind-at .ensures .is) (c .before .before .before .before .before .before .before .before .before .if1 .left))) (since (omega arith) (goes _ (c .before .before .before .before .before .before .before .number-or-name .ensures .read) (c .before .before .before .before .before .if2 .left) (λ s e. goes _ (c .before .before .before .before .wanted .ensures .read) (c .before .before .if3 .left) (λ t f. rw (eq-eqb _ _ (same (c .before .before .before .before .before .before .before .before .kind-at2 .ensures .is) (c .before .if4 .taken))) (done (c .read2 .ensures) (omega arith) (omega arith) (refl, refl)))))); small = search needs }
 
--- src/assignments.rt:57:8
 kind-at-requires-3 : tie.Need-kind-at-requires-3
 kind-at-requires-3 c κs = search needs
 
--- src/assignments.rt:58:9
 read-requires-3 : tie.Need-read-requires-3
 read-requires-3 c κs = search needs
 
--- src/assignments.rt:58:9
 returns-5 : tie.Need-returns-5
 unfolding designatorOf andThen look next
 returns-5 c = record { read = rw (eq-eqb _ _ (same (c .before .before .before .before .before .before .before .before .before .before .before .before .kind-at .ensures .is) (c .before .before .before .before .before .before .before .before .before .before .before .if1 .left))) (since (omega arith) (goes _ (c .before .before .before .before .before .before .before .before .before .number-or-name .ensures .read) (c .before .before .before .before .before .before .before .if2 .left) (λ s e. goes _ (c .before .before .before .before .before .before .wanted .ensures .read) (c .before .before .before .before .if3 .left) (λ t f. rw (ne-eqb _ _ (other (c .before .before .before .before .before .before .before .before .before .before .kind-at2 .ensures .is) (c .before .before .before .if4 .left)), ne-eqb _ _ (other (c .before .before .kind-at3 .ensures .is) (c .before .if5 .taken))) (done (c .read3 .ensures) (omega arith) (omega arith) (refl, refl)))))); small = search needs }
 
--- src/assignments.rt:60:9
 in-parens-requires : tie.Need-in-parens-requires
 in-parens-requires c κs = search needs
 
--- src/assignments.rt:62:9
 returns-6 : tie.Need-returns-6
 unfolding designatorOf andThen look next
 returns-6 c = record { read = rw (eq-eqb _ _ (same (c .before .before .before .before .before .before .before .before .before .before .before .before .before .before .kind-at .ensures .is) (c .before .before .before .before .before .before .before .before .before .before .before .before .before .if1 .left))) (since (omega arith) (goes _ (c .before .before .before .before .before .before .before .before .before .before .before .number-or-name .ensures .read) (c .before .before .before .before .before .before .before .before .before .if2 .left) (λ s e. goes _ (c .before .before .before .before .before .before .before .before .wanted .ensures .read) (c .before .before .before .before .before .before .if3 .left) (λ t f. rw (ne-eqb _ _ (other (c .before .before .before .before .before .before .before .before .before .before .before .before .kind-at2 .ensures .is) (c .before .before .before .before .before .if4 .left)), eq-eqb _ _ (same (c .before .before .before .before .kind-at3 .ensures .is) (c .before .before .before .if5 .left))) (stops _ (c .before .before .in-parens .ensures .read) (c .if6 .taken)))))); small = search needs }
 
--- src/assignments.rt:64:5
 read-requires-4 : tie.Need-read-requires-4
 read-requires-4 c κs = search needs
 
--- src/assignments.rt:36:1
 returns-7 : tie.Need-returns-7
 unfolding designatorOf andThen look next
 returns-7 c = record { read = rw (eq-eqb _ _ (same (c .before .before .before .before .before .before .before .before .before .before .before .before .before .before .before .kind-at .ensures .is) (c .before .before .before .before .before .before .before .before .before .before .before .before .before .before .if1 .left))) (since (omega arith) (goes _ (c .before .before .before .before .before .before .before .before .before .before .before .before .number-or-name .ensures .read) (c .before .before .before .before .before .before .before .before .before .before .if2 .left) (λ s e. goes _ (c .before .before .before .before .before .before .before .before .before .wanted .ensures .read) (c .before .before .before .before .before .before .before .if3 .left) (λ t f. rw (ne-eqb _ _ (other (c .before .before .before .before .before .before .before .before .before .before .before .before .before .kind-at2 .ensures .is) (c .before .before .before .before .before .before .if4 .left)), eq-eqb _ _ (same (c .before .before .before .before .before .kind-at3 .ensures .is) (c .before .before .before .before .if5 .left))) (goes _ (c .before .before .before .in-parens .ensures .read) (c .before .if6 .left) (λ x g. done (c .read4 .ensures) (omega arith) (omega arith) (refl, refl))))))); small = search needs }

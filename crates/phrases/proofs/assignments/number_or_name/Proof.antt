@@ -1,53 +1,40 @@
+-- `number_or_name` takes a number or a name, and refuses any other token. Assumes nothing.
 use mathlib.Core.Path.{refl}
 use native.Mathlib.Omega.{arith}
 use borrow.Author.Tests.{ne-eqb}
-use Rattle.grammar.specs.Reader.{wantOne}
-use Rattle.base.proofs.Tests.{same, other}
-use Rattle.phrases.proofs.Reading.{done, no}
 use borrow.Author.Needs.{needs}
+use Rattle.base.proofs.Tests.{same, other}
+use Rattle.grammar.specs.Reader.{wantOne}
+use Rattle.phrases.proofs.Reading.{done, no}
 use Rattle.phrases.proofs.assignments.number_or_name.Statement.{statement}
 use Rattle.phrases.proofs.assignments.number_or_name.Tie as tie
-use Rattle.phrases.proofs.assignments.number_or_name.Reads as reads
-use Rattle.phrases.proofs.assignments.number_or_name.Lts as lts
-use Rattle.phrases.proofs.tokens.kind_at.Reads as kind-at-reads
-use Rattle.phrases.proofs.tokens.read.Reads as read-reads
-use Rattle.phrases.proofs.tokens.refused.Reads as refused-reads
 
--- src/assignments.rt:25:9
 kind-at-requires : tie.Need-kind-at-requires
 kind-at-requires c κs = search needs
 
--- src/assignments.rt:27:21
 add-read : tie.Need-add-read
 add-read c = search needs
 
--- src/assignments.rt:27:9
 read-requires : tie.Need-read-requires
 read-requires c κs = search needs
 
--- src/assignments.rt:27:9
 returns : tie.Need-returns
 unfolding wantOne
 returns c = record { read = rw (same (c .before .before .kind-at .ensures .is) (c .before .if1 .taken)) (done (c .read .ensures) (omega arith) (omega arith) refl); moved = search needs; none = search needs }
 
--- src/assignments.rt:30:21
 add-read-2 : tie.Need-add-read-2
 add-read-2 c = search needs
 
--- src/assignments.rt:30:9
 read-requires-2 : tie.Need-read-requires-2
 read-requires-2 c κs = search needs
 
--- src/assignments.rt:30:9
 returns-2 : tie.Need-returns-2
 unfolding wantOne
 returns-2 c = record { read = rw (same (c .before .before .before .kind-at .ensures .is) (c .before .if2 .taken)) (done (c .read2 .ensures) (omega arith) (omega arith) refl); moved = search needs; none = search needs }
 
--- src/assignments.rt:32:5
 refused-requires : tie.Need-refused-requires
 refused-requires c κs = search needs
 
--- src/assignments.rt:21:1
 returns-3 : tie.Need-returns-3
 unfolding wantOne
 returns-3 c = record { read = rw (ne-eqb _ _ (other (c .before .before .before .kind-at .ensures .is) (c .before .before .if1 .left)), ne-eqb _ _ (other (c .before .before .before .kind-at .ensures .is) (c .before .if2 .left))) (no (c .refused .ensures) tt (omega arith)); moved = search needs; none = search needs }

@@ -1,73 +1,54 @@
+-- `operand` reads and writes by the kind of its first token. Assumes nothing.
 use native.Mathlib.Omega.{arith}
-use borrow.Author.Tests.{eq-eqb, ne-eqb}
-use Rattle.tape.specs.Tape.{tapeOperand}
+use borrow.Author.Tests.{ne-eqb}
+use borrow.Author.Needs.{needs}
+use Rattle.base.proofs.Tests.{same, other}
 use Rattle.grammar.specs.Grammar.{operand}
 use Rattle.grammar.specs.Tree.{place}
 use Rattle.grammar.specs.Reader.{andThen, look, next, wantOne}
-use Rattle.base.proofs.Tests.{same, other}
+use Rattle.tape.specs.Tape.{tapeOperand}
 use Rattle.phrases.proofs.Reading.{done, no, gives}
-use borrow.Author.Needs.{needs}
 use Rattle.phrases.proofs.assignments.operand.Statement.{statement}
 use Rattle.phrases.proofs.assignments.operand.Tie as tie
-use Rattle.phrases.proofs.assignments.operand.Reads as reads
-use Rattle.phrases.proofs.assignments.operand.Lts as lts
-use Rattle.phrases.proofs.assignments.place.Reads as place-reads
-use Rattle.phrases.proofs.events.write.Reads as write-reads
-use Rattle.phrases.proofs.tokens.kind_at.Reads as kind-at-reads
-use Rattle.phrases.proofs.tokens.read.Reads as read-reads
-use Rattle.phrases.proofs.tokens.refused.Reads as refused-reads
 
--- src/assignments.rt:84:9
 kind-at-requires : tie.Need-kind-at-requires
 kind-at-requires c κs = search needs
 
--- src/assignments.rt:86:32
 add-write : tie.Need-add-write
 add-write c = search needs
 
--- src/assignments.rt:86:9
 write-requires : tie.Need-write-requires
 write-requires c κs = search needs
 
--- src/assignments.rt:87:21
 add-read : tie.Need-add-read
 add-read c = search needs
 
--- src/assignments.rt:87:28
 add-read-2 : tie.Need-add-read-2
 add-read-2 c = search needs
 
--- src/assignments.rt:87:9
 read-requires : tie.Need-read-requires
 read-requires c κs = search needs
 
--- src/assignments.rt:87:9
 same-length : tie.Need-same-length
 same-length c = search needs
 
--- src/assignments.rt:87:9
 returns : tie.Need-returns
 unfolding operand andThen look next wantOne tapeOperand
 returns c = record { read = rw (same (c .before .before .before .before .before .before .kind-at .ensures .is) (c .before .before .before .before .before .if1 .taken)) (done (c .read .ensures) (omega arith) (omega arith) (c .before .before .before .write .ensures)); low = search needs }
 
--- src/assignments.rt:90:9
 place-requires : tie.Need-place-requires
 place-requires c κs = search needs
 
--- src/assignments.rt:90:9
 same-length-2 : tie.Need-same-length-2
 same-length-2 c = search needs
 
--- src/assignments.rt:90:9
 returns-2 : tie.Need-returns-2
 unfolding operand andThen look next wantOne tapeOperand
 returns-2 c = record { read = rw (same (c .before .before .before .before .before .before .kind-at .ensures .is) (c .before .before .before .before .if2 .taken)) (gives place (λ d w. w) (c .before .before .place .ensures .read)); low = search needs }
 
--- src/assignments.rt:92:5
 refused-requires : tie.Need-refused-requires
 refused-requires c κs = search needs
 
--- src/assignments.rt:80:1
 returns-3 : tie.Need-returns-3
 unfolding operand andThen look next wantOne tapeOperand
 returns-3 c = record { read = rw (ne-eqb _ _ (other (c .before .before .before .kind-at .ensures .is) (c .before .before .if1 .left)), ne-eqb _ _ (other (c .before .before .before .kind-at .ensures .is) (c .before .if2 .left))) (no (c .refused .ensures) tt (omega arith)); low = search needs }

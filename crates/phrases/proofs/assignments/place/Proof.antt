@@ -1,53 +1,38 @@
+-- `place` writes the event of the designator that was read. Assumes nothing.
 use native.Mathlib.Omega.{arith}
+use borrow.Author.Needs.{needs}
 use Rattle.tape.specs.Tape.{tapeDesignator}
 use Rattle.phrases.proofs.Reading.{since, refuses, turns}
-use borrow.Author.Needs.{needs}
 use Rattle.phrases.proofs.assignments.place.Statement.{statement}
 use Rattle.phrases.proofs.assignments.place.Tie as tie
-use Rattle.phrases.proofs.assignments.place.Reads as reads
-use Rattle.phrases.proofs.assignments.place.Lts as lts
-use Rattle.phrases.proofs.assignments.designator.Reads as designator-reads
-use Rattle.phrases.proofs.events.write.Reads as write-reads
-use Rattle.phrases.proofs.tokens.read.Reads as read-reads
-use Rattle.phrases.proofs.tokens.refused.Reads as refused-reads
 
--- src/assignments.rt:72:9
 designator-requires : tie.Need-designator-requires
 designator-requires c κs = search needs
 
--- src/assignments.rt:74:9
 refused-requires : tie.Need-refused-requires
 refused-requires c κs = search needs
 
--- src/assignments.rt:74:9
 returns : tie.Need-returns
 returns c = record { read = since (omega arith) (refuses (c .before .before .before .designator .ensures .read) (c .before .if1 .taken) (c .refused .ensures)); low = search needs }
 
--- src/assignments.rt:76:33
 cast-write : tie.Need-cast-write
 cast-write c = search needs
 
--- src/assignments.rt:76:28
 add-write : tie.Need-add-write
 add-write c = search needs
 
--- src/assignments.rt:76:5
 write-requires : tie.Need-write-requires
 write-requires c κs = search needs
 
--- src/assignments.rt:77:16
 add-read : tie.Need-add-read
 add-read c = search needs
 
--- src/assignments.rt:77:5
 read-requires : tie.Need-read-requires
 read-requires c κs = search needs
 
--- src/assignments.rt:68:1
 same-length : tie.Need-same-length
 same-length c = search needs
 
--- src/assignments.rt:68:1
 returns-2 : tie.Need-returns-2
 unfolding tapeDesignator
 returns-2 c = record { read = since (omega arith) (turns (c .before .before .before .before .before .before .before .before .designator .ensures .read) (c .before .before .before .before .before .before .if1 .left) (λ a (e, f) k. rw (e, ← f) (c .before .before .before .write .ensures k)) (c .read .ensures)); low = search needs }

@@ -1,108 +1,82 @@
+-- `sign` takes the words that are there. Assumes nothing.
 use mathlib.Core.Path.{refl}
 use native.Mathlib.Omega.{arith}
-use borrow.Author.Tests.{eq-eqb, ne-eqb}
-use Rattle.tape.specs.Tape.{tapeSign}
+use borrow.Author.Tests.{ne-eqb}
+use borrow.Author.Needs.{needs}
+use Rattle.base.proofs.Tests.{same, other}
 use Rattle.grammar.specs.Grammar.{signOf}
 use Rattle.grammar.specs.Reader.{andThen, look, next}
-use Rattle.base.proofs.Tests.{same, other}
+use Rattle.tape.specs.Tape.{tapeSign}
 use Rattle.phrases.proofs.Reading.{done}
-use borrow.Author.Needs.{needs}
 use Rattle.phrases.proofs.assignments.sign.Statement.{statement}
 use Rattle.phrases.proofs.assignments.sign.Tie as tie
-use Rattle.phrases.proofs.assignments.sign.Reads as reads
-use Rattle.phrases.proofs.assignments.sign.Lts as lts
-use Rattle.phrases.proofs.events.write.Reads as write-reads
-use Rattle.phrases.proofs.tokens.kind_at.Reads as kind-at-reads
-use Rattle.phrases.proofs.tokens.read.Reads as read-reads
 
--- src/assignments.rt:155:9
 kind-at-requires : tie.Need-kind-at-requires
 kind-at-requires c κs = search needs
 
--- src/assignments.rt:157:9
 write-requires : tie.Need-write-requires
 write-requires c κs = search needs
 
--- src/assignments.rt:158:21
 add-read : tie.Need-add-read
 add-read c = search needs
 
--- src/assignments.rt:158:28
 add-read-2 : tie.Need-add-read-2
 add-read-2 c = search needs
 
--- src/assignments.rt:158:9
 read-requires : tie.Need-read-requires
 read-requires c κs = search needs
 
--- src/assignments.rt:158:9
 same-length : tie.Need-same-length
 same-length c = search needs
 
--- src/assignments.rt:158:9
 returns : tie.Need-returns
 unfolding signOf andThen look next tapeSign
 returns c = (record { read = rw (same (c .before .before .before .before .before .before .kind-at .ensures .is) (c .before .before .before .before .before .if1 .taken)) (done (c .read .ensures) (omega arith) (omega arith) (c .before .before .before .write .ensures)); low = search needs }, search needs)
 
--- src/assignments.rt:161:9
 read-requires-2 : tie.Need-read-requires-2
 read-requires-2 c κs = search needs
 
--- src/assignments.rt:161:9
 returns-2 : tie.Need-returns-2
 unfolding signOf andThen look next tapeSign
 returns-2 c = (record { read = rw (ne-eqb _ _ (other (c .before .before .before .kind-at .ensures .is) (c .before .before .if1 .left)), ne-eqb _ _ (other (c .before .before .before .kind-at .ensures .is) (c .before .if2 .taken))) (done (c .read2 .ensures) (omega arith) (omega arith) (λ k. refl)); low = search needs }, search needs)
 
--- src/assignments.rt:163:18
 add-second : tie.Need-add-second
 add-second c = search needs
 
--- src/assignments.rt:164:8
 kind-at-requires-2 : tie.Need-kind-at-requires-2
 kind-at-requires-2 c κs = search needs
 
--- src/assignments.rt:165:9
 write-requires-2 : tie.Need-write-requires-2
 write-requires-2 c κs = search needs
 
--- src/assignments.rt:166:21
 add-read-3 : tie.Need-add-read-3
 add-read-3 c = search needs
 
--- src/assignments.rt:166:33
 add-read-4 : tie.Need-add-read-4
 add-read-4 c = search needs
 
--- src/assignments.rt:166:9
 read-requires-3 : tie.Need-read-requires-3
 read-requires-3 c κs = search needs
 
--- src/assignments.rt:166:9
 same-length-2 : tie.Need-same-length-2
 same-length-2 c = search needs
 
--- src/assignments.rt:166:9
 returns-3 : tie.Need-returns-3
 unfolding signOf andThen look next tapeSign
 returns-3 c = (record { read = rw (same (c .before .before .before .before .before .before .before .before .before .kind-at .ensures .is) (c .before .before .before .before .before .before .before .if2 .left), same (c .before .before .before .before .before .before .kind-at2 .ensures .is) (c .before .before .before .before .before .if3 .taken)) (done (c .read3 .ensures) (omega arith) (omega arith) (c .before .before .before .write2 .ensures)); low = search needs }, search needs)
 
--- src/assignments.rt:168:5
 write-requires-3 : tie.Need-write-requires-3
 write-requires-3 c κs = search needs
 
--- src/assignments.rt:169:18
 add-read-5 : tie.Need-add-read-5
 add-read-5 c = search needs
 
--- src/assignments.rt:169:5
 read-requires-4 : tie.Need-read-requires-4
 read-requires-4 c κs = search needs
 
--- src/assignments.rt:151:1
 same-length-3 : tie.Need-same-length-3
 same-length-3 c = search needs
 
--- src/assignments.rt:151:1
 returns-4 : tie.Need-returns-4
 unfolding signOf andThen look next tapeSign
 returns-4 c = (record { read = rw (same (c .before .before .before .before .before .before .before .before .before .kind-at .ensures .is) (c .before .before .before .before .before .before .before .if2 .left), ne-eqb _ _ (other (c .before .before .before .before .before .before .kind-at2 .ensures .is) (c .before .before .before .before .before .if3 .left))) (done (c .read4 .ensures) (omega arith) (omega arith) (c .before .before .before .write3 .ensures)); low = search needs }, search needs)

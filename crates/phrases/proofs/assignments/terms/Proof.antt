@@ -1,24 +1,18 @@
-use Rattle.phrases.proofs.Reading.{done, since, stops, goes, gives}
-use Rattle.phrases.proofs.Choices.{among, is-token}
-use mathlib.Core.Path.{refl}
-use borrow.Author.Needs.{needs}
-use native.Mathlib.Omega.{arith}
-use lib.ListN.{length}
-use Prim.Native.Nat.{_-_}
+-- `terms` goes along the chain: whatever reads the rest reads the whole. Assumes nothing.
+use mathlib.Core.Path.{refl, _∙_}
 use mathlib.Core.List.{_∷_}
-use mathlib.Core.Path.{_∙_}
-use Rattle.tape.specs.Tape.{tapeEach, tapeTerm}
+use Prim.Native.Nat.{_-_}
+use native.Mathlib.Omega.{arith}
+use borrow.Author.Needs.{needs}
+use lib.ListN.{length}
 use Rattle.grammar.specs.Grammar.{terms, operators}
 use Rattle.grammar.specs.Reader.{andThen, look, next}
+use Rattle.tape.specs.Tape.{tapeEach, tapeTerm}
+use Rattle.phrases.proofs.Reading.{done, since, stops, goes, gives}
+use Rattle.phrases.proofs.Choices.{among, is-token}
 use Rattle.phrases.proofs.Loops.{Going, starts, leaves, turn}
 use Rattle.phrases.proofs.assignments.terms.Statement.{statement}
 use Rattle.phrases.proofs.assignments.terms.Tie as tie
-use Rattle.phrases.proofs.assignments.terms.Reads as reads
-use Rattle.phrases.proofs.assignments.terms.Lts as lts
-use Rattle.phrases.proofs.assignments.is_operator.Reads as is-operator-reads
-use Rattle.phrases.proofs.assignments.operand.Reads as operand-reads
-use Rattle.phrases.proofs.tokens.kind_at.Reads as kind-at-reads
-use Rattle.phrases.proofs.tokens.read.Reads as read-reads
 
 abbrev Inv-loop : tie.InvT-loop
 Inv-loop kinds i tape₀ p at₀ q₀ tape at q = Going (tapeEach tapeTerm) terms kinds i p tape₀ tape at q
@@ -26,53 +20,41 @@ Inv-loop kinds i tape₀ p at₀ q₀ tape at q = Going (tapeEach tapeTerm) term
 abbrev μ-loop : tie.MeasureT-loop
 μ-loop kinds i tape₀ p at₀ q₀ tape at q = length kinds - at
 
--- src/assignments.rt:139:5
 loop-holds : tie.Need-loop-holds Inv-loop μ-loop
 loop-holds c = starts (search needs)
 
--- src/assignments.rt:139:23
 kind-at-requires : tie.Need-kind-at-requires Inv-loop μ-loop
 kind-at-requires c κs = search needs
 
--- src/assignments.rt:139:11
 is-operator-requires : tie.Need-is-operator-requires Inv-loop μ-loop
 is-operator-requires c κs = search needs
 
--- src/assignments.rt:140:32
 add-operand : tie.Need-add-operand Inv-loop μ-loop
 add-operand c = let h = is-token operators (c .before .before .kind-at .ensures) (c .before .is-operator .ensures) (c .if1 .taken) refl in search needs
 
--- src/assignments.rt:140:13
 operand-requires : tie.Need-operand-requires Inv-loop μ-loop
 operand-requires c κs = let h = is-token operators (c .before .before .before .kind-at .ensures) (c .before .before .is-operator .ensures) (c .before .if1 .taken) refl in search needs
 
--- src/assignments.rt:142:13
 same-length : tie.Need-same-length Inv-loop μ-loop
 same-length c = search needs
 
--- src/assignments.rt:142:13
 returns : tie.Need-returns Inv-loop μ-loop
 unfolding terms andThen look next
 returns c = let h = is-token operators (c .before .before .before .before .before .before .before .before .kind-at .ensures) (c .before .before .before .before .before .before .before .is-operator .ensures) (c .before .before .before .before .before .before .if1 .taken) refl in record { read = leaves (c .before .before .before .before .before .before .before .before .before .loop .inv) (λ f. rw (among operators (c .before .before .before .before .before .before .before .before .kind-at .ensures) (c .before .before .before .before .before .before .before .is-operator .ensures) (c .before .before .before .before .before .before .if1 .taken)) (since (omega arith) (stops _ (c .before .before .before .before .operand .ensures .read) (c .if2 .taken)))); low = search needs }
 
--- src/assignments.rt:139:5
 loop-less : tie.Need-loop-less Inv-loop μ-loop
 loop-less c = let h = is-token operators (c .before .before .before .before .before .before .before .before .kind-at .ensures) (c .before .before .before .before .before .before .before .is-operator .ensures) (c .before .before .before .before .before .before .if1 .taken) refl in search needs
 
--- src/assignments.rt:139:5
 loop-again : tie.Need-loop-again Inv-loop μ-loop
 unfolding terms andThen look next tapeEach
 loop-again c = turn (c .before .before .before .before .before .before .before .before .before .loop .inv) (search needs) (search needs) (search needs) (search needs) (λ f s after d. rw (among operators (c .before .before .before .before .before .before .before .before .kind-at .ensures) (c .before .before .before .before .before .before .before .is-operator .ensures) (c .before .before .before .before .before .before .if1 .taken)) (since (omega arith) (goes _ (c .before .before .before .before .operand .ensures .read) (c .if2 .left) (λ a w. gives (λ ts. record { operator = c .before .before .before .before .before .before .before .before .before .loop .at; operand = a } ∷ ts) (λ ts l k. l k ∙ w _) d))))
 
--- src/assignments.rt:147:5
 read-requires : tie.Need-read-requires Inv-loop μ-loop
 read-requires c κs = search needs
 
--- src/assignments.rt:133:1
 same-length-2 : tie.Need-same-length-2 Inv-loop μ-loop
 same-length-2 c = search needs
 
--- src/assignments.rt:133:1
 returns-2 : tie.Need-returns-2 Inv-loop μ-loop
 unfolding terms andThen look next tapeEach
 returns-2 c = record { read = leaves (c .before .before .before .before .loop .inv) (λ f. rw (among operators (c .before .before .before .kind-at .ensures) (c .before .before .is-operator .ensures) (c .before .if1 .left)) (done (c .read .ensures) (omega arith) (omega arith) (λ k. refl))); low = search needs }

@@ -1,48 +1,35 @@
+-- `base` joins BASE and a name. Assumes nothing.
 use native.Mathlib.Omega.{arith}
+use borrow.Author.Needs.{needs}
 use Rattle.tape.specs.Tape.{tapeDeclaration}
 use Rattle.phrases.proofs.Reading.{done, stops, goes}
-use borrow.Author.Needs.{needs}
 use Rattle.phrases.proofs.declarations.base.Statement.{statement}
 use Rattle.phrases.proofs.declarations.base.Tie as tie
-use Rattle.phrases.proofs.declarations.base.Reads as reads
-use Rattle.phrases.proofs.declarations.base.Lts as lts
-use Rattle.phrases.proofs.events.write.Reads as write-reads
-use Rattle.phrases.proofs.tokens.read.Reads as read-reads
-use Rattle.phrases.proofs.tokens.wanted.Reads as wanted-reads
 
--- src/declarations.rt:128:9
 wanted-requires : tie.Need-wanted-requires
 wanted-requires c κs = search needs
 
--- src/declarations.rt:130:9
 returns : tie.Need-returns
 returns c = record { read = stops _ (c .before .before .wanted .ensures .read) (c .if1 .taken); low = search needs }
 
--- src/declarations.rt:132:9
 wanted-requires-2 : tie.Need-wanted-requires-2
 wanted-requires-2 c κs = search needs
 
--- src/declarations.rt:134:9
 returns-2 : tie.Need-returns-2
 returns-2 c = record { read = goes _ (c .before .before .before .before .before .wanted .ensures .read) (c .before .before .before .if1 .left) (λ t e. stops _ (c .before .before .wanted2 .ensures .read) (c .if2 .taken)); low = search needs }
 
--- src/declarations.rt:136:5
 write-requires : tie.Need-write-requires
 write-requires c κs = search needs
 
--- src/declarations.rt:137:19
 add-read : tie.Need-add-read
 add-read c = search needs
 
--- src/declarations.rt:137:5
 read-requires : tie.Need-read-requires
 read-requires c κs = search needs
 
--- src/declarations.rt:124:1
 same-length : tie.Need-same-length
 same-length c = search needs
 
--- src/declarations.rt:124:1
 returns-3 : tie.Need-returns-3
 unfolding tapeDeclaration
 returns-3 c = record { read = goes _ (c .before .before .before .before .before .before .before .before .before .before .wanted .ensures .read) (c .before .before .before .before .before .before .before .before .if1 .left) (λ t e. goes _ (c .before .before .before .before .before .before .before .wanted2 .ensures .read) (c .before .before .before .before .before .if2 .left) (λ n f. done (c .read .ensures) (omega arith) (omega arith) (λ k. rw f (c .before .before .before .write .ensures k)))); low = search needs }

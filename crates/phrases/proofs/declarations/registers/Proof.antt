@@ -1,22 +1,19 @@
-use native.Mathlib.Omega.{arith}
-use lib.ListN.{length}
-use Prim.Native.Nat.{_-_}
-use mathlib.Core.List.{[], _∷_}
+-- `registers` goes along a list of registers: whatever reads the rest reads the whole. Assumes nothing.
+use mathlib.Core.List.{_∷_}
 use mathlib.Core.Path.{refl, _∙_}
+use Prim.Native.Nat.{_-_}
+use native.Mathlib.Omega.{arith}
 use borrow.Author.Tests.{eq-eqb, ne-eqb}
-use Rattle.tape.specs.Tape.{tapeEach, tapeRegister}
+use borrow.Author.Needs.{needs}
+use lib.ListN.{length}
+use Rattle.base.proofs.Tests.{same, other}
 use Rattle.grammar.specs.Grammar.{listOf, registerItem}
 use Rattle.grammar.specs.Reader.{andThen, look, next}
-use Rattle.base.proofs.Tests.{same, other}
+use Rattle.tape.specs.Tape.{tapeEach, tapeRegister}
 use Rattle.phrases.proofs.Loops.{Going, starts, leaves, turn}
 use Rattle.phrases.proofs.Reading.{done, since, stops, goes, gives}
-use borrow.Author.Needs.{needs}
 use Rattle.phrases.proofs.declarations.registers.Statement.{statement}
 use Rattle.phrases.proofs.declarations.registers.Tie as tie
-use Rattle.phrases.proofs.declarations.registers.Reads as reads
-use Rattle.phrases.proofs.declarations.registers.Lts as lts
-use Rattle.phrases.proofs.declarations.register_item.Reads as register-item-reads
-use Rattle.phrases.proofs.tokens.kind_at.Reads as kind-at-reads
 
 abbrev Inv-loop : tie.InvT-loop
 Inv-loop kinds i tape₀ p at₀ q₀ tape at q = Going (tapeEach tapeRegister) (listOf registerItem) kinds i p tape₀ tape at q
@@ -24,45 +21,35 @@ Inv-loop kinds i tape₀ p at₀ q₀ tape at q = Going (tapeEach tapeRegister) 
 abbrev μ-loop : tie.MeasureT-loop
 μ-loop kinds i tape₀ p at₀ q₀ tape at q = length kinds - at
 
--- src/declarations.rt:89:5
 loop-holds : tie.Need-loop-holds Inv-loop μ-loop
 loop-holds c = starts (search needs)
 
--- src/declarations.rt:90:13
 register-item-requires : tie.Need-register-item-requires Inv-loop μ-loop
 register-item-requires c κs = search needs
 
--- src/declarations.rt:92:13
 same-length : tie.Need-same-length Inv-loop μ-loop
 same-length c = search needs
 
--- src/declarations.rt:92:13
 returns : tie.Need-returns Inv-loop μ-loop
 unfolding listOf andThen look next
 returns c = record { read = leaves (c .before .before .before .before .before .before .loop .inv) (λ f. stops _ (c .before .before .before .before .register-item .ensures .read) (c .if1 .taken)); low = search needs }
 
--- src/declarations.rt:94:12
 kind-at-requires : tie.Need-kind-at-requires Inv-loop μ-loop
 kind-at-requires c κs = search needs
 
--- src/declarations.rt:95:13
 same-length-2 : tie.Need-same-length-2 Inv-loop μ-loop
 same-length-2 c = search needs
 
--- src/declarations.rt:95:13
 returns-2 : tie.Need-returns-2 Inv-loop μ-loop
 unfolding listOf andThen look next tapeEach
 returns-2 c = record { read = leaves (c .before .before .before .before .before .before .before .before .loop .inv) (λ f. goes _ (c .before .before .before .before .before .before .register-item .ensures .read) (c .before .before .if1 .left) (λ a w. rw (ne-eqb _ _ (other (c .before .kind-at .ensures .is) (c .if2 .taken))) (done (record { number-is = c .before .before .if1 .left; at-is = refl; value-is = refl }) (omega arith) (omega arith) (λ k. w k)))); low = search needs }
 
--- src/declarations.rt:97:14
 add-at : tie.Need-add-at Inv-loop μ-loop
 add-at c = search needs
 
--- src/declarations.rt:89:5
 loop-less : tie.Need-loop-less Inv-loop μ-loop
 loop-less c = search needs
 
--- src/declarations.rt:89:5
 loop-again : tie.Need-loop-again Inv-loop μ-loop
 unfolding listOf andThen look next tapeEach
 loop-again c = turn (c .before .before .before .before .before .before .before .before .before .loop .inv) (search needs) (search needs) (search needs) (search needs) (λ f s after d. goes _ (c .before .before .before .before .before .before .before .register-item .ensures .read) (c .before .before .before .if1 .left) (λ a w. rw (eq-eqb _ _ (same (c .before .before .kind-at .ensures .is) (c .before .if2 .left))) (since (omega arith) (gives (λ more. a ∷ more) (λ ts l k. l k ∙ w _) d))))

@@ -1,77 +1,58 @@
-use native.Mathlib.Omega.{arith}
+-- `type_at` takes the words of a type. Assumes nothing.
 use mathlib.Core.Path.{refl}
+use native.Mathlib.Omega.{arith}
 use borrow.Author.Tests.{ne-eqb}
+use borrow.Author.Needs.{needs}
+use Rattle.base.proofs.Tests.{same, other}
 use Rattle.grammar.specs.Grammar.{typeOf}
 use Rattle.grammar.specs.Reader.{andThen, look, wantOne}
-use Rattle.base.proofs.Tests.{same, other}
 use Rattle.phrases.proofs.Reading.{done, no, since, stops, goes}
-use borrow.Author.Needs.{needs}
 use Rattle.phrases.proofs.declarations.type_at.Statement.{statement}
 use Rattle.phrases.proofs.declarations.type_at.Tie as tie
-use Rattle.phrases.proofs.declarations.type_at.Reads as reads
-use Rattle.phrases.proofs.declarations.type_at.Lts as lts
-use Rattle.phrases.proofs.tokens.kind_at.Reads as kind-at-reads
-use Rattle.phrases.proofs.tokens.read.Reads as read-reads
-use Rattle.phrases.proofs.tokens.refused.Reads as refused-reads
-use Rattle.phrases.proofs.tokens.wanted.Reads as wanted-reads
 
--- src/declarations.rt:107:9
 kind-at-requires : tie.Need-kind-at-requires
 kind-at-requires c κs = search needs
 
--- src/declarations.rt:109:21
 add-read : tie.Need-add-read
 add-read c = search needs
 
--- src/declarations.rt:109:9
 read-requires : tie.Need-read-requires
 read-requires c κs = search needs
 
--- src/declarations.rt:109:9
 returns : tie.Need-returns
 unfolding typeOf andThen look wantOne
 returns c = record { read = rw (same (c .before .before .kind-at .ensures .is) (c .before .if1 .taken)) (done (c .read .ensures) (omega arith) (omega arith) refl); moved = search needs; small = search needs }
 
--- src/declarations.rt:112:21
 add-read-2 : tie.Need-add-read-2
 add-read-2 c = search needs
 
--- src/declarations.rt:112:9
 read-requires-2 : tie.Need-read-requires-2
 read-requires-2 c κs = search needs
 
--- src/declarations.rt:112:9
 returns-2 : tie.Need-returns-2
 unfolding typeOf andThen look wantOne
 returns-2 c = record { read = rw (same (c .before .before .before .kind-at .ensures .is) (c .before .if2 .taken)) (done (c .read2 .ensures) (omega arith) (omega arith) refl); moved = search needs; small = search needs }
 
--- src/declarations.rt:115:9
 refused-requires : tie.Need-refused-requires
 refused-requires c κs = search needs
 
--- src/declarations.rt:115:9
 returns-3 : tie.Need-returns-3
 unfolding typeOf andThen look wantOne
 returns-3 c = record { read = rw (ne-eqb _ _ (other (c .before .before .before .before .kind-at .ensures .is) (c .before .before .before .if1 .left)), ne-eqb _ _ (other (c .before .before .before .before .kind-at .ensures .is) (c .before .before .if2 .left)), ne-eqb _ _ (other (c .before .before .before .before .kind-at .ensures .is) (c .before .if3 .taken))) (no (c .refused .ensures) tt (omega arith)); moved = search needs; small = search needs }
 
--- src/declarations.rt:117:33
 add-wanted : tie.Need-add-wanted
 add-wanted c = search needs
 
--- src/declarations.rt:117:9
 wanted-requires : tie.Need-wanted-requires
 wanted-requires c κs = search needs
 
--- src/declarations.rt:119:9
 returns-4 : tie.Need-returns-4
 unfolding typeOf andThen look wantOne
 returns-4 c = record { read = rw (same (c .before .before .before .before .before .before .kind-at .ensures .is) (c .before .before .before .if3 .left)) (since (omega arith) (stops _ (c .before .before .wanted .ensures .read) (c .if4 .taken))); moved = search needs; small = search needs }
 
--- src/declarations.rt:121:5
 read-requires-3 : tie.Need-read-requires-3
 read-requires-3 c κs = search needs
 
--- src/declarations.rt:103:1
 returns-5 : tie.Need-returns-5
 unfolding typeOf andThen look wantOne
 returns-5 c = record { read = rw (same (c .before .before .before .before .before .before .before .kind-at .ensures .is) (c .before .before .before .before .if3 .left)) (since (omega arith) (goes _ (c .before .before .before .wanted .ensures .read) (c .before .if4 .left) (λ t e. done (c .read3 .ensures) (omega arith) (omega arith) refl))); moved = search needs; small = search needs }

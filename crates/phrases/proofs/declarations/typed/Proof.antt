@@ -1,82 +1,59 @@
-use Rattle.phrases.proofs.Choices.{registered, after-registers, after-cells}
+-- `typed` reads registers or cells by what follows the type. Assumes nothing.
 use mathlib.Core.Path.{_∙_}
 use mathlib.Core.Option.{none}
 use native.Mathlib.Omega.{arith}
-use borrow.Author.Tests.{eqb-true}
-use Rattle.tape.specs.Tape.{tapeDeclaration}
+use borrow.Author.Needs.{needs}
 use Rattle.grammar.specs.Grammar.{cellsOf}
 use Rattle.grammar.specs.Tree.{registers, cells}
+use Rattle.tape.specs.Tape.{tapeDeclaration}
+use Rattle.phrases.proofs.Choices.{registered, after-registers, after-cells}
 use Rattle.phrases.proofs.Reading.{halts, goes, gives, since}
-use borrow.Author.Needs.{needs}
 use Rattle.phrases.proofs.declarations.typed.Statement.{statement}
 use Rattle.phrases.proofs.declarations.typed.Tie as tie
-use Rattle.phrases.proofs.declarations.typed.Reads as reads
-use Rattle.phrases.proofs.declarations.typed.Lts as lts
-use Rattle.phrases.proofs.declarations.cells.Reads as cells-reads
-use Rattle.phrases.proofs.declarations.registers.Reads as registers-reads
-use Rattle.phrases.proofs.declarations.type_at.Reads as type-at-reads
-use Rattle.phrases.proofs.events.write.Reads as write-reads
-use Rattle.phrases.proofs.tokens.kind_at.Reads as kind-at-reads
-use Rattle.phrases.proofs.tokens.refused.Reads as refused-reads
 
--- src/declarations.rt:161:9
 type-at-requires : tie.Need-type-at-requires
 type-at-requires c κs = search needs
 
--- src/declarations.rt:163:9
 refused-requires : tie.Need-refused-requires
 refused-requires c κs = search needs
 
--- src/declarations.rt:163:9
 returns : tie.Need-returns
 returns c = record { read = halts _ (c .before .before .before .type-at .ensures .read) (c .before .if1 .taken) (c .refused .ensures); low = search needs }
 
--- src/declarations.rt:165:30
 kind-at-requires : tie.Need-kind-at-requires
 kind-at-requires c κs = search needs
 
--- src/declarations.rt:166:33
 add-registers : tie.Need-add-registers
 add-registers c = search needs
 
--- src/declarations.rt:166:9
 registers-requires : tie.Need-registers-requires
 registers-requires c κs = let h = registered (c .before .before .before .before .before .before .before .type-at .result .value) (c .before .before .before .kind-at .ensures) (c .before .before .if2 .taken) in search needs
 
--- src/declarations.rt:166:9
 same-length : tie.Need-same-length
 same-length c = search needs
 
--- src/declarations.rt:166:9
 returns-2 : tie.Need-returns-2
 unfolding tapeDeclaration
 returns-2 c = let h = registered (c .before .before .before .before .before .before .before .before .before .before .type-at .result .value) (c .before .before .before .before .before .before .kind-at .ensures) (c .before .before .before .before .before .if2 .taken) in record { read = goes _ (c .before .before .before .before .before .before .before .before .before .before .type-at .ensures .read) (c .before .before .before .before .before .before .before .before .if1 .left) (λ w f. rw (after-registers w _ (c .before .before .before .before .before .before .kind-at .ensures) f (c .before .before .before .before .before .if2 .taken)) (since (omega arith) (gives registers (λ rs l. l) (c .before .before .registers .ensures .read)))); low = search needs }
 
--- src/declarations.rt:168:40
 cast-write : tie.Need-cast-write
 cast-write c = search needs
 
--- src/declarations.rt:168:20
 add-write : tie.Need-add-write
 add-write c = search needs
 
--- src/declarations.rt:168:5
 write-requires : tie.Need-write-requires
 write-requires c κs = search needs
 
--- src/declarations.rt:169:34
 add-cells : tie.Need-add-cells
 add-cells c = search needs
 
--- src/declarations.rt:169:5
 cells-requires : tie.Need-cells-requires
 cells-requires c κs = search needs
 
--- src/declarations.rt:157:1
 same-length-2 : tie.Need-same-length-2
 same-length-2 c = search needs
 
--- src/declarations.rt:157:1
 returns-3 : tie.Need-returns-3
 unfolding cellsOf tapeDeclaration
 returns-3 c = record { read = goes _ (c .before .before .before .before .before .before .before .before .before .before .before .before .before .before .type-at .ensures .read) (c .before .before .before .before .before .before .before .before .before .before .before .before .if1 .left) (λ w f. rw (after-cells w _ (c .before .before .before .before .before .before .before .before .before .before .kind-at .ensures) f (c .before .before .before .before .before .before .before .before .before .if2 .left)) (gives (cells none w) (λ is l k. l k ∙ rw (← f) (c .before .before .before .before .before .before .write .ensures _)) (c .before .before .cells .ensures .read))); low = search needs }

@@ -1,57 +1,42 @@
+-- `after_name` goes by the token after the name. Assumes nothing.
 use native.Mathlib.Omega.{arith}
-use Rattle.tape.specs.Tape.{tapeStatement}
+use borrow.Author.Needs.{needs}
 use Rattle.grammar.specs.Grammar.{afterName}
 use Rattle.grammar.specs.Tree.{assign}
 use Rattle.grammar.specs.Reader.{andThen, look}
+use Rattle.tape.specs.Tape.{tapeStatement}
 use Rattle.phrases.proofs.Reading.{done, gives}
-use borrow.Author.Needs.{needs}
 use Rattle.phrases.proofs.simple.after_name.Statement.{statement}
 use Rattle.phrases.proofs.simple.after_name.Tie as tie
-use Rattle.phrases.proofs.simple.after_name.Reads as reads
-use Rattle.phrases.proofs.simple.after_name.Lts as lts
-use Rattle.phrases.proofs.assignments.assignment.Reads as assignment-reads
-use Rattle.phrases.proofs.events.write.Reads as write-reads
-use Rattle.phrases.proofs.tokens.kind_at.Reads as kind-at-reads
-use Rattle.phrases.proofs.tokens.read.Reads as read-reads
 
--- src/simple.rt:33:16
 add-next : tie.Need-add-next
 add-next c = search needs
 
--- src/simple.rt:34:9
 kind-at-requires : tie.Need-kind-at-requires
 kind-at-requires c κs = search needs
 
--- src/simple.rt:36:9
 assignment-requires : tie.Need-assignment-requires
 assignment-requires c κs = search needs
 
--- src/simple.rt:36:9
 same-length : tie.Need-same-length
 same-length c = search needs
 
--- src/simple.rt:36:9
 returns : tie.Need-returns
 unfolding afterName andThen look tapeStatement
 returns c = record { read = rw (← (c .before .before .before .before .before .kind-at .ensures .is), c .before .before .before .before .if1 .taken) (gives assign (λ a w. w) (c .before .before .assignment .ensures .read)); low = search needs }
 
--- src/simple.rt:38:5
 write-requires : tie.Need-write-requires
 write-requires c κs = search needs
 
--- src/simple.rt:39:16
 add-read : tie.Need-add-read
 add-read c = search needs
 
--- src/simple.rt:39:5
 read-requires : tie.Need-read-requires
 read-requires c κs = search needs
 
--- src/simple.rt:29:1
 same-length-2 : tie.Need-same-length-2
 same-length-2 c = search needs
 
--- src/simple.rt:29:1
 returns-2 : tie.Need-returns-2
 unfolding afterName andThen look tapeStatement
 returns-2 c = record { read = rw (← (c .before .before .before .before .before .before .kind-at .ensures .is), c .before .before .before .before .before .if1 .left) (done (c .read .ensures) (omega arith) (omega arith) (c .before .before .before .write .ensures)); low = search needs }

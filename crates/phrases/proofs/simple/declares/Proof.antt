@@ -1,15 +1,13 @@
-use lib.Dec.{leb, eqb}
+-- `declares` agrees with the list of declarators on every byte. Assumes nothing.
 use mathlib.Core.Bool.{_&&_, _||_}
 use borrow.Author.Needs.{needs}
-use Rattle.phrases.proofs.Choices.{same-test}
-use Rattle.grammar.specs.Grammar.{declarators}
+use lib.Dec.{leb, eqb}
 use Rattle.base.specs.Lists.{member}
+use Rattle.grammar.specs.Grammar.{declarators}
+use Rattle.phrases.proofs.Choices.{same-test}
 use Rattle.phrases.proofs.simple.declares.Statement.{statement}
 use Rattle.phrases.proofs.simple.declares.Tie as tie
-use Rattle.phrases.proofs.simple.declares.Reads as reads
-use Rattle.phrases.proofs.simple.declares.Lts as lts
 
--- src/simple.rt:153:1
 returns : tie.Need-returns
 returns c = same-test (λ k. (leb 16 k && leb k 19) || eqb k 21) (λ k. member k declarators) tt (c .args .k) (search needs)
 

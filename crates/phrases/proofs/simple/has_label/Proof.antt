@@ -1,29 +1,22 @@
+-- `has_label` tests as the definition does. Assumes nothing.
 use borrow.Author.Tests.{eq-eqb, ne-eqb}
-use Rattle.base.proofs.Tests.{same, other}
 use borrow.Author.Needs.{needs}
+use Rattle.base.proofs.Tests.{same, other}
 use Rattle.phrases.proofs.simple.has_label.Statement.{statement}
 use Rattle.phrases.proofs.simple.has_label.Tie as tie
-use Rattle.phrases.proofs.simple.has_label.Reads as reads
-use Rattle.phrases.proofs.simple.has_label.Lts as lts
-use Rattle.phrases.proofs.tokens.kind_at.Reads as kind-at-reads
 
--- src/simple.rt:172:8
 kind-at-requires : tie.Need-kind-at-requires
 kind-at-requires c κs = search needs
 
--- src/simple.rt:173:31
 add-kind-at : tie.Need-add-kind-at
 add-kind-at c = search needs
 
--- src/simple.rt:173:16
 kind-at-requires-2 : tie.Need-kind-at-requires-2
 kind-at-requires-2 c κs = search needs
 
--- src/simple.rt:173:9
 returns : tie.Need-returns
 returns c = rw (eq-eqb _ _ (same (c .before .before .kind-at .ensures .is) (c .before .if1 .taken)), c .kind-at2 .ensures .is)
 
--- src/simple.rt:168:1
 returns-2 : tie.Need-returns-2
 returns-2 c = rw (ne-eqb _ _ (other (c .before .kind-at .ensures .is) (c .if1 .left)))
 

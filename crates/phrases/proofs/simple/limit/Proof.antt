@@ -1,63 +1,46 @@
+-- `limit` joins number, UNTIL, operand and DO. Assumes nothing.
 use native.Mathlib.Omega.{arith}
-use Rattle.phrases.proofs.Reading.{done, stops, goes}
 use borrow.Author.Needs.{needs}
+use Rattle.phrases.proofs.Reading.{done, stops, goes}
 use Rattle.phrases.proofs.simple.limit.Statement.{statement}
 use Rattle.phrases.proofs.simple.limit.Tie as tie
-use Rattle.phrases.proofs.simple.limit.Reads as reads
-use Rattle.phrases.proofs.simple.limit.Lts as lts
-use Rattle.phrases.proofs.assignments.operand.Reads as operand-reads
-use Rattle.phrases.proofs.tokens.read.Reads as read-reads
-use Rattle.phrases.proofs.tokens.wanted.Reads as wanted-reads
 
--- src/simple.rt:107:9
 wanted-requires : tie.Need-wanted-requires
 wanted-requires c κs = search needs
 
--- src/simple.rt:109:9
 returns : tie.Need-returns
 returns c = (record { read = stops _ (c .before .before .wanted .ensures .read) (c .if1 .taken); low = search needs }, search needs)
 
--- src/simple.rt:111:9
 wanted-requires-2 : tie.Need-wanted-requires-2
 wanted-requires-2 c κs = search needs
 
--- src/simple.rt:113:9
 returns-2 : tie.Need-returns-2
 returns-2 c = (record { read = goes _ (c .before .before .before .before .before .wanted .ensures .read) (c .before .before .before .if1 .left) (λ t e. stops _ (c .before .before .wanted2 .ensures .read) (c .if2 .taken)); low = search needs }, search needs)
 
--- src/simple.rt:115:9
 operand-requires : tie.Need-operand-requires
 operand-requires c κs = search needs
 
--- src/simple.rt:117:9
 same-length : tie.Need-same-length
 same-length c = search needs
 
--- src/simple.rt:117:9
 returns-3 : tie.Need-returns-3
 returns-3 c = (record { read = goes _ (c .before .before .before .before .before .before .before .before .before .before .before .wanted .ensures .read) (c .before .before .before .before .before .before .before .before .before .if1 .left) (λ t e. goes _ (c .before .before .before .before .before .before .before .before .wanted2 .ensures .read) (c .before .before .before .before .before .before .if2 .left) (λ u f. stops _ (c .before .before .before .before .operand .ensures .read) (c .if3 .taken))); low = search needs }, search needs)
 
--- src/simple.rt:119:9
 wanted-requires-3 : tie.Need-wanted-requires-3
 wanted-requires-3 c κs = search needs
 
--- src/simple.rt:121:9
 same-length-2 : tie.Need-same-length-2
 same-length-2 c = search needs
 
--- src/simple.rt:121:9
 returns-4 : tie.Need-returns-4
 returns-4 c = (record { read = goes _ (c .before .before .before .before .before .before .before .before .before .before .before .before .before .before .wanted .ensures .read) (c .before .before .before .before .before .before .before .before .before .before .before .before .if1 .left) (λ t e. goes _ (c .before .before .before .before .before .before .before .before .before .before .before .wanted2 .ensures .read) (c .before .before .before .before .before .before .before .before .before .if2 .left) (λ u f. goes _ (c .before .before .before .before .before .before .before .operand .ensures .read) (c .before .before .before .if3 .left) (λ a w. stops _ (c .before .before .wanted3 .ensures .read) (c .if4 .taken)))); low = search needs }, search needs)
 
--- src/simple.rt:123:5
 read-requires : tie.Need-read-requires
 read-requires c κs = search needs
 
--- src/simple.rt:103:1
 same-length-3 : tie.Need-same-length-3
 same-length-3 c = search needs
 
--- src/simple.rt:103:1
 returns-5 : tie.Need-returns-5
 returns-5 c = (record { read = goes _ (c .before .before .before .before .before .before .before .before .before .before .before .before .before .before .before .wanted .ensures .read) (c .before .before .before .before .before .before .before .before .before .before .before .before .before .if1 .left) (λ t e. goes _ (c .before .before .before .before .before .before .before .before .before .before .before .before .wanted2 .ensures .read) (c .before .before .before .before .before .before .before .before .before .before .if2 .left) (λ u f. goes _ (c .before .before .before .before .before .before .before .before .operand .ensures .read) (c .before .before .before .before .if3 .left) (λ a w. goes _ (c .before .before .before .wanted3 .ensures .read) (c .before .if4 .left) (λ v g. done (c .read .ensures) (omega arith) (omega arith) w)))); low = let a = c .before .before .before .before .before .before .before .before .before .before .before .before .before .before .before .wanted .ensures in let b = c .before .before .before .before .before .before .before .before .before .before .before .before .wanted2 .ensures in let o = c .before .before .before .before .before .before .before .before .operand .ensures in let d = c .before .before .before .wanted3 .ensures in let r = c .read .ensures in search needs }, (let a = c .before .before .before .before .before .before .before .before .before .before .before .before .before .before .before .wanted .ensures in let b = c .before .before .before .before .before .before .before .before .before .before .before .before .wanted2 .ensures in let o = c .before .before .before .before .before .before .before .before .operand .ensures in let d = c .before .before .before .wanted3 .ensures in let r = c .read .ensures in search needs))
 

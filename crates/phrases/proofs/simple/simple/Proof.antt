@@ -1,96 +1,72 @@
+-- `simple` goes by its first token. Assumes nothing.
 use mathlib.Core.Path.{refl}
-use lib.ListN.{getD}
-use denote.Ref.{now}
 use native.Mathlib.Omega.{arith}
+use denote.Ref.{now}
 use borrow.Author.Tests.{ne-eqb}
-use Rattle.tape.specs.Tape.{tapeStatement}
-use Rattle.grammar.specs.Grammar.{statementOf, openers}
-use Rattle.grammar.specs.Reader.{andThen, look, next, refuse}
+use borrow.Author.Needs.{needs}
+use lib.ListN.{getD}
 use Rattle.base.specs.Lists.{member}
 use Rattle.base.proofs.Tests.{same, other}
+use Rattle.grammar.specs.Grammar.{statementOf, openers}
+use Rattle.grammar.specs.Reader.{andThen, look, next, refuse}
+use Rattle.tape.specs.Tape.{tapeStatement}
 use Rattle.phrases.proofs.Choices.{either}
 use Rattle.phrases.proofs.Reading.{done, no, since, stops, goes}
-use borrow.Author.Needs.{needs}
 use Rattle.phrases.proofs.simple.simple.Statement.{statement}
 use Rattle.phrases.proofs.simple.simple.Tie as tie
-use Rattle.phrases.proofs.simple.simple.Reads as reads
-use Rattle.phrases.proofs.simple.simple.Lts as lts
-use Rattle.phrases.proofs.events.write.Reads as write-reads
-use Rattle.phrases.proofs.simple.after_name.Reads as after-name-reads
-use Rattle.phrases.proofs.tokens.kind_at.Reads as kind-at-reads
-use Rattle.phrases.proofs.tokens.read.Reads as read-reads
-use Rattle.phrases.proofs.tokens.refused.Reads as refused-reads
-use Rattle.phrases.proofs.tokens.wanted.Reads as wanted-reads
 
--- src/simple.rt:47:9
 kind-at-requires : tie.Need-kind-at-requires
 kind-at-requires c κs = search needs
 
--- src/simple.rt:49:9
 after-name-requires : tie.Need-after-name-requires
 after-name-requires c κs = search needs
 
--- src/simple.rt:49:9
 same-length : tie.Need-same-length
 same-length c = search needs
 
--- src/simple.rt:49:9
 returns : tie.Need-returns
 unfolding statementOf andThen look next
 returns c = record { read = rw (same (c .before .before .before .before .before .kind-at .ensures .is) (c .before .before .before .before .if1 .taken)) (c .before .before .after-name .ensures .read); low = search needs }
 
--- src/simple.rt:52:21
 add-read : tie.Need-add-read
 add-read c = search needs
 
--- src/simple.rt:52:9
 read-requires : tie.Need-read-requires
 read-requires c κs = search needs
 
--- src/simple.rt:52:9
 returns-2 : tie.Need-returns-2
 unfolding statementOf andThen look next tapeStatement
 returns-2 c = record { read = rw (same (c .before .before .before .kind-at .ensures .is) (c .before .if2 .taken)) (done (c .read .ensures) (omega arith) (omega arith) (λ k. refl)); low = search needs }
 
--- src/simple.rt:55:9
 refused-requires : tie.Need-refused-requires
 refused-requires c κs = search needs
 
--- src/simple.rt:55:9
 returns-3 : tie.Need-returns-3
 unfolding statementOf andThen look next
 returns-3 c = record { read = rw (ne-eqb _ 1 (other (c .before .before .before .before .kind-at .ensures .is) (c .before .before .before .if1 .left)), ne-eqb _ 13 (other (c .before .before .before .before .kind-at .ensures .is) (c .before .if3 .taken)), ne-eqb _ 14 (other (c .before .before .before .before .kind-at .ensures .is) (c .before .before .if2 .left)), either (member (getD (now (c .before .before .before .before .before .before .before .args .kinds)) (c .before .before .before .before .before .before .before .args .i) 0) openers) (refuse 4)) (no (c .refused .ensures) tt (omega arith)); low = search needs }
 
--- src/simple.rt:57:17
 add-label : tie.Need-add-label
 add-label c = search needs
 
--- src/simple.rt:58:9
 wanted-requires : tie.Need-wanted-requires
 wanted-requires c κs = search needs
 
--- src/simple.rt:60:9
 returns-4 : tie.Need-returns-4
 unfolding statementOf andThen look next
 returns-4 c = record { read = rw (same (c .before .before .before .before .before .before .kind-at .ensures .is) (c .before .before .before .if3 .left)) (since (omega arith) (stops _ (c .before .before .wanted .ensures .read) (c .if4 .taken))); low = search needs }
 
--- src/simple.rt:62:5
 write-requires : tie.Need-write-requires
 write-requires c κs = search needs
 
--- src/simple.rt:63:19
 add-read-2 : tie.Need-add-read-2
 add-read-2 c = search needs
 
--- src/simple.rt:63:5
 read-requires-2 : tie.Need-read-requires-2
 read-requires-2 c κs = search needs
 
--- src/simple.rt:43:1
 same-length-2 : tie.Need-same-length-2
 same-length-2 c = search needs
 
--- src/simple.rt:43:1
 returns-5 : tie.Need-returns-5
 unfolding statementOf andThen look next tapeStatement
 returns-5 c = record { read = rw (same (c .before .before .before .before .before .before .before .before .before .before .before .kind-at .ensures .is) (c .before .before .before .before .before .before .before .before .if3 .left)) (since (omega arith) (goes _ (c .before .before .before .before .before .before .before .wanted .ensures .read) (c .before .before .before .before .before .if4 .left) (λ n e. done (c .read2 .ensures) (omega arith) (omega arith) (λ k. rw e (c .before .before .before .write .ensures k))))); low = search needs }

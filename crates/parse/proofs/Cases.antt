@@ -1,0 +1,63 @@
+-- Worked texts, by computing the definition: refusals with their places, tapes, the limit of nesting. Assumes nothing.
+use Prim.Native.Nat.{ℕ, zero, suc, _+_}
+use Prim.Native.String.{String}
+use mathlib.Core.Path.{_≡_, refl}
+use mathlib.Core.List.{List, [], _∷_, _++_, map}
+use lib.ListN.{replicate}
+use Rattle.base.specs.Text.{bytes, sameBytes}
+use Rattle.base.specs.Runs.{runLen}
+use Rattle.base.specs.Numbers.{numberFrom}
+use Rattle.base.specs.Walk.{walk}
+use Rattle.token.specs.Kinds as K
+use Rattle.token.specs.Text.{wordKind, comment, nameOrWord, number, begins, sign, lexeme, nextStep, nextToken, readFrom, tokensOf}
+use Rattle.token.specs.Answers.{kindOf}
+use Rattle.grammar.specs.Reader.{andThen, look, next, want, wantOne}
+use Rattle.grammar.specs.Grammar.{designatorOf, operand, condition, terms, signOf, assignmentOf, numbers, cellItem, registerItem, listOf, typeOf, cellsOf, afterType, declaration, afterName, statementOf, itemsOf, bodyOf, ifOf, constructOf, statement, procedureOf, program}
+use Rattle.tape.specs.Events as E
+use Rattle.tape.specs.Tape.{event, tapeDesignator, tapeOperand, tapeCondition, tapeSign, tapeEach, tapeAssignment, tapeItem, tapeDeclaration, tapeStatement, tapeBody, tapeItems}
+use Rattle.parse.specs.Programs.{toldOf, judged}
+
+-- number and place
+abbrev verdict : String → ℕ × ℕ
+verdict s = (judged (bytes s) .number, judged (bytes s) .place)
+
+verdicts :
+    map verdict
+    ("BEGIN END @" ∷ "" ∷ "BEGIN NULL" ∷ "BEGIN NULL END @" ∷ "BEGIN R1 := ; END @" ∷ "BEGIN INTEGER REGISTER A; END @" ∷ "BEGIN IF < THEN WHILE < DO NULL ELSE NULL; END @" ∷
+    "BEGIN IF < THEN NULL ELSE WHILE < DO NULL; END @" ∷ "BEGIN A(B)(C) := 1; END @" ∷ "BEGIN NULL; INTEGER A; END @" ∷ "BEGIN L: END @" ∷ "BEGIN 99999999999 END @" ∷ [])
+    ≡ (0, 0) ∷ (4, 0) ∷ (4, 10) ∷ (4, 11) ∷ (4, 12) ∷ (4, 24) ∷ (4, 32) ∷ (0, 0) ∷ (4, 10) ∷ (4, 12) ∷ (0, 0) ∷ (3, 6) ∷ []
+unfolding sameBytes runLen numberFrom walk wordKind comment nameOrWord number begins sign lexeme nextStep nextToken readFrom tokensOf judged andThen look next want wantOne designatorOf operand condition terms signOf assignmentOf numbers cellItem registerItem listOf typeOf cellsOf afterType declaration afterName statementOf itemsOf bodyOf ifOf constructOf statement procedureOf program
+verdicts = refl
+
+abbrev tape : String → List ℕ
+tape s = toldOf (program (map kindOf (tokensOf (bytes s) .tokens)) 0) .events
+
+abbrev events : List (ℕ × ℕ) → List ℕ
+events es = map (λ (e : ℕ × ℕ). event (e .0) (e .1)) es
+
+tapes :
+    map tape
+    ("BEGIN INTEGER A(5); R1 := A + 3; A := R1; END @" ∷ "BEGIN FOR R1 := NEG ABS A(4)(R2) STEP 1 UNTIL 9 DO IF < THEN L ELSE WHILE R1 = 5 DO GOTO X; END @" ∷
+    "BEGIN ARRAY (8) SHORT INTEGER S, T(1)(2); INTEGER REGISTER N(3); SEGMENT BASE RC; PROCEDURE P(R5); R0 := S(R1); L: P; END @" ∷ [])
+    ≡ map events
+    (((E.BLOCK, 0) ∷ (E.SINGLE-FULL, 0) ∷ (E.ITEM, 2) ∷ (E.VALUE, 4) ∷ (E.TARGET, 7) ∷ (E.FIRST, 9) ∷ (E.TERM + 4, 11) ∷ (E.TARGET, 13) ∷ (E.FIRST, 15) ∷ (E.END-BLOCK, 0) ∷ [])
+    ∷ ((E.BLOCK, 0) ∷ (E.CONTROL, 2) ∷ (E.NEG-ABS, 4) ∷ (E.FIRST + 3, 6) ∷ (E.LIMIT + 4, 16) ∷ (E.BARE, 19) ∷ (E.CALL, 21) ∷ (E.ELSE, 18) ∷ (E.WHILE, 23) ∷ (E.COMPARED + 4, 26) ∷ (E.GOTO, 29) ∷ (E.END-WHILE, 23)
+    ∷ (E.END-ELSE, 18) ∷ (E.END-FOR, 14) ∷ (E.END-BLOCK, 0) ∷ [])
+    ∷ ((E.BLOCK, 0) ∷ (E.ARRAY-SHORT, 3) ∷ (E.ITEM, 7) ∷ (E.ITEM, 9) ∷ (E.VALUE, 11) ∷ (E.VALUE, 14) ∷ (E.REGISTER, 19) ∷ (E.BASE, 26) ∷ (E.PROCEDURE, 29) ∷ (E.TARGET, 34) ∷ (E.FIRST + 2, 36) ∷ (E.END-PROCEDURE, 29)
+    ∷ (E.LABEL, 41) ∷ (E.CALL, 43) ∷ (E.END-BLOCK, 0) ∷ [])
+    ∷ [])
+unfolding sameBytes runLen numberFrom walk wordKind comment nameOrWord number begins sign lexeme nextStep nextToken readFrom tokensOf andThen look next want wantOne designatorOf operand condition terms signOf assignmentOf numbers cellItem registerItem listOf typeOf cellsOf afterType declaration afterName statementOf itemsOf bodyOf ifOf constructOf statement procedureOf program event tapeDesignator tapeOperand tapeCondition tapeSign tapeEach tapeAssignment tapeItem tapeDeclaration tapeStatement tapeBody tapeItems
+tapes = refl
+
+-- n blocks, one inside the other
+abbrev closed : ℕ → List ℕ → List ℕ
+closed zero k = k
+closed (suc n) k = K.SEMICOLON ∷ K.END ∷ closed n k
+
+abbrev nested : ℕ → List ℕ
+nested n = replicate (suc n) K.BEGIN ++ (K.END ∷ closed n (K.AT ∷ []))
+
+-- "inside 64 such constructs": 64 are read, and the 65th is refused at its BEGIN
+depths : toldOf (program (nested 63) 0) .number ∷ toldOf (program (nested 64) 0) .number ∷ toldOf (program (nested 64) 0) .token ∷ [] ≡ 0 ∷ 5 ∷ 64 ∷ []
+unfolding andThen look next want wantOne statementOf itemsOf bodyOf constructOf statement procedureOf program
+depths = refl
