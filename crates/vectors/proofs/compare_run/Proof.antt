@@ -1,9 +1,9 @@
--- `compare` stays in the input and in what is lent. Assumes nothing.
+-- `compare_run` stays in the input and in what is lent. Assumes nothing.
 use borrow.Author.Needs.{needs}
 use lib.Seq.{length-take-le}
 use mathlib.Core.Path.{sym}
-use Rattle.run_vectors.proofs.compare.Statement.{statement}
-use Rattle.run_vectors.proofs.compare.Tie as tie
+use Rattle.vectors.proofs.compare_run.Statement.{statement}
+use Rattle.vectors.proofs.compare_run.Tie as tie
 
 answer-requires : tie.Need-answer-requires
 answer-requires c κs = search needs
@@ -44,8 +44,8 @@ same-length-2 c = search needs
 returns : tie.Need-returns
 returns c = search needs
 
-pub compare-spec : {M : Type 1} → statement M
-compare-spec =
+pub compare-run-spec : {M : Type 1} → statement M
+compare-run-spec =
     tie.close
     (tie.spec
     answer-requires

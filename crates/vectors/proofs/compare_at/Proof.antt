@@ -5,8 +5,8 @@ use lib.ListN.{take, length-drop}
 use lib.Seq.{length-take-le}
 use mathlib.Core.Path.{sym}
 use native.Mathlib.Omega.{arith}
-use Rattle.run_vectors.proofs.compare_at.Statement.{statement}
-use Rattle.run_vectors.proofs.compare_at.Tie as tie
+use Rattle.vectors.proofs.compare_at.Statement.{statement}
+use Rattle.vectors.proofs.compare_at.Tie as tie
 
 slice-aggregate-read : tie.Need-slice-aggregate-read
 slice-aggregate-read c = sym (length-take-le (c .before .before .before .before .args .to) (now (c .before .before .before .before .args .input)) (c .before .before .before .before .pre .1))
