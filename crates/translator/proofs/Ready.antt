@@ -121,7 +121,7 @@ module _ (l : Layout) (n : ℕ) where
       let to = p + (4 + (sizeOf a + 2)) in
       let ms : List Mark = record { name = x; at = p + 4 } ∷ ps in (
         (omega arith, omega arith),
-        both (code [] ps a (p + 4)) (rr 0x07 15 q ∷ code ls ms b to) (ready-code [] ps a (p + 4) tt v (omega arith) (r .1))
+        both (code [] ms a (p + 4)) (rr 0x07 15 q ∷ code ls ms b to) (ready-code [] ms a (p + 4) tt (omega arith, v) (omega arith) (r .1))
             ((omega arith, omega arith, r .0), ready-code ls ms b to u (omega arith, v) (omega arith) (r .2)),
       )
   ready-code ls ps (base q k c) p u v h r = ((opcode-small loadRow 1, r .0, r .1), ready-code ls ps c (p + 4) u v (omega arith) (r .2))

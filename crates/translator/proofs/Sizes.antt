@@ -50,9 +50,9 @@ sizes-code ls ps (scope c) p = sizes-code (own c p ++ ls) ps c p
 sizes-code ls ps (jump l) p = refl
 sizes-code ls ps (call n r) p = refl
 sizes-code ls ps (procedure n r a b) p =
+    let known : List Mark = record { name = n; at = p + 4 } ∷ ps in
     ap (λ (k : ℕ). 4 + k)
-    (sizes-mid (code [] ps a (p + 4)) (rr 0x07 15 r) _ (sizeOf a) (sizeOf b) (sizes-code [] ps a (p + 4))
-    (sizes-code ls (record { name = n; at = p + 4 } ∷ ps) b (p + (4 + (sizeOf a + 2)))))
+    (sizes-mid (code [] known a (p + 4)) (rr 0x07 15 r) _ (sizeOf a) (sizeOf b) (sizes-code [] known a (p + 4)) (sizes-code ls known b (p + (4 + (sizeOf a + 2)))))
 sizes-code ls ps (base r k c) p = ap (λ (n : ℕ). 4 + n) (sizes-code ls ps c (p + 4))
 sizes-code ls ps (when is m c) p = sizes-mid is _ _ (sizes is) (sizeOf c) refl (sizes-code ls ps c (p + (sizes is + 4)))
 sizes-code ls ps (either is m a b) p =

@@ -60,10 +60,10 @@ code ls ps (scope c) p = code (own c p ++ ls) ps c p
 code ls ps (jump l) p = branch always (markAt ls l) ∷ []
 -- "Call: `45 r0` to the body."
 code ls ps (call n r) p = link r (markAt ps n) ∷ []
--- "Procedure: branch around, body, `07 Fr`."
+-- "Procedure: branch around, body, `07 Fr`."; "A procedure's name is known in its own body"
 code ls ps (procedure n r a b) p =
-    branch always (p + (4 + (sizeOf a + 2)))
-    ∷ (code [] ps a (p + 4) ++ (rr 0x07 15 r ∷ code ls (record { name = n; at = p + 4 } ∷ ps) b (p + (4 + (sizeOf a + 2)))))
+    let known : List Mark = record { name = n; at = p + 4 } ∷ ps in
+    branch always (p + (4 + (sizeOf a + 2))) ∷ (code [] known a (p + 4) ++ (rr 0x07 15 r ∷ code ls known b (p + (4 + (sizeOf a + 2)))))
 -- "Base declaration for segment k: `58 r0 E0`, 4k."
 code ls ps (base r k c) p = rx (opcode loadRow 1) r (entry k) ∷ code ls ps c (p + 4)
 -- "IF and WHILE branch on false, past the true part (and its always-branch) or past the loop."
