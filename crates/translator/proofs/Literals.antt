@@ -44,17 +44,6 @@ pub index-at : (v : ℕ) (l : List ℕ) → v ∈ l → getD l (indexOf v l) 0 �
 index-at v [] h = absurd h
 index-at v (x ∷ l) h = index-by (λ (n : ℕ). getD (x ∷ l) n 0 ≡ v) v x l h (λ e. e) (λ i. index-at v l i)
 
--- a number keeps its place where the list grows at the end
-pub index-grows : (v : ℕ) (seen more : List ℕ) → v ∈ seen → indexOf v (seen ++ more) ≡ indexOf v seen
-index-grows v [] more h = absurd h
-index-grows v (x ∷ l) more h = index-cons v x (l ++ more) ∙ (go (eqb x v) refl h (λ i. index-grows v l more i) ∙ sym (index-cons v x l))
-  where
-    go : (b : Bool) → eqb x v ≡ b → (v ≡ x) ⊎ (v ∈ l) → (v ∈ l → indexOf v (l ++ more) ≡ indexOf v l)
-        → (if b then 0 else suc (indexOf v (l ++ more))) ≡ (if b then 0 else suc (indexOf v l))
-    go true e i f = refl
-    go false e (inl i) f = absurd (eqb-false _ _ e (sym i))
-    go false e (inr i) f = ap (λ (n : ℕ). suc n) (f i)
-
 -- ── the literals ──
 
 -- the number that an instruction takes, if it takes one
@@ -68,6 +57,15 @@ Takes (branch m t) v = ⊥
 Takes (link r t) v = ⊥
 Takes stop v = ⊥
 
+needs-keeps : (a : Datum) (seen : List ℕ) (v : ℕ) → v ∈ seen → v ∈ needs a seen
+needs-keeps (element c o x) seen v h = h
+needs-keeps (entry k) seen v h = h
+needs-keeps (literal w) seen v h = go (member w seen)
+  where
+    go : (b : Bool) → v ∈ (if b then seen else seen ++ (w ∷ []))
+    go true = h
+    go false = in-left v seen (w ∷ []) h
+
 needs-has : (w : ℕ) (seen : List ℕ) → w ∈ needs (literal w) seen
 needs-has w seen = go (member w seen) refl
   where
@@ -75,41 +73,15 @@ needs-has w seen = go (member w seen) refl
     go true e = member-in w seen e
     go false e = in-right w seen (w ∷ []) (inl refl)
 
-needs-grow : (a : Datum) (seen : List ℕ) → (more : List ℕ) × (needs a seen ≡ seen ++ more)
-needs-grow (element c o x) seen = ([], sym (append-nil seen))
-needs-grow (entry k) seen = ([], sym (append-nil seen))
-needs-grow (literal w) seen = go (member w seen)
-  where
-    go : (b : Bool) → (more : List ℕ) × ((if b then seen else seen ++ (w ∷ [])) ≡ seen ++ more)
-    go true = ([], sym (append-nil seen))
-    go false = (w ∷ [], refl)
-
--- literals only grow at the end
-pub literals-grow : (is : List Instruction) (seen : List ℕ) → (more : List ℕ) × (literalsFrom seen is ≡ seen ++ more)
-unfolding literalsFrom
-literals-grow [] seen = ([], sym (append-nil seen))
-literals-grow (rr op r s ∷ is) seen = literals-grow is seen
-literals-grow (rx op r a ∷ is) seen =
-    let (m, e) = needs-grow a seen in
-    let (n, f) = literals-grow is (needs a seen) in
-    (m ++ n, f ∙ (ap (λ (l : List ℕ). l ++ n) e ∙ append-assoc seen m n))
-literals-grow (shift op r s n ∷ is) seen = literals-grow is seen
-literals-grow (branch m t ∷ is) seen = literals-grow is seen
-literals-grow (link r t ∷ is) seen = literals-grow is seen
-literals-grow (stop ∷ is) seen = literals-grow is seen
-
 pub literals-keep : (is : List Instruction) (seen : List ℕ) (v : ℕ) → v ∈ seen → v ∈ literalsFrom seen is
-literals-keep is seen v h = let g = literals-grow is seen in subst (λ (l : List ℕ). v ∈ l) (sym (g .1)) (in-left v seen (g .0) h)
-
-pub literals-append : (is js : List Instruction) (seen : List ℕ) → literalsFrom seen (is ++ js) ≡ literalsFrom (literalsFrom seen is) js
 unfolding literalsFrom
-literals-append [] js seen = refl
-literals-append (rr op r s ∷ is) js seen = literals-append is js seen
-literals-append (rx op r a ∷ is) js seen = literals-append is js (needs a seen)
-literals-append (shift op r s n ∷ is) js seen = literals-append is js seen
-literals-append (branch m t ∷ is) js seen = literals-append is js seen
-literals-append (link r t ∷ is) js seen = literals-append is js seen
-literals-append (stop ∷ is) js seen = literals-append is js seen
+literals-keep [] seen v h = h
+literals-keep (rr op r s ∷ is) seen v h = literals-keep is seen v h
+literals-keep (rx op r a ∷ is) seen v h = literals-keep is (needs a seen) v (needs-keeps a seen v h)
+literals-keep (shift op r s n ∷ is) seen v h = literals-keep is seen v h
+literals-keep (branch m t ∷ is) seen v h = literals-keep is seen v h
+literals-keep (link r t ∷ is) seen v h = literals-keep is seen v h
+literals-keep (stop ∷ is) seen v h = literals-keep is seen v h
 
 pub literals-have : (is : List Instruction) (seen : List ℕ) (i : Instruction) (v : ℕ) → i ∈ is → Takes i v → v ∈ literalsFrom seen is
 unfolding literalsFrom
