@@ -15,10 +15,7 @@ use Rattle.translator.proofs.Images.{Fitting, fill-length, end-first}
 use Rattle.layout.proofs.Images.{take-sets, cut-fill}
 use Rattle.code.specs.Coding.{bytesIn}
 use Rattle.frames.specs.Frames.{laterData, objectOf}
-
--- an image before anything is laid
-abbrev pub zeros : List ℕ
-zeros = replicate segmentLimit 0
+use Rattle.made.specs.Making.{zeros}
 
 -- ── the program ──
 
