@@ -1,3 +1,5 @@
 -- Laws of addresses and code along a tape.
 pub mod Placing
 pub mod Coding
+pub mod Statements
+pub mod Addresses
