@@ -3,3 +3,4 @@ pub mod Placing
 pub mod Coding
 pub mod Statements
 pub mod Addresses
+pub mod Agreeing

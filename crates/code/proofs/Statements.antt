@@ -23,6 +23,50 @@ use Rattle.emit.specs.declared.Writing.{Writing}
 use Rattle.emit.specs.Events.{writingAfter, returnIn, declaredCode, stepCode, closingCode, madeBy}
 use Rattle.emit.specs.Along.{codesOf, along, codeFor, targetWriting, controlWriting}
 
+-- ── the addresses in `marks` are those that the tree has ──
+
+module _ (f : Tables) (marks : List ℕ) where
+  -- where the mark of token t leads
+  abbrev pub to : ℕ → ℕ
+  to t = getD marks t 0
+
+  unfoldable mutual
+    pub Agree : (ls ps : List Mark) → Statement → ℕ → Type 0
+    Agree ls ps (assign a) p = Unit {0}
+    Agree ls ps (call n) p = to (getD (f .found) n 0) ≡ markAt ps (getD (f .found) n 0)
+    Agree ls ps (block t b) p = AgreeBody ls ps b p
+    Agree ls ps (goto t n) p = to (getD (f .goes) n 0) ≡ markAt ls (getD (f .goes) n 0)
+    Agree ls ps null p = Unit {0}
+    Agree ls ps (ifThen t c x) p =
+        (to t ≡ p + (sizes (testOf f c) + (4 + sizeOf (coreStatement f x)))) × Agree ls ps x (p + (sizes (testOf f c) + 4))
+    Agree ls ps (ifElse t c x e y) p =
+        (to t ≡ p + (sizes (testOf f c) + (4 + (sizeOf (coreStatement f x) + 4))))
+        × (to (t + 1) ≡ p + (sizes (testOf f c) + (4 + (sizeOf (coreStatement f x) + (4 + sizeOf (coreStatement f y))))))
+        × Agree ls ps x (p + (sizes (testOf f c) + 4))
+        × Agree ls ps y (p + (sizes (testOf f c) + (4 + (sizeOf (coreStatement f x) + 4))))
+    Agree ls ps (while t c x) p =
+        (to t ≡ p + (sizes (testOf f c) + (4 + (sizeOf (coreStatement f x) + 4)))) × (to (t + 1) ≡ p) × Agree ls ps x (p + (sizes (testOf f c) + 4))
+    Agree ls ps (for t a v l x) p =
+        (to (v - 1) ≡ p + (sizes (toRegister f (controlOf f a) a) + (sizes (compareWith f (controlOf f a) l) + (4 + (sizeOf (coreStatement f x) + 8)))))
+        × (to v ≡ p + sizes (toRegister f (controlOf f a) a))
+        × (to (v + 1) ≡ controlOf f a)
+        × Agree ls ps x (p + (sizes (toRegister f (controlOf f a) a) + (sizes (compareWith f (controlOf f a) l) + 4)))
+
+    pub AgreeBody : (ls ps : List Mark) → Body → ℕ → Type 0
+    AgreeBody ls ps (declare (registers rs) b) p = AgreeBody ls ps b p
+    AgreeBody ls ps (declare (cells c w is) b) p = AgreeBody ls ps b p
+    AgreeBody ls ps (declare (base n) b) p = AgreeBody ls ps b (p + 4)
+    AgreeBody ls ps (procedure n r x b) p =
+        (to (n + 1) ≡ p + (4 + (sizeOf (coreStatement f x) + 2)))
+        × Agree [] (record { name = n; at = p + 4 } ∷ ps) x (p + 4)
+        × AgreeBody ls (record { name = n; at = p + 4 } ∷ ps) b (p + (4 + (sizeOf (coreStatement f x) + 2)))
+    AgreeBody ls ps (items is) p = AgreeItems (own (coreItems f is) p ++ ls) ps is p
+
+    pub AgreeItems : (ls ps : List Mark) → Items → ℕ → Type 0
+    AgreeItems ls ps ended p = Unit {0}
+    AgreeItems ls ps (label l is) p = AgreeItems ls ps is p
+    AgreeItems ls ps (item x is) p = Agree ls ps x p × AgreeItems ls ps is (p + sizeOf (coreStatement f x))
+
 module _ (f : Tables) (means bases offsets : List ℕ) where
   -- ── the assignment that is written after a tree's tape ──
 
@@ -47,50 +91,6 @@ module _ (f : Tables) (means bases offsets : List ℕ) where
     leavesItems ended w = w
     leavesItems (label l is) w = leavesItems is w
     leavesItems (item x is) w = leavesItems is (leaves x w)
-
-  -- ── the addresses in `marks` are those that the tree has ──
-
-  module _ (marks : List ℕ) where
-    -- where the mark of token t leads
-    abbrev pub to : ℕ → ℕ
-    to t = getD marks t 0
-
-    unfoldable mutual
-      pub Agree : (ls ps : List Mark) → Statement → ℕ → Type 0
-      Agree ls ps (assign a) p = Unit {0}
-      Agree ls ps (call n) p = to (getD (f .found) n 0) ≡ markAt ps (getD (f .found) n 0)
-      Agree ls ps (block t b) p = AgreeBody ls ps b p
-      Agree ls ps (goto t n) p = to (getD (f .goes) n 0) ≡ markAt ls (getD (f .goes) n 0)
-      Agree ls ps null p = Unit {0}
-      Agree ls ps (ifThen t c x) p =
-          (to t ≡ p + (sizes (testOf f c) + (4 + sizeOf (coreStatement f x)))) × Agree ls ps x (p + (sizes (testOf f c) + 4))
-      Agree ls ps (ifElse t c x e y) p =
-          (to t ≡ p + (sizes (testOf f c) + (4 + (sizeOf (coreStatement f x) + 4))))
-          × (to (t + 1) ≡ p + (sizes (testOf f c) + (4 + (sizeOf (coreStatement f x) + (4 + sizeOf (coreStatement f y))))))
-          × Agree ls ps x (p + (sizes (testOf f c) + 4))
-          × Agree ls ps y (p + (sizes (testOf f c) + (4 + (sizeOf (coreStatement f x) + 4))))
-      Agree ls ps (while t c x) p =
-          (to t ≡ p + (sizes (testOf f c) + (4 + (sizeOf (coreStatement f x) + 4)))) × (to (t + 1) ≡ p) × Agree ls ps x (p + (sizes (testOf f c) + 4))
-      Agree ls ps (for t a v l x) p =
-          (to (v - 1) ≡ p + (sizes (toRegister f (controlOf f a) a) + (sizes (compareWith f (controlOf f a) l) + (4 + (sizeOf (coreStatement f x) + 8)))))
-          × (to v ≡ p + sizes (toRegister f (controlOf f a) a))
-          × (to (v + 1) ≡ controlOf f a)
-          × Agree ls ps x (p + (sizes (toRegister f (controlOf f a) a) + (sizes (compareWith f (controlOf f a) l) + 4)))
-
-      pub AgreeBody : (ls ps : List Mark) → Body → ℕ → Type 0
-      AgreeBody ls ps (declare (registers rs) b) p = AgreeBody ls ps b p
-      AgreeBody ls ps (declare (cells c w is) b) p = AgreeBody ls ps b p
-      AgreeBody ls ps (declare (base n) b) p = AgreeBody ls ps b (p + 4)
-      AgreeBody ls ps (procedure n r x b) p =
-          (to (n + 1) ≡ p + (4 + (sizeOf (coreStatement f x) + 2)))
-          × Agree [] (record { name = n; at = p + 4 } ∷ ps) x (p + 4)
-          × AgreeBody ls (record { name = n; at = p + 4 } ∷ ps) b (p + (4 + (sizeOf (coreStatement f x) + 2)))
-      AgreeBody ls ps (items is) p = AgreeItems (own (coreItems f is) p ++ ls) ps is p
-
-      pub AgreeItems : (ls ps : List Mark) → Items → ℕ → Type 0
-      AgreeItems ls ps ended p = Unit {0}
-      AgreeItems ls ps (label l is) p = AgreeItems ls ps is p
-      AgreeItems ls ps (item x is) p = Agree ls ps x p × AgreeItems ls ps is (p + sizeOf (coreStatement f x))
 
   -- ── the instructions ──
 
@@ -177,7 +177,7 @@ module _ (f : Tables) (means bases offsets : List ℕ) where
       mutual
         unfolding isStatement tapeStatement tapeDeclaration coreStatement code leaves Agree codesOf madeBy declaredCode closingCode stepCode writingAfter codeFor opcode
 
-        statement-made : (x : Statement) (i j : ℕ) → isStatement (f .kinds) x i j → (ls ps : List Mark) (p : ℕ) → Agree marks ls ps x p → (w : Writing) (k : List ℕ)
+        statement-made : (x : Statement) (i j : ℕ) → isStatement (f .kinds) x i j → (ls ps : List Mark) (p : ℕ) → Agree f marks ls ps x p → (w : Writing) (k : List ℕ)
             → Made (go marks w (tapeStatement x k)) (code ls ps (coreStatement f x) p) (go marks (leaves x w) k)
         statement-made (assign a) i j h ls ps p g w k = record { made = assignment-coded a i j h w k }
         statement-made (call n) i j h ls ps p g w k = one-made _ _ (on marks E.CALL n w k ∙ ap₂ (λ (r q : ℕ). Four 0x45 r 0 15 q ∷ go marks w k) (returns-are n) g)
@@ -211,7 +211,7 @@ module _ (f : Tables) (means bases offsets : List ℕ) where
             (on marks E.END-FOR v (leaves x w′) k ∙ ap₂ (λ (r q : ℕ). Literal (opcode addRow 1) r (valueAt f v) ∷ Four 0x47 15 0 15 q ∷ go marks (leaves x w′) k) (g .2) (g .1)))
             (one-made (branch always _) _ refl)))))
 
-        body-made : (b : Body) (i j : ℕ) → isBody (f .kinds) b i j → (ls ps : List Mark) (p : ℕ) → AgreeBody marks ls ps b p → (w : Writing) (k : List ℕ)
+        body-made : (b : Body) (i j : ℕ) → isBody (f .kinds) b i j → (ls ps : List Mark) (p : ℕ) → AgreeBody f marks ls ps b p → (w : Writing) (k : List ℕ)
             → Made (go marks w (tapeBody b k)) (code ls ps (coreBody f b) p) (go marks (leavesBody b w) k)
         body-made (declare (registers rs) b) i j h ls ps p g w k = after-none (registers-coded marks rs w _) (body-made b _ _ (h .2 .1) ls ps p g w k)
         body-made (declare (cells c s is) b) i j h ls ps p g w k =
@@ -228,13 +228,13 @@ module _ (f : Tables) (means bases offsets : List ℕ) where
             (body-made b _ _ (h .2 .1) ls _ _ (g .2) (leaves x w) k)))
         body-made (items is) i j h ls ps p g w k = items-made is i j h _ ps p g w k
 
-        items-made : (is : Items) (i j : ℕ) → isItems (f .kinds) is i j → (ls ps : List Mark) (p : ℕ) → AgreeItems marks ls ps is p → (w : Writing) (k : List ℕ)
+        items-made : (is : Items) (i j : ℕ) → isItems (f .kinds) is i j → (ls ps : List Mark) (p : ℕ) → AgreeItems f marks ls ps is p → (w : Writing) (k : List ℕ)
             → Made (go marks w (tapeItems is k)) (code ls ps (coreItems f is) p) (go marks (leavesItems is w) k)
         items-made ended i j h ls ps p g w k = none-made _
         items-made (label l is) i j h ls ps p g w k = after-none (on marks E.LABEL l w _) (items-made is _ _ (h .2 .1) ls ps p g w k)
         items-made (item x is) i j h ls ps p g w k =
             then-made (statement-made x _ _ (h .1) ls ps p (g .0) w _) (items-made is _ _ (h .2 .1) ls ps _ (g .1) (leaves x w) k)
 
-      pub code-statement : (x : Statement) (i j : ℕ) → isStatement (f .kinds) x i j → (ls ps : List Mark) (p : ℕ) → Agree marks ls ps x p → (w : Writing) (k : List ℕ)
+      pub code-statement : (x : Statement) (i j : ℕ) → isStatement (f .kinds) x i j → (ls ps : List Mark) (p : ℕ) → Agree f marks ls ps x p → (w : Writing) (k : List ℕ)
           → go marks w (tapeStatement x k) ≡ coded (code ls ps (coreStatement f x) p) ++ go marks (leaves x w) k
       code-statement x i j h ls ps p g w k = statement-made x i j h ls ps p g w k .made
