@@ -1,27 +1,29 @@
 -- On the tape of a tree, with the addresses that the tree has, the code pass makes the definition's instructions: a line for each way to make a tree. Assumes nothing.
-use mathlib.Core.Path.{_≡_, refl, sym, ap, ap₂, subst, _∙_}
-use mathlib.Core.List.{List, [], _∷_, _++_, map}
+use mathlib.Core.Path.{_≡_, refl, sym, ap, subst, _∙_}
+use mathlib.Core.List.{List, [], _∷_, _++_}
+use mathlib.Core.Bool.{true}
 use mathlib.Core.Option.{Option, none, some}
-use Prim.Native.Nat.{ℕ, _+_, _-_, _*_, _%_, _≤_}
+use Prim.Native.Nat.{ℕ, _+_, _-_}
 use native.Mathlib.Omega.{arith}
 use lib.ListN.{getD}
-use Rattle.base.specs.Choose.{if_then_else_}
-use Rattle.grammar.specs.Tree.{Operand, Assignment, Condition, Width, full, short, Register, Item, Declaration, registers, cells, base, Statement, assign, call, block, goto, null, ifThen, ifElse, while, for, Body, declare, procedure, items, Items, ended, label, item}
-use Rattle.grammar.specs.Derives.{isOperand, isCondition, isAssignment, isStatement, isBody, isItems}
+use Rattle.base.specs.Lists.{member}
+use Rattle.grammar.specs.Tree.{Condition, Width, full, short, Register, Item, registers, cells, base, Statement, assign, call, block, goto, null, ifThen, ifElse, while, for, Body, declare, procedure, items, Items, ended, label, item}
+use Rattle.grammar.specs.Derives.{isOperand, isCondition, isStatement, isBody, isItems}
 use Rattle.tape.specs.Events as E
-use Rattle.tape.specs.Tape.{event, tapeOperand, tapeCondition, tapeAssignment, tapeEach, tapeValue, tapeItem, tapeRegister, cellsEvent, tapeDeclaration, tapeStatement, tapeBody, tapeItems}
-use Rattle.tape.proofs.Pass.{event-op, event-token}
-use Rattle.tables.specs.Packed.{low, registerIn, packedAt}
+use Rattle.tape.specs.Tape.{event, tapeCondition, tapeEach, tapeValue, tapeItem, tapeRegister, cellsEvent, tapeDeclaration, tapeStatement, tapeBody, tapeItems}
+use Rattle.tables.specs.Packed.{meaningsOf}
 use Rattle.kinds.specs.Meaning.{registerOf}
 use Rattle.kinds.specs.Tables.{Tables, valueAt, meaningAt}
-use Rattle.translator.specs.Instructions.{Instruction, rr, rx, branch, entry, literal, sizes, opcode, loadRow, addRow, always}
-use Rattle.translator.specs.Core.{exitMask, returnOf, toRegister, assignmentOf, compareWith, testOf, maskOf, controlOf, coreStatement, coreBody, coreItems}
+use Rattle.translator.specs.Instructions.{Instruction, rr, rx, branch, link, entry, literal, sizes, opcode, loadRow, addRow, always}
+use Rattle.translator.specs.Core.{returnOf, toRegister, compareWith, testOf, maskOf, controlOf, coreStatement, coreBody, coreItems}
 use Rattle.translator.specs.Code.{Mark, sizeOf, own, markAt, code}
 use Rattle.emit.specs.declared.Code.{Code}
-use Rattle.emit.specs.declared.Code.the-variants.{Two, Four, Literal}
 use Rattle.emit.specs.declared.Writing.{Writing}
-use Rattle.emit.specs.Events.{writingAfter, returnIn, declaredCode, stepCode, closingCode, madeBy}
-use Rattle.emit.specs.Along.{codesOf, along, codeFor, targetWriting, controlWriting}
+use Rattle.emit.specs.Along.{codeFor, targetWriting, controlWriting}
+use Rattle.emit.proofs.Operands.{Small, offsetAt}
+use Rattle.emit.proofs.Written.{coded}
+use Rattle.emit.proofs.Events.{idle, Adds, idle-adds, procedure-adds, else-adds, end-while-adds, end-for-adds, goto-adds, base-adds, end-procedure-adds, call-adds}
+use Rattle.emit.proofs.Trees.{go, along-makes, assignment-coded, control-coded, condition-coded, limit-coded}
 
 -- ── the addresses in `marks` are those that the tree has ──
 
@@ -92,149 +94,141 @@ module _ (f : Tables) (means bases offsets : List ℕ) where
     leavesItems (label l is) w = leavesItems is w
     leavesItems (item x is) w = leavesItems is (leaves x w)
 
-  -- ── the instructions ──
+-- ── the instructions ──
 
-  abbrev pub go : List ℕ → Writing → List ℕ → List Code
-  go marks w tape = along (f .kinds) (f .values) (f .found) (f .goes) means bases (f .opens) offsets marks w tape
-
-  -- where a cell stands
-  abbrev pub off : ℕ → ℕ
-  off t = low (getD offsets t 0)
-
-  abbrev pub coded : List Instruction → List Code
-  coded is = map (codeFor off) is
-
-  coded-append : (is js : List Instruction) (k : List Code) → coded (is ++ js) ++ k ≡ coded is ++ (coded js ++ k)
-  coded-append [] js k = refl
-  coded-append (i ∷ is) js k = ap (λ (l : List Code). codeFor off i ∷ l) (coded-append is js k)
-
-  -- instructions, and what follows them
+module _ (f : Tables) (means bases offsets marks : List ℕ) where
+  -- instructions along a tape, and what follows them
   record Made (all : List Code) (is : List Instruction) (rest : List Code) : Type 0 where
-    made : all ≡ coded is ++ rest
+    made : all ≡ coded offsets is ++ rest
+
+  coded-append : (is js : List Instruction) (k : List Code) → coded offsets (is ++ js) ++ k ≡ coded offsets is ++ (coded offsets js ++ k)
+  coded-append [] js k = refl
+  coded-append (i ∷ is) js k = ap (λ (l : List Code). codeFor (offsetAt offsets) i ∷ l) (coded-append is js k)
 
   none-made : (k : List Code) → Made k [] k
   none-made k = record { made = refl }
 
-  one-made : {all : List Code} (i : Instruction) (k : List Code) → all ≡ codeFor off i ∷ k → Made all (i ∷ []) k
-  one-made i k e = record { made = e }
+  one-made : (i : Instruction) (k : List Code) → Made (codeFor (offsetAt offsets) i ∷ k) (i ∷ []) k
+  one-made i k = record { made = refl }
 
   then-made : {all rest k : List Code} {is js : List Instruction} → Made all is rest → Made rest js k → Made all (is ++ js) k
-  then-made {is = is} {js = js} e g = record { made = e .made ∙ (ap (λ (l : List Code). coded is ++ l) (g .made) ∙ sym (coded-append is js _)) }
+  then-made {is = is} {js = js} e g = record { made = e .made ∙ (ap (λ (l : List Code). coded offsets is ++ l) (g .made) ∙ sym (coded-append is js _)) }
 
   -- after or before events that make none
   after-none : {all rest k : List Code} {is : List Instruction} → all ≡ rest → Made rest is k → Made all is k
   after-none e g = record { made = e ∙ g .made }
 
   before-none : {all rest k : List Code} {is : List Instruction} → Made all is rest → rest ≡ k → Made all is k
-  before-none {is = is} e g = record { made = e .made ∙ ap (λ (l : List Code). coded is ++ l) g }
+  before-none {is = is} e g = record { made = e .made ∙ ap (λ (l : List Code). coded offsets is ++ l) g }
 
-  module _ (marks : List ℕ) where
-    on : (op t : ℕ) (w : Writing) (k : List ℕ)
-        → go marks w (event op t ∷ k)
-        ≡ codesOf (madeBy (f .kinds) (f .values) (f .found) (f .goes) means bases (f .opens) offsets marks (op % 64) t w)
-        ++ go marks (writingAfter (f .values) (f .found) means bases offsets (op % 64) t w) k
-    unfolding along
-    on op t w k = rw (event-op op t, event-token op t)
+  -- an address in other words
+  by-address : {all rest : List Code} (is : ℕ → List Instruction) {q r : ℕ} → q ≡ r → Made all (is q) rest → Made all (is r) rest
+  by-address {all} {rest} is e g = subst (λ (q : ℕ). Made all (is q) rest) e g
 
-    values-coded : (ts : List ℕ) (w : Writing) (k : List ℕ) → go marks w (tapeEach tapeValue ts k) ≡ go marks w k
-    unfolding tapeEach codesOf madeBy declaredCode writingAfter
-    values-coded [] w k = refl
-    values-coded (t ∷ ts) w k = on E.VALUE t w _ ∙ values-coded ts w k
+  abbrev along-it : Writing → List ℕ → List Code
+  along-it w k = go f means bases offsets marks w k
 
-    registers-coded : (rs : List Register) (w : Writing) (k : List ℕ) → go marks w (tapeEach tapeRegister rs k) ≡ go marks w k
-    unfolding tapeEach codesOf madeBy declaredCode writingAfter
-    registers-coded [] w k = refl
-    registers-coded (r ∷ rs) w k = on E.REGISTER (r .name) w _ ∙ registers-coded rs w k
+  event-made : (op t : ℕ) (w : Writing) (k : List ℕ) (is : List Instruction) → Adds f means bases offsets marks op t w is → Made (along-it w (event op t ∷ k)) is (along-it w k)
+  event-made op t w k is h = record { made = along-makes f means bases offsets marks op t w k h }
 
-    items-coded : (is : List Item) (w : Writing) (k : List ℕ) → go marks w (tapeEach tapeItem is k) ≡ go marks w k
-    unfolding tapeEach tapeItem codesOf madeBy declaredCode writingAfter
-    items-coded [] w k = refl
-    items-coded (i ∷ is) w k = on E.ITEM (i .name) w _ ∙ (values-coded (i .numbers) w _ ∙ items-coded is w k)
+  -- ── events that make none ──
 
-    opening-coded : (c : Option ℕ) (s : Width) (w : Writing) (k : List ℕ) → go marks w (cellsEvent c s ∷ k) ≡ go marks w k
-    unfolding codesOf madeBy declaredCode writingAfter
-    opening-coded none full w k = on E.SINGLE-FULL 0 w k
-    opening-coded none short w k = on E.SINGLE-SHORT 0 w k
-    opening-coded (some c) full w k = on E.ARRAY-FULL c w k
-    opening-coded (some c) short w k = on E.ARRAY-SHORT c w k
+  idle-event : (op : ℕ) → member op idle ≡ true → (t : ℕ) (w : Writing) (k : List ℕ) → along-it w (event op t ∷ k) ≡ along-it w k
+  idle-event op h t w k = along-makes f means bases offsets marks op t w k (idle-adds f means bases offsets marks op h t w)
 
-  -- ── statements, by what is so of assignments and conditions ──
+  idle-each : {A : Type 0} (out : A → List ℕ → List ℕ) → ((a : A) (w : Writing) (k : List ℕ) → along-it w (out a k) ≡ along-it w k)
+      → (l : List A) (w : Writing) (k : List ℕ) → along-it w (tapeEach out l k) ≡ along-it w k
+  unfolding tapeEach
+  idle-each out h [] w k = refl
+  idle-each out h (a ∷ l) w k = h a w _ ∙ idle-each out h l w k
 
-  module _
-      (registers-are : (n : ℕ) → registerIn (packedAt (f .found) means n) ≡ registerOf (meaningAt f n))
-      (returns-are : (n : ℕ) → returnIn (packedAt (f .found) means n) ≡ returnOf (meaningAt f n))
-      (marks : List ℕ)
-      (assignment-coded : (a : Assignment) (i j : ℕ) → isAssignment (f .kinds) a i j → (w : Writing) (k : List ℕ)
-      → go marks w (tapeAssignment E.TARGET a k) ≡ coded (assignmentOf f a) ++ go marks (targetWriting (f .values) (f .found) means bases offsets a) k)
-      (control-coded : (a : Assignment) (i j : ℕ) → isAssignment (f .kinds) a i j → (w : Writing) (k : List ℕ)
-      → go marks w (tapeAssignment E.CONTROL a k) ≡ coded (toRegister f (controlOf f a) a) ++ go marks (controlWriting (f .found) means a) k)
-      (condition-coded : (c : Condition) (t j : ℕ) → isCondition (f .kinds) c (t + 1) j → (w : Writing) (q : ℕ) (k : List ℕ) → getD marks t 0 ≡ q
-      → go marks w (tapeCondition c k) ≡ coded (testOf f c) ++ (codeFor off (branch (maskOf f c) q) ∷ go marks w k))
-      (limit-coded : (a : Assignment) (l : Operand) (v j : ℕ) → isOperand (f .kinds) l (v + 2) j → (q : ℕ) (k : List ℕ) → getD marks (v - 1) 0 ≡ q → 1 ≤ v
-      → go marks (controlWriting (f .found) means a) (tapeOperand E.LIMIT l k)
-      ≡ coded (compareWith f (controlOf f a) l) ++ (codeFor off (branch (exitMask (valueAt f v)) q) ∷ go marks (controlWriting (f .found) means a) k))
-    where
-      mutual
-        unfolding isStatement tapeStatement tapeDeclaration coreStatement code leaves Agree codesOf madeBy declaredCode closingCode stepCode writingAfter codeFor opcode
+  idle-registers : (rs : List Register) (w : Writing) (k : List ℕ) → along-it w (tapeEach tapeRegister rs k) ≡ along-it w k
+  idle-registers rs w k = idle-each tapeRegister (λ r. idle-event E.REGISTER refl (r .name)) rs w k
 
-        statement-made : (x : Statement) (i j : ℕ) → isStatement (f .kinds) x i j → (ls ps : List Mark) (p : ℕ) → Agree f marks ls ps x p → (w : Writing) (k : List ℕ)
-            → Made (go marks w (tapeStatement x k)) (code ls ps (coreStatement f x) p) (go marks (leaves x w) k)
-        statement-made (assign a) i j h ls ps p g w k = record { made = assignment-coded a i j h w k }
-        statement-made (call n) i j h ls ps p g w k = one-made _ _ (on marks E.CALL n w k ∙ ap₂ (λ (r q : ℕ). Four 0x45 r 0 15 q ∷ go marks w k) (returns-are n) g)
-        statement-made (block t b) i j h ls ps p g w k =
-            after-none (on marks E.BLOCK t w _) (before-none (body-made b _ _ (h .2) ls ps p g w _) (on marks E.END-BLOCK t _ k))
-        statement-made (goto t n) i j h ls ps p g w k = one-made _ _ (on marks E.GOTO n w k ∙ ap (λ (q : ℕ). Four 0x47 15 0 15 q ∷ go marks w k) g)
-        statement-made null i j h ls ps p g w k = none-made _
-        statement-made (ifThen t c x) i j h ls ps p g w k =
-            then-made {is = testOf f c} (record { made = condition-coded c t (h .2 .0) (rw (h .0) (h .2 .1)) w _ _ (g .0) })
-            (then-made (one-made (branch _ _) _ refl) (before-none (statement-made x _ _ (h .2 .2 .1) ls ps _ (g .1) w _) (on marks E.END-IF t _ k)))
-        statement-made (ifElse t c x e y) i j h ls ps p g w k =
-            then-made {is = testOf f c} (record { made = condition-coded c t (h .2 .0) (rw (h .0) (h .2 .1)) w _ _ (g .0) })
-            (then-made (one-made (branch _ _) _ refl)
-            (then-made (statement-made x _ _ (h .2 .2 .1 .1 .1) ls ps _ (g .2) w _)
-            (then-made (one-made (branch always _) _ (on marks E.ELSE t (leaves x w) _ ∙ ap (λ (q : ℕ). Four 0x47 15 0 15 q ∷ go marks (leaves x w) (tapeStatement y (event E.END-ELSE t ∷ k))) (g .1)))
-            (before-none (statement-made y _ _ (h .2 .2 .1 .2 .2) ls ps _ (g .3) (leaves x w) _) (on marks E.END-ELSE t _ k)))))
-        statement-made (while t c x) i j h ls ps p g w k =
-            after-none (on marks E.WHILE t w _)
-            (then-made {is = testOf f c} (record { made = condition-coded c t (h .2 .0) (rw (h .0) (h .2 .1)) w _ _ (g .0) })
-            (then-made (one-made (branch _ _) _ refl)
-            (then-made (statement-made x _ _ (h .2 .2 .1) ls ps _ (g .2) w _)
-            (one-made (branch always _) _ (on marks E.END-WHILE t (leaves x w) k ∙ ap (λ (q : ℕ). Four 0x47 15 0 15 q ∷ go marks (leaves x w) k) (g .1))))))
-        statement-made (for t a v l x) i j h ls ps p g w k =
-            let e : v ≡ h .2 .0 + 1 = h .2 .2 .1 .0 in
-            let w′ = controlWriting (f .found) means a in
-            then-made {is = toRegister f (controlOf f a) a} (record { made = control-coded a _ _ (h .2 .1) w _ })
-            (then-made {is = compareWith f (controlOf f a) l} (record { made = limit-coded a l v (h .2 .2 .1 .2 .1 .0) (subst (λ (q : ℕ). isOperand (f .kinds) l q (h .2 .2 .1 .2 .1 .0)) (omega arith) (h .2 .2 .1 .2 .1 .1)) _ _ (g .0) (omega arith) })
-            (then-made (one-made (branch _ _) _ refl)
-            (then-made (statement-made x _ _ (h .2 .2 .1 .2 .1 .2 .1) ls ps _ (g .3) w′ _)
-            (then-made (one-made (rx (opcode addRow 1) _ (literal _)) (codeFor off (branch always _) ∷ go marks (leaves x w′) k)
-            (on marks E.END-FOR v (leaves x w′) k ∙ ap₂ (λ (r q : ℕ). Literal (opcode addRow 1) r (valueAt f v) ∷ Four 0x47 15 0 15 q ∷ go marks (leaves x w′) k) (g .2) (g .1)))
-            (one-made (branch always _) _ refl)))))
+  idle-item : (i : Item) (w : Writing) (k : List ℕ) → along-it w (tapeItem i k) ≡ along-it w k
+  unfolding tapeItem
+  idle-item i w k = idle-event E.ITEM refl (i .name) w _ ∙ idle-each tapeValue (λ t. idle-event E.VALUE refl t) (i .numbers) w k
 
-        body-made : (b : Body) (i j : ℕ) → isBody (f .kinds) b i j → (ls ps : List Mark) (p : ℕ) → AgreeBody f marks ls ps b p → (w : Writing) (k : List ℕ)
-            → Made (go marks w (tapeBody b k)) (code ls ps (coreBody f b) p) (go marks (leavesBody b w) k)
-        body-made (declare (registers rs) b) i j h ls ps p g w k = after-none (registers-coded marks rs w _) (body-made b _ _ (h .2 .1) ls ps p g w k)
-        body-made (declare (cells c s is) b) i j h ls ps p g w k =
-            after-none (opening-coded marks c s w _ ∙ items-coded marks is w _) (body-made b _ _ (h .2 .1) ls ps p g w k)
-        body-made (declare (base n) b) i j h ls ps p g w k =
-            then-made (one-made (rx (opcode loadRow 1) _ (entry _)) _ (on marks E.BASE n w _ ∙ ap (λ (r : ℕ). Four 0x58 r 0 14 (4 * getD (f .opens) n 0) ∷ go marks w (tapeBody b k)) (registers-are n)))
-            (body-made b _ _ (h .2 .1) ls ps _ g w k)
-        body-made (procedure n r x b) i j h ls ps p g w k =
-            let e : r ≡ n + 2 = omega (arith, h .1 .1 .0, h .1 .1 .2 .1 .0) in
-            then-made (one-made (branch always _) _ (on marks E.PROCEDURE n w _ ∙ ap (λ (q : ℕ). Four 0x47 15 0 15 q ∷ go marks w (tapeStatement x (event E.END-PROCEDURE n ∷ tapeBody b k))) (g .0)))
-            (then-made (statement-made x _ _ (h .1 .1 .2 .1 .2 .1 .1) [] _ _ (g .1) w _)
-            (then-made (one-made (rr 0x07 15 _) _ (on marks E.END-PROCEDURE n (leaves x w) _
-            ∙ ap (λ (q : ℕ). Two 0x07 15 q ∷ go marks (leaves x w) (tapeBody b k)) (registers-are (n + 2) ∙ ap (λ (u : ℕ). registerOf (meaningAt f u)) (sym e))))
-            (body-made b _ _ (h .2 .1) ls _ _ (g .2) (leaves x w) k)))
-        body-made (items is) i j h ls ps p g w k = items-made is i j h _ ps p g w k
+  idle-opening : (c : Option ℕ) (s : Width) (w : Writing) (k : List ℕ) → along-it w (cellsEvent c s ∷ k) ≡ along-it w k
+  idle-opening none full w k = idle-event E.SINGLE-FULL refl 0 w k
+  idle-opening none short w k = idle-event E.SINGLE-SHORT refl 0 w k
+  idle-opening (some c) full w k = idle-event E.ARRAY-FULL refl c w k
+  idle-opening (some c) short w k = idle-event E.ARRAY-SHORT refl c w k
 
-        items-made : (is : Items) (i j : ℕ) → isItems (f .kinds) is i j → (ls ps : List Mark) (p : ℕ) → AgreeItems f marks ls ps is p → (w : Writing) (k : List ℕ)
-            → Made (go marks w (tapeItems is k)) (code ls ps (coreItems f is) p) (go marks (leavesItems is w) k)
-        items-made ended i j h ls ps p g w k = none-made _
-        items-made (label l is) i j h ls ps p g w k = after-none (on marks E.LABEL l w _) (items-made is _ _ (h .2 .1) ls ps p g w k)
-        items-made (item x is) i j h ls ps p g w k =
-            then-made (statement-made x _ _ (h .1) ls ps p (g .0) w _) (items-made is _ _ (h .2 .1) ls ps _ (g .1) (leaves x w) k)
+  -- ── statements ──
 
-      pub code-statement : (x : Statement) (i j : ℕ) → isStatement (f .kinds) x i j → (ls ps : List Mark) (p : ℕ) → Agree f marks ls ps x p → (w : Writing) (k : List ℕ)
-          → go marks w (tapeStatement x k) ≡ coded (code ls ps (coreStatement f x) p) ++ go marks (leaves x w) k
-      code-statement x i j h ls ps p g w k = statement-made x i j h ls ps p g w k .made
+  module _ (table : f .means ≡ meaningsOf means bases) (small : Small f) where
+    tested : (c : Condition) (t i j q : ℕ) → t ≡ i → isCondition (f .kinds) c (i + 1) j → getD marks t 0 ≡ q → (w : Writing) (k : List ℕ)
+        → Made (along-it w (tapeCondition c k)) (testOf f c) (codeFor (offsetAt offsets) (branch (maskOf f c) q) ∷ along-it w k)
+    tested c t i j q e h g w k = record { made = condition-coded f means bases offsets marks table small c t j q (rw e h) g w k }
+
+    mutual
+      unfolding isStatement tapeStatement tapeDeclaration coreStatement code leaves Agree codeFor
+
+      statement-made : (x : Statement) (i j : ℕ) → isStatement (f .kinds) x i j → (ls ps : List Mark) (p : ℕ) → Agree f marks ls ps x p → (w : Writing) (k : List ℕ)
+          → Made (along-it w (tapeStatement x k)) (code ls ps (coreStatement f x) p) (along-it (leaves f means bases offsets x w) k)
+      statement-made (assign a) i j h ls ps p g w k = record { made = assignment-coded f means bases offsets marks table small a i j h w k }
+      statement-made (call n) i j h ls ps p g w k =
+          by-address (λ (q : ℕ). link (returnOf (meaningAt f n)) q ∷ []) g (event-made E.CALL n w k _ (call-adds f means bases offsets marks table n w))
+      statement-made (block t b) i j h ls ps p g w k =
+          after-none (idle-event E.BLOCK refl t w _) (before-none (body-made b _ _ (h .2) ls ps p g w _) (idle-event E.END-BLOCK refl t _ k))
+      statement-made (goto t n) i j h ls ps p g w k =
+          by-address (λ (q : ℕ). branch always q ∷ []) g (event-made E.GOTO n w k _ (goto-adds f means bases offsets marks n w))
+      statement-made null i j h ls ps p g w k = none-made _
+      statement-made (ifThen t c x) i j h ls ps p g w k =
+          then-made (tested c t _ _ _ (h .0) (h .2 .1) (g .0) w _)
+          (then-made (one-made (branch _ _) _) (before-none (statement-made x _ _ (h .2 .2 .1) ls ps _ (g .1) w _) (idle-event E.END-IF refl t _ k)))
+      statement-made (ifElse t c x e y) i j h ls ps p g w k =
+          let w′ = leaves f means bases offsets x w in
+          then-made (tested c t _ _ _ (h .0) (h .2 .1) (g .0) w _)
+          (then-made (one-made (branch _ _) _)
+          (then-made (statement-made x _ _ (h .2 .2 .1 .1 .1) ls ps _ (g .2) w _)
+          (then-made (by-address (λ (q : ℕ). branch always q ∷ []) (g .1) (event-made E.ELSE t w′ _ _ (else-adds f means bases offsets marks t w′)))
+          (before-none (statement-made y _ _ (h .2 .2 .1 .2 .2) ls ps _ (g .3) w′ _) (idle-event E.END-ELSE refl t _ k)))))
+      statement-made (while t c x) i j h ls ps p g w k =
+          let w′ = leaves f means bases offsets x w in
+          after-none (idle-event E.WHILE refl t w _)
+          (then-made (tested c t _ _ _ (h .0) (h .2 .1) (g .0) w _)
+          (then-made (one-made (branch _ _) _)
+          (then-made (statement-made x _ _ (h .2 .2 .1) ls ps _ (g .2) w _)
+          (by-address (λ (q : ℕ). branch always q ∷ []) (g .1) (event-made E.END-WHILE t w′ k _ (end-while-adds f means bases offsets marks t w′))))))
+      statement-made (for t a v l x) i j h ls ps p g w k =
+          let e : v ≡ h .2 .0 + 1 = h .2 .2 .1 .0 in
+          let w′ = controlWriting (f .found) means a in
+          let w″ = leaves f means bases offsets x w′ in
+          let end = h .2 .2 .1 .2 .1 .0 in
+          then-made {is = toRegister f (controlOf f a) a} (record { made = control-coded f means bases offsets marks table small a _ _ (h .2 .1) w _ })
+          (then-made {is = compareWith f (controlOf f a) l}
+          (record { made = limit-coded f means bases offsets marks table small a l v end _ (subst (λ (q : ℕ). isOperand (f .kinds) l q end) (omega arith) (h .2 .2 .1 .2 .1 .1)) w′ refl (g .0) (omega arith) _ })
+          (then-made (one-made (branch _ _) _)
+          (then-made (statement-made x _ _ (h .2 .2 .1 .2 .1 .2 .1) ls ps _ (g .3) w′ _)
+          (by-address (λ (q : ℕ). rx (opcode addRow 1) (controlOf f a) (literal (valueAt f v)) ∷ branch always q ∷ []) (g .1)
+          (by-address (λ (r : ℕ). rx (opcode addRow 1) r (literal (valueAt f v)) ∷ branch always (getD marks v 0) ∷ []) (g .2)
+          (event-made E.END-FOR v w″ k _ (end-for-adds f means bases offsets marks v w″)))))))
+
+      body-made : (b : Body) (i j : ℕ) → isBody (f .kinds) b i j → (ls ps : List Mark) (p : ℕ) → AgreeBody f marks ls ps b p → (w : Writing) (k : List ℕ)
+          → Made (along-it w (tapeBody b k)) (code ls ps (coreBody f b) p) (along-it (leavesBody f means bases offsets b w) k)
+      body-made (declare (registers rs) b) i j h ls ps p g w k = after-none (idle-registers rs w _) (body-made b _ _ (h .2 .1) ls ps p g w k)
+      body-made (declare (cells c s is) b) i j h ls ps p g w k =
+          after-none (idle-opening c s w _ ∙ idle-each tapeItem idle-item is w _) (body-made b _ _ (h .2 .1) ls ps p g w k)
+      body-made (declare (base n) b) i j h ls ps p g w k =
+          then-made (event-made E.BASE n w _ (rx (opcode loadRow 1) (registerOf (meaningAt f n)) (entry (getD (f .opens) n 0)) ∷ []) (base-adds f means bases offsets marks table n w)) (body-made b _ _ (h .2 .1) ls ps _ g w k)
+      body-made (procedure n r x b) i j h ls ps p g w k =
+          let e : n + 2 ≡ r = omega (arith, h .1 .1 .0, h .1 .1 .2 .1 .0) in
+          let w′ = leaves f means bases offsets x w in
+          then-made (by-address (λ (q : ℕ). branch always q ∷ []) (g .0) (event-made E.PROCEDURE n w _ _ (procedure-adds f means bases offsets marks n w)))
+          (then-made (statement-made x _ _ (h .1 .1 .2 .1 .2 .1 .1) [] _ _ (g .1) w _)
+          (then-made (by-address (λ (q : ℕ). rr 0x07 15 (registerOf (meaningAt f q)) ∷ []) e (event-made E.END-PROCEDURE n w′ _ _ (end-procedure-adds f means bases offsets marks table n w′)))
+          (body-made b _ _ (h .2 .1) ls _ _ (g .2) w′ k)))
+      body-made (items is) i j h ls ps p g w k = items-made is i j h _ ps p g w k
+
+      items-made : (is : Items) (i j : ℕ) → isItems (f .kinds) is i j → (ls ps : List Mark) (p : ℕ) → AgreeItems f marks ls ps is p → (w : Writing) (k : List ℕ)
+          → Made (along-it w (tapeItems is k)) (code ls ps (coreItems f is) p) (along-it (leavesItems f means bases offsets is w) k)
+      items-made ended i j h ls ps p g w k = none-made _
+      items-made (label l is) i j h ls ps p g w k = after-none (idle-event E.LABEL refl l w _) (items-made is _ _ (h .2 .1) ls ps p g w k)
+      items-made (item x is) i j h ls ps p g w k =
+          then-made (statement-made x _ _ (h .1) ls ps p (g .0) w _) (items-made is _ _ (h .2 .1) ls ps _ (g .1) _ k)
+
+    pub code-statement : (x : Statement) (i j : ℕ) → isStatement (f .kinds) x i j → (ls ps : List Mark) (p : ℕ) → Agree f marks ls ps x p → (w : Writing) (k : List ℕ)
+        → go f means bases offsets marks w (tapeStatement x k) ≡ coded offsets (code ls ps (coreStatement f x) p) ++ go f means bases offsets marks (leaves f means bases offsets x w) k
+    code-statement x i j h ls ps p g w k = statement-made x i j h ls ps p g w k .made
