@@ -1,3 +1,4 @@
 -- Laws of addresses and code along a tape.
 pub mod Placing
 pub mod Coding
+pub mod Expressions
