@@ -1,6 +1,8 @@
 -- Laws of addresses and code along a tape.
 pub mod Placing
 pub mod Coding
+pub mod Expressions
 pub mod Statements
 pub mod Addresses
 pub mod Agreeing
+pub mod Program

@@ -1,5 +1,5 @@
 -- The sizes of instructions: those of an event together, and of the definition's. Assumes nothing.
-use mathlib.Core.Path.{_≡_, refl, ap₂, _∙_}
+use mathlib.Core.Path.{_≡_, refl, ap, ap₂, _∙_}
 use mathlib.Core.List.{List, [], _∷_, _++_}
 use Prim.Native.Nat.{ℕ, _+_}
 use native.Mathlib.Omega.{arith}
@@ -10,7 +10,7 @@ use Rattle.emit.specs.declared.Made.{Made}
 use Rattle.emit.specs.Codes.{codeSize, madeSize}
 use Rattle.emit.specs.Along.{codesIn, codesOf, codeFor}
 use Rattle.emit.proofs.Operands.{offsetAt}
-use Rattle.emit.proofs.Written.{coded}
+use Rattle.emit.proofs.Written.{coded, tested}
 
 abbrev pub codeSizes : List Code → ℕ
 codeSizes [] = 0
@@ -45,3 +45,7 @@ size-is place stop = refl
 pub coded-sizes : (offsets : List ℕ) (is : List Instruction) → codeSizes (coded offsets is) ≡ sizes is
 coded-sizes offsets [] = refl
 coded-sizes offsets (i ∷ is) = ap₂ (λ (x y : ℕ). x + y) (size-is (offsetAt offsets) i) (coded-sizes offsets is)
+
+pub tested-size : (offsets : List ℕ) (is : List Instruction) (mask to : ℕ) → codeSizes (tested offsets is mask to) ≡ sizes is + 4
+unfolding codeSize codeFor
+tested-size offsets is mask to = sizes-append (coded offsets is) _ ∙ ap (λ (n : ℕ). n + 4) (coded-sizes offsets is)

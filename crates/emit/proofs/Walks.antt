@@ -16,7 +16,7 @@ use Rattle.tape.specs.Tape.{event, shape, tapeDesignator, tapeOperand, tapeCond
 use Rattle.kinds.specs.Meaning.{registerOf}
 use Rattle.kinds.specs.Tables.{Tables, kindAt, valueAt, meaningAt}
 use Rattle.tables.specs.Packed.{meaningsOf, registerIn, packedAt}
-use Rattle.translator.specs.Instructions.{Instruction, branch, compareRow, falseMask}
+use Rattle.translator.specs.Instructions.{compareRow, falseMask}
 use Rattle.translator.specs.Core.{exitMask, toRegister, assignmentOf, compareWith, testOf, maskOf, controlOf}
 use Rattle.emit.specs.declared.Use.{Use}
 use Rattle.emit.specs.declared.Use.the-variants.{Held}
@@ -26,8 +26,8 @@ use Rattle.emit.specs.declared.Writing.{Writing}
 use Rattle.emit.specs.Codes.{applyCode, oneCode, twoCodes, heldIn, firstCode, nextCode, branchCode}
 use Rattle.emit.specs.Events.{placeIn, useIn, writingAfter, assignedCode, comparedCode, limitCode, madeBy}
 use Rattle.emit.specs.Along.{codesIn, codesOf, codeFor, signEvent, targetWriting, controlWriting}
-use Rattle.emit.proofs.Operands.{Small, offsetAt, shapeOf, by-form, by-shape, operand-tape, register-at, placed, used}
-use Rattle.emit.proofs.Written.{coded, one-code, chainCodes, assignedCodes, apply-is, register-assigned, target-assigned}
+use Rattle.emit.proofs.Operands.{Small, shapeOf, by-form, by-shape, operand-tape, register-at, placed, used}
+use Rattle.emit.proofs.Written.{coded, tested, one-code, chainCodes, assignedCodes, apply-is, register-assigned, target-assigned}
 
 -- an event that sets no address
 abbrev pub unmarked : ℕ → Bool
@@ -96,19 +96,15 @@ module _ (f : Tables) (means bases offsets marks : List ℕ) where
       (p .0, (p .1 .0 ∙ (one-code _ ∙ ap (λ (x : ℕ). codesIn (nextCode (w .aim) (kindAt f x) (used f means bases offsets a))) e), p .1 .1))
 
   module _ (table : f .means ≡ meaningsOf means bases) (small : Small f) where
-    -- a compare and the branch behind it
-    abbrev pub tested : List Instruction → (mask to : ℕ) → List Code
-    tested is mask to = coded offsets is ++ (codeFor (offsetAt offsets) (branch mask to) ∷ [])
-
     compare-is :
         (r mask to : ℕ) (a : Operand) (i j : ℕ) → isOperand (f .kinds) a i j
-        → codesOf (twoCodes (applyCode compareRow r (used f means bases offsets a)) (branchCode mask to)) ≡ tested (compareWith f r a) mask to
+        → codesOf (twoCodes (applyCode compareRow r (used f means bases offsets a)) (branchCode mask to)) ≡ tested offsets (compareWith f r a) mask to
     unfolding codesOf codeFor compareWith
     compare-is r mask to a i j h = ap (λ (x : List Code). x ++ (branchCode mask to ∷ [])) (apply-is f means bases offsets table small a i j h compareRow r)
 
     compared-does :
         (n r to : ℕ) (a : Operand) (i j : ℕ) → isOperand (f .kinds) a i j → headOf a - 2 ≡ n → headOf a - 1 ≡ r → getD marks (headOf a - 3) 0 ≡ to → (w : Writing)
-        → Does (E.COMPARED + shapeOf a) (headOf a) w (tested (compareWith f (registerOf (meaningAt f n)) a) (falseMask (kindAt f r)) to) w
+        → Does (E.COMPARED + shapeOf a) (headOf a) w (tested offsets (compareWith f (registerOf (meaningAt f n)) a) (falseMask (kindAt f r)) to) w
     unfolding madeBy comparedCode writingAfter
     compared-does n r to a i j h en er et w =
         let p =
@@ -121,13 +117,13 @@ module _ (f : Tables) (means bases offsets marks : List ℕ) where
         (refl, (refl, refl)) (refl, (refl, refl)) (refl, (refl, refl)) (refl, (refl, refl)) (refl, (refl, refl)) a in
         (p .0, (p .1 .0 ∙ rw (en, er, et, register-at f means bases table n) (compare-is (registerOf (meaningAt f n)) (falseMask (kindAt f r)) to a i j h), p .1 .1))
 
-    bare-does : (r to : ℕ) → getD marks (r - 1) 0 ≡ to → (w : Writing) → Does E.BARE r w (tested [] (falseMask (kindAt f r)) to) w
+    bare-does : (r to : ℕ) → getD marks (r - 1) 0 ≡ to → (w : Writing) → Does E.BARE r w (tested offsets [] (falseMask (kindAt f r)) to) w
     unfolding codesOf madeBy writingAfter codeFor
     bare-does r to e w = (refl, (rw e, refl))
 
     pub limit-makes :
         (v : ℕ) (l : Operand) (j : ℕ) → isOperand (f .kinds) l (v + 2) j → (w : Writing)
-        → Makes (E.LIMIT + shapeOf l) (headOf l) w (tested (compareWith f (heldIn (w .aim)) l) (exitMask (valueAt f v)) (getD marks (v - 1) 0)) w
+        → Makes (E.LIMIT + shapeOf l) (headOf l) w (tested offsets (compareWith f (heldIn (w .aim)) l) (exitMask (valueAt f v)) (getD marks (v - 1) 0)) w
     unfolding madeBy limitCode writingAfter
     limit-makes v l j h w =
         let p =
@@ -209,7 +205,7 @@ module _ (f : Tables) (means bases offsets marks : List ℕ) where
       -- IF or WHILE stands before it
       pub condition-walked :
           (c : Condition) (i j : ℕ) → isCondition (f .kinds) c i j → (s : S) (w : Writing) (k : List ℕ)
-          → walk .run s w (tapeCondition c k) ≡ walk .run (walk .emit (tested (testOf f c) (maskOf f c) (getD marks (i - 1) 0)) s) w k
+          → walk .run s w (tapeCondition c k) ≡ walk .run (walk .emit (tested offsets (testOf f c) (maskOf f c) (getD marks (i - 1) 0)) s) w k
       unfolding isCondition tapeCondition testOf
       condition-walked (compared n r a) i j (e, _, (g, _, h)) s w k =
           let p = pinned-operand (f .kinds) a (i + 1 + 1) j h .0 in

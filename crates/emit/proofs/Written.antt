@@ -13,7 +13,7 @@ use Rattle.kinds.specs.Meaning.{Meaning, nothing, register, cell, routine, isFu
 use Rattle.kinds.specs.Tables.{Tables, kindAt, meaningAt}
 use Rattle.kinds.specs.Rules.{shifts}
 use Rattle.tables.specs.Packed.{meaningsOf}
-use Rattle.translator.specs.Instructions.{Instruction, shift, opcode, column, loadRow, timesRow, storeRow, rowOf, shiftCode}
+use Rattle.translator.specs.Instructions.{Instruction, shift, branch, opcode, column, loadRow, timesRow, storeRow, rowOf, shiftCode}
 use Rattle.translator.specs.Core as C
 use Rattle.translator.specs.Core.{apply, signed, load, useOf, sourceOf, shiftBy, productTarget, termOf, chainOf, toRegister, assignBy, assignmentOf}
 use Rattle.emit.specs.declared.Use.{Use}
@@ -27,6 +27,10 @@ use Rattle.emit.proofs.Operands.{Small, isShort, offsetAt, stands, amou
 -- the definition's instructions, with the places of cells
 abbrev pub coded : (offsets : List ℕ) → List Instruction → List Code
 coded offsets is = map (codeFor (offsetAt offsets)) is
+
+-- a compare and the branch behind it
+abbrev pub tested : (offsets : List ℕ) → List Instruction → (mask to : ℕ) → List Code
+tested offsets is mask to = coded offsets is ++ (codeFor (offsetAt offsets) (branch mask to) ∷ [])
 
 pub one-code : (c : Code) → codesOf (oneCode c) ≡ codesIn c
 unfolding codesOf
