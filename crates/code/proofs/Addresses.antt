@@ -1,28 +1,28 @@
 -- On the tape of a tree the address pass comes to where the tree's code ends, and leaves the addresses that `marksOf` says: a line for each way to make a tree.
 -- Assumes nothing.
 use mathlib.Core.Path.{_≡_, refl, ap, subst, _∙_}
-use mathlib.Core.List.{List, [], _∷_}
-use mathlib.Core.Option.{Option, none, some}
-use Prim.Native.Nat.{ℕ, _+_, _-_, _%_, _≤_}
+use mathlib.Core.List.{List, _∷_}
+use Prim.Native.Nat.{ℕ, _+_, _-_, _%_}
 use native.Mathlib.Omega.{arith}
-use lib.ListN.{getD, set}
-use Rattle.base.specs.Choose.{if_then_else_}
-use Rattle.grammar.specs.Tree.{Width, full, short, Register, Item, registers, cells, base, Statement, assign, call, block, goto, null, ifThen, ifElse, while, for, Body, declare, procedure, items, Items, ended, label, item}
+use lib.ListN.{set}
+use Rattle.base.specs.Lists.{All}
+use Rattle.grammar.specs.Tree.{registers, cells, base, Statement, assign, call, block, goto, null, ifThen, ifElse, while, for, Body, declare, procedure, items, Items, ended, label, item}
 use Rattle.grammar.specs.Derives.{isOperand, isStatement, isBody, isItems}
 use Rattle.tape.specs.Events as E
-use Rattle.tape.specs.Tape.{event, tapeOperand, tapeCondition, tapeAssignment, tapeEach, tapeValue, tapeItem, tapeRegister, cellsEvent, tapeDeclaration, tapeStatement, tapeBody, tapeItems}
+use Rattle.tape.specs.Tape.{event, tapeDeclaration, tapeStatement, tapeBody, tapeItems}
 use Rattle.tape.specs.Pass.{pass}
 use Rattle.tape.proofs.Pass.{pass-event}
 use Rattle.tables.specs.Packed.{meaningsOf}
 use Rattle.kinds.specs.Tables.{Tables}
 use Rattle.translator.specs.Instructions.{sizes}
-use Rattle.translator.specs.Core.{toRegister, assignmentOf, compareWith, testOf, controlOf, coreStatement, coreBody, coreItems}
+use Rattle.translator.specs.Core.{toRegister, compareWith, testOf, controlOf, coreStatement, coreBody, coreItems}
 use Rattle.translator.specs.Code.{sizeOf}
 use Rattle.emit.specs.declared.Writing.{Writing}
 use Rattle.emit.specs.Codes.{codeSize}
 use Rattle.emit.specs.Events.{writingAfter, declaredCode, stepCode, closingCode, madeBy}
 use Rattle.code.specs.Places.{Placing, placingOf, markClosing, markAfter, placeEvent}
 use Rattle.emit.proofs.Operands.{Small}
+use Rattle.code.proofs.Declarations.{declaring, registers-out, cells-out}
 use Rattle.code.proofs.Expressions.{place, assignment-placed, control-placed, condition-placed, limit-placed}
 use Rattle.code.proofs.Statements.{leaves, leavesBody, leavesItems}
 
@@ -84,28 +84,14 @@ module _ (f : Tables) (means bases offsets : List ℕ) where
 
   -- ── declarations ──
 
-  values-placed : (ts : List ℕ) (p : ℕ) (w : Writing) (ms k : List ℕ) → at p w ms (tapeEach tapeValue ts k) ≡ at p w ms k
-  unfolding tapeEach placeEvent madeBy declaredCode writingAfter codeSize markAfter
-  values-placed [] p w ms k = refl
-  values-placed (t ∷ ts) p w ms k = on E.VALUE t p 0 p w ms (λ q. ms) _ refl (omega arith) ∙ values-placed ts p w ms k
-
-  registers-placed : (rs : List Register) (p : ℕ) (w : Writing) (ms k : List ℕ) → at p w ms (tapeEach tapeRegister rs k) ≡ at p w ms k
-  unfolding tapeEach placeEvent madeBy declaredCode writingAfter codeSize markAfter
-  registers-placed [] p w ms k = refl
-  registers-placed (r ∷ rs) p w ms k = on E.REGISTER (r .name) p 0 p w ms (λ q. ms) _ refl (omega arith) ∙ registers-placed rs p w ms k
-
-  items-placed : (is : List Item) (p : ℕ) (w : Writing) (ms k : List ℕ) → at p w ms (tapeEach tapeItem is k) ≡ at p w ms k
-  unfolding tapeEach tapeItem placeEvent madeBy declaredCode writingAfter codeSize markAfter
-  items-placed [] p w ms k = refl
-  items-placed (i ∷ is) p w ms k =
-      on E.ITEM (i .name) p 0 p w ms (λ q. ms) _ refl (omega arith) ∙ (values-placed (i .numbers) p w ms _ ∙ items-placed is p w ms k)
-
-  opening-placed : (c : Option ℕ) (s : Width) (p : ℕ) (w : Writing) (ms k : List ℕ) → at p w ms (cellsEvent c s ∷ k) ≡ at p w ms k
+  still : (p : ℕ) (w : Writing) (ms : List ℕ) (t : ℕ) (k : List ℕ) → All (λ (op : ℕ). at p w ms (event op t ∷ k) ≡ at p w ms k) declaring
   unfolding placeEvent madeBy declaredCode writingAfter codeSize markAfter
-  opening-placed none full p w ms k = on E.SINGLE-FULL 0 p 0 p w ms (λ q. ms) k refl (omega arith)
-  opening-placed none short p w ms k = on E.SINGLE-SHORT 0 p 0 p w ms (λ q. ms) k refl (omega arith)
-  opening-placed (some c) full p w ms k = on E.ARRAY-FULL c p 0 p w ms (λ q. ms) k refl (omega arith)
-  opening-placed (some c) short p w ms k = on E.ARRAY-SHORT c p 0 p w ms (λ q. ms) k refl (omega arith)
+  still p w ms t k =
+      (by E.REGISTER refl, (by E.SINGLE-FULL refl, (by E.SINGLE-SHORT refl, (by E.ARRAY-FULL refl, (by E.ARRAY-SHORT refl, (by E.ITEM refl, (by E.VALUE refl, tt)))))))
+    where
+      by : (op : ℕ) → placeEvent (f .kinds) (f .values) (f .found) (f .goes) means bases (f .opens) offsets (op % 64) t (placingOf p w ms) ≡ placingOf (p + 0) w ms
+          → at p w ms (event op t ∷ k) ≡ at p w ms k
+      by op e = on op t p 0 p w ms (λ q. ms) k e (omega arith)
 
   -- ── statements ──
 
@@ -151,8 +137,8 @@ module _ (f : Tables) (means bases offsets : List ℕ) where
 
       pub place-body : (b : Body) (i j : ℕ) → isBody (f .kinds) b i j → (p : ℕ) (w : Writing) (ms k : List ℕ)
           → at p w ms (tapeBody b k) ≡ at (p + sizeOf (coreBody f b)) (leavesBody f means bases offsets b w) (marksBody f b p ms) k
-      place-body (declare (registers rs) b) i j h p w ms k = registers-placed rs p w ms _ ∙ place-body b _ _ (h .2 .1) p w ms k
-      place-body (declare (cells c s is) b) i j h p w ms k = opening-placed c s p w ms _ ∙ (items-placed is p w ms _ ∙ place-body b _ _ (h .2 .1) p w ms k)
+      place-body (declare (registers rs) b) i j h p w ms k = registers-out (at p w ms) (still p w ms) rs _ ∙ place-body b _ _ (h .2 .1) p w ms k
+      place-body (declare (cells c s is) b) i j h p w ms k = cells-out (at p w ms) (still p w ms) c s is _ ∙ place-body b _ _ (h .2 .1) p w ms k
       place-body (declare (base n) b) i j h p w ms k =
           on E.BASE n p 4 (p + 4) w ms (λ q. ms) _ refl refl ∙ (place-body b _ _ (h .2 .1) (p + 4) w ms k ∙ moved _ _ _ _ k (omega arith))
       place-body (procedure n r x b) i j h p w ms k =

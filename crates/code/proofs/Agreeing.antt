@@ -12,9 +12,9 @@ use lib.ListN.{length, getD, set, length-set, replicate, length-replicate, getD-
 use lib.Seq.{getD-set-same, getD-set-other}
 use borrow.Author.Tests.{eqb-true, eqb-false}
 use Rattle.base.specs.Choose.{if_then_else_}
-use Rattle.base.specs.Lists.{_∈_, All}
+use Rattle.base.specs.Lists.{_∈_}
 use Rattle.base.proofs.Lists.{all-in}
-use Rattle.grammar.specs.Tree.{Designator, Operand, number, place, Assignment, Condition, compared, bare, Register, Item, Declaration, registers, cells, base, Statement, assign, call, block, goto, null, ifThen, ifElse, while, for, Body, declare, procedure, items, Items, ended, label, item}
+use Rattle.grammar.specs.Tree.{Operand, number, place, Assignment, Condition, compared, bare, Register, Item, Declaration, registers, cells, base, Statement, assign, call, block, goto, null, ifThen, ifElse, while, for, Body, declare, procedure, items, Items, ended, label, item}
 use Rattle.grammar.specs.Rising.{rest, _↑_, perhaps, designatorRises, operandRises, conditionRises, assignmentRises, cellsRise, registersRise, declarationRises, statementRises, bodyRises, itemsRise}
 use Rattle.grammar.proofs.Rising.{rising-operand, rising-sign, rising-terms, rising-numbers, rising-cells, rising-registers, rising-declaration, rising-statement, rising-body, rising-items}
 use Rattle.names.specs.Search.{innermost, enter, around}
@@ -23,7 +23,7 @@ use Rattle.names.specs.Labels.{labelsOnto, labelsOf}
 use Rattle.names.proofs.Bound.{Within, Bound, BoundStatement, BoundBody, BoundItems}
 use Rattle.kinds.specs.Tables.{Tables}
 use Rattle.translator.specs.Instructions.{sizes}
-use Rattle.translator.specs.Core.{toRegister, compareWith, testOf, controlOf, coreStatement, coreBody, coreItems}
+use Rattle.translator.specs.Core.{toRegister, compareWith, testOf, controlOf, coreStatement, coreItems}
 use Rattle.translator.specs.Code.{Mark, sizeOf, own, markAt}
 use Rattle.code.proofs.Statements.{Agree, AgreeBody, AgreeItems}
 use Rattle.code.proofs.Addresses.{marksOf, marksBody, marksItems}

@@ -2,6 +2,7 @@
 pub mod Placing
 pub mod Coding
 pub mod Expressions
+pub mod Declarations
 pub mod Statements
 pub mod Addresses
 pub mod Agreeing

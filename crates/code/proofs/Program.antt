@@ -1,8 +1,8 @@
 -- A program's code along its tape: with the addresses that the address pass leaves, the code pass makes exactly the definition's instructions, and they end where
 -- the address pass ends. Assumes nothing.
-use mathlib.Core.Path.{_≡_, refl, ap, _∙_}
+use mathlib.Core.Path.{_≡_, ap, _∙_}
 use mathlib.Core.List.{List, [], append-nil}
-use Prim.Native.Nat.{ℕ, _+_, _≤_}
+use Prim.Native.Nat.{ℕ, _≤_}
 use native.Mathlib.Omega.{arith}
 use lib.ListN.{replicate}
 use Rattle.grammar.specs.Tree.{Statement}
@@ -19,7 +19,7 @@ use Rattle.translator.specs.Code.{sizeOf, code}
 use Rattle.emit.specs.Along.{along}
 use Rattle.emit.proofs.Operands.{Small}
 use Rattle.emit.proofs.Written.{coded}
-use Rattle.code.specs.Places.{Placing, placingOf, placeEvent, noWriting, placesAlong}
+use Rattle.code.specs.Places.{Placing, placingOf, noWriting, placesAlong}
 use Rattle.code.proofs.Statements.{leaves, code-statement}
 use Rattle.code.proofs.Addresses.{marksOf, place-statement}
 use Rattle.code.proofs.Agreeing.{agree-program}

@@ -2,15 +2,14 @@
 use mathlib.Core.Path.{_≡_, refl, sym, ap, subst, _∙_}
 use mathlib.Core.List.{List, [], _∷_, _++_}
 use mathlib.Core.Bool.{true}
-use mathlib.Core.Option.{Option, none, some}
 use Prim.Native.Nat.{ℕ, _+_, _-_}
 use native.Mathlib.Omega.{arith}
 use lib.ListN.{getD}
-use Rattle.base.specs.Lists.{member}
-use Rattle.grammar.specs.Tree.{Condition, Width, full, short, Register, Item, registers, cells, base, Statement, assign, call, block, goto, null, ifThen, ifElse, while, for, Body, declare, procedure, items, Items, ended, label, item}
+use Rattle.base.specs.Lists.{All, member}
+use Rattle.grammar.specs.Tree.{Condition, registers, cells, base, Statement, assign, call, block, goto, null, ifThen, ifElse, while, for, Body, declare, procedure, items, Items, ended, label, item}
 use Rattle.grammar.specs.Derives.{isOperand, isCondition, isStatement, isBody, isItems}
 use Rattle.tape.specs.Events as E
-use Rattle.tape.specs.Tape.{event, tapeCondition, tapeEach, tapeValue, tapeItem, tapeRegister, cellsEvent, tapeDeclaration, tapeStatement, tapeBody, tapeItems}
+use Rattle.tape.specs.Tape.{event, tapeCondition, tapeDeclaration, tapeStatement, tapeBody, tapeItems}
 use Rattle.tables.specs.Packed.{meaningsOf}
 use Rattle.kinds.specs.Meaning.{registerOf}
 use Rattle.kinds.specs.Tables.{Tables, valueAt, meaningAt}
@@ -24,6 +23,7 @@ use Rattle.emit.proofs.Operands.{Small, offsetAt}
 use Rattle.emit.proofs.Written.{coded}
 use Rattle.emit.proofs.Events.{idle, Adds, idle-adds, procedure-adds, else-adds, end-while-adds, end-for-adds, goto-adds, base-adds, end-procedure-adds, call-adds}
 use Rattle.emit.proofs.Trees.{go, along-makes, assignment-coded, control-coded, condition-coded, limit-coded}
+use Rattle.code.proofs.Declarations.{declaring, registers-out, cells-out}
 
 -- ── the addresses in `marks` are those that the tree has ──
 
@@ -136,24 +136,12 @@ module _ (f : Tables) (means bases offsets marks : List ℕ) where
   idle-event : (op : ℕ) → member op idle ≡ true → (t : ℕ) (w : Writing) (k : List ℕ) → along-it w (event op t ∷ k) ≡ along-it w k
   idle-event op h t w k = along-makes f means bases offsets marks op t w k (idle-adds f means bases offsets marks op h t w)
 
-  idle-each : {A : Type 0} (out : A → List ℕ → List ℕ) → ((a : A) (w : Writing) (k : List ℕ) → along-it w (out a k) ≡ along-it w k)
-      → (l : List A) (w : Writing) (k : List ℕ) → along-it w (tapeEach out l k) ≡ along-it w k
-  unfolding tapeEach
-  idle-each out h [] w k = refl
-  idle-each out h (a ∷ l) w k = h a w _ ∙ idle-each out h l w k
-
-  idle-registers : (rs : List Register) (w : Writing) (k : List ℕ) → along-it w (tapeEach tapeRegister rs k) ≡ along-it w k
-  idle-registers rs w k = idle-each tapeRegister (λ r. idle-event E.REGISTER refl (r .name)) rs w k
-
-  idle-item : (i : Item) (w : Writing) (k : List ℕ) → along-it w (tapeItem i k) ≡ along-it w k
-  unfolding tapeItem
-  idle-item i w k = idle-event E.ITEM refl (i .name) w _ ∙ idle-each tapeValue (λ t. idle-event E.VALUE refl t) (i .numbers) w k
-
-  idle-opening : (c : Option ℕ) (s : Width) (w : Writing) (k : List ℕ) → along-it w (cellsEvent c s ∷ k) ≡ along-it w k
-  idle-opening none full w k = idle-event E.SINGLE-FULL refl 0 w k
-  idle-opening none short w k = idle-event E.SINGLE-SHORT refl 0 w k
-  idle-opening (some c) full w k = idle-event E.ARRAY-FULL refl c w k
-  idle-opening (some c) short w k = idle-event E.ARRAY-SHORT refl c w k
+  idle-declaring : (w : Writing) (t : ℕ) (k : List ℕ) → All (λ (op : ℕ). along-it w (event op t ∷ k) ≡ along-it w k) declaring
+  idle-declaring w t k =
+      (by E.REGISTER refl, (by E.SINGLE-FULL refl, (by E.SINGLE-SHORT refl, (by E.ARRAY-FULL refl, (by E.ARRAY-SHORT refl, (by E.ITEM refl, (by E.VALUE refl, tt)))))))
+    where
+      by : (op : ℕ) → member op idle ≡ true → along-it w (event op t ∷ k) ≡ along-it w k
+      by op h = idle-event op h t w k
 
   -- ── statements ──
 
@@ -208,9 +196,9 @@ module _ (f : Tables) (means bases offsets marks : List ℕ) where
 
       body-made : (b : Body) (i j : ℕ) → isBody (f .kinds) b i j → (ls ps : List Mark) (p : ℕ) → AgreeBody f marks ls ps b p → (w : Writing) (k : List ℕ)
           → Made (along-it w (tapeBody b k)) (code ls ps (coreBody f b) p) (along-it (leavesBody f means bases offsets b w) k)
-      body-made (declare (registers rs) b) i j h ls ps p g w k = after-none (idle-registers rs w _) (body-made b _ _ (h .2 .1) ls ps p g w k)
+      body-made (declare (registers rs) b) i j h ls ps p g w k = after-none (registers-out (along-it w) (idle-declaring w) rs _) (body-made b _ _ (h .2 .1) ls ps p g w k)
       body-made (declare (cells c s is) b) i j h ls ps p g w k =
-          after-none (idle-opening c s w _ ∙ idle-each tapeItem idle-item is w _) (body-made b _ _ (h .2 .1) ls ps p g w k)
+          after-none (cells-out (along-it w) (idle-declaring w) c s is _) (body-made b _ _ (h .2 .1) ls ps p g w k)
       body-made (declare (base n) b) i j h ls ps p g w k =
           then-made (event-made E.BASE n w _ (rx (opcode loadRow 1) (registerOf (meaningAt f n)) (entry (getD (f .opens) n 0)) ∷ []) (base-adds f means bases offsets marks table n w)) (body-made b _ _ (h .2 .1) ls ps _ g w k)
       body-made (procedure n r x b) i j h ls ps p g w k =
