@@ -2,3 +2,9 @@
 pub mod Placing
 pub mod Coding
 pub mod Laying
+pub mod Expressions
+pub mod Declarations
+pub mod Statements
+pub mod Addresses
+pub mod Agreeing
+pub mod Program

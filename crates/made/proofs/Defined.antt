@@ -12,15 +12,17 @@ use Rattle.base.specs.Choose.{choose, if_then_else_}
 use Rattle.base.specs.Lists.{All}
 use Rattle.base.proofs.Lists.{all-map}
 use Rattle.base.proofs.Tests.{cases}
+use Rattle.token.specs.Kinds as K
 use Rattle.token.specs.declared.Token.{Token}
 use Rattle.grammar.specs.Tree.{Statement}
 use Rattle.grammar.specs.Derives.{isStatement, isProgram}
 use Rattle.grammar.specs.Rising.{statementRises}
 use Rattle.grammar.proofs.Theorems.{program-rises, program-inside}
 use Rattle.tape.specs.Tape.{tapeStatement}
-use Rattle.names.specs.Search.{firstToken}
+use Rattle.names.specs.Search.{firstToken, around}
 use Rattle.names.specs.Names.{Named}
 use Rattle.names.specs.Labels.{Labelled}
+use Rattle.names.proofs.Bound.{BoundStatement, bound-program}
 use Rattle.kinds.specs.Meanings.{Filled, Meant, meanStatement, dataBase, standard}
 use Rattle.kinds.specs.Tables.{Tables}
 use Rattle.kinds.proofs.Known.{Known}
@@ -47,13 +49,15 @@ use Rattle.emit.specs.Along.{along, codeFor}
 use Rattle.code.specs.Places.{noWriting, placesAlong}
 use Rattle.code.specs.Coding.{bytesIn, Laid, laidOf, codeAlong}
 use Rattle.code.proofs.Laying.{laid-instructions}
+use Rattle.code.proofs.Program.{code-program}
 use Rattle.frames.specs.Frames.{objectOf}
 use Rattle.made.specs.Making.{zeros, endOf, endOfFirst, imageAlong, objectAlong, startOf, codedAlong, madeAlong}
 use Rattle.made.proofs.Segments.{program-cut, firstBytes, laterBytes, first-cut, later-cut, segments-are}
 
 -- a text of tokens ts that is the program x, with no rule broken, and its tables in arrays
 module _
-    (ts : List Token) (x : Statement) (to : ℕ) (program : isProgram (kindsOf ts) x firstToken to) (front : firstToken ≤ length ts) (quiet : make ts x .broken .number ≡ 0)
+    (ts : List Token) (x : Statement) (to : ℕ) (small : (t : ℕ) → getD (kindsOf ts) t 0 ≡ K.NUMBER → getD (valuesOf ts) t 0 < 4294967296)
+    (program : isProgram (kindsOf ts) x firstToken to) (front : firstToken ≤ length ts) (quiet : make ts x .broken .number ≡ 0)
     (means under ends offsets : List ℕ)
     (means-are : meaningsOf means under ≡ meant ts (named ts x) x .means)
     (ends-are : (k : ℕ) → getD ends k 0 ≡ getD (placeCells (meant ts (named ts x) x .bases) (meant ts (named ts x) x .cells) .ends) k 0)
@@ -136,42 +140,51 @@ module _
 
     -- ── the program ──
 
-    module _
-        (marks : List ℕ)
-        (coded : along (kindsOf ts) (valuesOf ts) (named ts x .found) (labelled ts x .goes) means under (m .opens) offsets
+    -- no address stands in the marks before
+    abbrev marks : List ℕ
+    marks = replicate (length ts) 0
+
+    bound : BoundStatement (named ts x .found) (labelled ts x .goes) x around []
+    unfolding named labelled
+    bound =
+        bound-program (valuesOf ts) x firstToken to rises _ _ (let e = length-replicate {A = ℕ} (length ts) 0 in let h = inside in omega arith)
+        (let e = length-replicate {A = ℕ} (length ts) 0 in let h = inside in omega arith) around []
+
+    coded : along (kindsOf ts) (valuesOf ts) (named ts x .found) (labelled ts x .goes) means under (m .opens) offsets
         (placesAlong (kindsOf ts) (valuesOf ts) (named ts x .found) (labelled ts x .goes) means under (m .opens) offsets marks tape .marks) noWriting tape
-        ≡ map (codeFor (λ (t : ℕ). low (getD offsets t 0))) (code [] [] core 0))
-      where
-        abbrev lain : Laid
-        lain = codedAlong (kindsOf ts) (valuesOf ts) (named ts x .found) (labelled ts x .goes) means under (m .opens) offsets ends marks tape
+        ≡ map (codeFor (λ (t : ℕ). low (getD offsets t 0))) (code [] [] core 0)
+    coded = code-program f means under offsets (sym means-are) small x firstToken to (length ts) program (omega arith) inside bound
 
-        lain-is : lain ≡ laidOf (sizes is) (sets zeros 0 (bytesIn (encodeAll y is))) (y .literals)
-        unfolding codedAlong layout
-        lain-is =
-            rw start-is
-            (laid-instructions y (λ (t : ℕ). low (getD offsets t 0)) place-is (kindsOf ts) (valuesOf ts) (named ts x .found) (labelled ts x .goes) means under (m .opens) offsets _ zeros tape core coded refl)
+    abbrev lain : Laid
+    lain = codedAlong (kindsOf ts) (valuesOf ts) (named ts x .found) (labelled ts x .goes) means under (m .opens) offsets ends marks tape
 
-        -- the object, if its program and its literals fit
-        object-is : sizes is ≤ segmentLimit → literalsEnd y ≤ segmentLimit
-            → objectAlong (valuesOf ts) means under offsets ends tape (m .bases) (startOf ends) (take (lain .at) (lain .image)) (lain .literals) ≡ segments (m .bases) y is
-        unfolding objectAlong endOfFirst
-        object-is h k =
-            let fit : Fitting y = O.fitting ts x last front read quiet k in
-            let bytes = O.program-bytes ts x last front read quiet h k in
-            rw (lain-is, start-is, image-is 1, image-is 2, image-is 3, end-is 1, end-is 2, end-is 3, program-cut (encodeAll y is) (sizes is) (length-encodeAll y is) h bytes, first-cut y fit, later-cut y 2 (fit .ends 2), later-cut y 3 (fit .ends 3))
-            (sym (segments-are y (m .bases) is few))
+    lain-is : lain ≡ laidOf (sizes is) (sets zeros 0 (bytesIn (encodeAll y is))) (y .literals)
+    unfolding codedAlong layout
+    lain-is =
+        rw start-is
+        (laid-instructions y (λ (t : ℕ). low (getD offsets t 0)) place-is (kindsOf ts) (valuesOf ts) (named ts x .found) (labelled ts x .goes) means under (m .opens) offsets _ zeros tape core coded refl)
 
-        pub made-as-defined : (room : ℕ)
-            → madeAlong (kindsOf ts) (valuesOf ts) (named ts x .found) (labelled ts x .goes) means under (m .opens) offsets ends marks tape (m .bases) room ≡ inRoom room (finish (make ts x))
-        unfolding madeAlong finish make inRoom
-        made-as-defined room =
-            cases (ltb segmentLimit (sizes is))
-            (λ p. rw (lain-is, p))
-            (λ p.
-            cases (ltb segmentLimit (literalsEnd y))
-            (λ q. rw (lain-is, start-is, p, q))
-            (λ q.
-            let a : ltb segmentLimit (lain .at) ≡ false = ap (λ (l : Laid). ltb segmentLimit (l .at)) lain-is ∙ p in
-            let b : ltb segmentLimit (startOf ends + 4 * length (lain .literals)) ≡ false =
-            ap₂ (λ (n : ℕ) (l : Laid). ltb segmentLimit (n + 4 * length (l .literals))) start-is lain-is ∙ q in
-            rw (a, b, p, q) (ap (λ (o : List Segment). inRoom room (accepted (objectText o))) (object-is (ltb-false _ _ p) (ltb-false _ _ q)))))
+    -- the object, if its program and its literals fit
+    object-is : sizes is ≤ segmentLimit → literalsEnd y ≤ segmentLimit
+        → objectAlong (valuesOf ts) means under offsets ends tape (m .bases) (startOf ends) (take (lain .at) (lain .image)) (lain .literals) ≡ segments (m .bases) y is
+    unfolding objectAlong endOfFirst
+    object-is h k =
+        let fit : Fitting y = O.fitting ts x last front read quiet k in
+        let bytes = O.program-bytes ts x last front read quiet h k in
+        rw (lain-is, start-is, image-is 1, image-is 2, image-is 3, end-is 1, end-is 2, end-is 3, program-cut (encodeAll y is) (sizes is) (length-encodeAll y is) h bytes, first-cut y fit, later-cut y 2 (fit .ends 2), later-cut y 3 (fit .ends 3))
+        (sym (segments-are y (m .bases) is few))
+
+    pub made-as-defined : (room : ℕ)
+        → madeAlong (kindsOf ts) (valuesOf ts) (named ts x .found) (labelled ts x .goes) means under (m .opens) offsets ends marks tape (m .bases) room ≡ inRoom room (finish (make ts x))
+    unfolding madeAlong finish make inRoom
+    made-as-defined room =
+        cases (ltb segmentLimit (sizes is))
+        (λ p. rw (lain-is, p))
+        (λ p.
+        cases (ltb segmentLimit (literalsEnd y))
+        (λ q. rw (lain-is, start-is, p, q))
+        (λ q.
+        let a : ltb segmentLimit (lain .at) ≡ false = ap (λ (l : Laid). ltb segmentLimit (l .at)) lain-is ∙ p in
+        let b : ltb segmentLimit (startOf ends + 4 * length (lain .literals)) ≡ false =
+        ap₂ (λ (n : ℕ) (l : Laid). ltb segmentLimit (n + 4 * length (l .literals))) start-is lain-is ∙ q in
+        rw (a, b, p, q) (ap (λ (o : List Segment). inRoom room (accepted (objectText o))) (object-is (ltb-false _ _ p) (ltb-false _ _ q)))))
