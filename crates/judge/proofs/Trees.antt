@@ -12,6 +12,8 @@ use borrow.Author.Tests.{ne-eqb}
 use Rattle.base.specs.Choose.{choose, if_then_else_}
 use Rattle.base.specs.Lists.{All}
 use Rattle.grammar.specs.Tree.{Designator, Operand, number, place, Sign, plain, abs, neg, negAbs, Term, Assignment, Condition, compared, bare, Register, Item, Declaration, registers, cells, base, Statement, assign, call, block, goto, null, ifThen, ifElse, while, for, Body, declare, procedure, items, Items, ended, label, item, Width, full, short}
+use Rattle.grammar.specs.Pinned.{headOf}
+use Rattle.grammar.proofs.Pinned.{pinned-operand}
 use Rattle.grammar.specs.Derives.{isShape, isDesignator, isOperand, isCondition, areTerms, isAssignment, isRegister, areMore, areSome, isDeclaration, isStatement, isBody, isItems, isProgram}
 use Rattle.tape.specs.Events as E
 use Rattle.tape.specs.Tape.{event, shapeBy, tapeDesignator, tapeOperand, tapeCondition, tapeSign, tapeEach, tapeTerm, tapeAssignment, tapeValue, tapeItem, tapeRegister, cellsEvent, tapeDeclaration, tapeStatement, tapeBody, tapeItems}
@@ -27,11 +29,6 @@ use Rattle.kinds.specs.Kinds.{kindStatement, kindBody, kindItems}
 use Rattle.rules.specs.Parts.{subscriptAt, indexAt, designatorAt, operandAt, termAt}
 use Rattle.judge.specs.declared.Cells.{Cells}
 use Rattle.judge.specs.Along.{Held, enterBlock, leaveBlock, keepBase, keepReturn, leaveProcedure, heldAfter, cellsOf, cellsAfter, widthOf, valueRule, aimOf, controlOf, targetAfter, aimBy, controlBy, signRule, firstRules, chainRule, declarationRule, assignmentRule, statementRule, eventRule, Judging, judgeEvent, beginning}
-
--- the token of an operand's event
-abbrev first : Operand → ℕ
-first (number t) = t
-first (place d) = d .name
 
 module _ (kinds : List ℕ) (f : Tables) where
   abbrev at : Held → Cells → ℕ → Broken → Judging
@@ -83,17 +80,6 @@ module _ (kinds : List ℕ) (f : Tables) where
     operand r u v (number t) q = via (op + 4) t _ _ k (v t)
     operand r u v (place d) q = designated (λ x. r (place x)) u d q
 
-  first-at : (a : Operand) (i j : ℕ) → isOperand kinds a i j → first a ≡ i
-  unfolding isOperand isDesignator
-  first-at (number t) i j h = h .0
-  first-at (place d) i j h = name-at (d .subscript) (d .index) h
-    where
-      name-at : (subscript index : Option ℕ) → isShape kinds (d .name) subscript index i j → d .name ≡ i
-      name-at none none h = h .0
-      name-at (some v) none h = h .0
-      name-at none (some x) h = h .0
-      name-at (some v) (some x) h = h .0
-
   -- ── the events of assignments and conditions ──
 
   module _ (h : Held) (c : Cells) (g : ℕ) (b : Broken) (k : List ℕ) (i j : ℕ) where
@@ -115,28 +101,28 @@ module _ (kinds : List ℕ) (f : Tables) where
     unfolding judgeEvent heldAfter cellsAfter targetAfter eventRule statementRule operandAt
     limit a q = operand E.LIMIT h c g g b k i j (λ x. R.operandRules f x) (λ t b. (refl, refl, refl, refl)) (λ t. refl) a q
 
-    comparison : (a : Operand) → isOperand kinds a i j → run (at h c g b) (tapeOperand E.COMPARED a k) ≡ run (at h c g (b ⊕ (R.registerRule f (first a - 2) ⊕ R.operandRules f a))) k
+    comparison : (a : Operand) → isOperand kinds a i j → run (at h c g b) (tapeOperand E.COMPARED a k) ≡ run (at h c g (b ⊕ (R.registerRule f (headOf a - 2) ⊕ R.operandRules f a))) k
     unfolding judgeEvent heldAfter cellsAfter targetAfter eventRule statementRule operandAt
-    comparison a q = operand E.COMPARED h c g g b k i j (λ x. R.registerRule f (first x - 2) ⊕ R.operandRules f x) (λ t b. (refl, refl, refl, refl)) (λ t. refl) a q
+    comparison a q = operand E.COMPARED h c g g b k i j (λ x. R.registerRule f (headOf x - 2) ⊕ R.operandRules f x) (λ t b. (refl, refl, refl, refl)) (λ t. refl) a q
 
   module _ (h : Held) (c : Cells) (b : Broken) (k : List ℕ) (i j : ℕ) where
     unaimed : (a : Operand) → isOperand kinds a i j → run (at h c 0 b) (tapeOperand E.TERM a k) ≡ run (at h c 0 (b ⊕ unbroken)) k
     unfolding judgeEvent heldAfter cellsAfter targetAfter eventRule assignmentRule chainRule
     unaimed a q = operand E.TERM h c 0 0 b k i j (λ x. unbroken) (λ t b. (refl, refl, refl, refl)) (λ t. refl) a q
 
-    to-cell : (a : Operand) → isOperand kinds a i j → run (at h c 1 b) (tapeOperand E.TERM a k) ≡ run (at h c 1 (b ⊕ broken 8 (first a - 1))) k
+    to-cell : (a : Operand) → isOperand kinds a i j → run (at h c 1 b) (tapeOperand E.TERM a k) ≡ run (at h c 1 (b ⊕ broken 8 (headOf a - 1))) k
     unfolding judgeEvent heldAfter cellsAfter targetAfter eventRule assignmentRule chainRule
-    to-cell a q = operand E.TERM h c 1 1 b k i j (λ x. broken 8 (first x - 1)) (λ t b. (refl, refl, refl, refl)) (λ t. refl) a q
+    to-cell a q = operand E.TERM h c 1 1 b k i j (λ x. broken 8 (headOf x - 1)) (λ t b. (refl, refl, refl, refl)) (λ t. refl) a q
 
     to-register :
         (r : ℕ) (a : Operand) → isOperand kinds a i j
-        → run (at h c (suc (suc r)) b) (tapeOperand E.TERM a k) ≡ run (at h c (suc (suc r)) (b ⊕ R.termRules f (h .kept) r (record { operator = first a - 1; operand = a }))) k
+        → run (at h c (suc (suc r)) b) (tapeOperand E.TERM a k) ≡ run (at h c (suc (suc r)) (b ⊕ R.termRules f (h .kept) r (record { operator = headOf a - 1; operand = a }))) k
     unfolding judgeEvent heldAfter cellsAfter targetAfter eventRule assignmentRule chainRule operandAt
     to-register r a q =
-        operand E.TERM h c (suc (suc r)) (suc (suc r)) b k i j (λ x. R.termRules f (h .kept) r (record { operator = first x - 1; operand = x })) (λ t b. (refl, refl, refl, refl)) (λ t. refl) a q
+        operand E.TERM h c (suc (suc r)) (suc (suc r)) b k i j (λ x. R.termRules f (h .kept) r (record { operator = headOf x - 1; operand = x })) (λ t b. (refl, refl, refl, refl)) (λ t. refl) a q
 
-  operator-at : (o : ℕ) (a : Operand) (i j : ℕ) → o ≡ i → isOperand kinds a (i + 1) j → first a - 1 ≡ o
-  operator-at o a i j e h = omega (arith, first-at a (i + 1) j h)
+  operator-at : (o : ℕ) (a : Operand) (i j : ℕ) → o ≡ i → isOperand kinds a (i + 1) j → headOf a - 1 ≡ o
+  operator-at o a i j e h = omega (arith, pinned-operand kinds a (i + 1) j h .0)
 
   -- ── assignments ──
 
@@ -348,7 +334,7 @@ module _ (kinds : List ℕ) (f : Tables) where
   tested : (c : Condition) (i j : ℕ) → isCondition kinds c i j → (h : Held) → Leads (tapeCondition c) h h (λ b. b ⊕ R.conditionRules f c)
   unfolding isCondition tapeCondition R.conditionRules judgeEvent heldAfter cellsAfter targetAfter eventRule statementRule
   tested (compared n r x) i j q h =
-      let e : first x - 2 ≡ n = omega (arith, q .0, first-at x _ _ (q .2 .2)) in
+      let e : headOf x - 2 ≡ n = omega (arith, q .0, pinned-operand kinds x _ _ (q .2 .2) .0) in
       same (tapeOperand E.COMPARED x) h h _ (λ c a b k. comparison h c a b k _ _ x (q .2 .2) ∙ rw e)
   tested (bare r) i j q h = on E.BARE r h h unbroken (λ c a b. refl)
 

@@ -13,6 +13,8 @@ use Rattle.base.specs.Lists.{All}
 use Rattle.base.proofs.Tests.{by-test, cases}
 use Rattle.token.specs.Kinds as K
 use Rattle.grammar.specs.Tree.{Designator, Operand, number, place, Sign, plain, abs, neg, negAbs, Term, Assignment, Condition, compared, bare, Register, Item, Declaration, registers, cells, base, Statement, assign, call, block, goto, null, ifThen, ifElse, while, for, Body, declare, procedure, items, Items, ended, label, item, Width, full, short}
+use Rattle.grammar.specs.Pinned.{headOf}
+use Rattle.grammar.proofs.Pinned.{pinned-operand}
 use Rattle.grammar.specs.Derives.{isShape, isDesignator, isOperand, areTerms, isAssignment, isRegister, areMore, areSome, isDeclaration, isStatement, isBody, isItems, isProgram}
 use Rattle.tape.specs.Events as E
 use Rattle.tape.specs.Tape.{event, shapeBy, tapeDesignator, tapeOperand, tapeCondition, tapeSign, tapeEach, tapeTerm, tapeAssignment, tapeValue, tapeItem, tapeRegister, cellsEvent, tapeDeclaration, tapeStatement, tapeBody, tapeItems}
@@ -28,11 +30,6 @@ use Rattle.meanings.specs.Along.{Within, enterBlock, leaveBlock, enterPr
 -- the tables without the list of cells
 abbrev pub tabled : Meant → Meant
 tabled s = record { means = s .means; opens = s .opens; written = s .written; cells = []; bases = s .bases }
-
--- the token of an operand's event
-abbrev first : Operand → ℕ
-first (number t) = t
-first (place d) = d .name
 
 module _ (kinds values found : List ℕ) where
   abbrev at : Within → ℕ → ℕ → Meant → Meaning-walk
@@ -110,7 +107,7 @@ module _ (kinds values found : List ℕ) where
         by-shape (some v) (some x) = via (E.CONTROL + 3) (d .name) (at w form g s) (aimed (d .name)) k refl
 
     -- a term writes the lower register where it is a product
-    term : (o : ℕ) (a : Operand) → first a - 1 ≡ o
+    term : (o : ℕ) (a : Operand) → headOf a - 1 ≡ o
         → run (at w form g s) (tapeOperand E.TERM a k)
         ≡ run (at w form g (if eqb (getD kinds o 0) K.TIMES && longOperand found (s .means) a then writeLower (w .own) g s else s)) k
     unfolding meanEvent withinAfter formAfter targetAfter declaredAfter writtenAfter writeProduct isProductAt tapeOperand tapeDesignator
@@ -126,19 +123,8 @@ module _ (kinds values found : List ℕ) where
         by-shape none (some x) = via (E.TERM + 2) (d .name) (at w form g s) left k refl
         by-shape (some v) (some x) = via (E.TERM + 3) (d .name) (at w form g s) left k refl
 
-  first-at : (a : Operand) (i j : ℕ) → isOperand kinds a i j → first a ≡ i
-  unfolding isOperand isDesignator
-  first-at (number t) i j h = h .0
-  first-at (place d) i j h = name-at (d .subscript) (d .index) h
-    where
-      name-at : (subscript index : Option ℕ) → isShape kinds (d .name) subscript index i j → d .name ≡ i
-      name-at none none h = h .0
-      name-at (some v) none h = h .0
-      name-at none (some x) h = h .0
-      name-at (some v) (some x) h = h .0
-
-  operator-at : (o : ℕ) (a : Operand) (i j : ℕ) → o ≡ i → isOperand kinds a (i + 1) j → first a - 1 ≡ o
-  operator-at o a i j e h = omega (arith, first-at a (i + 1) j h)
+  operator-at : (o : ℕ) (a : Operand) (i j : ℕ) → o ≡ i → isOperand kinds a (i + 1) j → headOf a - 1 ≡ o
+  operator-at o a i j e h = omega (arith, pinned-operand kinds a (i + 1) j h .0)
 
   -- no register, so nothing is written
   unaimed : (ts : List Term) (i j : ℕ) → areTerms kinds ts i j → (w : Within) (form : ℕ) (s : Meant) (k : List ℕ) → run (at w form 0 s) (tapeEach tapeTerm ts k) ≡ run (at w form 0 s) k

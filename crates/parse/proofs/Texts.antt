@@ -5,7 +5,7 @@ use mathlib.Core.List.{List, [], _∷_, map}
 use Prim.Native.Nat.{ℕ, zero, suc, pred, _+_, _≤_, _<_}
 use mathlib.Core.Logic.{_⊎_, inl, inr}
 use native.Mathlib.Omega.{arith}
-use borrow.Author.Tests.{lt-leb, ltb-false}
+use borrow.Author.Tests.{lt-leb, lt-ltb}
 use lib.Dec.{ltb}
 use lib.ListN.{length, take, getD, length-map}
 use Rattle.base.specs.Walk.{walk}
@@ -61,12 +61,12 @@ pub tokens-small : (s : List ℕ) → tokensOf s .number ≤ 3
 unfolding tokensOf
 tokens-small s = cases (ltb TEXT-LIMIT (length s)) (λ e. rw e (omega arith)) (λ e. rw e (read-small 0 0 s))
 
--- ── the tokens read into lists with room for any text are those of the text ──
-room-for-all : (n : ℕ) (s : List ℕ) → TEXT-LIMIT < n → readInto n s ≡ tokensOf s
+-- ── the tokens read into lists with room for them are those of the text ──
+room-for-all : (n : ℕ) (s : List ℕ) → length s < n → readInto n s ≡ tokensOf s
 unfolding readInto tokensOf
-room-for-all n s h = cases (ltb TEXT-LIMIT (length s)) (λ e. rw e) (λ e. rw (e, lt-leb n (length s) (omega (arith, ltb-false TEXT-LIMIT (length s) e))))
+room-for-all n s h = cases (ltb TEXT-LIMIT (length s)) (λ e. rw e) (λ e. rw (e, lt-leb n (length s) h))
 
-module _ {n : ℕ} (s : List ℕ) {k v p k′ v′ p′ : List ℕ} {answer : Tokens} (d : Laid (readInto n s) k v p k′ v′ p′ answer) (h : TEXT-LIMIT < n) where
+module _ {n : ℕ} (s : List ℕ) {k v p k′ v′ p′ : List ℕ} {answer : Tokens} (d : Laid (readInto n s) k v p k′ v′ p′ answer) (h : length s < n) where
   whole : Laid (tokensOf s) k v p k′ v′ p′ answer
   whole = subst (λ (r : Reading). Laid r k v p k′ v′ p′ answer) (room-for-all n s h) d
 
@@ -81,22 +81,22 @@ module _ {n : ℕ} (s : List ℕ) {k v p k′ v′ p′ : List ℕ} {answer : To
     count-is : c ≡ length (tokensOf s .tokens)
     count-is = sym (ap (λ (x : Tokens). summaryOf x .count) e) ∙ (ap (λ (x : Summary). x .count) (whole .is) ∙ rw accepted)
 
-    pub few : c ≤ TEXT-LIMIT + 1
+    pub few : (c ≤ length s + 1) × (c ≤ TEXT-LIMIT + 1)
     few =
         let l = not-too-long s accepted in
         let m = few-tokens 0 0 s in
         let q = count-is ∙ ap (λ (r : Reading). length (r .tokens)) (all-read-from s accepted) in
-        omega arith
+        (omega arith, omega arith)
 
     -- one part of them, at the front of a list
-    part : (f : D.Token → ℕ) (old new : List ℕ) → TEXT-LIMIT < length old → new ≡ laid f (tokensOf s .tokens) old → take c new ≡ map f (tokensOf s .tokens)
+    part : (f : D.Token → ℕ) (old new : List ℕ) → length s < length old → new ≡ laid f (tokensOf s .tokens) old → take c new ≡ map f (tokensOf s .tokens)
     part f old new l g =
         let ts = tokensOf s .tokens in
         let m : length (map f ts) ≡ c = length-map ts f ∙ sym count-is in
-        let w = few in
+        let w = few .0 in
         rw g (subst (λ (x : ℕ). take x (laid f ts old) ≡ map f ts) m (part-sets old 0 (map f ts) 0 (omega arith)))
 
-    pub judged-read : {j : Judged} → TEXT-LIMIT < length k → TEXT-LIMIT < length p → j ≡ judgedBy (take c p′) (program (take c k′) 0) → j ≡ judged s
+    pub judged-read : {j : Judged} → length s < length k → length s < length p → j ≡ judgedBy (take c p′) (program (take c k′) 0) → j ≡ judged s
     unfolding judged
     judged-read l m g = g ∙ rw (part placeOf p p′ m (whole .places-laid), part kindOf k k′ l (whole .kinds-laid), accepted)
 
@@ -108,6 +108,10 @@ module _ {n : ℕ} (s : List ℕ) {k v p k′ v′ p′ : List ℕ} {answer : To
 
   pub some-room : {c : ℕ} → answer ≡ S.Room c → ⊥
   some-room e = let f = sym (ap (λ (x : Tokens). summaryOf x .number) e) ∙ number-is in let g = tokens-small s in omega arith
+
+pub too-long : (s : List ℕ) → TEXT-LIMIT < length s → says 1 TEXT-LIMIT ≡ judged s
+unfolding judged tokensOf
+too-long s h = rw (lt-ltb TEXT-LIMIT (length s) h)
 
 -- ── the verdict on the tokens ──
 module _ (places : List ℕ) (m : Result Statement) where

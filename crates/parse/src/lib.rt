@@ -3,6 +3,7 @@
 ghost use mathlib.Core.Path.{_≡_};
 ghost use Prim.Native.Nat.{_≤_, _<_};
 ghost use lib.ListN.{length, take, getD};
+ghost use Rattle.token.specs.Text.{TEXT-LIMIT};
 ghost use Rattle.phrases.specs.Reads.{TOKEN-LIMIT};
 ghost use Rattle.grammar.specs.Grammar as G;
 ghost use Rattle.parse.specs.Programs.{Parsed, judgedBy, judged, verdictOf};
@@ -72,23 +73,79 @@ fn judge(kinds: &[u8], places: &[u32], n: usize, tape: &mut [u32]) -> Verdict
     Verdict::TooDeep(place)
 }
 
-// A text of 32,768 bytes has at most a token a byte, and the end.
-const ROOM: usize = 32769;
-
-// Is this text grammatical?
-pub fn grammatical(src: &[u8]) -> Verdict
+// Is this text grammatical? The lists have room for a token at each byte and one at the end.
+fn judge_text(
+    src: &[u8],
+    kinds: &mut [u8],
+    values: &mut [u64],
+    places: &mut [u32],
+    tape: &mut [u32],
+) -> Verdict
+    requires { ⌜ (length (now src) < length (now kinds)) × ((length (now src) < length (now values)) × ((length (now src) < length (now places)) × (length (now src) < length (now tape)))) ⌝ }
     ensures { λ r. ⌜ verdictOf r ≡ judged (now (src .entry)) ⌝ }
 {
-    let mut kinds = [0u8; ROOM];
-    let mut values = [0u64; ROOM];
-    let mut places = [0u32; ROOM];
-    let mut tape = [0u32; ROOM];
-    let read = token::read_tokens(src, &mut kinds, &mut values, &mut places);
+    let read = token::read_tokens(src, kinds, values, places);
     match read {
-        token::Tokens::Read(n) => judge(&kinds, &places, n, &mut tape),
+        token::Tokens::Read(n) => judge(kinds, places, n, tape),
         token::Tokens::TooLong => Verdict::TooLong,
         token::Tokens::NoToken(place) => Verdict::NoToken(place),
         token::Tokens::OutOfRange(place) => Verdict::OutOfRange(place),
         token::Tokens::Room(needed) => Verdict::NoToken(needed),
     }
+}
+
+// Lists are cleared before they are lent, so a short text gets short ones.
+const SHORT: usize = 1024;
+
+const MIDDLING: usize = 8192;
+
+const TEXT_LIMIT: usize = 32768;
+
+fn short(src: &[u8]) -> Verdict
+    requires { ⌜ length (now src) ≤ 1024 ⌝ }
+    ensures { λ r. ⌜ verdictOf r ≡ judged (now (src .entry)) ⌝ }
+{
+    let mut kinds = [0u8; SHORT + 1];
+    let mut values = [0u64; SHORT + 1];
+    let mut places = [0u32; SHORT + 1];
+    let mut tape = [0u32; SHORT + 1];
+    judge_text(src, &mut kinds, &mut values, &mut places, &mut tape)
+}
+
+fn middling(src: &[u8]) -> Verdict
+    requires { ⌜ length (now src) ≤ 8192 ⌝ }
+    ensures { λ r. ⌜ verdictOf r ≡ judged (now (src .entry)) ⌝ }
+{
+    let mut kinds = [0u8; MIDDLING + 1];
+    let mut values = [0u64; MIDDLING + 1];
+    let mut places = [0u32; MIDDLING + 1];
+    let mut tape = [0u32; MIDDLING + 1];
+    judge_text(src, &mut kinds, &mut values, &mut places, &mut tape)
+}
+
+fn long(src: &[u8]) -> Verdict
+    requires { ⌜ length (now src) ≤ TEXT-LIMIT ⌝ }
+    ensures { λ r. ⌜ verdictOf r ≡ judged (now (src .entry)) ⌝ }
+{
+    let mut kinds = [0u8; TEXT_LIMIT + 1];
+    let mut values = [0u64; TEXT_LIMIT + 1];
+    let mut places = [0u32; TEXT_LIMIT + 1];
+    let mut tape = [0u32; TEXT_LIMIT + 1];
+    judge_text(src, &mut kinds, &mut values, &mut places, &mut tape)
+}
+
+// Is this text grammatical?
+pub fn grammatical(src: &[u8]) -> Verdict
+    ensures { λ r. ⌜ verdictOf r ≡ judged (now (src .entry)) ⌝ }
+{
+    if src.len() <= SHORT {
+        return short(src);
+    }
+    if src.len() <= MIDDLING {
+        return middling(src);
+    }
+    if src.len() <= TEXT_LIMIT {
+        return long(src);
+    }
+    Verdict::TooLong
 }

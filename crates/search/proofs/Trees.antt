@@ -6,6 +6,8 @@ use mathlib.Core.Option.{Option, none, some}
 use Prim.Native.Nat.{ℕ, _+_, _-_, _%_}
 use native.Mathlib.Omega.{arith}
 use Rattle.grammar.specs.Tree.{Designator, Operand, number, place, Sign, plain, abs, neg, negAbs, Term, Assignment, Condition, compared, bare, Register, Item, Declaration, registers, cells, base, Statement, assign, call, block, goto, null, ifThen, ifElse, while, for, Body, declare, procedure, items, Items, ended, label, item, Width, full, short}
+use Rattle.grammar.specs.Pinned.{headOf}
+use Rattle.grammar.proofs.Pinned.{pinned-operand}
 use Rattle.grammar.specs.Derives.{isShape, isDesignator, isOperand, isCondition, areTerms, isAssignment, isStatement, isBody, isItems, isProgram}
 use Rattle.tape.specs.Events as E
 use Rattle.tape.specs.Tape.{event, shapeBy, tapeDesignator, tapeOperand, tapeCondition, tapeSign, tapeEach, tapeTerm, tapeAssignment, tapeValue, tapeItem, tapeRegister, cellsEvent, tapeDeclaration, tapeStatement, tapeBody, tapeItems}
@@ -23,11 +25,6 @@ outer-enter t (b ∷ bs) = refl
 outer-all : (ts : List ℕ) (bs : List (List ℕ)) → outer (enterAll ts bs) ≡ outer bs
 outer-all [] bs = refl
 outer-all (t ∷ ts) bs = outer-all ts (enter t bs) ∙ outer-enter t bs
-
--- the token of an operand's event
-abbrev first : Operand → ℕ
-first (number t) = t
-first (place d) = d .name
 
 module _ (kinds keys : List ℕ) where
   abbrev at : List (List ℕ) → Named → Naming
@@ -78,7 +75,7 @@ module _ (kinds keys : List ℕ) where
 
     operand :
         UsesNone op before → (a : Operand) → isOperand kinds a i j
-        → run (at bs s) (tapeOperand op a k) ≡ run (at bs (nameOperand keys a bs (before (first a) bs s))) k
+        → run (at bs s) (tapeOperand op a k) ≡ run (at bs (nameOperand keys a bs (before (headOf a) bs s))) k
     unfolding isOperand tapeOperand
     operand c (number t) h = via (op + 4) t _ (c t bs s)
     operand c (place d) h = designated d h
@@ -105,20 +102,9 @@ module _ (kinds keys : List ℕ) where
     unfolding nameOp blocksAfter declareAt useAt useRegister shapeOf usePlace
     limit a h = operand E.LIMIT nothing (λ t bs s. (refl, refl, refl, refl)) i j bs s k (λ t bs s. refl) a h
 
-    comparison : (a : Operand) → isOperand kinds a i j → run (at bs s) (tapeOperand E.COMPARED a k) ≡ run (at bs (nameOperand keys a bs (useName keys (first a - 2) bs s))) k
+    comparison : (a : Operand) → isOperand kinds a i j → run (at bs s) (tapeOperand E.COMPARED a k) ≡ run (at bs (nameOperand keys a bs (useName keys (headOf a - 2) bs s))) k
     unfolding nameOp blocksAfter declareAt useAt useRegister shapeOf usePlace
     comparison a h = operand E.COMPARED (λ t bs s. useName keys (t - 2) bs s) (λ t bs s. (refl, refl, refl, refl)) i j bs s k (λ t bs s. refl) a h
-
-  first-at : (a : Operand) (i j : ℕ) → isOperand kinds a i j → first a ≡ i
-  unfolding isOperand isDesignator
-  first-at (number t) i j h = h .0
-  first-at (place d) i j h = name-at (d .subscript) (d .index) h
-    where
-      name-at : (subscript index : Option ℕ) → isShape kinds (d .name) subscript index i j → d .name ≡ i
-      name-at none none h = h .0
-      name-at (some v) none h = h .0
-      name-at none (some x) h = h .0
-      name-at (some v) (some x) h = h .0
 
   -- ── assignments, conditions, declarations ──
 
@@ -137,7 +123,7 @@ module _ (kinds keys : List ℕ) where
   condition : (c : Condition) (i j : ℕ) → isCondition kinds c i j → (bs : List (List ℕ)) (s : Named) (k : List ℕ) → run (at bs s) (tapeCondition c k) ≡ run (at bs (nameCondition keys c bs s)) k
   unfolding nameOp blocksAfter declareAt useAt useRegister shapeOf usePlace isCondition tapeCondition
   condition (compared n r a) i j h bs s k =
-      let e : first a - 2 ≡ n = omega (arith, h .0, first-at a _ _ (h .2 .2)) in
+      let e : headOf a - 2 ≡ n = omega (arith, h .0, pinned-operand kinds a _ _ (h .2 .2) .0) in
       comparison _ _ bs s k a (h .2 .2) ∙ rw e
   condition (bare r) i j h bs s k = on E.BARE r (at bs s) k
 

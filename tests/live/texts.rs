@@ -1,0 +1,105 @@
+//! Random and mutated texts through the proved token reader and grammar and through the reference in one process: number and place, and every token.
+#![no_main]
+
+#[macro_use]
+mod proved_texts;
+mod tally;
+
+use proved_texts::{proved_grammar, reference_tokens, tautgaff_read_tokens, verdict, Lists, Reader, Verdict};
+use reference::gen;
+use reference::token::{tokens, Kind, Token, TEXT_LIMIT};
+use reference::translate::translate;
+use tally::{numbers, Tally};
+
+reader!(tautgaff_tokens);
+
+/// Every entry of a list before a reading.
+const BEFORE: (u8, u64, u32) = (165, 165, 165);
+
+/// The proved side counts from the text's end, 0, and has COMMENT's number among the words, before INTEGER's.
+fn kind_number(kind: Kind) -> u8 {
+    match kind {
+        Kind::TextEnd => 0,
+        kind if (kind as u8) < Kind::Integer as u8 => kind as u8 + 1,
+        kind => kind as u8 + 2,
+    }
+}
+
+/// A number's bits, or a name's first ten characters as a number to the base 36.
+fn value(token: &Token) -> u64 {
+    let characters = token.name.iter().take_while(|&&byte| byte != 0);
+    let key =
+        characters.fold(0, |key, &byte| 36 * key + (byte as char).to_digit(36).expect("a letter or a digit") as u64);
+    key + token.value as u64
+}
+
+fn listed(token: &Token) -> (u8, u64, u32) {
+    (kind_number(token.kind), value(token), token.place as u32)
+}
+
+/// Does the reader, with so much room lent, answer this and lay these tokens, and leave what is behind them?
+fn reads(lists: &mut Lists, reader: Reader, text: &[u8], room: usize, expected: Verdict, laid: &[Token]) -> bool {
+    lists.kinds[..room].fill(BEFORE.0);
+    lists.values[..room].fill(BEFORE.1);
+    lists.places[..room].fill(BEFORE.2);
+    let answer = lists.read(reader, text, room);
+    let count = if expected.0 == 0 { laid.len() } else { 0 };
+    let entries = (0..room).map(|i| (lists.kinds[i], lists.values[i], lists.places[i]));
+    let behind = std::iter::repeat(BEFORE);
+    answer == (expected, count) && entries.eq(laid.iter().map(listed).chain(behind).take(room))
+}
+
+/// The tokens before a refusal, read as those of a text that ends there.
+fn tokens_before(text: &[u8], (number, place): Verdict) -> Vec<Token> {
+    if number == 1 {
+        return Vec::new();
+    }
+    let mut before = tokens(&text[..place]).expect("the first refusal");
+    before.pop();
+    before
+}
+
+/// Both readers, with room enough and one less.
+fn same_tokens(lists: &mut Lists, text: &[u8]) -> bool {
+    let answer = reference_tokens(text);
+    let expected = verdict(&answer);
+    let room = text.len().min(TEXT_LIMIT) + 1;
+    let laid = match &answer {
+        Ok(tokens) => tokens.clone(),
+        Err(_) => tokens_before(text, expected),
+    };
+    let no_room = if expected.0 == 1 { expected } else { (16, room) };
+    let in_one_pass = reads(lists, tautgaff_read_tokens, text, room, expected, &laid)
+        && reads(lists, tautgaff_read_tokens, text, room - 1, no_room, &[]);
+    let looked_over = match &answer {
+        Ok(tokens) => {
+            reads(lists, tautgaff_tokens, text, tokens.len(), expected, tokens)
+                && reads(lists, tautgaff_tokens, text, tokens.len() - 1, (16, tokens.len()), &[])
+        }
+        Err(_) => reads(lists, tautgaff_tokens, text, room, expected, &[]),
+    };
+    in_one_pass && looked_over
+}
+
+/// Without a runtime of Rust's around it, which the emulator does not carry.
+#[no_mangle]
+pub extern "C" fn main(_count: i32, _words: *const *const u8) -> i32 {
+    let (seed, count) = (numbers()[0], numbers()[1]);
+    let mut lists = Lists::new();
+    let (mut tally, mut bytes) = (Tally::default(), 0u64);
+    for number in 0..count {
+        let text = gen::case(seed, number);
+        if !same_tokens(&mut lists, &text) {
+            tally.differs(format!("text {number}: other tokens"));
+        }
+        let answer = translate(&text, None);
+        let expected = if answer.number <= 5 { (answer.number as u64, answer.place) } else { (0, 0) };
+        let said = proved_grammar(&text);
+        if said != expected {
+            tally.differs(format!("text {number}: {said:?}, reference {expected:?}"));
+        }
+        bytes += text.len() as u64;
+        tally.answered(format!("answer {:2}", answer.number));
+    }
+    tally.report(format!("{count} texts of seed {seed}, {bytes} bytes"))
+}
