@@ -1,3 +1,10 @@
 -- Laws of addresses and code along a tape.
 pub mod Placing
 pub mod Coding
+pub mod Laying
+pub mod Expressions
+pub mod Declarations
+pub mod Statements
+pub mod Addresses
+pub mod Agreeing
+pub mod Program

@@ -1,2 +1,8 @@
--- Laws of the instructions of events.
+-- Laws of the instructions of events, and of trees.
 pub mod Tables
+pub mod Operands
+pub mod Written
+pub mod Sizes
+pub mod Walks
+pub mod Events
+pub mod Trees

@@ -8,3 +8,4 @@ pub mod Sizes
 pub mod Gaps
 pub mod Readings
 pub mod Shape
+pub mod Values

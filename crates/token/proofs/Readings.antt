@@ -7,10 +7,10 @@ use native.Mathlib.Omega.{arith}
 use native.Mathlib.Decide.{decLe}
 use native.Mathlib.Nat.{add-zero}
 use native.Mathlib.Numerals.{add-one}
-use lib.Dec.{eqb}
+use lib.Dec.{eqb, ltb}
 use lib.ListN.{length, take, drop, set, length-drop, drop-of-length-le}
 use lib.Seq.{sets, drop-cons, drop-drop}
-use borrow.Author.Tests.{le-ltb, lt-ltb, le-leb, lt-leb, eq-eqb}
+use borrow.Author.Tests.{le-ltb, lt-ltb, le-leb, lt-leb, eq-eqb, ltb-false}
 use Rattle.base.proofs.Parts.{to-end}
 use Rattle.base.proofs.Tests.{cases, never-true}
 use Rattle.token.specs.Kinds as K
@@ -228,6 +228,14 @@ not-too-long s = go (decLe (length s) TEXT-LIMIT)
 pub all-read-from : (s : List ℕ) → tokensOf s .number ≡ 0 → tokensOf s ≡ readFrom 0 0 s
 unfolding tokensOf
 all-read-from s z = rw (le-ltb TEXT-LIMIT (length s) (not-too-long s z))
+
+-- no text has more tokens than bytes and one at the end, nor more than a text of the greatest length
+pub tokens-few : (s : List ℕ) → (length (tokensOf s .tokens) ≤ length s + 1) × (length (tokensOf s .tokens) ≤ TEXT-LIMIT + 1)
+unfolding tokensOf
+tokens-few s =
+    cases (ltb TEXT-LIMIT (length s))
+    (λ e. rw e (omega arith, omega arith))
+    (λ e. rw e (let f = few-tokens 0 0 s in let l = ltb-false TEXT-LIMIT (length s) e in (omega arith, omega arith)))
 
 -- what the entries answer before they read, and that they read
 module _ (s : List ℕ) {k v p : List ℕ} where

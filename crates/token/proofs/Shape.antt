@@ -1,13 +1,14 @@
 -- What the tokens of a text are like, whatever the text: the last of them, and only the last, is `@` or the end of the text; each stands after the one
 -- before it, and in the text. Assumes nothing.
-use Prim.Native.Nat.{ℕ, zero, suc, pred, _+_, _≤_, _<_}
-use mathlib.Core.Path.{_≡_, refl, subst}
+use Prim.Native.Nat.{ℕ, zero, suc, pred, _+_, _-_, _≤_, _<_}
+use mathlib.Core.Path.{_≡_, refl, sym, subst}
 use mathlib.Core.Bool.{Bool, true, false}
-use mathlib.Core.List.{List, [], _∷_}
+use mathlib.Core.List.{List, [], _∷_, map}
 use native.Mathlib.Omega.{arith}
-use lib.ListN.{length}
+use lib.ListN.{length, getD}
 use Rattle.token.specs.Kinds as K
 use Rattle.token.specs.Text.{token, Outcome, read, refused, nextToken, isLast, moved, readBy, readFrom, tokensOf}
+use Rattle.token.specs.Answers.{kindOf}
 use Rattle.token.specs.declared.Token.{Token}
 use Rattle.token.proofs.Gaps.{Held, held}
 use Rattle.token.proofs.Readings.{all-read-from}
@@ -56,3 +57,15 @@ pub tokens-whole : (s : List ℕ) → tokensOf s .number ≡ 0 → Tokened 0 (le
 tokens-whole s z =
     let w = all-read-from s z in
     rw w (tokened 0 0 s (length s) (omega arith) (omega arith) (rw w at z))
+
+-- the token with the last number
+pub tokened-last : {from size : ℕ} {ts : List Token} → Tokened from size ts → (0 < length ts) × (isLast (getD (map kindOf ts) (length ts - 1) 0) ≡ true)
+tokened-last (last t p q r) = (omega arith, r)
+tokened-last (more t {ts} p q r m) =
+    let h = tokened-last m in
+    let l = h .0 in
+    let e : length (t ∷ ts) - 1 ≡ suc (length ts - 1) = omega arith in
+    (omega arith, subst (λ (i : ℕ). isLast (getD (map kindOf (t ∷ ts)) i 0) ≡ true) (sym e) (h .1))
+
+pub last-token : (s : List ℕ) → tokensOf s .number ≡ 0 → (0 < length (tokensOf s .tokens)) × (isLast (getD (map kindOf (tokensOf s .tokens)) (length (tokensOf s .tokens) - 1) 0) ≡ true)
+last-token s z = tokened-last (tokens-whole s z)

@@ -41,7 +41,7 @@ unfolding placeCells placeCell
 placed-bytes n [] = tt
 placed-bytes n (d ∷ ds) = (values-bytes (d .cell .width) (d .values), placed-bytes n ds)
 
-fill-length : (k : ℕ) (ps : List Placed) (image : List ℕ) → length (fill k ps image) ≡ length image
+pub fill-length : (k : ℕ) (ps : List Placed) (image : List ℕ) → length (fill k ps image) ≡ length image
 unfolding fill
 fill-length k [] image = refl
 fill-length k (p ∷ ps) image = go (eqb (p .segment) k) (fill-length k ps image)
@@ -72,7 +72,7 @@ pub record Fitting (l : Layout) : Type 0 where
   pub at : cellsEnd l 1 ≤ l .literalsAt
   pub room : literalsEnd l ≤ segmentLimit
 
-end-first : (l : Layout) → Fitting l → (cellsEnd l 1 ≤ endOfFirst l) × (endOfFirst l ≤ segmentLimit)
+pub end-first : (l : Layout) → Fitting l → (cellsEnd l 1 ≤ endOfFirst l) × (endOfFirst l ≤ segmentLimit)
 end-first l h = go (eqb (length (l .literals)) 0)
   where
     go : (b : Bool) → (cellsEnd l 1 ≤ (if b then cellsEnd l 1 else literalsEnd l)) × ((if b then cellsEnd l 1 else literalsEnd l) ≤ segmentLimit)

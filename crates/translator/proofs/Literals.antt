@@ -1,7 +1,7 @@
 -- Every number that an instruction takes from storage is a literal, at the place that `indexOf` gives, and no two literals are the same.
 use mathlib.Core.Path.{_≡_, refl, sym, ap, subst, _∙_}
 use mathlib.Core.Logic.{_⊎_, inl, inr}
-use mathlib.Core.List.{List, [], _∷_, _++_}
+use mathlib.Core.List.{List, [], _∷_, _++_, append-assoc, append-nil}
 use mathlib.Core.Bool.{Bool, true, false, not, _||_}
 use Prim.Native.Nat.{ℕ, zero, suc, _+_, _<_, _≤_}
 use native.Mathlib.Omega.{arith}
@@ -106,3 +106,49 @@ literals-have (j ∷ is) seen i v (inl h) t = here j (subst (λ (k : Instruction
     here (branch m x) k = absurd k
     here (link r x) k = absurd k
     here stop k = absurd k
+
+-- ── they only grow at the end, so that a number's place among those so far is its place among all ──
+
+pub index-grows : (v : ℕ) (l more : List ℕ) → v ∈ l → indexOf v (l ++ more) ≡ indexOf v l
+index-grows v [] more h = absurd h
+index-grows v (x ∷ l) more h = index-cons v x (l ++ more) ∙ (go (eqb x v) refl h (index-grows v l more) ∙ sym (index-cons v x l))
+  where
+    go : (b : Bool) → eqb x v ≡ b → (v ≡ x) ⊎ (v ∈ l) → (v ∈ l → indexOf v (l ++ more) ≡ indexOf v l)
+        → (if b then 0 else suc (indexOf v (l ++ more))) ≡ (if b then 0 else suc (indexOf v l))
+    go true e i f = refl
+    go false e (inl i) f = absurd (eqb-false _ _ e (sym i))
+    go false e (inr i) f = ap suc (f i)
+
+-- the later literals begin with the earlier
+pub record Grows (earlier later : List ℕ) : Type 0 where
+  pub more : List ℕ
+  pub is : later ≡ earlier ++ more
+
+pub grows-same : (l : List ℕ) → Grows l l
+grows-same l = record { more = []; is = sym (append-nil l) }
+
+grows-on : {k l m : List ℕ} → Grows k l → Grows l m → Grows k m
+grows-on {k} g h = record { more = g .more ++ h .more; is = h .is ∙ (ap (λ (x : List ℕ). x ++ h .more) (g .is) ∙ append-assoc k (g .more) (h .more)) }
+
+needs-grow : (a : Datum) (seen : List ℕ) → Grows seen (needs a seen)
+needs-grow (element c o x) seen = grows-same seen
+needs-grow (entry k) seen = grows-same seen
+needs-grow (literal w) seen = go (member w seen)
+  where
+    go : (b : Bool) → Grows seen (if b then seen else seen ++ (w ∷ []))
+    go true = grows-same seen
+    go false = record { more = w ∷ []; is = refl }
+
+pub literals-grow : (is : List Instruction) (seen : List ℕ) → Grows seen (literalsFrom seen is)
+unfolding literalsFrom
+literals-grow [] seen = grows-same seen
+literals-grow (rr op r s ∷ is) seen = literals-grow is seen
+literals-grow (rx op r a ∷ is) seen = grows-on (needs-grow a seen) (literals-grow is (needs a seen))
+literals-grow (shift op r s n ∷ is) seen = literals-grow is seen
+literals-grow (branch m t ∷ is) seen = literals-grow is seen
+literals-grow (link r t ∷ is) seen = literals-grow is seen
+literals-grow (stop ∷ is) seen = literals-grow is seen
+
+-- the place of a number that was needed is its place among all that are needed later
+pub literal-place : (v : ℕ) (seen later : List ℕ) → Grows (needs (literal v) seen) later → indexOf v (needs (literal v) seen) ≡ indexOf v later
+literal-place v seen later g = sym (ap (indexOf v) (g .is) ∙ index-grows v (needs (literal v) seen) (g .more) (needs-has v seen))

@@ -57,26 +57,26 @@ map-in c (d ∷ ds) (inr h) = let r = map-in c ds h in (r .0, inr (r .1), r .2)
 
 -- a text of tokens ts, read as the tree x up to token j, with no rule broken
 module _ (ts : List Token) (x : Statement) (j : ℕ) (front : firstToken ≤ length ts) (read : isStatement (kindsOf ts) x firstToken j) (quiet : make ts x .broken .number ≡ 0) where
-  abbrev n : Named
+  abbrev pub n : Named
   n = named ts x
 
-  abbrev m : Meant
+  abbrev pub m : Meant
   m = meant ts n x
 
-  abbrev f : Tables
+  abbrev pub f : Tables
   f = tablesOf ts n (labelled ts x) m
 
-  abbrev core : Core
+  abbrev pub core : Core
   core = coreStatement f x
 
-  abbrev y : Layout
+  abbrev pub y : Layout
   y = layout (m .bases) (m .cells) (instructions core)
 
   kinds-quiet : kindStatement f x protected .number ≡ 0
   unfolding make
   kinds-quiet = quiet-left (kindStatement f x protected) _ (quiet-right (labelled ts x .broken) _ (quiet-right (n .broken) _ quiet))
 
-  cells-quiet : placeCells (m .bases) (m .cells) .broken .number ≡ 0
+  pub cells-quiet : placeCells (m .bases) (m .cells) .broken .number ≡ 0
   unfolding make layout
   cells-quiet = quiet-right (kindStatement f x protected) _ (quiet-right (labelled ts x .broken) _ (quiet-right (n .broken) _ quiet))
 
@@ -86,12 +86,12 @@ module _ (ts : List Token) (x : Statement) (j : ℕ) (front : firstToken ≤ len
   unfolding meant
   small = meant-small f x protected 0 dataBase (standard (length ts - firstToken)) kinds-quiet (omega arith) (standard-small (length ts - firstToken))
 
-  known : Known j m
+  pub known : Known j m
   unfolding meant
   known = grown-statement (kindsOf ts) (valuesOf ts) (n .found) x firstToken j 0 dataBase (standard (length ts - firstToken)) read (omega arith) (known-standard (length ts - firstToken)) .known
 
   -- "a third base declaration" is refused
-  few : m .bases ≤ 2
+  pub few : m .bases ≤ 2
   unfolding meant
   few =
       few-bases f x firstToken j 0 dataBase protected (standard (length ts - firstToken)) read kinds-quiet
@@ -122,7 +122,7 @@ module _ (ts : List Token) (x : Statement) (j : ℕ) (front : firstToken ≤ len
       all-both (Ready y (sizeOf core)) (code [] [] core 0) (stop ∷ [])
       (ready-code y (sizeOf core) [] [] core 0 tt tt (omega arith) (core-ready f y (sizeOf core) small within x protected kinds-quiet)) (tt, tt)
 
-  program-bytes : sizes (instructions core) ≤ segmentLimit → literalsEnd y ≤ segmentLimit → All (λ (b : ℕ). b < 256) (encodeAll y (instructions core))
+  pub program-bytes : sizes (instructions core) ≤ segmentLimit → literalsEnd y ≤ segmentLimit → All (λ (b : ℕ). b < 256) (encodeAll y (instructions core))
   unfolding layout
   program-bytes h k =
       let e = sizes-instructions core in
@@ -130,7 +130,7 @@ module _ (ts : List Token) (x : Statement) (j : ℕ) (front : firstToken ≤ len
 
   -- ── the data ──
 
-  fitting : literalsEnd y ≤ segmentLimit → Fitting y
+  pub fitting : literalsEnd y ≤ segmentLimit → Fitting y
   unfolding layout
   fitting k = record {
     contents = placed-bytes (m .bases) (m .cells);

@@ -11,6 +11,7 @@ use lib.Dec.{eqb, leb}
 use lib.ListN.{length, getD, set, length-set, replicate, length-replicate}
 use lib.Seq.{getD-set-same, getD-set-other}
 use borrow.Author.Tests.{leb-true, eq-eqb, ne-eqb}
+use Rattle.base.specs.Choose.{if_then_else_}
 use Rattle.base.specs.Lists.{_∈_, All}
 use Rattle.base.proofs.Lists.{all-in}
 use Rattle.grammar.specs.Tree.{Width, full, short}
@@ -96,6 +97,21 @@ ends-fit n (d ∷ ds) h k = go (ends-fit n ds (quiet-left (placeCells n ds .brok
         let q = t .2 in
         let r : endFor (d .cell) (s .ends) ≤ segmentLimit = leb-true _ _ (rule-holds (leb (endFor (d .cell) (s .ends)) segmentLimit) 12 (d .cell .name) (omega arith) (quiet-right (s .broken) _ h)) in
         omega arith
+
+-- and every cell begins in its segment
+pub offsets-fit : (n : ℕ) (ds : List Filled) → placeCells n ds .broken .number ≡ 0 → (t : ℕ) → offsetOf (placeCells n ds .placed) t ≤ segmentLimit
+unfolding placeCells placeCell offsetOf
+offsets-fit n [] h t = omega arith
+offsets-fit n (d ∷ ds) h t = go (eqb (d .cell .name) t) (offsets-fit n ds (quiet-left (placeCells n ds .broken) _ h) t)
+  where
+    s : Room
+    s = placeCells n ds
+
+    go : (b : Bool) → offsetOf (s .placed) t ≤ segmentLimit → (if b then offsetFor (d .cell) (s .ends) else offsetOf (s .placed) t) ≤ segmentLimit
+    go true k =
+        let r : endFor (d .cell) (s .ends) ≤ segmentLimit = leb-true _ _ (rule-holds (leb (endFor (d .cell) (s .ends)) segmentLimit) 12 (d .cell .name) (omega arith) (quiet-right (s .broken) _ h)) in
+        omega arith
+    go false k = k
 
 -- ── cells ──
 

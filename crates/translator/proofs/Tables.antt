@@ -8,6 +8,7 @@ use Rattle.token.specs.declared.Token.{Token}
 use Rattle.grammar.specs.Tree.{Statement}
 use Rattle.grammar.specs.Derives.{isStatement, isProgram}
 use Rattle.grammar.proofs.Theorems.{read-is-program}
+use Rattle.grammar.proofs.Rising.{rises-statement}
 use Rattle.names.specs.Broken.{unbroken}
 use Rattle.names.specs.Search.{firstToken, around}
 use Rattle.names.specs.Names.{Named}
@@ -29,14 +30,14 @@ unfolding named
 names-found ts x j p h =
     let s : Named = record { found = replicate (length ts) 0; count = 0; broken = unbroken } in
     let e : length (s .found) ≡ length ts = length-replicate {A = ℕ} (length ts) 0 in
-    statement-found (kindsOf ts) (valuesOf ts) (named ts x .found) x firstToken j around s p (omega arith) (λ u l r. refl)
+    statement-found (valuesOf ts) (named ts x .found) x firstToken j around s (rises-statement (kindsOf ts) x .so p) (omega arith) (λ u l r. refl)
 
 pub labels-led : (ts : List Token) (x : Statement) (j : ℕ) → isStatement (kindsOf ts) x firstToken j → j ≤ length ts → LedStatement (valuesOf ts) (labelled ts x .goes) x []
 unfolding labelled
 labels-led ts x j p h =
     let s : Labelled = record { goes = replicate (length ts) 0; count = 0; broken = unbroken } in
     let e : length (s .goes) ≡ length ts = length-replicate {A = ℕ} (length ts) 0 in
-    statement-led (kindsOf ts) (valuesOf ts) (labelled ts x .goes) x firstToken j [] s p (omega arith) (λ u l r. refl)
+    statement-led (valuesOf ts) (labelled ts x .goes) x firstToken j [] s (rises-statement (kindsOf ts) x .so p) (omega arith) (λ u l r. refl)
 
 -- an accepted text's tree, from the first token up to the `@`, which is a token of the text
 pub record Derived (source object : List ℕ) (a : Accepted source object) : Type 0 where

@@ -1,0 +1,174 @@
+-- What the code pass lays: along a tape, the instructions along it one behind the other (`laid-along`); of the definition's instructions their bytes and their
+-- literals (`laid-instructions`). Literals only grow at the end, so a place that was found among those so far is the place among all.
+use mathlib.Core.Path.{_≡_, refl, sym, ap, subst, _∙_}
+use mathlib.Core.Logic.{_⊎_, inl, inr}
+use mathlib.Core.Bool.{Bool, true, false}
+use mathlib.Core.List.{List, [], _∷_, _++_, map}
+use Prim.Native.Nat.{ℕ, zero, suc, _+_, _*_, _/_, _%_}
+use native.Mathlib.Omega.{arith}
+use lib.Dec.{eqb}
+use lib.ListN.{length, length-map}
+use lib.Seq.{sets}
+use Rattle.base.specs.Walk.{fold}
+use Rattle.base.proofs.Parts.{sets-append}
+use Rattle.base.specs.Choose.{if_then_else_}
+use Rattle.base.specs.Lists.{_∈_, member}
+use Rattle.base.specs.Runs.{runLen, indexOf}
+use Rattle.tape.specs.Pass.{onEvent, pass}
+use Rattle.kinds.specs.Meaning.{Cell, Based}
+use Rattle.translator.specs.Instructions.{Datum, element, literal, entry, Instruction, rr, rx, shift, branch, link, stop, size, sizes}
+use Rattle.translator.specs.Core.{Core}
+use Rattle.translator.specs.Code.{code, instructions}
+use Rattle.translator.specs.Layout.{Layout, offsetOf, needs, literalsFrom}
+use Rattle.translator.specs.Bytes.{encode, encodeAll, fourBytes, displacement}
+use Rattle.translator.proofs.Sizes.{length-encode}
+use Rattle.translator.proofs.Literals.{Grows, grows-same, literals-grow, literal-place}
+use Rattle.emit.specs.declared.Code.{Code}
+use Rattle.emit.specs.declared.Code.the-variants.{Nothing, Two, Four, Literal}
+use Rattle.emit.specs.declared.Made.{Made}
+use Rattle.emit.specs.declared.Writing.{Writing}
+use Rattle.emit.specs.Codes.{codeSize}
+use Rattle.emit.specs.Events.{writingAfter, madeBy}
+use Rattle.emit.specs.Along.{codesIn, codesOf, along, codeAt, codeFor}
+use Rattle.code.specs.Places.{noWriting}
+use Rattle.code.specs.Coding.{bytesIn, Laid, laidOf, codeBytes, literalsAfter, layCode, layMade, Coding, codingOf, codeEvent, stopCode, codeAlong}
+
+module _ (start : ℕ) where
+  -- one instruction behind the other
+  abbrev pub layAll : List Code → Laid → Laid
+  layAll [] s = s
+  layAll (c ∷ cs) s = layAll cs (layCode start c s)
+
+  lay-append : (cs ds : List Code) (s : Laid) → layAll (cs ++ ds) s ≡ layAll ds (layAll cs s)
+  lay-append [] ds s = refl
+  lay-append (c ∷ cs) ds s = lay-append cs ds (layCode start c s)
+
+  -- nothing is laid of no instruction
+  lay-in : (c : Code) (s : Laid) → layCode start c s ≡ layAll (codesIn c) s
+  unfolding layCode codeSize codeBytes literalsAfter
+  lay-in Nothing s = let e : s .at + 0 ≡ s .at = omega arith in ap (λ (n : ℕ). laidOf n (s .image) (s .literals)) e
+  lay-in (Two op r x) s = refl
+  lay-in (Four op r x b d) s = refl
+  lay-in (Literal op r v) s = refl
+
+  lay-made : (m : Made) (s : Laid) → layMade start m s ≡ layAll (codesOf m) s
+  unfolding layMade codesOf
+  lay-made m s =
+      lay-in (m .second) (layCode start (m .first) s) ∙ (ap (layAll (codesIn (m .second))) (lay-in (m .first) s) ∙ sym (lay-append (codesIn (m .first)) (codesIn (m .second)) s))
+
+  module _ (kinds values found goes means bases opens offsets marks : List ℕ) where
+    abbrev step : ℕ → ℕ → Coding → Coding
+    step = codeEvent start kinds values found goes means bases opens offsets marks
+
+    pub laid-along : (tape : List ℕ) (s : Laid) (w : Writing)
+        → pass step (codingOf s w) tape .laid ≡ layAll (along kinds values found goes means bases opens offsets marks w tape) s
+    unfolding pass fold onEvent along codeEvent
+    laid-along [] s w = refl
+    laid-along (e ∷ es) s w =
+        let m = madeBy kinds values found goes means bases opens offsets marks (e % 64) (e / 64) w in
+        let v = writingAfter values found means bases offsets (e % 64) (e / 64) w in
+        laid-along es (layMade start m s) v
+        ∙ (ap (layAll (along kinds values found goes means bases opens offsets marks v es)) (lay-made m s)
+        ∙ sym (lay-append (codesOf m) (along kinds values found goes means bases opens offsets marks v es) s))
+
+-- ── the definition's instructions ──
+
+bytes-append : (xs ys : List ℕ) → bytesIn (xs ++ ys) ≡ bytesIn xs ++ bytesIn ys
+bytes-append [] ys = refl
+bytes-append (x ∷ xs) ys = ap (λ (l : List ℕ). x % 256 ∷ l) (bytes-append xs ys)
+
+laid-same : (a b : ℕ) (image image′ literals literals′ : List ℕ) → a ≡ b → image ≡ image′ → literals ≡ literals′ → laidOf a image literals ≡ laidOf b image′ literals′
+laid-same a b image image′ literals literals′ p q r = rw (p, q, r)
+
+-- l: the layout of the whole text; the literals so far are the first of its literals
+module _ (l : Layout) (place : ℕ → ℕ) (right : (t : ℕ) → place t ≡ offsetOf (l .placed) t) where
+  abbrev start : ℕ
+  start = l .literalsAt
+
+  -- of one instruction
+  pub record Lays (i : Instruction) (seen : List ℕ) : Type 0 where
+    pub lays : (at : ℕ) (image : List ℕ)
+        → layCode start (codeFor place i) (laidOf at image seen) ≡ laidOf (at + size i) (sets image at (bytesIn (encode l i))) (literalsFrom seen (i ∷ []))
+
+  -- a number is a literal then, at the place that it has among all
+  abbrev Placed : Instruction → List ℕ → Type 0
+  Placed (rr op r s) seen = Unit {0}
+  Placed (rx op r (element c o x)) seen = Unit {0}
+  Placed (rx op r (literal v)) seen = indexOf v (needs (literal v) seen) ≡ indexOf v (l .literals)
+  Placed (rx op r (entry k)) seen = Unit {0}
+  Placed (shift op r s n) seen = Unit {0}
+  Placed (branch m t) seen = Unit {0}
+  Placed (link r t) seen = Unit {0}
+  Placed stop seen = Unit {0}
+
+  lays-one : (i : Instruction) (seen : List ℕ) → Placed i seen → Lays i seen
+  unfolding layCode codeSize codeBytes literalsAfter codeFor encode literalsFrom
+  lays-one (rr op r s) seen h = record { lays = λ at image. refl }
+  lays-one (rx op r (element c o x)) seen h = record { lays = λ at image. rw (right (c .name)) }
+  lays-one (rx op r (literal v)) seen h = record { lays = λ at image. rw h }
+  lays-one (rx op r (entry k)) seen h = record { lays = λ at image. refl }
+  lays-one (shift op r s n) seen h = record { lays = λ at image. refl }
+  lays-one (branch m t) seen h = record { lays = λ at image. refl }
+  lays-one (link r t) seen h = record { lays = λ at image. refl }
+  lays-one stop seen h = record { lays = λ at image. refl }
+
+  -- one after the other
+  abbrev AllPlaced : List Instruction → List ℕ → Type 0
+  AllPlaced [] seen = Unit {0}
+  AllPlaced (i ∷ is) seen = Placed i seen × AllPlaced is (literalsFrom seen (i ∷ []))
+
+  literals-cons : (i : Instruction) (is : List Instruction) (seen : List ℕ) → literalsFrom (literalsFrom seen (i ∷ [])) is ≡ literalsFrom seen (i ∷ is)
+  unfolding literalsFrom
+  literals-cons (rr op r s) is seen = refl
+  literals-cons (rx op r a) is seen = refl
+  literals-cons (shift op r s n) is seen = refl
+  literals-cons (branch m t) is seen = refl
+  literals-cons (link r t) is seen = refl
+  literals-cons stop is seen = refl
+
+  laid-list : (is : List Instruction) (at : ℕ) (image seen : List ℕ) → AllPlaced is seen
+      → layAll start (map (codeFor place) is) (laidOf at image seen) ≡ laidOf (at + sizes is) (sets image at (bytesIn (encodeAll l is))) (literalsFrom seen is)
+  unfolding encodeAll literalsFrom
+  laid-list [] at image seen h = let e : at + 0 ≡ at = omega arith in laid-same at (at + 0) image image seen seen (sym e) refl refl
+  laid-list (i ∷ is) at image seen h =
+      let bs = bytesIn (encode l i) in
+      let n : length bs ≡ size i = length-map (encode l i) (λ (b : ℕ). b % 256) ∙ length-encode l i in
+      let e : at + size i + sizes is ≡ at + (size i + sizes is) = omega arith in
+      ap (layAll start (map (codeFor place) is)) (lays-one i seen (h .0) .lays at image)
+      ∙ (laid-list is (at + size i) (sets image at bs) (literalsFrom seen (i ∷ [])) (h .1)
+      ∙ laid-same _ _ _ _ _ _ e (rw (← n) (sym (sets-append image at bs (bytesIn (encodeAll l is)))) ∙ ap (sets image at) (sym (bytes-append (encode l i) (encodeAll l is)))) (literals-cons i is seen))
+
+  placed-all : (is : List Instruction) (seen : List ℕ) → literalsFrom seen is ≡ l .literals → AllPlaced is seen
+  unfolding literalsFrom
+  placed-all [] seen e = tt
+  placed-all (i ∷ is) seen e =
+      let later = literals-cons i is seen ∙ e in
+      (one i (subst (λ (k : List ℕ). Grows (literalsFrom seen (i ∷ [])) k) later (literals-grow is (literalsFrom seen (i ∷ [])))), placed-all is (literalsFrom seen (i ∷ [])) later)
+    where
+      one : (j : Instruction) → Grows (literalsFrom seen (j ∷ [])) (l .literals) → Placed j seen
+      one (rr op r s) g = tt
+      one (rx op r (element c o x)) g = tt
+      one (rx op r (literal v)) g = literal-place v seen (l .literals) g
+      one (rx op r (entry k)) g = tt
+      one (shift op r s n) g = tt
+      one (branch m t) g = tt
+      one (link r t) g = tt
+      one stop g = tt
+
+  map-end : (is : List Instruction) (i : Instruction) → map (codeFor place) (is ++ (i ∷ [])) ≡ map (codeFor place) is ++ (codeFor place i ∷ [])
+  map-end [] i = refl
+  map-end (j ∷ is) i = ap (λ (cs : List Code). codeFor place j ∷ cs) (map-end is i)
+
+  -- the whole text: the code pass on a tape along which the definition's instructions stand lays their bytes, and their literals are the layout's
+  pub laid-instructions : (kinds values found goes means bases opens offsets marks image tape : List ℕ) (c : Core)
+      → along kinds values found goes means bases opens offsets marks noWriting tape ≡ map (codeFor place) (code [] [] c 0) → literalsFrom [] (instructions c) ≡ l .literals
+      → codeAlong start kinds values found goes means bases opens offsets marks image tape
+      ≡ laidOf (sizes (instructions c)) (sets image 0 (bytesIn (encodeAll l (instructions c)))) (l .literals)
+  unfolding codeAlong stopCode instructions codeFor
+  laid-instructions kinds values found goes means bases opens offsets marks image tape c e q =
+      let is = code [] [] c 0 in
+      let s = laidOf 0 image [] in
+      ap (layCode start (codeFor place stop)) (laid-along start kinds values found goes means bases opens offsets marks tape s noWriting ∙ ap (λ (cs : List Code). layAll start cs s) e)
+      ∙ (sym (lay-append start (map (codeFor place) is) (codeFor place stop ∷ []) s)
+      ∙ (ap (λ (cs : List Code). layAll start cs s) (sym (map-end is stop))
+      ∙ (laid-list (is ++ (stop ∷ [])) 0 image [] (placed-all (is ++ (stop ∷ [])) [] q) ∙ laid-same _ _ _ _ _ _ (omega arith) refl q)))

@@ -1,0 +1,53 @@
+-- A program's code along its tape: with the addresses that the address pass leaves, the code pass makes exactly the definition's instructions, and they end where
+-- the address pass ends. Assumes nothing.
+use mathlib.Core.Path.{_≡_, ap, _∙_}
+use mathlib.Core.List.{List, [], append-nil}
+use Prim.Native.Nat.{ℕ, _≤_}
+use native.Mathlib.Omega.{arith}
+use lib.ListN.{replicate}
+use Rattle.grammar.specs.Tree.{Statement}
+use Rattle.grammar.specs.Derives.{isProgram}
+use Rattle.grammar.proofs.Rising.{rises-statement}
+use Rattle.tape.specs.Tape.{tapeStatement}
+use Rattle.tape.proofs.Pass.{pass-none}
+use Rattle.names.specs.Search.{firstToken, around}
+use Rattle.names.proofs.Bound.{BoundStatement}
+use Rattle.tables.specs.Packed.{meaningsOf}
+use Rattle.kinds.specs.Tables.{Tables}
+use Rattle.translator.specs.Core.{coreStatement}
+use Rattle.translator.specs.Code.{sizeOf, code}
+use Rattle.emit.specs.Along.{along}
+use Rattle.emit.proofs.Operands.{Small}
+use Rattle.emit.proofs.Written.{coded}
+use Rattle.code.specs.Places.{Placing, placingOf, noWriting, placesAlong}
+use Rattle.code.proofs.Statements.{leaves, code-statement}
+use Rattle.code.proofs.Addresses.{marksOf, place-statement}
+use Rattle.code.proofs.Agreeing.{agree-program}
+
+module _
+    (f : Tables) (means bases offsets : List ℕ) (table : f .means ≡ meaningsOf means bases) (small : Small f)
+    (x : Statement) (i j n : ℕ) (program : isProgram (f .kinds) x i j)
+  where
+    pub places-program :
+        placesAlong (f .kinds) (f .values) (f .found) (f .goes) means bases (f .opens) offsets (replicate n 0) (tapeStatement x [])
+        ≡ placingOf (sizeOf (coreStatement f x)) (leaves f means bases offsets x noWriting) (marksOf f x 0 (replicate n 0))
+    unfolding isProgram placesAlong
+    places-program =
+        place-statement f means bases offsets table small x _ _ (program .1 .1) 0 noWriting (replicate n 0) []
+        ∙ (pass-none _ _ ∙ ap (λ (p : ℕ). placingOf p (leaves f means bases offsets x noWriting) (marksOf f x 0 (replicate n 0))) (omega arith))
+
+    -- the tokens of names around a program stand before it, and the marks have room for its own
+    module _ (starts : firstToken ≤ i) (room : j ≤ n) (bound : BoundStatement (f .found) (f .goes) x around []) where
+      pub code-program :
+          along (f .kinds) (f .values) (f .found) (f .goes) means bases (f .opens) offsets
+          (placesAlong (f .kinds) (f .values) (f .found) (f .goes) means bases (f .opens) offsets (replicate n 0) (tapeStatement x []) .marks) noWriting (tapeStatement x [])
+          ≡ coded offsets (code [] [] (coreStatement f x) 0)
+      unfolding isProgram along
+      code-program =
+          ap
+          (λ (s : Placing).
+          along (f .kinds) (f .values) (f .found) (f .goes) means bases (f .opens) offsets (s .marks) noWriting (tapeStatement x []))
+          places-program
+          ∙ (code-statement f means bases offsets _ table small x _ _ (program .1 .1) [] [] 0
+          (agree-program f x i (program .0) n (rises-statement (f .kinds) x .so (program .1 .1)) starts (omega (arith, room, program .2 .1)) bound) noWriting []
+          ∙ append-nil _)

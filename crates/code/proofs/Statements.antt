@@ -1,0 +1,222 @@
+-- On the tape of a tree, with the addresses that the tree has, the code pass makes the definition's instructions: a line for each way to make a tree. Assumes nothing.
+use mathlib.Core.Path.{_≡_, refl, sym, ap, subst, _∙_}
+use mathlib.Core.List.{List, [], _∷_, _++_}
+use mathlib.Core.Bool.{true}
+use Prim.Native.Nat.{ℕ, _+_, _-_}
+use native.Mathlib.Omega.{arith}
+use lib.ListN.{getD}
+use Rattle.base.specs.Lists.{All, member}
+use Rattle.grammar.specs.Tree.{Condition, registers, cells, base, Statement, assign, call, block, goto, null, ifThen, ifElse, while, for, Body, declare, procedure, items, Items, ended, label, item}
+use Rattle.grammar.specs.Derives.{isOperand, isCondition, isStatement, isBody, isItems}
+use Rattle.tape.specs.Events as E
+use Rattle.tape.specs.Tape.{event, tapeCondition, tapeDeclaration, tapeStatement, tapeBody, tapeItems}
+use Rattle.tables.specs.Packed.{meaningsOf}
+use Rattle.kinds.specs.Meaning.{registerOf}
+use Rattle.kinds.specs.Tables.{Tables, valueAt, meaningAt}
+use Rattle.translator.specs.Instructions.{Instruction, rr, rx, branch, link, entry, literal, sizes, opcode, loadRow, addRow, always}
+use Rattle.translator.specs.Core.{returnOf, toRegister, compareWith, testOf, maskOf, controlOf, coreStatement, coreBody, coreItems}
+use Rattle.translator.specs.Code.{Mark, sizeOf, own, markAt, code}
+use Rattle.emit.specs.declared.Code.{Code}
+use Rattle.emit.specs.declared.Writing.{Writing}
+use Rattle.emit.specs.Along.{codeFor, targetWriting, controlWriting}
+use Rattle.emit.proofs.Operands.{Small, offsetAt}
+use Rattle.emit.proofs.Written.{coded}
+use Rattle.emit.proofs.Events.{idle, Adds, idle-adds, procedure-adds, else-adds, end-while-adds, end-for-adds, goto-adds, base-adds, end-procedure-adds, call-adds}
+use Rattle.emit.proofs.Trees.{go, along-makes, assignment-coded, control-coded, condition-coded, limit-coded}
+use Rattle.code.proofs.Declarations.{declaring, registers-out, cells-out}
+
+-- ── the addresses in `marks` are those that the tree has ──
+
+module _ (f : Tables) (marks : List ℕ) where
+  -- where the mark of token t leads
+  abbrev pub to : ℕ → ℕ
+  to t = getD marks t 0
+
+  unfoldable mutual
+    pub Agree : (ls ps : List Mark) → Statement → ℕ → Type 0
+    Agree ls ps (assign a) p = Unit {0}
+    Agree ls ps (call n) p = to (getD (f .found) n 0) ≡ markAt ps (getD (f .found) n 0)
+    Agree ls ps (block t b) p = AgreeBody ls ps b p
+    Agree ls ps (goto t n) p = to (getD (f .goes) n 0) ≡ markAt ls (getD (f .goes) n 0)
+    Agree ls ps null p = Unit {0}
+    Agree ls ps (ifThen t c x) p =
+        (to t ≡ p + (sizes (testOf f c) + (4 + sizeOf (coreStatement f x)))) × Agree ls ps x (p + (sizes (testOf f c) + 4))
+    Agree ls ps (ifElse t c x e y) p =
+        (to t ≡ p + (sizes (testOf f c) + (4 + (sizeOf (coreStatement f x) + 4))))
+        × (to (t + 1) ≡ p + (sizes (testOf f c) + (4 + (sizeOf (coreStatement f x) + (4 + sizeOf (coreStatement f y))))))
+        × Agree ls ps x (p + (sizes (testOf f c) + 4))
+        × Agree ls ps y (p + (sizes (testOf f c) + (4 + (sizeOf (coreStatement f x) + 4))))
+    Agree ls ps (while t c x) p =
+        (to t ≡ p + (sizes (testOf f c) + (4 + (sizeOf (coreStatement f x) + 4)))) × (to (t + 1) ≡ p) × Agree ls ps x (p + (sizes (testOf f c) + 4))
+    Agree ls ps (for t a v l x) p =
+        (to (v - 1) ≡ p + (sizes (toRegister f (controlOf f a) a) + (sizes (compareWith f (controlOf f a) l) + (4 + (sizeOf (coreStatement f x) + 8)))))
+        × (to v ≡ p + sizes (toRegister f (controlOf f a) a))
+        × (to (v + 1) ≡ controlOf f a)
+        × Agree ls ps x (p + (sizes (toRegister f (controlOf f a) a) + (sizes (compareWith f (controlOf f a) l) + 4)))
+
+    pub AgreeBody : (ls ps : List Mark) → Body → ℕ → Type 0
+    AgreeBody ls ps (declare (registers rs) b) p = AgreeBody ls ps b p
+    AgreeBody ls ps (declare (cells c w is) b) p = AgreeBody ls ps b p
+    AgreeBody ls ps (declare (base n) b) p = AgreeBody ls ps b (p + 4)
+    AgreeBody ls ps (procedure n r x b) p =
+        (to (n + 1) ≡ p + (4 + (sizeOf (coreStatement f x) + 2)))
+        × Agree [] (record { name = n; at = p + 4 } ∷ ps) x (p + 4)
+        × AgreeBody ls (record { name = n; at = p + 4 } ∷ ps) b (p + (4 + (sizeOf (coreStatement f x) + 2)))
+    AgreeBody ls ps (items is) p = AgreeItems (own (coreItems f is) p ++ ls) ps is p
+
+    pub AgreeItems : (ls ps : List Mark) → Items → ℕ → Type 0
+    AgreeItems ls ps ended p = Unit {0}
+    AgreeItems ls ps (label l is) p = AgreeItems ls ps is p
+    AgreeItems ls ps (item x is) p = Agree ls ps x p × AgreeItems ls ps is (p + sizeOf (coreStatement f x))
+
+module _ (f : Tables) (means bases offsets : List ℕ) where
+  -- ── the assignment that is written after a tree's tape ──
+
+  unfoldable mutual
+    pub leaves : Statement → Writing → Writing
+    leaves (assign a) w = targetWriting (f .values) (f .found) means bases offsets a
+    leaves (call n) w = w
+    leaves (block t b) w = leavesBody b w
+    leaves (goto t n) w = w
+    leaves null w = w
+    leaves (ifThen t c x) w = leaves x w
+    leaves (ifElse t c x e y) w = leaves y (leaves x w)
+    leaves (while t c x) w = leaves x w
+    leaves (for t a v l x) w = leaves x (controlWriting (f .found) means a)
+
+    pub leavesBody : Body → Writing → Writing
+    leavesBody (declare d b) w = leavesBody b w
+    leavesBody (procedure n r x b) w = leavesBody b (leaves x w)
+    leavesBody (items is) w = leavesItems is w
+
+    pub leavesItems : Items → Writing → Writing
+    leavesItems ended w = w
+    leavesItems (label l is) w = leavesItems is w
+    leavesItems (item x is) w = leavesItems is (leaves x w)
+
+-- ── the instructions ──
+
+module _ (f : Tables) (means bases offsets marks : List ℕ) where
+  -- instructions along a tape, and what follows them
+  record Made (all : List Code) (is : List Instruction) (rest : List Code) : Type 0 where
+    made : all ≡ coded offsets is ++ rest
+
+  coded-append : (is js : List Instruction) (k : List Code) → coded offsets (is ++ js) ++ k ≡ coded offsets is ++ (coded offsets js ++ k)
+  coded-append [] js k = refl
+  coded-append (i ∷ is) js k = ap (λ (l : List Code). codeFor (offsetAt offsets) i ∷ l) (coded-append is js k)
+
+  none-made : (k : List Code) → Made k [] k
+  none-made k = record { made = refl }
+
+  one-made : (i : Instruction) (k : List Code) → Made (codeFor (offsetAt offsets) i ∷ k) (i ∷ []) k
+  one-made i k = record { made = refl }
+
+  then-made : {all rest k : List Code} {is js : List Instruction} → Made all is rest → Made rest js k → Made all (is ++ js) k
+  then-made {is = is} {js = js} e g = record { made = e .made ∙ (ap (λ (l : List Code). coded offsets is ++ l) (g .made) ∙ sym (coded-append is js _)) }
+
+  -- after or before events that make none
+  after-none : {all rest k : List Code} {is : List Instruction} → all ≡ rest → Made rest is k → Made all is k
+  after-none e g = record { made = e ∙ g .made }
+
+  before-none : {all rest k : List Code} {is : List Instruction} → Made all is rest → rest ≡ k → Made all is k
+  before-none {is = is} e g = record { made = e .made ∙ ap (λ (l : List Code). coded offsets is ++ l) g }
+
+  -- an address in other words
+  by-address : {all rest : List Code} (is : ℕ → List Instruction) {q r : ℕ} → q ≡ r → Made all (is q) rest → Made all (is r) rest
+  by-address {all} {rest} is e g = subst (λ (q : ℕ). Made all (is q) rest) e g
+
+  abbrev along-it : Writing → List ℕ → List Code
+  along-it w k = go f means bases offsets marks w k
+
+  event-made : (op t : ℕ) (w : Writing) (k : List ℕ) (is : List Instruction) → Adds f means bases offsets marks op t w is → Made (along-it w (event op t ∷ k)) is (along-it w k)
+  event-made op t w k is h = record { made = along-makes f means bases offsets marks op t w k h }
+
+  -- ── events that make none ──
+
+  idle-event : (op : ℕ) → member op idle ≡ true → (t : ℕ) (w : Writing) (k : List ℕ) → along-it w (event op t ∷ k) ≡ along-it w k
+  idle-event op h t w k = along-makes f means bases offsets marks op t w k (idle-adds f means bases offsets marks op h t w)
+
+  idle-declaring : (w : Writing) (t : ℕ) (k : List ℕ) → All (λ (op : ℕ). along-it w (event op t ∷ k) ≡ along-it w k) declaring
+  idle-declaring w t k =
+      (by E.REGISTER refl, (by E.SINGLE-FULL refl, (by E.SINGLE-SHORT refl, (by E.ARRAY-FULL refl, (by E.ARRAY-SHORT refl, (by E.ITEM refl, (by E.VALUE refl, tt)))))))
+    where
+      by : (op : ℕ) → member op idle ≡ true → along-it w (event op t ∷ k) ≡ along-it w k
+      by op h = idle-event op h t w k
+
+  -- ── statements ──
+
+  module _ (table : f .means ≡ meaningsOf means bases) (small : Small f) where
+    tested : (c : Condition) (t i j q : ℕ) → t ≡ i → isCondition (f .kinds) c (i + 1) j → getD marks t 0 ≡ q → (w : Writing) (k : List ℕ)
+        → Made (along-it w (tapeCondition c k)) (testOf f c) (codeFor (offsetAt offsets) (branch (maskOf f c) q) ∷ along-it w k)
+    tested c t i j q e h g w k = record { made = condition-coded f means bases offsets marks table small c t j q (rw e h) g w k }
+
+    mutual
+      unfolding isStatement tapeStatement tapeDeclaration coreStatement code leaves Agree codeFor
+
+      statement-made : (x : Statement) (i j : ℕ) → isStatement (f .kinds) x i j → (ls ps : List Mark) (p : ℕ) → Agree f marks ls ps x p → (w : Writing) (k : List ℕ)
+          → Made (along-it w (tapeStatement x k)) (code ls ps (coreStatement f x) p) (along-it (leaves f means bases offsets x w) k)
+      statement-made (assign a) i j h ls ps p g w k = record { made = assignment-coded f means bases offsets marks table small a i j h w k }
+      statement-made (call n) i j h ls ps p g w k =
+          by-address (λ (q : ℕ). link (returnOf (meaningAt f n)) q ∷ []) g (event-made E.CALL n w k _ (call-adds f means bases offsets marks table n w))
+      statement-made (block t b) i j h ls ps p g w k =
+          after-none (idle-event E.BLOCK refl t w _) (before-none (body-made b _ _ (h .2) ls ps p g w _) (idle-event E.END-BLOCK refl t _ k))
+      statement-made (goto t n) i j h ls ps p g w k =
+          by-address (λ (q : ℕ). branch always q ∷ []) g (event-made E.GOTO n w k _ (goto-adds f means bases offsets marks n w))
+      statement-made null i j h ls ps p g w k = none-made _
+      statement-made (ifThen t c x) i j h ls ps p g w k =
+          then-made (tested c t _ _ _ (h .0) (h .2 .1) (g .0) w _)
+          (then-made (one-made (branch _ _) _) (before-none (statement-made x _ _ (h .2 .2 .1) ls ps _ (g .1) w _) (idle-event E.END-IF refl t _ k)))
+      statement-made (ifElse t c x e y) i j h ls ps p g w k =
+          let w′ = leaves f means bases offsets x w in
+          then-made (tested c t _ _ _ (h .0) (h .2 .1) (g .0) w _)
+          (then-made (one-made (branch _ _) _)
+          (then-made (statement-made x _ _ (h .2 .2 .1 .1 .1) ls ps _ (g .2) w _)
+          (then-made (by-address (λ (q : ℕ). branch always q ∷ []) (g .1) (event-made E.ELSE t w′ _ _ (else-adds f means bases offsets marks t w′)))
+          (before-none (statement-made y _ _ (h .2 .2 .1 .2 .2) ls ps _ (g .3) w′ _) (idle-event E.END-ELSE refl t _ k)))))
+      statement-made (while t c x) i j h ls ps p g w k =
+          let w′ = leaves f means bases offsets x w in
+          after-none (idle-event E.WHILE refl t w _)
+          (then-made (tested c t _ _ _ (h .0) (h .2 .1) (g .0) w _)
+          (then-made (one-made (branch _ _) _)
+          (then-made (statement-made x _ _ (h .2 .2 .1) ls ps _ (g .2) w _)
+          (by-address (λ (q : ℕ). branch always q ∷ []) (g .1) (event-made E.END-WHILE t w′ k _ (end-while-adds f means bases offsets marks t w′))))))
+      statement-made (for t a v l x) i j h ls ps p g w k =
+          let e : v ≡ h .2 .0 + 1 = h .2 .2 .1 .0 in
+          let w′ = controlWriting (f .found) means a in
+          let w″ = leaves f means bases offsets x w′ in
+          let end = h .2 .2 .1 .2 .1 .0 in
+          then-made {is = toRegister f (controlOf f a) a} (record { made = control-coded f means bases offsets marks table small a _ _ (h .2 .1) w _ })
+          (then-made {is = compareWith f (controlOf f a) l}
+          (record { made = limit-coded f means bases offsets marks table small a l v end _ (subst (λ (q : ℕ). isOperand (f .kinds) l q end) (omega arith) (h .2 .2 .1 .2 .1 .1)) w′ refl (g .0) (omega arith) _ })
+          (then-made (one-made (branch _ _) _)
+          (then-made (statement-made x _ _ (h .2 .2 .1 .2 .1 .2 .1) ls ps _ (g .3) w′ _)
+          (by-address (λ (q : ℕ). rx (opcode addRow 1) (controlOf f a) (literal (valueAt f v)) ∷ branch always q ∷ []) (g .1)
+          (by-address (λ (r : ℕ). rx (opcode addRow 1) r (literal (valueAt f v)) ∷ branch always (getD marks v 0) ∷ []) (g .2)
+          (event-made E.END-FOR v w″ k _ (end-for-adds f means bases offsets marks v w″)))))))
+
+      body-made : (b : Body) (i j : ℕ) → isBody (f .kinds) b i j → (ls ps : List Mark) (p : ℕ) → AgreeBody f marks ls ps b p → (w : Writing) (k : List ℕ)
+          → Made (along-it w (tapeBody b k)) (code ls ps (coreBody f b) p) (along-it (leavesBody f means bases offsets b w) k)
+      body-made (declare (registers rs) b) i j h ls ps p g w k = after-none (registers-out (along-it w) (idle-declaring w) rs _) (body-made b _ _ (h .2 .1) ls ps p g w k)
+      body-made (declare (cells c s is) b) i j h ls ps p g w k =
+          after-none (cells-out (along-it w) (idle-declaring w) c s is _) (body-made b _ _ (h .2 .1) ls ps p g w k)
+      body-made (declare (base n) b) i j h ls ps p g w k =
+          then-made (event-made E.BASE n w _ (rx (opcode loadRow 1) (registerOf (meaningAt f n)) (entry (getD (f .opens) n 0)) ∷ []) (base-adds f means bases offsets marks table n w)) (body-made b _ _ (h .2 .1) ls ps _ g w k)
+      body-made (procedure n r x b) i j h ls ps p g w k =
+          let e : n + 2 ≡ r = omega (arith, h .1 .1 .0, h .1 .1 .2 .1 .0) in
+          let w′ = leaves f means bases offsets x w in
+          then-made (by-address (λ (q : ℕ). branch always q ∷ []) (g .0) (event-made E.PROCEDURE n w _ _ (procedure-adds f means bases offsets marks n w)))
+          (then-made (statement-made x _ _ (h .1 .1 .2 .1 .2 .1 .1) [] _ _ (g .1) w _)
+          (then-made (by-address (λ (q : ℕ). rr 0x07 15 (registerOf (meaningAt f q)) ∷ []) e (event-made E.END-PROCEDURE n w′ _ _ (end-procedure-adds f means bases offsets marks table n w′)))
+          (body-made b _ _ (h .2 .1) ls _ _ (g .2) w′ k)))
+      body-made (items is) i j h ls ps p g w k = items-made is i j h _ ps p g w k
+
+      items-made : (is : Items) (i j : ℕ) → isItems (f .kinds) is i j → (ls ps : List Mark) (p : ℕ) → AgreeItems f marks ls ps is p → (w : Writing) (k : List ℕ)
+          → Made (along-it w (tapeItems is k)) (code ls ps (coreItems f is) p) (along-it (leavesItems f means bases offsets is w) k)
+      items-made ended i j h ls ps p g w k = none-made _
+      items-made (label l is) i j h ls ps p g w k = after-none (idle-event E.LABEL refl l w _) (items-made is _ _ (h .2 .1) ls ps p g w k)
+      items-made (item x is) i j h ls ps p g w k =
+          then-made (statement-made x _ _ (h .1) ls ps p (g .0) w _) (items-made is _ _ (h .2 .1) ls ps _ (g .1) _ k)
+
+    pub code-statement : (x : Statement) (i j : ℕ) → isStatement (f .kinds) x i j → (ls ps : List Mark) (p : ℕ) → Agree f marks ls ps x p → (w : Writing) (k : List ℕ)
+        → go f means bases offsets marks w (tapeStatement x k) ≡ coded offsets (code ls ps (coreStatement f x) p) ++ go f means bases offsets marks (leaves f means bases offsets x w) k
+    code-statement x i j h ls ps p g w k = statement-made x i j h ls ps p g w k .made

@@ -1,0 +1,190 @@
+-- Of a program in which no rule is broken, what is made along its tape is what the definition makes of its tree: `made-as-defined`.
+use mathlib.Core.Path.{_≡_, refl, sym, ap, ap₂, subst, _∙_}
+use mathlib.Core.Bool.{Bool, true, false}
+use mathlib.Core.List.{List, [], _∷_, map}
+use Prim.Native.Nat.{ℕ, zero, suc, _+_, _-_, _*_, _<_, _≤_, min}
+use native.Mathlib.Omega.{arith}
+use lib.Dec.{eqb, ltb}
+use lib.ListN.{length, take, getD, replicate, length-replicate}
+use lib.Seq.{sets}
+use borrow.Author.Tests.{ltb-false}
+use Rattle.base.specs.Choose.{choose, if_then_else_}
+use Rattle.base.specs.Lists.{All}
+use Rattle.base.proofs.Lists.{all-map}
+use Rattle.base.proofs.Tests.{cases}
+use Rattle.token.specs.Kinds as K
+use Rattle.token.specs.declared.Token.{Token}
+use Rattle.grammar.specs.Tree.{Statement}
+use Rattle.grammar.specs.Derives.{isStatement, isProgram}
+use Rattle.grammar.specs.Rising.{statementRises}
+use Rattle.grammar.proofs.Theorems.{program-rises, program-inside}
+use Rattle.tape.specs.Tape.{tapeStatement}
+use Rattle.names.specs.Search.{firstToken, around}
+use Rattle.names.specs.Names.{Named}
+use Rattle.names.specs.Labels.{Labelled}
+use Rattle.names.proofs.Bound.{BoundStatement, bound-program}
+use Rattle.kinds.specs.Meanings.{Filled, Meant, meanStatement, dataBase, standard}
+use Rattle.kinds.specs.Tables.{Tables}
+use Rattle.kinds.proofs.Known.{Known}
+use Rattle.tables.specs.Packed.{low, meaningsOf}
+use Rattle.tables.proofs.Meanings.{low-is}
+use Rattle.objtext.specs.Object.{Segment, objectText}
+use Rattle.translator.specs.Instructions.{Instruction, sizes}
+use Rattle.translator.specs.Core.{Core, coreStatement}
+use Rattle.translator.specs.Code.{code, instructions}
+use Rattle.translator.specs.Layout.{Layout, Placed, layout, placeCells, offsetOf, segmentLimit, roundUp, literalsEnd, literalsFrom, cellsEnd}
+use Rattle.translator.specs.Bytes.{encodeAll}
+use Rattle.translator.specs.Image as I
+use Rattle.translator.specs.Image.{fill, words, segments}
+use Rattle.translator.specs.Translate.{Answer, accepted, refused, kindsOf, valuesOf, named, labelled, meant, Made, tablesOf, make, finish, inRoom}
+use Rattle.translator.proofs.Sizes.{length-encodeAll}
+use Rattle.translator.proofs.Rooms.{ends-fit, offsets-fit}
+use Rattle.translator.proofs.Tables.{length-map}
+use Rattle.translator.proofs.Images.{Fitting}
+use Rattle.translator.proofs.Objects as O
+use Rattle.layout.specs.Along.{Imaging, imagingOf, nowhere, imageEvent}
+use Rattle.layout.proofs.Laid.{Right, all-right}
+use Rattle.layout.proofs.Images.{image-of-tree, placed-there}
+use Rattle.emit.specs.Along.{along, codeFor}
+use Rattle.code.specs.Places.{noWriting, placesAlong}
+use Rattle.code.specs.Coding.{bytesIn, Laid, laidOf, codeAlong}
+use Rattle.code.proofs.Laying.{laid-instructions}
+use Rattle.code.proofs.Program.{code-program}
+use Rattle.frames.specs.Frames.{objectOf}
+use Rattle.made.specs.Making.{zeros, endOf, endOfFirst, imageAlong, objectAlong, startOf, codedAlong, madeAlong}
+use Rattle.made.proofs.Segments.{program-cut, firstBytes, laterBytes, first-cut, later-cut, segments-are}
+
+-- a text of tokens ts that is the program x, with no rule broken, and its tables in arrays
+module _
+    (ts : List Token) (x : Statement) (to : ℕ) (small : (t : ℕ) → getD (kindsOf ts) t 0 ≡ K.NUMBER → getD (valuesOf ts) t 0 < 4294967296)
+    (program : isProgram (kindsOf ts) x firstToken to) (front : firstToken ≤ length ts) (quiet : make ts x .broken .number ≡ 0)
+    (means under ends offsets : List ℕ)
+    (means-are : meaningsOf means under ≡ meant ts (named ts x) x .means)
+    (ends-are : (k : ℕ) → getD ends k 0 ≡ getD (placeCells (meant ts (named ts x) x .bases) (meant ts (named ts x) x .cells) .ends) k 0)
+    (offsets-are : (t : ℕ) → getD offsets t 0 ≡ offsetOf (placeCells (meant ts (named ts x) x .bases) (meant ts (named ts x) x .cells) .placed) t)
+  where
+    abbrev m : Meant
+    m = meant ts (named ts x) x
+
+    abbrev f : Tables
+    f = tablesOf ts (named ts x) (labelled ts x) m
+
+    abbrev core : Core
+    core = coreStatement f x
+
+    abbrev is : List Instruction
+    is = instructions core
+
+    abbrev y : Layout
+    y = layout (m .bases) (m .cells) is
+
+    abbrev tape : List ℕ
+    tape = tapeStatement x []
+
+    -- where the tree ends, before the `@`
+    abbrev last : ℕ
+    unfolding isProgram
+    last = program .0
+
+    read : isStatement (kindsOf ts) x firstToken last
+    unfolding isProgram
+    read = program .1 .1
+
+    known : Known last m
+    known = O.known ts x last front read quiet
+
+    cells-quiet : placeCells (m .bases) (m .cells) .broken .number ≡ 0
+    cells-quiet = O.cells-quiet ts x last front read quiet
+
+    few : m .bases ≤ 2
+    few = O.few ts x last front read quiet
+
+    -- ── the layout ──
+
+    end-is : (k : ℕ) → endOf ends k ≡ cellsEnd y k
+    unfolding layout
+    end-is k = let e = ends-are k in let h = ends-fit (m .bases) (m .cells) cells-quiet k in omega arith
+
+    start-is : startOf ends ≡ y .literalsAt
+    unfolding layout
+    start-is = ap (roundUp 4) (end-is 1)
+
+    place-is : (t : ℕ) → low (getD offsets t 0) ≡ offsetOf (y .placed) t
+    unfolding layout
+    place-is t = let h = offsets-fit (m .bases) (m .cells) cells-quiet t in let e = offsets-are t in low-is (getD offsets t 0) (omega arith) ∙ e
+
+    -- ── the images ──
+
+    rises : statementRises x firstToken to
+    rises = program-rises (kindsOf ts) firstToken x to program
+
+    inside : to ≤ length ts
+    inside = let h = program-inside (kindsOf ts) firstToken x to program in let e = length-map (λ (t : Token). t .kind) ts in omega arith
+
+    abbrev before : Meant
+    before = standard (length ts - firstToken)
+
+    right : All (Right means under) (m .cells)
+    unfolding meant
+    right =
+        all-right means under (kindsOf ts) (valuesOf ts) (named ts x .found) x 0 firstToken to dataBase before refl rises 2 (length ts) 0 long inside (omega arith) means-are
+      where
+        long : length (before .means) ≡ length ts
+        long = let e = length-replicate {A = Rattle.kinds.specs.Meaning.Meaning} (length ts - firstToken) Rattle.kinds.specs.Meaning.nothing in omega arith
+
+    image-is : (k : ℕ) → imageAlong (valuesOf ts) means under offsets ends tape (m .bases) k ≡ fill k (y .placed) zeros
+    unfolding imageAlong meant layout
+    image-is k =
+        image-of-tree k means under offsets (valuesOf ts) zeros (let e = length-replicate {A = ℕ} segmentLimit 0 in omega arith) (kindsOf ts) (named ts x .found) x 0 dataBase before (m .bases) refl right
+        (all-map _ _ (placeCells (m .bases) (m .cells) .placed) (λ (p : Placed) h. offsets-are (p .name) ∙ h) (placed-there (m .bases) (m .cells) (known .falling)))
+
+    -- ── the program ──
+
+    -- no address stands in the marks before
+    abbrev marks : List ℕ
+    marks = replicate (length ts) 0
+
+    bound : BoundStatement (named ts x .found) (labelled ts x .goes) x around []
+    unfolding named labelled
+    bound =
+        bound-program (valuesOf ts) x firstToken to rises _ _ (let e = length-replicate {A = ℕ} (length ts) 0 in let h = inside in omega arith)
+        (let e = length-replicate {A = ℕ} (length ts) 0 in let h = inside in omega arith) around []
+
+    coded : along (kindsOf ts) (valuesOf ts) (named ts x .found) (labelled ts x .goes) means under (m .opens) offsets
+        (placesAlong (kindsOf ts) (valuesOf ts) (named ts x .found) (labelled ts x .goes) means under (m .opens) offsets marks tape .marks) noWriting tape
+        ≡ map (codeFor (λ (t : ℕ). low (getD offsets t 0))) (code [] [] core 0)
+    coded = code-program f means under offsets (sym means-are) small x firstToken to (length ts) program (omega arith) inside bound
+
+    abbrev lain : Laid
+    lain = codedAlong (kindsOf ts) (valuesOf ts) (named ts x .found) (labelled ts x .goes) means under (m .opens) offsets ends marks tape
+
+    lain-is : lain ≡ laidOf (sizes is) (sets zeros 0 (bytesIn (encodeAll y is))) (y .literals)
+    unfolding codedAlong layout
+    lain-is =
+        rw start-is
+        (laid-instructions y (λ (t : ℕ). low (getD offsets t 0)) place-is (kindsOf ts) (valuesOf ts) (named ts x .found) (labelled ts x .goes) means under (m .opens) offsets _ zeros tape core coded refl)
+
+    -- the object, if its program and its literals fit
+    object-is : sizes is ≤ segmentLimit → literalsEnd y ≤ segmentLimit
+        → objectAlong (valuesOf ts) means under offsets ends tape (m .bases) (startOf ends) (take (lain .at) (lain .image)) (lain .literals) ≡ segments (m .bases) y is
+    unfolding objectAlong endOfFirst
+    object-is h k =
+        let fit : Fitting y = O.fitting ts x last front read quiet k in
+        let bytes = O.program-bytes ts x last front read quiet h k in
+        rw (lain-is, start-is, image-is 1, image-is 2, image-is 3, end-is 1, end-is 2, end-is 3, program-cut (encodeAll y is) (sizes is) (length-encodeAll y is) h bytes, first-cut y fit, later-cut y 2 (fit .ends 2), later-cut y 3 (fit .ends 3))
+        (sym (segments-are y (m .bases) is few))
+
+    pub made-as-defined : (room : ℕ)
+        → madeAlong (kindsOf ts) (valuesOf ts) (named ts x .found) (labelled ts x .goes) means under (m .opens) offsets ends marks tape (m .bases) room ≡ inRoom room (finish (make ts x))
+    unfolding madeAlong finish make inRoom
+    made-as-defined room =
+        cases (ltb segmentLimit (sizes is))
+        (λ p. rw (lain-is, p))
+        (λ p.
+        cases (ltb segmentLimit (literalsEnd y))
+        (λ q. rw (lain-is, start-is, p, q))
+        (λ q.
+        let a : ltb segmentLimit (lain .at) ≡ false = ap (λ (l : Laid). ltb segmentLimit (l .at)) lain-is ∙ p in
+        let b : ltb segmentLimit (startOf ends + 4 * length (lain .literals)) ≡ false =
+        ap₂ (λ (n : ℕ) (l : Laid). ltb segmentLimit (n + 4 * length (l .literals))) start-is lain-is ∙ q in
+        rw (a, b, p, q) (ap (λ (o : List Segment). inRoom room (accepted (objectText o))) (object-is (ltb-false _ _ p) (ltb-false _ _ q)))))

@@ -1,0 +1,53 @@
+-- Lists that a loop lays, one element after the other: a turn and the end, as the invariants have them. Assumes nothing.
+use mathlib.Core.Path.{_≡_, refl, sym, ap, _∙_}
+use mathlib.Core.List.{List, [], _∷_, _++_}
+use Prim.Native.Nat.{ℕ, _+_, _*_, _≤_, _<_}
+use native.Mathlib.Omega.{arith}
+use native.Mathlib.Numerals.{add-one}
+use lib.ListN.{length, drop, getD, set, drop-of-length-le}
+use lib.Seq.{sets}
+use Rattle.base.specs.Numbers.{numberFrom, bytesOf, stored}
+use Rattle.base.proofs.Numbers.{length-bytesOf}
+use Rattle.base.proofs.Parts.{drop-turn, sets-append}
+use Rattle.base.proofs.Lists.{all-getD}
+use Rattle.names.specs.Search.{inFront}
+use Rattle.translator.specs.Image.{words}
+use Rattle.translator.specs.Translate.{valuesOf}
+use Rattle.translate.specs.Texts.{placesOf}
+
+pub lay-turn : (xs l : List ℕ) (t v : ℕ) {z : List ℕ} → t < length xs → v ≡ getD xs t 0 → sets l t (drop t xs) ≡ z → sets (set l t v) (t + 1) (drop (t + 1) xs) ≡ z
+lay-turn xs l t v h e q =
+    rw e (ap (λ (i : ℕ). sets (set l t (getD xs t 0)) i (drop (t + 1) xs)) (add-one t) ∙ (sym (ap (λ (ds : List ℕ). sets l t ds) (drop-turn xs t 0 h)) ∙ q))
+
+pub lay-end : (xs l : List ℕ) (t : ℕ) {z : List ℕ} → length xs ≤ t → sets l t (drop t xs) ≡ z → l ≡ z
+lay-end xs l t h q = sym (ap (λ (ds : List ℕ). sets l t ds) (drop-of-length-le xs h)) ∙ q
+
+module _ (vs image : List ℕ) (start i : ℕ) where
+  pub words-start : sets image (start + 4 * 0) (words (drop 0 vs)) ≡ sets image start (words vs)
+  words-start = let e : start + 4 * 0 ≡ start = omega arith in rw e
+
+  pub words-turn : (v : ℕ) {z : List ℕ} → i < length vs → v ≡ getD vs i 0 → sets image (start + 4 * i) (words (drop i vs)) ≡ z
+      → sets (stored image (start + 4 * i) 4 v) (start + 4 * (i + 1)) (words (drop (i + 1) vs)) ≡ z
+  unfolding words
+  words-turn v h e q =
+      let bs = bytesOf 4 (getD vs i 0) in
+      let next : start + 4 * (i + 1) ≡ start + 4 * i + length bs = omega (arith, length-bytesOf 4 (getD vs i 0)) in
+      rw (e, next)
+      (sym (sets-append image (start + 4 * i) bs (words (drop (i + 1) vs)))
+      ∙ (sym (ap (λ (ds : List ℕ). sets image (start + 4 * i) (words ds)) (drop-turn vs i 0 h)) ∙ q))
+
+  pub words-end : {z : List ℕ} → length vs ≤ i → sets image (start + 4 * i) (words (drop i vs)) ≡ z → image ≡ z
+  unfolding words
+  words-end h q = sym (ap (λ (ds : List ℕ). sets image (start + 4 * i) (words ds)) (drop-of-length-le vs h)) ∙ q
+
+-- ── the names in front ──
+
+-- they stand at no place of the text
+pub front-place : (t : ℕ) → 0 ≡ getD (placesOf inFront) t 0
+front-place t = all-getD (λ (v : ℕ). 0 ≡ v) (placesOf inFront) t 0 (refl, (refl, (refl, (refl, (refl, (refl, (refl, (refl, (refl, (refl, (refl, (refl, (refl, (refl, (refl, (refl, (refl, tt))))))))))))))))) refl
+
+-- their keys
+pub front-key :
+    (t : ℕ) → getD (0 ∷ 972 ∷ 973 ∷ 974 ∷ 975 ∷ 976 ∷ 977 ∷ 978 ∷ 979 ∷ 980 ∷ 981 ∷ 982 ∷ 983 ∷ 984 ∷ 985 ∷ 986 ∷ 987 ∷ []) t 0 ≡ getD (valuesOf inFront) t 0
+unfolding numberFrom
+front-key t = refl

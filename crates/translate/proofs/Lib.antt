@@ -1,0 +1,6 @@
+-- Laws of the whole translation.
+pub mod Laying
+pub mod Reading
+pub mod Judging
+pub mod Delivering
+pub mod Making

@@ -1,0 +1,43 @@
+-- `bind` finds names, then labels: on the tape of a program what the definition finds. Assumes nothing.
+use native.Mathlib.Omega.{arith}
+use Rattle.translate.proofs.Judging.{bound}
+use borrow.Author.Needs.{needs}
+use Rattle.translate.proofs.bind.Statement.{statement}
+use Rattle.translate.proofs.bind.Tie as tie
+
+names-requires : tie.Need-names-requires
+names-requires c κs = search needs
+
+labels-requires : tie.Need-labels-requires
+labels-requires c κs = search needs
+
+join-requires : tie.Need-join-requires
+join-requires c κs = search needs
+
+same-length : tie.Need-same-length
+same-length c = search needs
+
+same-length-2 : tie.Need-same-length-2
+same-length-2 c = search needs
+
+same-length-3 : tie.Need-same-length-3
+same-length-3 c = search needs
+
+same-length-4 : tie.Need-same-length-4
+same-length-4 c = search needs
+
+returns : tie.Need-returns
+returns c = λ ts x t bf bg. bound ts x _ _ t _ _ _ _ _ _ _ _ _ (omega (arith, c .before .before .before .before .before .before .before .before .before .before .before .before .before .before .before .before .before .before .before .before .before .before .before .before .before .before .before .pre .2, c .before .before .before .before .before .before .before .before .before .before .before .before .before .before .before .before .before .names .kept .1 .1 .0)) (omega (arith, c .before .before .before .before .before .before .before .before .before .before .before .before .before .before .before .before .before .before .before .before .before .before .before .before .before .before .before .pre .3, c .before .before .before .before .before .before .before .before .before .before .before .before .before .before .before .before .before .names .kept .1 .1 .1 .0)) bf bg (c .before .before .before .before .before .before .before .before .before .before .before .before .before .before .before .before .before .names .ensures) (c .before .before .before .before .before .before .before .labels .ensures) (c .join .ensures)
+
+pub bind-spec : {M : Type 1} → statement M
+bind-spec =
+    tie.close
+    (tie.spec
+    names-requires
+    labels-requires
+    join-requires
+    same-length
+    same-length-2
+    same-length-3
+    same-length-4
+    returns)
