@@ -51,7 +51,7 @@ use Rattle.code.specs.Coding.{bytesIn, Laid, laidOf, codeAlong}
 use Rattle.code.proofs.Laying.{laid-instructions}
 use Rattle.code.proofs.Program.{code-program}
 use Rattle.frames.specs.Frames.{objectOf}
-use Rattle.made.specs.Making.{zeros, endOf, endOfFirst, imageAlong, objectAlong, startOf, codedAlong, madeAlong}
+use Rattle.made.specs.Making.{zeros, endOf, endOfFirst, imageAlong, objectCut, objectAlong, startOf, codedAlong, madeAlong}
 use Rattle.made.proofs.Segments.{program-cut, firstBytes, laterBytes, first-cut, later-cut, segments-are}
 
 -- a text of tokens ts that is the program x, with no rule broken, and its tables in arrays
@@ -132,7 +132,7 @@ module _
         long : length (before .means) ≡ length ts
         long = let e = length-replicate {A = Rattle.kinds.specs.Meaning.Meaning} (length ts - firstToken) Rattle.kinds.specs.Meaning.nothing in omega arith
 
-    image-is : (k : ℕ) → imageAlong (valuesOf ts) means under offsets ends tape (m .bases) k ≡ fill k (y .placed) zeros
+    image-is : (k : ℕ) → imageAlong (valuesOf ts) means under offsets tape k ≡ fill k (y .placed) zeros
     unfolding imageAlong meant layout
     image-is k =
         image-of-tree k means under offsets (valuesOf ts) zeros (let e = length-replicate {A = ℕ} segmentLimit 0 in omega arith) (kindsOf ts) (named ts x .found) x 0 dataBase before (m .bases) refl right
@@ -166,8 +166,8 @@ module _
 
     -- the object, if its program and its literals fit
     object-is : sizes is ≤ segmentLimit → literalsEnd y ≤ segmentLimit
-        → objectAlong (valuesOf ts) means under offsets ends tape (m .bases) (startOf ends) (take (lain .at) (lain .image)) (lain .literals) ≡ segments (m .bases) y is
-    unfolding objectAlong endOfFirst
+        → objectAlong (valuesOf ts) means under offsets tape (m .bases) ends (startOf ends) (take (lain .at) (lain .image)) (lain .literals) ≡ segments (m .bases) y is
+    unfolding objectAlong objectCut endOfFirst
     object-is h k =
         let fit : Fitting y = O.fitting ts x last front read quiet k in
         let bytes = O.program-bytes ts x last front read quiet h k in

@@ -28,15 +28,19 @@ endOf ends k = min (getD ends k 0) segmentLimit
 unfoldable pub endOfFirst : (cells start literals : ℕ) → ℕ
 endOfFirst cells start literals = if eqb literals 0 then cells else start + 4 * literals
 
-module _ (values means under offsets ends tape : List ℕ) (bases : ℕ) where
+module _ (values means under offsets tape : List ℕ) where
   unfoldable pub imageAlong : ℕ → List ℕ
   imageAlong k = pass (imageEvent k means under offsets values) (imagingOf zeros nowhere) tape .image
 
-  -- the object of a program and the literals from `start`
-  unfoldable pub objectAlong : (start : ℕ) (code literals : List ℕ) → List Segment
-  objectAlong start code literals =
-      objectOf code (take (endOfFirst (endOf ends 1) start (length literals)) (sets (imageAlong 1) start (words literals))) (endOf ends 1) bases
-      (take (endOf ends 2) (imageAlong 2)) (take (endOf ends 3) (imageAlong 3))
+  module _ (bases : ℕ) where
+    -- the object of a program and the literals from `start`, by the ends of segment 1's cells and of the data segments
+    unfoldable pub objectCut : (start : ℕ) (code literals : List ℕ) (cells last two three : ℕ) → List Segment
+    objectCut start code literals cells last two three =
+        objectOf code (take last (sets (imageAlong 1) start (words literals))) cells bases (take two (imageAlong 2)) (take three (imageAlong 3))
+
+    unfoldable pub objectAlong : (ends : List ℕ) (start : ℕ) (code literals : List ℕ) → List Segment
+    objectAlong ends start code literals =
+        objectCut start code literals (endOf ends 1) (endOfFirst (endOf ends 1) start (length literals)) (endOf ends 2) (endOf ends 3)
 
 abbrev pub startOf : (ends : List ℕ) → ℕ
 startOf ends = roundUp 4 (endOf ends 1)
@@ -52,4 +56,4 @@ madeAlong kinds values found goes means under opens offsets ends marks tape base
     let l = codedAlong kinds values found goes means under opens offsets ends marks tape in
     if ltb segmentLimit (l .at) then refused 14 0 else
     if ltb segmentLimit (startOf ends + 4 * length (l .literals)) then refused 15 0 else
-    inRoom room (accepted (objectText (objectAlong values means under offsets ends tape bases (startOf ends) (take (l .at) (l .image)) (l .literals))))
+    inRoom room (accepted (objectText (objectAlong values means under offsets tape bases ends (startOf ends) (take (l .at) (l .image)) (l .literals))))

@@ -57,7 +57,7 @@ read-small at zero (x ∷ xs) = by (nextToken (x ∷ xs)) (next-small (x ∷ xs)
     by (refused number place) h ih = h
     by (read t end) h ih = cases (isLast (t .kind)) (λ e. rw e (omega arith)) (λ e. rw e (ih end))
 
-tokens-small : (s : List ℕ) → tokensOf s .number ≤ 3
+pub tokens-small : (s : List ℕ) → tokensOf s .number ≤ 3
 unfolding tokensOf
 tokens-small s = cases (ltb TEXT-LIMIT (length s)) (λ e. rw e (omega arith)) (λ e. rw e (read-small 0 0 s))
 

@@ -23,7 +23,7 @@ use Rattle.frames.specs.Frames.{objectOf, lengthFor}
 use Rattle.frames.proofs.Objects.{text-length, laid-front}
 use Rattle.translate.specs.declared.Answer.the-variants.{Accepted, Refused}
 use Rattle.translate.specs.Answers.{Gives}
-use Rattle.translate.specs.Making.{zeros, endOf, endOfFirst, imageAlong, objectCut, objectAlong}
+use Rattle.made.specs.Making.{zeros, endOf, endOfFirst, imageAlong, objectCut, objectAlong}
 
 -- ── an image has the length that it was lent with ──
 

@@ -14,7 +14,7 @@ use Rattle.grammar.specs.Tree.{Statement}
 use Rattle.grammar.specs.Derives.{isProgram, isStatement}
 use Rattle.grammar.specs.Rising.{statementRises}
 use Rattle.grammar.proofs.Kept.{keep-statement}
-use Rattle.grammar.proofs.Theorems.{program-rises}
+use Rattle.grammar.proofs.Theorems.{program-rises, program-inside}
 use Rattle.tape.specs.Events as E
 use Rattle.tape.specs.Tape.{tapeStatement}
 use Rattle.tape.specs.Pass.{onEvent, pass}
@@ -30,7 +30,6 @@ use Rattle.kinds.specs.Meanings.{Meant, Filled, meanStatement, dataBase, standa
 use Rattle.kinds.specs.Tables.{Tables}
 use Rattle.kinds.specs.Rules.{protected}
 use Rattle.kinds.specs.Kinds.{kindStatement}
-use Rattle.kinds.proofs.Bases.{in-text}
 use Rattle.kinds.proofs.Known.{Known, Alike, text-alike, call-alike, write-alike, grown-statement, known-standard}
 use Rattle.tables.specs.Packed.{meaningsOf, setsOf}
 use Rattle.search.specs.Naming.{nameOp, beginning}
@@ -58,13 +57,12 @@ use Rattle.translate.specs.Texts.{Text, Blank, Bound, meantIn, tablesIn,
 -- ── the tokens of a program ──
 
 module _ (ts : List Token) (x : Statement) (to : ℕ) (p : isProgram (kindsOf ts) x firstToken to) where
-  pub program-inside : to ≤ length ts
-  unfolding isProgram
-  program-inside = let h = in-text (kindsOf ts) (p .0) 50 (p .2 .0) in let e = length-map (λ (t : Token). t .kind) ts in let q = p .2 .1 in omega arith
+  inside : to ≤ length ts
+  inside = let h = program-inside (kindsOf ts) firstToken x to p in let e = length-map (λ (t : Token). t .kind) ts in omega arith
 
   pub program-front : firstToken < length ts
   unfolding isProgram
-  program-front = let r = keep-statement {kinds = kindsOf ts} {others = kindsOf ts} x .rises (p .1 .1) in let h = program-inside in let q = p .2 .1 in omega arith
+  program-front = let r = keep-statement {kinds = kindsOf ts} {others = kindsOf ts} x .rises (p .1 .1) in let h = inside in let q = p .2 .1 in omega arith
 
 -- ── names and labels ──
 
@@ -78,7 +76,7 @@ module _ (ts : List Token) (x : Statement) (values tape : List ℕ) (t : Text ts
       → b ≡ n .broken ⊕ l .broken → Bound ts x found′ goes′ b
   unfolding named labelled
   bound found goes links outer found′ goes′ n l b wl wo bf bg en el eb =
-      let i = program-inside ts x (t .to) (t .program) in
+      let i = inside ts x (t .to) (t .program) in
       let v = values-long in
       let p : namedIn found′ n ≡ named ts x = rw (t .values-are, t .tape-is, bf) at en ∙ named-program (kindsOf ts) (valuesOf ts) _ x firstToken (t .to) (t .program) in
       let q : labelledIn goes′ l ≡ labelled ts x =
@@ -196,11 +194,11 @@ module _ (ts : List Token) (x : Statement) (kinds values found tape : List ℕ) 
           let k = known in
           let f = few in
           let b = bases-are in
-          let inside = program-inside ts x (t .to) p in
+          let within = inside ts x (t .to) p in
           let l : LaidAs (meantIn ts x .bases) (meantIn ts x .cells) (layingOf ends′ offsets′ placed) =
           subst (λ (y : Laying). LaidAs (meantIn ts x .bases) (meantIn ts x .cells) y) (sym (rw (t .tape-is, bl) at el))
           (layout-of-tree means′ under′ (kindsOf ts) (valuesOf ts) (named ts x .found) x 0 firstToken (t .to) dataBase (standard n) refl (program-rises (kindsOf ts) firstToken x (t .to) p)
-          N (length ts) (meantIn ts x .bases) means-long inside (omega arith) means-are (k .opened)) in
+          N (length ts) (meantIn ts x .bases) means-long within (omega arith) means-are (k .opened)) in
           record {
             means-are = means-are;
             opens-are = ap (λ (s : Meant). s .opens) tables;

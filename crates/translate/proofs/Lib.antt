@@ -4,3 +4,4 @@ pub mod Reading
 pub mod Judging
 pub mod Delivering
 pub mod Making
+pub mod Groups

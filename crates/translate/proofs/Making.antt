@@ -17,7 +17,7 @@ use Rattle.code.specs.Coding.{Laid, laidOf, codeAlong}
 use Rattle.translate.specs.declared.Answer.{Answer}
 use Rattle.translate.specs.declared.Answer.the-variants.{Refused}
 use Rattle.translate.specs.Answers.{Gives}
-use Rattle.translate.specs.Making.{zeros, endOf, startOf, objectAlong, codedAlong, madeAlong}
+use Rattle.made.specs.Making.{zeros, endOf, startOf, objectAlong, codedAlong, madeAlong}
 
 take-least : (n : ℕ) (l : List ℕ) → take (min n (length l)) l ≡ take n l
 take-least n l = go (decLe n (length l))

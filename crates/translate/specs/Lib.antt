@@ -1,4 +1,3 @@
--- The answer by the paper's numbers, a text and its tables as arrays, and what is made of them along the tape.
+-- The answer by the paper's numbers, and a text with its tables as arrays.
 pub mod Answers
 pub mod Texts
-pub mod Making

@@ -1,7 +1,7 @@
 -- A text that is a program, as arrays by token; and the tables of the definition as the passes leave them in arrays.
 use mathlib.Core.Path.{_≡_}
 use mathlib.Core.List.{List, [], _++_, map}
-use Prim.Native.Nat.{ℕ, _+_, _<_}
+use Prim.Native.Nat.{ℕ, _+_, _*_, _≤_, _<_}
 use lib.ListN.{length, take, getD, replicate}
 use Rattle.token.specs.Kinds as K
 use Rattle.token.specs.Text.{Reading, tokensOf}
@@ -57,6 +57,15 @@ pub record Text (ts : List Token) (x : Statement) (values tape : List ℕ) : Typ
 abbrev pub Blank : List Token → List ℕ → Type 0
 Blank ts l = l ≡ replicate (length ts) 0
 
+pub record Blanks (ts : List Token) (found goes means opens written offsets marks : List ℕ) : Type 0 where
+  pub no-found : Blank ts found
+  pub no-goes : Blank ts goes
+  pub no-means : Blank ts means
+  pub no-opens : Blank ts opens
+  pub no-written : Blank ts written
+  pub no-offsets : Blank ts offsets
+  pub no-marks : Blank ts marks
+
 -- which declaration each name and which label each GOTO means, and the rules that are broken by them
 pub record Bound (ts : List Token) (x : Statement) (found goes : List ℕ) (b : Broken) : Type 0 where
   pub found-is : found ≡ named ts x .found
@@ -78,3 +87,45 @@ pub record Settled (ts : List Token) (x : Statement) (means under opens written 
   pub ends-are : (k : ℕ) → getD ends k 0 ≡ getD (placeCells (meantIn ts x .bases) (meantIn ts x .cells) .ends) k 0
   pub offsets-are : (t : ℕ) → getD offsets t 0 ≡ offsetOf (placeCells (meantIn ts x .bases) (meantIn ts x .cells) .placed) t
   pub broken-is : r .broken ≡ (others ⊕ kindStatement (tablesIn ts x) x protected) ⊕ placeCells (meantIn ts x .bases) (meantIn ts x .cells) .broken
+
+-- ── room ──
+
+abbrev pub Zeros : List ℕ → Type 0
+Zeros l = l ≡ replicate (length l) 0
+
+-- what is lent for a tape of at most n events: two stacks of names, two of numbers, the ends of segments and the literals
+pub record Lent (n : ℕ) (first second third fourth ends literals : List ℕ) : Type 0 where
+  pub few : n ≤ 65536
+  pub first-long : firstToken + n ≤ length first
+  pub second-long : firstToken + n ≤ length second
+  pub first-short : length first ≤ 4294967296
+  pub third-long : n + 2 ≤ length third
+  pub fourth-long : n + 2 ≤ length fourth
+  pub ends-long : n + 2 ≤ length ends
+  pub ends-zero : Zeros ends
+  pub literals-long : 2 * n + 2 ≤ length literals
+  pub literals-short : length literals ≤ 4294967296
+
+-- what is lent for a text of n bytes
+pub record Rooms (n : ℕ) (kinds values places tape first second third fourth found goes means under opens written ends offsets marks literals : List ℕ) : Type 0 where
+  pub short : n ≤ 32768
+  pub lent : Lent (n + 18) first second third fourth ends literals
+  pub for-kinds : n + 18 ≤ length kinds
+  pub for-values : n + 18 ≤ length values
+  pub for-places : n + 18 ≤ length places
+  pub for-tape : n + 18 ≤ length tape
+  pub for-found : n + 18 ≤ length found
+  pub for-goes : n + 18 ≤ length goes
+  pub for-means : n + 18 ≤ length means
+  pub for-under : n + 18 ≤ length under
+  pub for-opens : n + 18 ≤ length opens
+  pub for-written : n + 18 ≤ length written
+  pub for-offsets : n + 18 ≤ length offsets
+  pub for-marks : n + 18 ≤ length marks
+  pub no-found : Zeros found
+  pub no-goes : Zeros goes
+  pub no-means : Zeros means
+  pub no-opens : Zeros opens
+  pub no-written : Zeros written
+  pub no-offsets : Zeros offsets
+  pub no-marks : Zeros marks

@@ -7,14 +7,16 @@ ghost use lib.ListN.{length, getD, replicate};
 ghost use lib.Seq.{sets};
 ghost use Rattle.token.specs.declared.Token.{Token};
 ghost use Rattle.grammar.specs.Tree.{Statement};
-ghost use Rattle.names.specs.Search.{inFront};
+ghost use Rattle.grammar.specs.Grammar.{program};
+ghost use Rattle.names.specs.Search.{inFront, firstToken};
 ghost use Rattle.translator.specs.Image.{words};
-ghost use Rattle.translator.specs.Translate.{kindsOf, valuesOf, accepted, inRoom, named};
+ghost use Rattle.translator.specs.Translate.{kindsOf, valuesOf, accepted, inRoom, named, make, judge, afterTokens, translate as translation};
 ghost use Rattle.objtext.specs.Object.{objectText};
 ghost use Rattle.frames.specs.Frames.{lengthFor};
 ghost use Rattle.translate.specs.Answers.{Gives};
-ghost use Rattle.translate.specs.Texts.{placesOf, Fronted, Text, Blank, Bound, Settled};
-ghost use Rattle.translate.specs.Making.{endOf, endOfFirst, objectCut, objectAlong, madeAlong};
+ghost use Rattle.translate.specs.Texts.{placesOf, Fronted, Small, Text, Blank, Blanks, Bound, Settled, Lent, Rooms};
+ghost use Rattle.made.specs.Making.{endOf, endOfFirst, objectCut, objectAlong, madeAlong};
+use arrays::get;
 use arrays::key;
 use names::Broken;
 use names::join;
@@ -25,6 +27,9 @@ pub enum Answer {
     Accepted(usize),
     Refused(usize, usize),
 }
+
+// "source over 32,768 bytes".
+const TEXT_LIMIT: usize = 32768;
 
 // "A segment is at most 4,096 bytes".
 const SEGMENT_LIMIT: usize = 4096;
@@ -350,4 +355,348 @@ fn make(
         bases,
         out,
     )
+}
+
+// ── the groups ──
+
+// The rest of the groups, of a program that is on the tape: 6 to 13, then 14, 15, 16.
+fn translate_tape(
+    tape: &[u32],
+    kinds: &[u8],
+    values: &[u64],
+    places: &[u32],
+    first: &mut [u32],
+    second: &mut [u32],
+    third: &mut [u64],
+    fourth: &mut [u64],
+    found: &mut [u32],
+    goes: &mut [u32],
+    means: &mut [u64],
+    under: &mut [u64],
+    opens: &mut [u32],
+    written: &mut [u32],
+    ends: &mut [u64],
+    offsets: &mut [u64],
+    marks: &mut [u32],
+    literals: &mut [u64],
+    out: &mut [u8],
+) -> Answer
+    requires { ⌜ (Lent (length (now tape)) (now first) (now second) (now third) (now fourth) (now ends) (now literals)) × (length (now values) ≤ length (now first)) × (length (now values) ≤ length (now second)) × (length (now means) ≤ length (now under)) ⌝ }
+    ensures { λ r. ⌜ ((ts : List Token) (x : Statement) → Text ts x (now (values .entry)) (now (tape .entry)) → now (kinds .entry) ≡ kindsOf ts → now (places .entry) ≡ placesOf ts → Blanks ts (now (found .entry)) (now (goes .entry)) (now (means .entry)) (now (opens .entry)) (now (written .entry)) (now (offsets .entry)) (now (marks .entry)) → Gives (inRoom (length (now (out .entry))) (judge ts (make ts x))) (now (out .entry)) (now (out .exit)) r) ⌝ }
+{
+    let others = bind(tape, values, first, second, found, goes);
+    let s = settle(
+        tape,
+        kinds,
+        values,
+        found,
+        means,
+        under,
+        opens,
+        written,
+        third,
+        fourth,
+        ends,
+        offsets,
+        others,
+    );
+    let broken = s.broken;
+    let number = broken.number;
+    let at = broken.at;
+    if number != 0 {
+        return Answer::Refused(number, get(places, at));
+    }
+    make(
+        tape,
+        kinds,
+        values,
+        found,
+        goes,
+        means,
+        under,
+        opens,
+        offsets,
+        ends,
+        marks,
+        literals,
+        s.bases,
+        out,
+    )
+}
+
+// The tokens: 4 and 5, then the rest.
+fn translate_tokens(
+    kinds: &[u8],
+    values: &[u64],
+    places: &[u32],
+    tape: &mut [u32],
+    first: &mut [u32],
+    second: &mut [u32],
+    third: &mut [u64],
+    fourth: &mut [u64],
+    found: &mut [u32],
+    goes: &mut [u32],
+    means: &mut [u64],
+    under: &mut [u64],
+    opens: &mut [u32],
+    written: &mut [u32],
+    ends: &mut [u64],
+    offsets: &mut [u64],
+    marks: &mut [u32],
+    literals: &mut [u64],
+    out: &mut [u8],
+) -> Answer
+    requires { ⌜ (Lent (length (now kinds)) (now first) (now second) (now third) (now fourth) (now ends) (now literals)) × (17 ≤ length (now kinds)) × (length (now kinds) ≤ length (now tape)) × (length (now tape) ≤ length (now kinds)) × (length (now values) ≤ length (now first)) × (length (now values) ≤ length (now second)) × (length (now means) ≤ length (now under)) ⌝ }
+    ensures { λ r. ⌜ ((ts : List Token) → now (kinds .entry) ≡ kindsOf ts → now (values .entry) ≡ valuesOf ts → now (places .entry) ≡ placesOf ts → Small ts → Blanks ts (now (found .entry)) (now (goes .entry)) (now (means .entry)) (now (opens .entry)) (now (written .entry)) (now (offsets .entry)) (now (marks .entry)) → Gives (inRoom (length (now (out .entry))) (afterTokens ts (program (now (kinds .entry)) firstToken))) (now (out .entry)) (now (out .exit)) r) ⌝ }
+{
+    let p = parse::program(kinds, FIRST_TOKEN, tape);
+    let number = p.number;
+    let at = p.at;
+    let size = p.value;
+    if number != 0 {
+        return Answer::Refused(number as usize, get(places, at));
+    }
+    translate_tape(
+        &tape[..size],
+        kinds,
+        values,
+        places,
+        first,
+        second,
+        third,
+        fourth,
+        found,
+        goes,
+        means,
+        under,
+        opens,
+        written,
+        ends,
+        offsets,
+        marks,
+        literals,
+        out,
+    )
+}
+
+// The text: 1 to 3, then the rest, in lists by token with room for any text of its length.
+fn translate_in(
+    src: &[u8],
+    kinds: &mut [u8],
+    values: &mut [u64],
+    places: &mut [u32],
+    tape: &mut [u32],
+    first: &mut [u32],
+    second: &mut [u32],
+    third: &mut [u64],
+    fourth: &mut [u64],
+    found: &mut [u32],
+    goes: &mut [u32],
+    means: &mut [u64],
+    under: &mut [u64],
+    opens: &mut [u32],
+    written: &mut [u32],
+    ends: &mut [u64],
+    offsets: &mut [u64],
+    marks: &mut [u32],
+    literals: &mut [u64],
+    out: &mut [u8],
+) -> Answer
+    requires { ⌜ Rooms (length (now src)) (now kinds) (now values) (now places) (now tape) (now first) (now second) (now third) (now fourth) (now found) (now goes) (now means) (now under) (now opens) (now written) (now ends) (now offsets) (now marks) (now literals) ⌝ }
+    ensures { λ r. ⌜ Gives (translation (now (src .entry)) (length (now (out .entry)))) (now (out .entry)) (now (out .exit)) r ⌝ }
+{
+    let tokens = read(src, kinds, values, places);
+    match tokens {
+        Tokens::Read(n) => {
+            let m = FIRST_TOKEN + n;
+            translate_tokens(
+                &kinds[..m],
+                &values[..m],
+                &places[..m],
+                &mut tape[..m],
+                first,
+                second,
+                third,
+                fourth,
+                &mut found[..m],
+                &mut goes[..m],
+                &mut means[..m],
+                &mut under[..m],
+                &mut opens[..m],
+                &mut written[..m],
+                ends,
+                &mut offsets[..m],
+                &mut marks[..m],
+                literals,
+                out,
+            )
+        }
+        Tokens::TooLong => Answer::Refused(1, TEXT_LIMIT),
+        Tokens::NoToken(place) => Answer::Refused(2, place),
+        Tokens::OutOfRange(place) => Answer::Refused(3, place),
+        Tokens::Room(needed) => Answer::Refused(16, needed),
+    }
+}
+
+// ── by length, so that a short text does not wait for long lists to be cleared ──
+
+const SHORT: usize = 1024;
+
+const MIDDLING: usize = 8192;
+
+// Beside a token at each byte: the end, the names in front, and as many entries again in the search's lists.
+const MORE: usize = 35;
+
+fn short(src: &[u8], out: &mut [u8]) -> Answer
+    requires { ⌜ length (now src) ≤ 1024 ⌝ }
+    ensures { λ r. ⌜ Gives (translation (now (src .entry)) (length (now (out .entry)))) (now (out .entry)) (now (out .exit)) r ⌝ }
+{
+    let mut kinds = [0u8; SHORT + MORE];
+    let mut values = [0u64; SHORT + MORE];
+    let mut places = [0u32; SHORT + MORE];
+    let mut tape = [0u32; SHORT + MORE];
+    let mut first = [0u32; SHORT + MORE];
+    let mut second = [0u32; SHORT + MORE];
+    let mut third = [0u64; SHORT + MORE];
+    let mut fourth = [0u64; SHORT + MORE];
+    let mut found = [0u32; SHORT + MORE];
+    let mut goes = [0u32; SHORT + MORE];
+    let mut means = [0u64; SHORT + MORE];
+    let mut under = [0u64; SHORT + MORE];
+    let mut opens = [0u32; SHORT + MORE];
+    let mut written = [0u32; SHORT + MORE];
+    let mut ends = [0u64; SHORT + MORE];
+    let mut offsets = [0u64; SHORT + MORE];
+    let mut marks = [0u32; SHORT + MORE];
+    let mut literals = [0u64; 2 * (SHORT + MORE)];
+    translate_in(
+        src,
+        &mut kinds,
+        &mut values,
+        &mut places,
+        &mut tape,
+        &mut first,
+        &mut second,
+        &mut third,
+        &mut fourth,
+        &mut found,
+        &mut goes,
+        &mut means,
+        &mut under,
+        &mut opens,
+        &mut written,
+        &mut ends,
+        &mut offsets,
+        &mut marks,
+        &mut literals,
+        out,
+    )
+}
+
+fn middling(src: &[u8], out: &mut [u8]) -> Answer
+    requires { ⌜ length (now src) ≤ 8192 ⌝ }
+    ensures { λ r. ⌜ Gives (translation (now (src .entry)) (length (now (out .entry)))) (now (out .entry)) (now (out .exit)) r ⌝ }
+{
+    let mut kinds = [0u8; MIDDLING + MORE];
+    let mut values = [0u64; MIDDLING + MORE];
+    let mut places = [0u32; MIDDLING + MORE];
+    let mut tape = [0u32; MIDDLING + MORE];
+    let mut first = [0u32; MIDDLING + MORE];
+    let mut second = [0u32; MIDDLING + MORE];
+    let mut third = [0u64; MIDDLING + MORE];
+    let mut fourth = [0u64; MIDDLING + MORE];
+    let mut found = [0u32; MIDDLING + MORE];
+    let mut goes = [0u32; MIDDLING + MORE];
+    let mut means = [0u64; MIDDLING + MORE];
+    let mut under = [0u64; MIDDLING + MORE];
+    let mut opens = [0u32; MIDDLING + MORE];
+    let mut written = [0u32; MIDDLING + MORE];
+    let mut ends = [0u64; MIDDLING + MORE];
+    let mut offsets = [0u64; MIDDLING + MORE];
+    let mut marks = [0u32; MIDDLING + MORE];
+    let mut literals = [0u64; 2 * (MIDDLING + MORE)];
+    translate_in(
+        src,
+        &mut kinds,
+        &mut values,
+        &mut places,
+        &mut tape,
+        &mut first,
+        &mut second,
+        &mut third,
+        &mut fourth,
+        &mut found,
+        &mut goes,
+        &mut means,
+        &mut under,
+        &mut opens,
+        &mut written,
+        &mut ends,
+        &mut offsets,
+        &mut marks,
+        &mut literals,
+        out,
+    )
+}
+
+fn long(src: &[u8], out: &mut [u8]) -> Answer
+    requires { ⌜ length (now src) ≤ 32768 ⌝ }
+    ensures { λ r. ⌜ Gives (translation (now (src .entry)) (length (now (out .entry)))) (now (out .entry)) (now (out .exit)) r ⌝ }
+{
+    let mut kinds = [0u8; TEXT_LIMIT + MORE];
+    let mut values = [0u64; TEXT_LIMIT + MORE];
+    let mut places = [0u32; TEXT_LIMIT + MORE];
+    let mut tape = [0u32; TEXT_LIMIT + MORE];
+    let mut first = [0u32; TEXT_LIMIT + MORE];
+    let mut second = [0u32; TEXT_LIMIT + MORE];
+    let mut third = [0u64; TEXT_LIMIT + MORE];
+    let mut fourth = [0u64; TEXT_LIMIT + MORE];
+    let mut found = [0u32; TEXT_LIMIT + MORE];
+    let mut goes = [0u32; TEXT_LIMIT + MORE];
+    let mut means = [0u64; TEXT_LIMIT + MORE];
+    let mut under = [0u64; TEXT_LIMIT + MORE];
+    let mut opens = [0u32; TEXT_LIMIT + MORE];
+    let mut written = [0u32; TEXT_LIMIT + MORE];
+    let mut ends = [0u64; TEXT_LIMIT + MORE];
+    let mut offsets = [0u64; TEXT_LIMIT + MORE];
+    let mut marks = [0u32; TEXT_LIMIT + MORE];
+    let mut literals = [0u64; 2 * (TEXT_LIMIT + MORE)];
+    translate_in(
+        src,
+        &mut kinds,
+        &mut values,
+        &mut places,
+        &mut tape,
+        &mut first,
+        &mut second,
+        &mut third,
+        &mut fourth,
+        &mut found,
+        &mut goes,
+        &mut means,
+        &mut under,
+        &mut opens,
+        &mut written,
+        &mut ends,
+        &mut offsets,
+        &mut marks,
+        &mut literals,
+        out,
+    )
+}
+
+// The object text of a source, laid at the front of a buffer: number, place and length, and the buffer, are the definition's.
+pub fn translate(src: &[u8], out: &mut [u8]) -> Answer
+    ensures { λ r. ⌜ Gives (translation (now (src .entry)) (length (now (out .entry)))) (now (out .entry)) (now (out .exit)) r ⌝ }
+{
+    if src.len() <= SHORT {
+        return short(src, out);
+    }
+    if src.len() <= MIDDLING {
+        return middling(src, out);
+    }
+    if src.len() <= TEXT_LIMIT {
+        return long(src, out);
+    }
+    Answer::Refused(1, TEXT_LIMIT)
 }

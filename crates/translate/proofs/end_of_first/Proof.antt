@@ -1,5 +1,5 @@
 -- `end_of_first` is the last literal's end, or the cells'. Assumes nothing.
-use Rattle.translate.specs.Making.{endOfFirst}
+use Rattle.made.specs.Making.{endOfFirst}
 use Rattle.base.proofs.Tests.{tests}
 use borrow.Author.Needs.{needs}
 use Rattle.translate.proofs.end_of_first.Statement.{statement}
