@@ -107,17 +107,20 @@ pub fn lines() -> String {
 
 /// Lines `bytes, name` for every instruction of the programs that `count` generated texts translate to.
 pub fn sample(seed: u64, count: u64) -> String {
+    let object = |number| translate(&right_text(&mut Random::new(seed, number)), None).object;
+    (0..count).map(|number| named(&object(number))).collect()
+}
+
+/// Lines `bytes, name` for every instruction of the program in an object text.
+pub fn named(object: &[u8]) -> String {
     let mut text = String::new();
-    for number in 0..count {
-        let answer = translate(&right_text(&mut Random::new(seed, number)), None);
-        let program = objread::read(&answer.object).expect("the object text of an accepted text").program;
-        let mut rest = &program[..];
-        while !rest.is_empty() {
-            let (instruction, behind) = rest.split_at(if rest[0] < 0x40 { 2 } else { 4 });
-            let hex: String = instruction.iter().map(|byte| format!("{byte:02X}")).collect();
-            text += &format!("{hex}\t{}\n", mnemonic(instruction[0]).expect("a listed opcode"));
-            rest = behind;
-        }
+    let program = objread::read(object).expect("the object text of an accepted text").program;
+    let mut rest = &program[..];
+    while !rest.is_empty() {
+        let (instruction, behind) = rest.split_at(if rest[0] < 0x40 { 2 } else { 4 });
+        let hex: String = instruction.iter().map(|byte| format!("{byte:02X}")).collect();
+        text += &format!("{hex}\t{}\n", mnemonic(instruction[0]).expect("a listed opcode"));
+        rest = behind;
     }
     text
 }

@@ -1,9 +1,9 @@
 -- `answer` stays in the input and in what is lent. Assumes nothing.
+use borrow.Author.Needs.{needs}
 use lib.Seq.{length-take-le}
 use mathlib.Core.Path.{sym}
-use borrow.Author.Needs.{needs}
-use Rattle.grammar_batch.proofs.answer.Statement.{statement}
-use Rattle.grammar_batch.proofs.answer.Tie as tie
+use Rattle.translate_batch.proofs.answer.Statement.{statement}
+use Rattle.translate_batch.proofs.answer.Tie as tie
 
 slice-aggregate-text-in : tie.Need-slice-aggregate-text-in
 slice-aggregate-text-in c = search needs
@@ -17,29 +17,17 @@ returns c = search needs
 returns-2 : tie.Need-returns-2
 returns-2 c = search needs
 
-sub-judge : tie.Need-sub-judge
-sub-judge c = search needs
+sub-put-answer : tie.Need-sub-put-answer
+sub-put-answer c = search needs
 
-part-judge-start : tie.Need-part-judge-start
-part-judge-start c = search needs
+part-put-answer-start : tie.Need-part-put-answer-start
+part-put-answer-start c = search needs
 
-part-judge-end : tie.Need-part-judge-end
-part-judge-end c = search needs
+part-put-answer-end : tie.Need-part-put-answer-end
+part-put-answer-end c = search needs
 
-judge-requires : tie.Need-judge-requires
-judge-requires c κs = search needs
-
-slice-aggregate-put-fields : tie.Need-slice-aggregate-put-fields
-slice-aggregate-put-fields c = search needs
-
-put-fields-requires : tie.Need-put-fields-requires
-put-fields-requires c κs = search needs
-
-put-decimal-requires : tie.Need-put-decimal-requires
-put-decimal-requires c κs = search needs
-
-put-requires : tie.Need-put-requires
-put-requires c κs = search needs
+put-answer-requires : tie.Need-put-answer-requires
+put-answer-requires c κs = search needs
 
 slice-reshare-prefix-write-all : tie.Need-slice-reshare-prefix-write-all
 slice-reshare-prefix-write-all c = search needs
@@ -56,6 +44,9 @@ add-result c = search needs
 same-length : tie.Need-same-length
 same-length c = search needs
 
+same-length-2 : tie.Need-same-length-2
+same-length-2 c = search needs
+
 returns-3 : tie.Need-returns-3
 returns-3 c = search needs
 
@@ -67,17 +58,14 @@ answer-spec =
     text-in-requires
     returns
     returns-2
-    sub-judge
-    part-judge-start
-    part-judge-end
-    judge-requires
-    slice-aggregate-put-fields
-    put-fields-requires
-    put-decimal-requires
-    put-requires
+    sub-put-answer
+    part-put-answer-start
+    part-put-answer-end
+    put-answer-requires
     slice-reshare-prefix-write-all
     slice-aggregate-write-all
     write-all-requires
     add-result
     same-length
+    same-length-2
     returns-3)

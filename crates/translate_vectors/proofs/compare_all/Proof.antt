@@ -3,14 +3,14 @@ use Prim.Native.Nat.{_≤_, _-_}
 use borrow.Author.Needs.{needs}
 use lib.ListN.{length}
 use mathlib.Core.Path.{_≡_}
-use Rattle.grammar_vectors.proofs.compare_all.Statement.{statement}
-use Rattle.grammar_vectors.proofs.compare_all.Tie as tie
+use Rattle.translate_vectors.proofs.compare_all.Statement.{statement}
+use Rattle.translate_vectors.proofs.compare_all.Tie as tie
 
 abbrev Inv-loop : tie.InvT-loop
-Inv-loop name input₀ fd at₀ to₀ compared₀ equal₀ input at to compared equal = (at ≤ to) × (to ≤ length input) × (length input ≡ length input₀) × (compared ≤ 1000000) × (equal ≤ compared)
+Inv-loop name input₀ buffer₀ expected₀ fd at₀ to₀ compared₀ equal₀ input buffer expected at to compared equal = (at ≤ to) × (to ≤ length input) × (length input ≡ length input₀) × (length buffer ≡ length buffer₀) × (length expected ≡ length expected₀) × (compared ≤ 1000000) × (equal ≤ compared)
 
 abbrev μ-loop : tie.MeasureT-loop
-μ-loop name input₀ fd at₀ to₀ compared₀ equal₀ input at to compared equal = 1000000 - compared
+μ-loop name input₀ buffer₀ expected₀ fd at₀ to₀ compared₀ equal₀ input buffer expected at to compared equal = 1000000 - compared
 
 open-read-requires : tie.Need-open-read-requires Inv-loop μ-loop
 open-read-requires c κs = search needs
@@ -51,6 +51,12 @@ say-requires c κs = search needs
 same-length : tie.Need-same-length Inv-loop μ-loop
 same-length c = search needs
 
+same-length-2 : tie.Need-same-length-2 Inv-loop μ-loop
+same-length-2 c = search needs
+
+same-length-3 : tie.Need-same-length-3 Inv-loop μ-loop
+same-length-3 c = search needs
+
 returns : tie.Need-returns Inv-loop μ-loop
 returns c = search needs
 
@@ -73,4 +79,6 @@ compare-all-spec =
     close-requires
     say-requires
     same-length
+    same-length-2
+    same-length-3
     returns)

@@ -3,14 +3,14 @@ use Prim.Native.Nat.{_≤_}
 use borrow.Author.Needs.{needs}
 use lib.ListN.{length}
 use mathlib.Core.Path.{_≡_}
-use Rattle.grammar_batch.proofs.answer_all.Statement.{statement}
-use Rattle.grammar_batch.proofs.answer_all.Tie as tie
+use Rattle.translate_batch.proofs.answer_all.Statement.{statement}
+use Rattle.translate_batch.proofs.answer_all.Tie as tie
 
 abbrev Inv-loop : tie.InvT-loop
-Inv-loop input₀ out₀ at₀ to₀ turns₀ input out at to turns = (at ≤ to) × (to ≤ length input) × (length input ≡ length input₀) × (length out ≡ length out₀)
+Inv-loop input₀ buffer₀ out₀ at₀ to₀ turns₀ input buffer out at to turns = (at ≤ to) × (to ≤ length input) × (length input ≡ length input₀) × (length buffer ≡ length buffer₀) × (length out ≡ length out₀)
 
 abbrev μ-loop : tie.MeasureT-loop
-μ-loop input₀ out₀ at₀ to₀ turns₀ input out at to turns = turns
+μ-loop input₀ buffer₀ out₀ at₀ to₀ turns₀ input buffer out at to turns = turns
 
 refill-requires : tie.Need-refill-requires Inv-loop μ-loop
 refill-requires c κs = search needs
@@ -30,6 +30,9 @@ same-length c = search needs
 same-length-2 : tie.Need-same-length-2 Inv-loop μ-loop
 same-length-2 c = search needs
 
+same-length-3 : tie.Need-same-length-3 Inv-loop μ-loop
+same-length-3 c = search needs
+
 returns : tie.Need-returns Inv-loop μ-loop
 returns c = search needs
 
@@ -48,20 +51,26 @@ loop-less c = search needs
 loop-again : tie.Need-loop-again Inv-loop μ-loop
 loop-again c = search needs
 
-same-length-3 : tie.Need-same-length-3 Inv-loop μ-loop
-same-length-3 c = search needs
-
 same-length-4 : tie.Need-same-length-4 Inv-loop μ-loop
 same-length-4 c = search needs
-
-returns-2 : tie.Need-returns-2 Inv-loop μ-loop
-returns-2 c = search needs
 
 same-length-5 : tie.Need-same-length-5 Inv-loop μ-loop
 same-length-5 c = search needs
 
 same-length-6 : tie.Need-same-length-6 Inv-loop μ-loop
 same-length-6 c = search needs
+
+returns-2 : tie.Need-returns-2 Inv-loop μ-loop
+returns-2 c = search needs
+
+same-length-7 : tie.Need-same-length-7 Inv-loop μ-loop
+same-length-7 c = search needs
+
+same-length-8 : tie.Need-same-length-8 Inv-loop μ-loop
+same-length-8 c = search needs
+
+same-length-9 : tie.Need-same-length-9 Inv-loop μ-loop
+same-length-9 c = search needs
 
 returns-3 : tie.Need-returns-3 Inv-loop μ-loop
 returns-3 c = search needs
@@ -78,15 +87,18 @@ answer-all-spec =
     complain-requires
     same-length
     same-length-2
+    same-length-3
     returns
     add-keep
     keep-requires
     sub-turns
     loop-less
     loop-again
-    same-length-3
     same-length-4
-    returns-2
     same-length-5
     same-length-6
+    returns-2
+    same-length-7
+    same-length-8
+    same-length-9
     returns-3)

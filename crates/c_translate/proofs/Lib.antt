@@ -1,0 +1,2 @@
+-- Laws behind the interface for C.
+pub mod Rooms
