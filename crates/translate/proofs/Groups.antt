@@ -34,7 +34,7 @@ use Rattle.made.proofs.Defined.{made-as-defined}
 use Rattle.translate.specs.declared.Answer.{Answer}
 use Rattle.translate.specs.declared.Answer.the-variants.{Refused}
 use Rattle.translate.specs.declared.Judged.{Judged}
-use Rattle.translate.specs.Answers.{Gives}
+use Rattle.translate.specs.Answers.{Gives, outcome, defined}
 use Rattle.translate.specs.Texts.{allTokens, placesOf, Fronted, Small, Text, Blank, Blanks, Bound, meantIn, tablesIn, Settled, Zeros, Lent, Rooms}
 use Rattle.translate.proofs.Reading.{all-read, count-is}
 use Rattle.translate.proofs.Judging.{program-front}
@@ -155,6 +155,10 @@ module _ (src kinds values places : List ℕ) (answer : Tokens) (d : Fronted src
     text-read found goes means opens written offsets marks out out′ a b g =
         rw (all-read src answer (d .is) n e)
         (rw (d .kinds-are n e) at (g (allTokens src) (d .kinds-are n e) (d .values-are n e) (d .places-are n e) (small-text src) b))
+
+-- number, place, length and buffer in one
+pub as-one : {a : T.Answer} {before after : List ℕ} {r : Answer} → Gives a before after r → outcome r after ≡ defined a before
+as-one g = rw (g .number-is, g .place-is, g .length-is, g .buffer-is)
 
 -- "1: source over 32,768 bytes … 32,768"
 pub too-long : (src out : List ℕ) → TEXT-LIMIT < length src → Gives (translate src (length out)) out out (Refused 1 TEXT-LIMIT)

@@ -25,3 +25,19 @@ pub record Gives (a : T.Answer) (before after : List ℕ) (r : Answer) : Type 0 
   pub place-is : placeOf r ≡ T.placeOf a
   pub length-is : lengthOf r ≡ T.lengthOf a
   pub buffer-is : after ≡ T.leaves a before
+
+-- ── in one ──
+
+pub record Outcome : Type 0 where
+  pub number : ℕ
+  pub place : ℕ
+  pub length : ℕ
+  pub buffer : List ℕ
+
+-- of an answer, with the buffer after it
+abbrev pub outcome : Answer → List ℕ → Outcome
+outcome r after = record { number = numberOf r; place = placeOf r; length = lengthOf r; buffer = after }
+
+-- of the definition's answer, with the buffer before it: "later bytes of the buffer stay"
+abbrev pub defined : T.Answer → List ℕ → Outcome
+defined a before = record { number = T.numberOf a; place = T.placeOf a; length = T.lengthOf a; buffer = T.leaves a before }

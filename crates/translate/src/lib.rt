@@ -13,7 +13,7 @@ ghost use Rattle.translator.specs.Image.{words};
 ghost use Rattle.translator.specs.Translate.{kindsOf, valuesOf, accepted, inRoom, named, make, judge, afterTokens, translate as translation};
 ghost use Rattle.objtext.specs.Object.{objectText};
 ghost use Rattle.frames.specs.Frames.{lengthFor};
-ghost use Rattle.translate.specs.Answers.{Gives};
+ghost use Rattle.translate.specs.Answers.{Gives, outcome, defined};
 ghost use Rattle.translate.specs.Texts.{placesOf, Fronted, Small, Text, Blank, Blanks, Bound, Settled, Lent, Rooms};
 ghost use Rattle.made.specs.Making.{endOf, endOfFirst, objectCut, objectAlong, madeAlong};
 use arrays::get;
@@ -687,7 +687,7 @@ fn long(src: &[u8], out: &mut [u8]) -> Answer
 
 // The object text of a source, laid at the front of a buffer: number, place and length, and the buffer, are the definition's.
 pub fn translate(src: &[u8], out: &mut [u8]) -> Answer
-    ensures { λ r. ⌜ Gives (translation (now (src .entry)) (length (now (out .entry)))) (now (out .entry)) (now (out .exit)) r ⌝ }
+    ensures { λ r. ⌜ outcome r (now (out .exit)) ≡ defined (translation (now (src .entry)) (length (now (out .entry)))) (now (out .entry)) ⌝ }
 {
     if src.len() <= SHORT {
         return short(src, out);
