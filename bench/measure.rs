@@ -23,6 +23,15 @@ pub struct Medians {
     pub ratio: f64,
 }
 
+impl Medians {
+    /// Both sides' speeds in millions, of so many units in one time.
+    pub fn speeds(&self, units: usize, millions: &str) -> String {
+        let speed = |seconds: f64| units as f64 / seconds / 1e6;
+        let (ours, theirs) = (speed(self.proved), speed(self.reference));
+        format!("proved {ours:.1}, reference {theirs:.1} {millions}/s, ratio {:.2}", self.ratio)
+    }
+}
+
 /// Medians of so many rounds, in each of which either side works so many times; both have to answer the same.
 pub fn in_turn<T: PartialEq + Debug>(
     rounds: usize,

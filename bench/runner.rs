@@ -41,13 +41,8 @@ fn time(rounds: usize, budget: u32) {
         };
         let medians =
             in_turn(rounds, 1, || filled(proved_line(&text, &mut ours)), || filled(reference_line(&text, &mut theirs)));
-        let speed = |seconds: f64| budget as f64 / seconds / 1e6;
-        println!(
-            "{name}: proved {:.1}, reference {:.1} million instructions/s, ratio {:.2} (medians of {rounds} runs of {budget} each, in turn)",
-            speed(medians.proved),
-            speed(medians.reference),
-            medians.ratio
-        );
+        let speeds = medians.speeds(budget as usize, "million instructions");
+        println!("{name}: {speeds} (medians of {rounds} runs of {budget} each, in turn)");
     }
 }
 

@@ -6,7 +6,7 @@ mod measure;
 #[path = "../tests/live/proved_texts.rs"]
 mod proved_texts;
 
-use measure::{in_turn, Medians};
+use measure::in_turn;
 use proved_texts::{proved_grammar, reference_tokens, tautgaff_read_tokens, verdict, Lists, Verdict};
 use reference::gen;
 use reference::grammar;
@@ -38,16 +38,6 @@ fn reference_grammar(text: &[u8]) -> Verdict {
     verdict(&reference_tokens(text).and_then(|tokens| grammar::program(&tokens)))
 }
 
-fn speeds(medians: Medians, length: usize) -> String {
-    let speed = |seconds: f64| length as f64 / seconds / 1e6;
-    format!(
-        "proved {:.1}, reference {:.1} MB/s, ratio {:.2}",
-        speed(medians.proved),
-        speed(medians.reference),
-        medians.ratio
-    )
-}
-
 /// Without a runtime of Rust's around it, which the emulator does not carry.
 #[no_mangle]
 pub extern "C" fn main(_count: i32, _words: *const *const u8) -> i32 {
@@ -67,8 +57,8 @@ pub extern "C" fn main(_count: i32, _words: *const *const u8) -> i32 {
     for length in ORDINARY {
         let text = gen::sized_text(&mut Random::new(7, length as u64), length);
         assert_eq!(proved_grammar(&text), (0, 0));
-        println!("ordinary text of {} bytes, tokens: {}", text.len(), speeds(tokens(&text), text.len()));
-        println!("ordinary text of {} bytes, tokens and grammar: {}", text.len(), speeds(grammar(&text), text.len()));
+        println!("ordinary text of {} bytes, tokens: {}", text.len(), tokens(&text).speeds(text.len(), "MB"));
+        println!("ordinary text of {} bytes, tokens and grammar: {}", text.len(), grammar(&text).speeds(text.len(), "MB"));
     }
     for length in GROWING {
         for (name, text) in growing(length) {

@@ -6,7 +6,7 @@ mod measure;
 #[path = "../tests/live/proved_translator.rs"]
 mod proved_translator;
 
-use measure::{in_turn, Medians};
+use measure::in_turn;
 use proved_translator::{proved_translation, Told, ROOM};
 use reference::gen;
 use reference::random::Random;
@@ -45,16 +45,6 @@ fn reference_translation(text: &[u8], buffer: &mut [u8]) -> Told {
     (answer.number as u64, answer.place, answer.object.len())
 }
 
-fn speeds(medians: &Medians, length: usize) -> String {
-    let speed = |seconds: f64| length as f64 / seconds / 1e6;
-    format!(
-        "proved {:.2}, reference {:.2} MB/s, ratio {:.2}",
-        speed(medians.proved),
-        speed(medians.reference),
-        medians.ratio
-    )
-}
-
 /// Without a runtime of Rust's around it, which the emulator does not carry.
 #[no_mangle]
 pub extern "C" fn main(_count: i32, _words: *const *const u8) -> i32 {
@@ -74,7 +64,7 @@ pub extern "C" fn main(_count: i32, _words: *const *const u8) -> i32 {
     };
     for length in ORDINARY {
         let text = gen::sized_text(&mut Random::new(7, length as u64), length);
-        println!("ordinary text of {} bytes: {}", text.len(), speeds(&measured(&text), text.len()));
+        println!("ordinary text of {} bytes: {}", text.len(), measured(&text).speeds(text.len(), "MB"));
     }
     let micro = |seconds: f64| seconds * 1e6;
     for length in GROWING {
