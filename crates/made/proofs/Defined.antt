@@ -16,13 +16,14 @@ use Rattle.token.specs.Kinds as K
 use Rattle.token.specs.declared.Token.{Token}
 use Rattle.grammar.specs.Tree.{Statement}
 use Rattle.grammar.specs.Derives.{isStatement, isProgram}
+use Rattle.grammar.specs.Events.{eventsOf}
+use Rattle.grammar.specs.Places.{Along}
 use Rattle.grammar.specs.Rising.{statementRises}
 use Rattle.grammar.proofs.Theorems.{program-rises, program-inside}
 use Rattle.tape.specs.Tape.{tapeStatement}
-use Rattle.names.specs.Search.{firstToken, around}
+use Rattle.names.specs.Search.{firstToken}
 use Rattle.names.specs.Names.{Named}
-use Rattle.names.specs.Labels.{Labelled}
-use Rattle.names.proofs.Bound.{BoundStatement, bound-program}
+use Rattle.names.proofs.Bound.{Goes, goes-along}
 use Rattle.kinds.specs.Meanings.{Filled, Meant, meanStatement, dataBase, standard}
 use Rattle.kinds.specs.Tables.{Tables}
 use Rattle.kinds.proofs.Known.{Known}
@@ -39,7 +40,7 @@ use Rattle.translator.specs.Image.{fill, words, segments}
 use Rattle.translator.specs.Translate.{Answer, accepted, refused, kindsOf, valuesOf, named, labelled, meant, Made, tablesOf, make, finish, inRoom}
 use Rattle.translator.proofs.Sizes.{length-encodeAll}
 use Rattle.translator.proofs.Rooms.{ends-fit, offsets-fit}
-use Rattle.translator.proofs.Tables.{length-map}
+use Rattle.translator.proofs.Tables.{length-map, names-found, labels-led}
 use Rattle.translator.proofs.Images.{Fitting}
 use Rattle.translator.proofs.Objects as O
 use Rattle.layout.specs.Along.{Imaging, imagingOf, nowhere, imageEvent}
@@ -144,11 +145,11 @@ module _
     abbrev marks : List ℕ
     marks = replicate (length ts) 0
 
-    bound : BoundStatement (named ts x .found) (labelled ts x .goes) x around []
-    unfolding named labelled
+    bound : Along (Goes (named ts x .found) (labelled ts x .goes)) (eventsOf x) []
+    unfolding isProgram
     bound =
-        bound-program (valuesOf ts) x firstToken to rises _ _ (let e = length-replicate {A = ℕ} (length ts) 0 in let h = inside in omega arith)
-        (let e = length-replicate {A = ℕ} (length ts) 0 in let h = inside in omega arith) around []
+        let h : last ≤ length ts = omega (arith, inside, program .2 .1) in
+        goes-along (valuesOf ts) _ _ (eventsOf x) [] (names-found ts x last read h) (labels-led ts x last read h)
 
     coded : along (kindsOf ts) (valuesOf ts) (named ts x .found) (labelled ts x .goes) means under (m .opens) offsets
         (placesAlong (kindsOf ts) (valuesOf ts) (named ts x .found) (labelled ts x .goes) means under (m .opens) offsets marks tape .marks) noWriting tape

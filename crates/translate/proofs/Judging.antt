@@ -21,7 +21,7 @@ use Rattle.tape.specs.Pass.{onEvent, pass}
 use Rattle.names.specs.declared.Broken.{Broken}
 use Rattle.names.specs.declared.Noted.{Noted}
 use Rattle.names.specs.Broken.{unbroken, _⊕_}
-use Rattle.names.specs.Search.{firstToken, around}
+use Rattle.names.specs.Search.{firstToken}
 use Rattle.names.specs.Names.{Named}
 use Rattle.names.specs.Labels.{Labelled}
 use Rattle.kinds.specs.Registers.{Registers}
