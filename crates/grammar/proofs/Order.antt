@@ -60,27 +60,27 @@ module _ (kinds : List ℕ) where
   after-entry (valued t) (within b ∷ p) i j l f h (a, c, d) = (still (b .names) l a, still (b .bases) l c, earlier-later p l d)
   after-entry (based n) (within b ∷ p) i j l f h (a, c, d) = (still (b .names) l a, (omega arith, still (b .bases) l c), earlier-later p l d)
 
-  after-event : (e : Event) (p : Place) (i : ℕ) (x : Stands kinds e p i) → Earlier i p → Earlier (x .to) (after e p)
-  after-event (edge y) p i x a = after-edge y p (x .from) (x .to) (x .rises) (x .fits) (x .is) (earlier-later p (x .later) a)
-  after-event (route y) p i x a = after-route y p (x .from) (x .to) (x .rises) (x .fits) (earlier-later p (x .later) a)
-  after-event (entry y) p i x a = after-entry y p (x .from) (x .to) (x .rises) (x .fits) (x .is) (earlier-later p (x .later) a)
-  after-event (phrase y) p i x a = earlier-later p (omega arith) a
-  after-event (mark y) p i x a = earlier-later p (omega arith) a
+  pub earlier-after : (e : Event) (p : Place) (i : ℕ) (x : Stands kinds e p i) → Earlier i p → Earlier (x .to) (after e p)
+  earlier-after (edge y) p i x a = after-edge y p (x .from) (x .to) (x .rises) (x .fits) (x .is) (earlier-later p (x .later) a)
+  earlier-after (route y) p i x a = after-route y p (x .from) (x .to) (x .rises) (x .fits) (earlier-later p (x .later) a)
+  earlier-after (entry y) p i x a = after-entry y p (x .from) (x .to) (x .rises) (x .fits) (x .is) (earlier-later p (x .later) a)
+  earlier-after (phrase y) p i x a = earlier-later p (omega arith) a
+  earlier-after (mark y) p i x a = earlier-later p (omega arith) a
 
-  -- an event at its place, after all that has been declared there, and before token j
-  pub record Placed (j : ℕ) (e : Event) (p : Place) : Type 0 where
+  -- an event at its place, after all that has been declared there, and before token N
+  pub record Placed (N : ℕ) (e : Event) (p : Place) : Type 0 where
     pub stands : Stands kinds e p 0
     pub earlier : Earlier (stands .from) p
-    pub inside : stands .to ≤ j
+    pub inside : stands .to ≤ N
 
-  pub text-placed : (es : List Event) (p : Place) (i j : ℕ) → Text kinds es p i j → Earlier i p → Along (Placed j) es p
+  pub text-placed : (N : ℕ) (es : List Event) (p : Place) (i j : ℕ) → j ≤ N → Text kinds es p i j → Earlier i p → Along (Placed N) es p
   unfolding Text Along
-  text-placed [] p i j h a = tt
-  text-placed (e ∷ es) p i j (x, h) a = (
+  text-placed N [] p i j l h a = tt
+  text-placed N (e ∷ es) p i j l (x, h) a = (
     record {
       stands = record { fits = x .fits; from = x .from; to = x .to; later = omega arith; rises = x .rises; is = x .is };
       earlier = earlier-later p (x .later) a;
-      inside = text-rises kinds es (after e p) (x .to) j h;
+      inside = (let r = text-rises kinds es (after e p) (x .to) j h in omega arith);
     },
-    text-placed es (after e p) (x .to) j h (after-event e p i x a),
+    text-placed N es (after e p) (x .to) j l h (earlier-after e p i x a),
   )

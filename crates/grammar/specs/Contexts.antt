@@ -4,7 +4,7 @@ use mathlib.Core.Path.{_≡_}
 use mathlib.Core.List.{List, [], _∷_}
 use mathlib.Core.Option.{Option, none, some}
 use Prim.Native.Nat.{ℕ}
-use Rattle.grammar.specs.Tree.{Designator, Width}
+use Rattle.grammar.specs.Tree.{Designator, Sign, plain, abs, neg, negAbs, Width}
 use Rattle.grammar.specs.Events.{Entry, named, celled, itemed, valued, based, Phrase, aimed, driven, signed, given, joined, tested, limited, called, Event, edge, route, entry, phrase, mark}
 
 pub data Context : Type 0 where
@@ -65,6 +65,13 @@ Awaits t (aiming x) = ⊥
 Awaits t (declaring n w []) = ⊥
 Awaits t (declaring n w (u ∷ ts)) = u ≡ t
 
+-- a sign that stands in the text
+abbrev pub Shown : Sign → Type 0
+Shown plain = ⊥
+Shown (abs t) = Unit {0}
+Shown (neg t) = Unit {0}
+Shown (negAbs t) = Unit {0}
+
 abbrev pub entrySuits : Entry → Context → Type 0
 entrySuits (named r) c = Complete c
 entrySuits (celled n w) c = Complete c
@@ -75,7 +82,7 @@ entrySuits (based n) c = Complete c
 abbrev pub phraseSuits : Phrase → Context → Type 0
 phraseSuits (aimed d) c = Complete c
 phraseSuits (driven d) c = Complete c
-phraseSuits (signed d g) c = Aims d c
+phraseSuits (signed d g) c = Aims d c × Shown g
 phraseSuits (given d a) c = Aims d c
 phraseSuits (joined d t) c = Aims d c
 phraseSuits (tested t x) c = Complete c

@@ -1,4 +1,5 @@
--- Where no rule is broken there are at most two base declarations: each opens the segment that the table has for it, since tokens rise along the text.
+-- Where no rule is broken there are at most two base declarations: each opens the segment that the table has for it, since tokens rise along the text. And there are
+-- never more than events.
 use mathlib.Core.Path.{_≡_, refl, _∙_}
 use mathlib.Core.List.{List, [], _∷_}
 use Prim.Native.Nat.{ℕ, zero, suc, _+_, _<_, _≤_}
@@ -61,3 +62,20 @@ module _ (f : Tables) where
       let v = stays-text (f .kinds) (f .values) (f .found) es (after e p) (x .to) j (step e p s) t .of-opens in
       few-bases es (after e p) (x .to) j (step e p s) t qs (omega arith) a
       (heeds-few (heeds (f .kinds) (f .values) (f .found) e p s) i x q (omega arith) (λ u k. a u (omega arith) ∙ v u k) h)
+
+module _ (kinds values found : List ℕ) where
+  heeds-one : {p : Place} {s t : Meant} {e : Event} → Heeds kinds values found p s e t → t .bases ≤ s .bases + 1
+  unfolding openBase write addCell
+  heeds-one (enters n r) = omega arith
+  heeds-one (names r) = omega arith
+  heeds-one (adds c w i) = omega arith
+  heeds-one (opens n) = omega arith
+  heeds-one (other a) = let e = a .of-bases in omega arith
+
+  pub bases-along : (es : List Event) (p : Place) (s : Meant) → along (meanEvent kinds values found) es p s .bases ≤ s .bases + length es
+  unfolding along
+  bases-along [] p s = omega arith
+  bases-along (e ∷ es) p s =
+      let a = heeds-one (heeds kinds values found e p s) in
+      let b = bases-along es (after e p) (meanEvent kinds values found e p s) in
+      omega arith

@@ -28,21 +28,34 @@ alike s = record { of-means = refl; of-opens = refl; of-cells = refl; of-bases =
 grow-alike : (own : ℕ) (g : Registers → Registers) (s : Meant) → Alike s (growWritten own g s)
 grow-alike own g s = record { of-means = refl; of-opens = refl; of-cells = refl; of-bases = refl; of-written = length-set (s .written) own _ }
 
+write-alike : (own r : ℕ) (s : Meant) → Alike s (write own r s)
+unfolding write
+write-alike own r s = grow-alike own (addRegister r) s
+
 text-alike : (own p : ℕ) (s : Meant) → Alike s (writeText own p s)
 unfolding writeText
 text-alike own p s = grow-alike own (union (getD (s .written) p noRegisters)) s
 
+then-alike : {s t u : Meant} → Alike s t → Alike t u → Alike s u
+then-alike a b = record {
+  of-means = b .of-means ∙ a .of-means;
+  of-opens = b .of-opens ∙ a .of-opens;
+  of-cells = b .of-cells ∙ a .of-cells;
+  of-bases = b .of-bases ∙ a .of-bases;
+  of-written = b .of-written ∙ a .of-written;
+}
+
 call-alike : (m : Meaning) (own p : ℕ) (s : Meant) → Alike s (callWrites m own p s)
-unfolding callWrites writeText write
+unfolding callWrites
 call-alike nothing own p s = alike s
 call-alike (register r) own p s = alike s
 call-alike (cell c) own p s = alike s
-call-alike (routine r) own p s = record { of-means = refl; of-opens = refl; of-cells = refl; of-bases = refl; of-written = length-set _ own _ ∙ length-set (s .written) own _ }
+call-alike (routine r) own p s = then-alike (write-alike own r s) (text-alike own p (write own r s))
 
 target-alike : (m : Meaning) (g : ℕ → ℕ) (own : ℕ) (s : Meant) → Alike s (targetWrites m g own s)
-unfolding targetWrites write
+unfolding targetWrites
 target-alike nothing g own s = alike s
-target-alike (register r) g own s = grow-alike own (addRegister (g r)) s
+target-alike (register r) g own s = write-alike own (g r) s
 target-alike (cell c) g own s = alike s
 target-alike (routine r) g own s = alike s
 

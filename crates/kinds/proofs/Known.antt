@@ -123,11 +123,11 @@ known-open n j own r t s l k = record {
 module _ (kinds values found : List ℕ) where
   base-opened : (s : Meant) (p : Place) → All (λ (k : ℕ). k ≤ 1 + s .bases) (s .opens) → baseIn found s p .segment ≤ 1 + s .bases
   base-opened s [] h = omega arith
-  base-opened s (within b ∷ p) h = go (b .bases)
+  base-opened s (within b ∷ p) h = go (b .bases) (base-opened s p h)
     where
-      go : (ns : List ℕ) → newest found s ns (baseIn found s p) .segment ≤ 1 + s .bases
-      go [] = base-opened s p h
-      go (n ∷ ns) = all-getD (λ (k : ℕ). k ≤ 1 + s .bases) (s .opens) n 0 h (omega arith)
+      go : (ns : List ℕ) → baseIn found s p .segment ≤ 1 + s .bases → newest found s ns (baseIn found s p) .segment ≤ 1 + s .bases
+      go [] k = k
+      go (n ∷ ns) k = all-getD (λ (k : ℕ). k ≤ 1 + s .bases) (s .opens) n 0 h (omega arith)
   base-opened s (body n r ∷ p) h = base-opened s p h
 
   heeds-known : {p : Place} {s t : Meant} {e : Event} → Heeds kinds values found p s e t → (i : ℕ) (x : Stands kinds e p i) → x .to ≤ length (s .means) → Known i s → Known (x .to) t

@@ -57,11 +57,11 @@ module _ (f : Tables) where
 
   base-small : (s : Meant) (p : Place) → AllSmall s → baseIn (f .found) s p .register < 16
   base-small s [] h = omega arith
-  base-small s (within b ∷ p) h = go (b .bases)
+  base-small s (within b ∷ p) h = go (b .bases) (base-small s p h)
     where
-      go : (ns : List ℕ) → newest (f .found) s ns (baseIn (f .found) s p) .register < 16
-      go [] = base-small s p h
-      go (n ∷ ns) = named-small s n h
+      go : (ns : List ℕ) → baseIn (f .found) s p .register < 16 → newest (f .found) s ns (baseIn (f .found) s p) .register < 16
+      go [] k = k
+      go (n ∷ ns) k = named-small s n h
   base-small s (body n r ∷ p) h = base-small s p h
 
   -- the count of the cells that are being declared

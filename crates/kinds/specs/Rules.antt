@@ -167,7 +167,7 @@ module _ (f : Tables) where
 
   -- the FOR target is a register
   unfoldable pub controlRules : List ℕ → Designator → Broken
-  controlRules kept d = registerRule (d .name) ⊕ rule (bareName d) 8 (d .name) ⊕ targetBy (meaningAt f (d .name)) kept (d .name)
+  controlRules kept d = onlyRegister (place d) ⊕ targetBy (meaningAt f (d .name)) kept (d .name)
 
   -- "A register target takes the whole chain, left to right, a cell target one register name only."
   abbrev pub firstBy : Meaning → Operand → Broken
