@@ -16,7 +16,7 @@ use Rattle.grammar.proofs.Pinned.{pinned-designator, pinned-operand}
 use Rattle.grammar.specs.Derives.{isDesignator, isOperand, isCondition, isRegister, isProgram}
 use Rattle.grammar.specs.Events.{Edge, opened, closed, entered, left, Route, labelled, sent, Entry, named, celled, itemed, valued, based, Phrase, aimed, driven, signed, given, joined, tested, limited, called, Mark, looped, otherwise, endedIf, endedElse, endedWhile, endedFor, Event, edge, route, entry, phrase, mark, eventsOf}
 use Rattle.grammar.specs.Places.{Block, within, body, Place, after, along}
-use Rattle.grammar.specs.Contexts.{Context, nowhere, aiming, declaring, contextAfter, Complete, Shown, entrySuits, phraseSuits, Suits}
+use Rattle.grammar.specs.Contexts.{Context, nowhere, aiming, declaring, contextAfter, Complete, Aims, Shown, entrySuits, phraseSuits, Suits}
 use Rattle.grammar.proofs.Contexts.{program-coherent}
 use Rattle.grammar.specs.Texts.{InBlock, EdgeFits, RouteFits, isEvent, Stands}
 use Rattle.grammar.proofs.Texts.{program-text, text-stands}
@@ -309,15 +309,19 @@ module _ (f : Tables) where
     unfolding judgeEvent heldAfter cellsAfter targetAfter eventRule statementRule
     call-step p s n room g x t = refl
 
+    turn-signed : (d : Designator) (y : Sign) (p : Place) (c : Context) (b : Broken) (s : Bool) (n room g : ℕ) (x : Broken) → Aims d c → Shown y → Opens c s n g → b ≡ x ⊕ pending c room
+        → At p c (ruleEvent f (phrase (signed d y)) p b) (step (opOf (phrase (signed d y))) (tokenOf (phrase (signed d y))) (at p s n room g x))
+    turn-signed d y p (aiming z) b s n room g x q w o e =
+        judged (phrase (signed d y)) p (aiming z) b s n room g x s n room g (complete (aiming z) room b x tt e) o join-right
+        (signed-is p s n room g x (meaningAt f (d .name)) y w (o ∙ ap (λ (v : Designator). aimOf (meaningAt f (v .name))) q))
+
     turn-phrase : (y : Phrase) (p : Place) (c : Context) (b : Broken) (s : Bool) (n room g : ℕ) (x : Broken) (i j : ℕ) → isEvent kinds (phrase y) i j → phraseSuits y c → Opens c s n g
         → b ≡ x ⊕ pending c room → At p (contextAfter (phrase y) c) (ruleEvent f (phrase y) p b) (step (opOf (phrase y)) (tokenOf (phrase y)) (at p s n room g x))
     turn-phrase (aimed d) p c b s n room g x i j h q o e =
         judged (phrase (aimed d)) p c b s n room g x s n room (aimOf (meaningAt f (d .name))) (complete c room b x q e) refl join-right (aimed-is p s n room g x d i j h)
     turn-phrase (driven d) p c b s n room g x i j h q o e =
         judged (phrase (driven d)) p c b s n room g x s n room (aimOf (meaningAt f (d .name))) (complete c room b x q e) refl join-right (driven-is p s n room g x d i j h)
-    turn-phrase (signed d y) p (aiming z) b s n room g x i j h q o e =
-        judged (phrase (signed d y)) p (aiming z) b s n room g x s n room g (complete (aiming z) room b x tt e) o join-right
-        (signed-is p s n room g x (meaningAt f (d .name)) y (q .1) (o ∙ ap (λ (v : Designator). aimOf (meaningAt f (v .name))) (q .0)))
+    turn-phrase (signed d y) p c b s n room g x i j h q o e = turn-signed d y p c b s n room g x (q .0) (q .1) o e
     turn-phrase (given d a) p (aiming z) b s n room g x i j h q o e =
         judged (phrase (given d a)) p (aiming z) b s n room g x s n room g (complete (aiming z) room b x tt e) o join-right
         (given-is p s n room g x (meaningAt f (d .name)) a i j h (o ∙ ap (λ (v : Designator). aimOf (meaningAt f (v .name))) q))

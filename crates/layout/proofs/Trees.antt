@@ -8,7 +8,7 @@ use lib.Dec.{eqb}
 use lib.ListN.{getD}
 use Rattle.base.specs.Lists.{All}
 use Rattle.base.proofs.Tests.{never-true}
-use Rattle.grammar.specs.Tree.{Item, Width, Statement}
+use Rattle.grammar.specs.Tree.{Designator, Item, Width, Statement}
 use Rattle.grammar.specs.Derives.{isProgram}
 use Rattle.grammar.specs.Events.{Entry, named, celled, itemed, valued, based, Phrase, aimed, driven, signed, given, joined, tested, limited, called, Event, edge, route, entry, phrase, mark, eventsOf}
 use Rattle.grammar.specs.Places.{Place, after, along}
@@ -55,15 +55,18 @@ complete-none nowhere h = refl
 complete-none (aiming d) h = refl
 complete-none (declaring n w ts) h = h
 
+aims-none : (d : Designator) (c : Context) → Aims d c → valuesIn c ≡ []
+aims-none d (aiming x) h = refl
+
 -- no values stand before or after a phrase
 phrase-none : (y : Phrase) (c : Context) → phraseSuits y c → (valuesIn c ≡ []) × (valuesIn (phraseContext y c) ≡ [])
 phrase-none (aimed d) c q = (complete-none c q, refl)
 phrase-none (driven d) c q = (complete-none c q, refl)
-phrase-none (signed d g) (aiming x) q = (refl, refl)
-phrase-none (given d a) (aiming x) q = (refl, refl)
-phrase-none (joined d t) (aiming x) q = (refl, refl)
+phrase-none (signed d g) c q = (aims-none d c (q .0), aims-none d c (q .0))
+phrase-none (given d a) c q = (aims-none d c q, aims-none d c q)
+phrase-none (joined d t) c q = (aims-none d c q, aims-none d c q)
 phrase-none (tested t x) c q = (complete-none c q, refl)
-phrase-none (limited d v a) (aiming x) q = (refl, refl)
+phrase-none (limited d v a) c q = (aims-none d c q, refl)
 phrase-none (called n) c q = (complete-none c q, refl)
 
 module _ (kinds values found : List ℕ) where
