@@ -7,7 +7,6 @@ use Prim.Native.Nat.{ℕ, zero, suc, _+_, _*_, _-_, _<_, _≤_}
 use native.Mathlib.Omega.{arith}
 use lib.Dec.{eqb, leb}
 use lib.ListN.{getD}
-use borrow.Author.Tests.{leb-true}
 use Rattle.base.specs.Choose.{choose, if_then_else_}
 use Rattle.base.specs.Lists.{All, member}
 use Rattle.base.proofs.Lists.{all-both}
@@ -24,7 +23,7 @@ use Rattle.kinds.specs.Tables.{Tables, kindAt, valueAt, meaningAt}
 use Rattle.kinds.specs.Rules as R
 use Rattle.kinds.specs.Rules.{shifts, fullOnly, inside}
 use Rattle.kinds.specs.Kinds.{keptIn}
-use Rattle.kinds.proofs.Elements.{inside-is}
+use Rattle.kinds.proofs.Elements.{inside-is, in-range}
 use Rattle.kinds.proofs.Small.{Small, register-small, meaning-small}
 use Rattle.kinds.proofs.Unbroken.{Unbroken}
 use Rattle.kinds.proofs.Bases.{base-segment}
@@ -99,7 +98,7 @@ module _ (f : Tables) (l : Layout) (n : ℕ) (small : All Small (f .means))
   shift-ready : (op r : ℕ) (a : Operand) → op < 256 → r < 16 → R.shiftRules f a .number ≡ 0 → AllReady (shiftBy f op r a)
   unfolding shiftBy R.shiftRules
   shift-ready op r (number t) o h q =
-      let e = leb-true (valueAt f t) 63 (rule-holds (leb (valueAt f t) 63) 11 t (omega arith) q) in
+      let e = in-range 0 63 (valueAt f t) (rule-holds (R.inRange 0 63 (valueAt f t)) 11 t (omega arith) q) .1 in
       ((o, h, omega arith, omega arith), tt)
   shift-ready op r (place d) o h q = ((o, h, register-at (d .name), omega arith), tt)
 
