@@ -102,7 +102,8 @@ tree-tape x = sym (same-statement x [])
 
 -- ── a pass goes along the events ──
 
-pass-first : {M : Type 0} (step : ℕ → ℕ → M → M) (e : Event) (m : M) (es : List Event) → pass step m (tapeOf (e ∷ es)) ≡ pass step (step (opOf e) (tokenOf e) m) (tapeOf es)
+-- at its first event
+pub pass-first : {M : Type 0} (step : ℕ → ℕ → M → M) (e : Event) (m : M) (es : List Event) → pass step m (tapeOf (e ∷ es)) ≡ pass step (step (opOf e) (tokenOf e) m) (tapeOf es)
 pass-first step e m es =
     let h : opOf e % E.EVENTS ≡ opOf e = omega (arith, op-fits e) in
     pass-event step (opOf e) (tokenOf e) m (tapeOf es) ∙ ap (λ (n : ℕ). pass step (step n (tokenOf e) m) (tapeOf es)) h

@@ -3,6 +3,7 @@ ghost use mathlib.Core.Path.{_≡_};
 ghost use Prim.Native.Nat.{_/_, _%_, _<_, _≤_};
 ghost use Rattle.tape.specs.Events.{EVENTS};
 ghost use Rattle.tape.specs.Numbers.{layerAt, formAt, familyAt};
+ghost use Rattle.tape.specs.Names.{declaring, shapeAt};
 
 pub const BLOCK: u32 = 0;
 
@@ -152,4 +153,36 @@ pub fn family(op: u32) -> u32
     ensures { λ r. ⌜ r ≡ familyAt op ⌝ }
 {
     op - form(op)
+}
+
+// Whether it declares the name at its token.
+pub fn declares(op: u32) -> bool
+    ensures { λ r. ⌜ r ≡ declaring op ⌝ }
+{
+    (op == REGISTER) | ((op == ITEM) | (op == PROCEDURE))
+}
+
+// How the name at its token is used: alone, with a subscript, with an index, with both; 4 where no name stands there or it uses none.
+pub fn shape(op: u32) -> u32
+    ensures { λ r. ⌜ r ≡ shapeAt op ⌝ }
+{
+    if op == BASE {
+        return 0;
+    }
+    if op == CALL {
+        return 0;
+    }
+    if op < TARGET {
+        return 4;
+    }
+    if op < ABS {
+        return (op - TARGET) % 4;
+    }
+    if op < FIRST {
+        return 4;
+    }
+    if op < BARE {
+        return (op - FIRST) % 5;
+    }
+    4
 }
