@@ -12,11 +12,9 @@ use Rattle.grammar.specs.Reader.{ok, bad}
 use Rattle.grammar.specs.Grammar.{nesting, program}
 use Rattle.grammar.specs.Derives.{isProgram, nestingOf, isProgramWithin}
 use Rattle.grammar.specs.Refusals.{FourAt, FiveAt}
-use Rattle.grammar.specs.Rising.{statementRises}
 use Rattle.grammar.specs.Events.{eventsOf}
 use Rattle.grammar.specs.Texts.{Text}
 use Rattle.grammar.proofs.Tests.{real}
-use Rattle.grammar.proofs.Rising.{rising-statement, rises-statement}
 use Rattle.grammar.proofs.Texts.{program-text}
 use Rattle.grammar.proofs.Sequences.{read-right, refused-right, four-or-five}
 use Rattle.grammar.proofs.Rules.{right-program}
@@ -57,15 +55,11 @@ module _ (kinds : List ℕ) (i : ℕ) where
   pub program-is-read : (x : Statement) (j : ℕ) → isProgram kinds x i j → nestingOf x ≤ nesting → program kinds i ≡ ok x j
   program-is-read x j h n = accepted x j .1 (n, h)
 
-  -- its tokens rise along the tree, from i on and before j, and all are of the text
-  pub program-rises : (x : Statement) (j : ℕ) → isProgram kinds x i j → statementRises x i j
-  unfolding isProgram
-  program-rises x j (m, (e, h), (a, q)) = rising-statement x .higher (omega arith) (rises-statement kinds x .so h)
-
   -- its events stand in blocks and procedures as they nest, each at tokens of its own, one after the other
   pub program-is-text : (x : Statement) (j : ℕ) → isProgram kinds x i j → Text kinds (eventsOf x) [] i j
   program-is-text x j h = program-text kinds x i j h
 
+  -- and all its tokens are of the text
   pub program-inside : (x : Statement) (j : ℕ) → isProgram kinds x i j → j ≤ length kinds
   unfolding isProgram
   program-inside x j (m, h, (a, q)) = (let l = real kinds m K.AT (omega arith) a in omega arith)
