@@ -23,6 +23,7 @@ use Rattle.grammar.specs.Texts.{InBlock, EdgeFits, isEvent, Stands}
 use Rattle.grammar.proofs.Texts.{program-text}
 use Rattle.grammar.proofs.Order.{Earlier, Placed, text-placed}
 use Rattle.tape.specs.Events as E
+use Rattle.tape.specs.Numbers.{formAt}
 use Rattle.tape.specs.Tape.{tapeStatement, shape}
 use Rattle.tape.specs.Pass.{pass}
 use Rattle.tape.specs.Written.{operandShape, signCode, conditionCode, opOf, tokenOf}
@@ -123,7 +124,7 @@ module _ (kinds values found : List ℕ) where
   -- ── edges and routes ──
 
   turn-edge : (x : Edge) (p : Place) (c : Context) (s : Meant) (form target : ℕ) → EdgeFits x p → Settles p s (meanAt (edge x) p s) → (i j : ℕ) → isEvent kinds (edge x) i j → Next (edge x) p c s form target
-  unfolding D.meanEvent meanEvent withinAfter formAfter targetAfter declaredAfter writtenAfter writeText
+  unfolding D.meanEvent meanEvent withinAfter formAfter targetAfter declaredAfter writtenAfter formAt writeText
   turn-edge (opened t ls) p c s form target f g i j h = (form, target, refl, tt)
   turn-edge (closed t) (within b ∷ p) c s form target f g i j h = (form, target, refl, tt)
   turn-edge (entered n r) (within b ∷ p) c s form target f g i j h =
@@ -132,7 +133,7 @@ module _ (kinds values found : List ℕ) where
   turn-edge (left n) (body k r ∷ p) c s form target f g i j h = (form, target, settle (ownIn p) (ownersIn p) p s (meanAt (edge (left n)) (body k r ∷ p) s) form target _ g refl, tt)
 
   turn-route : (x : Route) (p : Place) (c : Context) (s : Meant) (form target : ℕ) → Stands kinds (route x) p 0 → Next (route x) p c s form target
-  unfolding D.meanEvent meanEvent withinAfter formAfter targetAfter declaredAfter writtenAfter
+  unfolding D.meanEvent meanEvent withinAfter formAfter targetAfter declaredAfter writtenAfter formAt
   turn-route (labelled l) p c s form target h = labels p (h .fits)
     where
       labels : (p : Place) → InBlock p → Next (route (labelled l)) p c s form target
@@ -148,7 +149,7 @@ module _ (kinds values found : List ℕ) where
 
     turn-entry : (d : Entry) (p : Place) (c : Context) (s : Meant) (form target : ℕ) → InBlock p → Settles p s (meanAt (entry d) p s) → (i j : ℕ) → isEvent kinds (entry d) i j → j ≤ length (s .opens)
         → entrySuits d c → Opens c s form target → Next (entry d) p c s form target
-    unfolding D.meanEvent meanEvent withinAfter formAfter targetAfter declaredAfter writtenAfter openBase write addCell low isRegister
+    unfolding D.meanEvent meanEvent withinAfter formAfter targetAfter declaredAfter writtenAfter formAt openBase write addCell low isRegister
     turn-entry (named r) (within b ∷ p) c s form target f g i j h l q o =
         let e : r .number ≡ r .name + 2 = omega (arith, h .0, h .2 .1 .0) in
         let n : getD kinds (r .number) 0 ≡ K.NUMBER = rw (h .2 .1 .0) (h .2 .1 .1) in
@@ -203,14 +204,14 @@ module _ (kinds values found : List ℕ) where
     here = walk p s form target
 
     sign-is : (g : Sign) → step (signCode g .family + signCode g .form) (signCode g .token) here ≡ here
-    unfolding meanEvent withinAfter formAfter targetAfter declaredAfter writtenAfter
+    unfolding meanEvent withinAfter formAfter targetAfter declaredAfter writtenAfter formAt
     sign-is plain = refl
     sign-is (abs t) = refl
     sign-is (neg t) = refl
     sign-is (negAbs t) = refl
 
     condition-is : (c : Condition) → step (conditionCode c .family + conditionCode c .form) (conditionCode c .token) here ≡ here
-    unfolding meanEvent withinAfter formAfter targetAfter declaredAfter writtenAfter
+    unfolding meanEvent withinAfter formAfter targetAfter declaredAfter writtenAfter formAt
     condition-is (compared n r a) = by-operand (λ n. step (E.COMPARED + n) (headOf a) here ≡ here) refl refl refl refl refl a
     condition-is (bare r) = refl
 
@@ -218,7 +219,7 @@ module _ (kinds values found : List ℕ) where
     term-is : (o : ℕ) (a : Operand) → headOf a - 1 ≡ o
         → step (E.TERM + operandShape a) (headOf a) here
         ≡ tell p s form target (if eqb (getD kinds o 0) K.TIMES && longOperand found (s .means) a then writeLower (ownIn p) target (tabled s) else tabled s)
-    unfolding meanEvent withinAfter formAfter targetAfter declaredAfter writtenAfter writeProduct isProductAt
+    unfolding meanEvent withinAfter formAfter targetAfter declaredAfter writtenAfter formAt writeProduct isProductAt
     term-is o (number t) e = rw e
     term-is o (place d) e =
         rw (← e)
@@ -243,7 +244,7 @@ module _ (kinds values found : List ℕ) where
 
   turn-phrase : (f : Phrase) (p : Place) (c : Context) (s : Meant) (form target : ℕ) → Settles p s (meanAt (phrase f) p s) → (i j : ℕ) → isEvent kinds (phrase f) i j → phraseSuits f c
       → Opens c s form target → Next (phrase f) p c s form target
-  unfolding D.meanEvent meanEvent withinAfter formAfter targetAfter declaredAfter writtenAfter
+  unfolding D.meanEvent meanEvent withinAfter formAfter targetAfter declaredAfter writtenAfter formAt
   turn-phrase (aimed d) p c s form target g i j h q o =
       aim-is E.TARGET d p s _ form _ refl g (phrase-alike kinds values found (aimed d) p s .of-means)
       (by-shape (λ n. step (E.TARGET + n) (d .name) (walk p s form target) ≡ aimedAt d p s form) refl refl refl refl (d .subscript) (d .index))
@@ -271,7 +272,7 @@ module _ (kinds values found : List ℕ) where
   -- ── marks ──
 
   unheeded : (k : Mark) (m : Meaning-walk) → step (opOf (mark k)) (tokenOf (mark k)) m ≡ m
-  unfolding meanEvent withinAfter formAfter targetAfter declaredAfter writtenAfter
+  unfolding meanEvent withinAfter formAfter targetAfter declaredAfter writtenAfter formAt
   unheeded (looped t) m = refl
   unheeded (otherwise t) m = refl
   unheeded (endedIf t) m = refl
