@@ -6,16 +6,14 @@ use mathlib.Core.Bool.{Bool, true, false, _&&_}
 use mathlib.Core.Option.{Option, none, some}
 use Prim.Native.Nat.{ℕ, zero, suc, _+_, _-_}
 use native.Mathlib.Omega.{arith}
-use lib.Dec.{eqb, leb}
 use lib.ListN.{length, drop}
-use borrow.Author.Tests.{ne-eqb, eq-eqb}
-use Rattle.base.specs.Choose.{choose, if_then_else_}
-use Rattle.grammar.specs.Tree.{Designator, Operand, number, place, Sign, plain, abs, neg, negAbs, Term, Condition, compared, bare, Item, Statement, Width, full, short}
+use borrow.Author.Tests.{ne-eqb}
+use Rattle.grammar.specs.Tree.{Designator, Operand, number, Sign, abs, neg, negAbs, Term, Condition, compared, bare, Item, Statement, Width, full, short}
 use Rattle.grammar.specs.Pinned.{headOf}
 use Rattle.grammar.proofs.Pinned.{pinned-designator, pinned-operand}
 use Rattle.grammar.specs.Derives.{isDesignator, isOperand, isCondition, isRegister, isProgram}
 use Rattle.grammar.specs.Events.{Edge, opened, closed, entered, left, Route, labelled, sent, Entry, named, celled, itemed, valued, based, Phrase, aimed, driven, signed, given, joined, tested, limited, called, Mark, looped, otherwise, endedIf, endedElse, endedWhile, endedFor, Event, edge, route, entry, phrase, mark, eventsOf}
-use Rattle.grammar.specs.Places.{Block, within, body, Place, after, along}
+use Rattle.grammar.specs.Places.{Block, within, body, Place, after}
 use Rattle.grammar.specs.Contexts.{Context, nowhere, aiming, declaring, contextAfter, Complete, Aims, Shown, entrySuits, phraseSuits, Suits}
 use Rattle.grammar.proofs.Contexts.{program-coherent}
 use Rattle.grammar.specs.Texts.{InBlock, EdgeFits, RouteFits, isEvent, Stands}
@@ -34,12 +32,11 @@ use Rattle.kinds.specs.Meaning.{Meaning, nothing, register, cell, routine, regi
 use Rattle.kinds.specs.Meanings.{countOf}
 use Rattle.kinds.specs.Tables.{Tables, valueAt, meaningAt}
 use Rattle.kinds.specs.Rules as R
-use Rattle.kinds.specs.Rules.{bareName, protected}
+use Rattle.kinds.specs.Rules.{bareName}
 use Rattle.kinds.specs.Kinds.{keptIn, rulesAt, ruleEvent, rulesOf}
 use Rattle.kinds.proofs.Elements.{range-is, from-zero}
 use Rattle.kinds.proofs.Unbroken.{rules-onto}
-use Rattle.rules.specs.Parts.{designatorAt, operandAt, termAt}
-use Rattle.judge.specs.declared.Cells.{Cells}
+use Rattle.rules.specs.Parts.{designatorAt, operandAt}
 use Rattle.judge.specs.Along.{Held, heldAfter, cellsOf, cellsAfter, widthOf, valueRule, aimOf, targetAfter, aimBy, controlBy, signRule, firstRules, chainRule, declarationRule, assignmentRule, statementRule, eventRule, Judging, judgeEvent, beginning}
 use Rattle.judge.proofs.Parts.{designator-at, operand-at}
 

@@ -2,21 +2,21 @@
 -- grammar; the numbers of a text have 32 bits; and a base stays in force, since its name means what was declared before it.
 use mathlib.Core.Path.{_≡_, refl, ap, ap₂, sym, _∙_}
 use mathlib.Core.List.{List, [], _∷_}
-use mathlib.Core.Bool.{Bool, true, false, _&&_, _||_}
+use mathlib.Core.Bool.{Bool, true, false, _&&_}
 use mathlib.Core.Option.{Option, none, some}
-use Prim.Native.Nat.{ℕ, zero, suc, _+_, _-_, _≤_, _<_}
+use Prim.Native.Nat.{ℕ, _+_, _-_, _≤_, _<_}
 use native.Mathlib.Omega.{arith}
 use lib.Dec.{eqb}
 use lib.ListN.{getD, set, length}
 use lib.Seq.{getD-set-same}
-use Rattle.base.specs.Choose.{choose, if_then_else_}
+use Rattle.base.specs.Choose.{if_then_else_}
 use Rattle.token.specs.Kinds as K
-use Rattle.grammar.specs.Tree.{Designator, Operand, number, place, Sign, plain, abs, neg, negAbs, Term, Condition, compared, bare, Statement, Width, full, short}
+use Rattle.grammar.specs.Tree.{Designator, Operand, number, place, Sign, plain, abs, neg, negAbs, Condition, compared, bare, Statement, Width, full, short}
 use Rattle.grammar.specs.Derives.{isRegister, isProgram}
 use Rattle.grammar.specs.Pinned.{headOf}
 use Rattle.grammar.proofs.Pinned.{pinned-operand}
 use Rattle.grammar.specs.Events.{Edge, opened, closed, entered, left, Route, labelled, sent, Entry, named, celled, itemed, valued, based, Phrase, aimed, driven, signed, given, joined, tested, limited, called, Mark, looped, otherwise, endedIf, endedElse, endedWhile, endedFor, Event, edge, route, entry, phrase, mark, eventsOf}
-use Rattle.grammar.specs.Places.{within, body, Place, after, along}
+use Rattle.grammar.specs.Places.{within, body, Place, after}
 use Rattle.grammar.specs.Contexts.{Context, nowhere, aiming, declaring, contextAfter, entrySuits, phraseSuits, Suits}
 use Rattle.grammar.proofs.Contexts.{program-coherent}
 use Rattle.grammar.specs.Texts.{InBlock, EdgeFits, isEvent, Stands}
@@ -24,7 +24,7 @@ use Rattle.grammar.proofs.Texts.{program-text}
 use Rattle.grammar.proofs.Order.{Earlier, Placed, text-placed}
 use Rattle.tape.specs.Events as E
 use Rattle.tape.specs.Numbers.{formAt}
-use Rattle.tape.specs.Tape.{tapeStatement, shape}
+use Rattle.tape.specs.Tape.{tapeStatement}
 use Rattle.tape.specs.Pass.{pass}
 use Rattle.tape.specs.Written.{operandShape, signCode, conditionCode, opOf, tokenOf}
 use Rattle.tape.proofs.Numbers.{by-shape, by-operand}
@@ -32,13 +32,13 @@ use Rattle.tape.proofs.Written.{tree-tape, follows-in}
 use Rattle.names.proofs.Early.{Early}
 use Rattle.kinds.specs.Meaning.{Meaning, nothing, register, cell, routine, Based, meaningOf, registerOf, isLong, longOperand, isProduct}
 use Rattle.kinds.specs.Meanings as D
-use Rattle.kinds.specs.Meanings.{Meant, mean, write, writeText, callWrites, targetWrites, openBase, addCell, countOf, isArray, meaningIn, ownIn, newest, baseIn, meanProgram}
-use Rattle.kinds.proofs.Heeds.{Alike, phrase-alike}
+use Rattle.kinds.specs.Meanings.{Meant, write, writeText, callWrites, targetWrites, openBase, addCell, countOf, isArray, meaningIn, ownIn, newest, baseIn, meanProgram}
+use Rattle.kinds.proofs.Heeds.{phrase-alike}
 use Rattle.kinds.proofs.Lengths.{event-long}
 use Rattle.kinds.proofs.Stays.{Stays, event-stays}
 use Rattle.tables.specs.Packed.{low, packed, unpacked}
 use Rattle.tables.proofs.Meanings.{low-is, packed-cell}
-use Rattle.meanings.specs.Along.{Within, targetOf, writeTarget, writeLower, withinAfter, formAfter, targetAfter, declaredAfter, isProductAt, writeProduct, writtenAfter, Meaning-walk, meanEvent, beginning}
+use Rattle.meanings.specs.Along.{targetOf, writeTarget, writeLower, withinAfter, formAfter, targetAfter, declaredAfter, isProductAt, writeProduct, writtenAfter, Meaning-walk, meanEvent, beginning}
 
 -- the tables without the list of cells
 abbrev pub tabled : Meant → Meant
