@@ -14,9 +14,9 @@ use tally::{numbers, Tally};
 
 /// Texts up to so many bytes, and the stack of a thread that translates them, in bytes.
 const STACKS: [(usize, usize); 3] = [(1024, SHORT_STACK), (8192, MIDDLING_STACK), (TEXT_LIMIT, LONG_STACK)];
-const SHORT_STACK: usize = 256 << 10;
-const MIDDLING_STACK: usize = 1 << 20;
-const LONG_STACK: usize = 4 << 20;
+const SHORT_STACK: usize = 128 << 10;
+const MIDDLING_STACK: usize = 640 << 10;
+const LONG_STACK: usize = 2400 << 10;
 
 /// The front before as many copies of the middle as leave room for the back.
 fn filled(front: &str, middle: &str, back: &str, length: usize) -> Vec<u8> {

@@ -1,6 +1,7 @@
 -- Laws of the whole translation.
 pub mod Laying
 pub mod Reading
+pub mod Places
 pub mod Judging
 pub mod Delivering
 pub mod Making
