@@ -24,12 +24,18 @@ join-requires : tie.Need-join-requires
 join-requires c κs = search needs
 
 same-length : tie.Need-same-length
-same-length c = c .before .before .before .before .before .before .before .clear .kept .0 ∙ (c .before .before .before .before .before .before .before .before .before .before .before .before .before .before .before .labels .kept .1 .1 .0
-    ∙ c .before .before .before .before .before .before .before .before .before .before .before .before .before .before .before .before .before .before .before .before .before .before .before .before .before .names .kept .1 .1 .0)
+same-length c =
+    let at-clear = c .before .before .before .before .before .before .before in
+    let at-labels = at-clear .before .before .before .before .before .before .before .before in
+    let at-names = at-labels .before .before .before .before .before .before .before .before .before .before in
+    at-clear .clear .kept .0 ∙ (at-labels .labels .kept .1 .1 .0 ∙ at-names .names .kept .1 .1 .0)
 
 same-length-2 : tie.Need-same-length-2
-same-length-2 c = c .before .before .before .clear2 .kept .0 ∙ (c .before .before .before .before .before .before .before .before .before .before .before .before .before .before .before .labels .kept .1 .1 .1 .0
-    ∙ c .before .before .before .before .before .before .before .before .before .before .before .before .before .before .before .before .before .before .before .before .before .before .before .before .before .names .kept .1 .1 .1 .0)
+same-length-2 c =
+    let at-clear2 = c .before .before .before in
+    let at-labels = at-clear2 .before .before .before .before .before .before .before .before .before .before .before .before in
+    let at-names = at-labels .before .before .before .before .before .before .before .before .before .before in
+    at-clear2 .clear2 .kept .0 ∙ (at-labels .labels .kept .1 .1 .1 .0 ∙ at-names .names .kept .1 .1 .1 .0)
 
 same-length-3 : tie.Need-same-length-3
 same-length-3 c = search needs
@@ -38,26 +44,21 @@ same-length-4 : tie.Need-same-length-4
 same-length-4 c = search needs
 
 returns : tie.Need-returns
-returns c = (
-  (
-    c .before .before .before .before .before .before .before .clear .ensures ∙ ap (λ (n : ℕ). replicate n 0) (c .before .before .before .before .before .before .before .before .before .before .before .before .before .before .before .labels .kept .1 .1 .0
-        ∙ c .before .before .before .before .before .before .before .before .before .before .before .before .before .before .before .before .before .before .before .before .before .before .before .before .before .names .kept .1 .1 .0),
-    c .before .before .before .clear2 .ensures ∙ ap (λ (n : ℕ). replicate n 0) (c .before .before .before .before .before .before .before .before .before .before .before .before .before .before .before .labels .kept .1 .1 .1 .0
-        ∙ c .before .before .before .before .before .before .before .before .before .before .before .before .before .before .before .before .before .before .before .before .before .before .before .before .before .names .kept .1 .1 .1 .0),
-  ),
-  λ ts x t bf bg. bound ts x _ _ t _ _ _ _ _ _ _ _ _ (omega (
-    arith,
-    c .before .before .before .before .before .before .before .before .before .before .before .before .before .before .before .before .before .before .before .before .before .before .before .before .before .before .before .before .before .before .before .before .before .before .before .pre .1,
-    c .before .before .before .before .before .before .before .before .before .before .before .before .before .before .before .before .before .before .before .before .before .before .before .before .before .names .kept .1 .1 .0,
-  ))
-      (omega (
-        arith,
-        c .before .before .before .before .before .before .before .before .before .before .before .before .before .before .before .before .before .before .before .before .before .before .before .before .before .before .before .before .before .before .before .before .before .before .before .pre .2,
-        c .before .before .before .before .before .before .before .before .before .before .before .before .before .before .before .before .before .before .before .before .before .before .before .before .before .names .kept .1 .1 .1 .0,
-      ))
-      bf bg (c .before .before .before .before .before .before .before .before .before .before .before .before .before .before .before .before .before .before .before .before .before .before .before .before .before .names .ensures)
-      (c .before .before .before .before .before .before .before .before .before .before .before .before .before .before .before .labels .ensures) (c .join .ensures),
-)
+returns c =
+    let at-clear2 = c .before .before .before in
+    let at-clear = at-clear2 .before .before .before .before in
+    let at-labels = at-clear .before .before .before .before .before .before .before .before in
+    let at-names = at-labels .before .before .before .before .before .before .before .before .before .before in
+    let start = at-names .before .before .before .before .before .before .before .before .before .before in (
+      (
+        at-clear .clear .ensures ∙ ap (λ (n : ℕ). replicate n 0) (at-labels .labels .kept .1 .1 .0 ∙ at-names .names .kept .1 .1 .0),
+        at-clear2 .clear2 .ensures ∙ ap
+            (λ (n : ℕ). replicate n 0) (at-labels .labels .kept .1 .1 .1 .0 ∙ at-names .names .kept .1 .1 .1 .0),
+      ),
+      λ ts x t bf bg. bound ts x _ _ t _ _ _ _ _ _ _ _ _ (omega
+          (arith, start .pre .1, at-names .names .kept .1 .1 .0)) (omega (arith, start .pre .2, at-names .names .kept .1 .1 .1 .0)) bf bg (at-names .names .ensures)
+          (at-labels .labels .ensures) (c .join .ensures),
+    )
 
 pub bind-spec : {M : Type 1} → statement M
 bind-spec =

@@ -35,12 +35,17 @@ enum-known-next : tie.Need-enum-known-next Inv-loop μ-loop
 enum-known-next c = search needs
 
 add-result : tie.Need-add-result Inv-loop μ-loop
-add-result c = omega (
-  arith,
-  place-inside (answered (c .before .before .before .before .before .before .loop .inv) (c .before .before .before .before .next-token .ensures))
-      (c .before .before .next .given .1),
-  c .before .before .before .before .before .before .before .shared-slice-known .given 0,
-)
+add-result c =
+    let at-next = c .before .before in
+    let at-next-token = at-next .before .before in
+    let at-loop = at-next-token .before .before in
+    let at-shared-slice-known = at-loop .before in
+    omega (
+      arith,
+      place-inside (answered (at-loop .loop .inv) (at-next-token .next-token .ensures)) (at-next .next .given .1),
+      at-shared-slice-known .shared-slice-known .given
+          0,
+    )
 
 returns : tie.Need-returns Inv-loop μ-loop
 returns c = seek-found (c .before .before .before .before .before .before .loop .inv) (c .before .before .before .before .next-token .ensures) (c .before .before .next .given .1)
@@ -50,51 +55,77 @@ is-last-requires : tie.Need-is-last-requires Inv-loop μ-loop
 is-last-requires c κs = search needs
 
 returns-2 : tie.Need-returns-2 Inv-loop μ-loop
-returns-2 c = seek-past (c .before .before .before .before .before .before .before .before .loop .inv) (c .before .before .before .before .before .before .next-token .ensures)
-    (c .before .before .before .before .next .given .1) (c .before .before .if1 .left) (sym (c .before .is-last .ensures) ∙ c .if2 .taken)
+returns-2 c =
+    let at-is-last = c .before in
+    let at-if1 = at-is-last .before in
+    let at-next = at-if1 .before .before in
+    let at-next-token = at-next .before .before in
+    let at-loop = at-next-token .before .before in
+    seek-past (at-loop .loop .inv) (at-next-token .next-token .ensures) (at-next .next .given .1) (at-if1 .if1 .left) (sym (at-is-last .is-last .ensures) ∙ c .if2 .taken)
 
 add-n : tie.Need-add-n Inv-loop μ-loop
-add-n c = omega (arith, c .before .before .before .before .before .before .before .before .loop .inv .reads .few, c .before .before .before .before .before .before .before .before .loop .inv .reads .inside)
+add-n c =
+    let at-loop = c .before .before .before .before .before .before .before .before in
+    omega (arith, at-loop .loop .inv .reads .few, at-loop .loop .inv .reads .inside)
 
 add-at : tie.Need-add-at Inv-loop μ-loop
-add-at c = omega (
-  arith,
-  ends-inside (answered (c .before .before .before .before .before .before .before .before .loop .inv) (c .before .before .before .before .before .before .next-token .ensures))
-      (c .before .before .before .before .next .given .1),
-)
+add-at c =
+    let at-next = c .before .before .before .before in
+    let at-next-token = at-next .before .before in
+    let at-loop = at-next-token .before .before in
+    omega (arith, ends-inside (answered (at-loop .loop .inv) (at-next-token .next-token .ensures)) (at-next .next .given .1))
 
 loop-less : tie.Need-loop-less Inv-loop μ-loop
-loop-less c = omega (
-  arith,
-  ends-inside (answered (c .before .before .before .before .before .before .before .before .loop .inv) (c .before .before .before .before .before .before .next-token .ensures))
-      (c .before .before .before .before .next .given .1),
-  some-bytes (answered (c .before .before .before .before .before .before .before .before .loop .inv) (c .before .before .before .before .before .before .next-token .ensures))
-      (c .before .before .before .before .next .given .1) (sym (c .before .is-last .ensures) ∙ c .if2 .left),
-)
+loop-less c =
+    let at-is-last = c .before in
+    let at-next = at-is-last .before .before .before in
+    let at-next-token = at-next .before .before in
+    let at-loop = at-next-token .before .before in
+    omega (
+      arith,
+      ends-inside (answered (at-loop .loop .inv) (at-next-token .next-token .ensures)) (at-next .next .given .1),
+      some-bytes (answered (at-loop .loop .inv)
+          (at-next-token .next-token .ensures)) (at-next .next .given .1) (sym (at-is-last .is-last .ensures) ∙ c .if2 .left),
+    )
 
 loop-again : tie.Need-loop-again Inv-loop μ-loop
-loop-again c = seek-on (c .before .before .before .before .before .before .before .before .loop .inv) (c .before .before .before .before .before .before .next-token .ensures)
-    (c .before .before .before .before .next .given .1) (c .before .before .if1 .left) (sym (c .before .is-last .ensures) ∙ c .if2 .left)
+loop-again c =
+    let at-is-last = c .before in
+    let at-if1 = at-is-last .before in
+    let at-next = at-if1 .before .before in
+    let at-next-token = at-next .before .before in
+    let at-loop = at-next-token .before .before in
+    seek-on (at-loop .loop .inv) (at-next-token .next-token .ensures) (at-next .next .given .1) (at-if1 .if1 .left) (sym (at-is-last .is-last .ensures) ∙ c .if2 .left)
 
 enum-known-next-2 : tie.Need-enum-known-next-2 Inv-loop μ-loop
 enum-known-next-2 c = search needs
 
 returns-3 : tie.Need-returns-3 Inv-loop μ-loop
-returns-3 c = absurd (omega (
-  arith,
-  seek-refused (c .before .before .before .next-token .result) (c .before .before .before .before .before .loop .inv) (c .before .before .before .next-token .ensures)
-      2 _ (ap outcomeOf (c .before .next2 .given .1)) refl (c .before .before .before .before .before .before .before .pre),
-))
+returns-3 c =
+    let at-next2 = c .before in
+    let at-next-token = at-next2 .before .before in
+    let at-loop = at-next-token .before .before in
+    let start = at-loop .before .before in
+    absurd (omega (
+      arith,
+      seek-refused (at-next-token .next-token .result) (at-loop .loop .inv) (at-next-token .next-token .ensures) 2 _ (ap outcomeOf (at-next2 .next2 .given .1))
+          refl (start .pre),
+    ))
 
 enum-known-next-3 : tie.Need-enum-known-next-3 Inv-loop μ-loop
 enum-known-next-3 c = search needs
 
 returns-4 : tie.Need-returns-4 Inv-loop μ-loop
-returns-4 c = absurd (omega (
-  arith,
-  seek-refused (c .before .before .before .next-token .result) (c .before .before .before .before .before .loop .inv) (c .before .before .before .next-token .ensures)
-      3 _ (ap outcomeOf (c .before .next3 .given .1)) refl (c .before .before .before .before .before .before .before .pre),
-))
+returns-4 c =
+    let at-next3 = c .before in
+    let at-next-token = at-next3 .before .before in
+    let at-loop = at-next-token .before .before in
+    let start = at-loop .before .before in
+    absurd (omega (
+      arith,
+      seek-refused (at-next-token .next-token .result) (at-loop .loop .inv) (at-next-token .next-token .ensures) 3 _ (ap outcomeOf (at-next3 .next3 .given .1))
+          refl (start .pre),
+    ))
 
 pub place-in-spec : {M : Type 1} → statement M
 place-in-spec =

@@ -22,11 +22,13 @@ clear-wide-requires-2 : tie.Need-clear-wide-requires-2
 clear-wide-requires-2 c κs = search needs
 
 layout-requires : tie.Need-layout-requires
-layout-requires c κs = (
-  omega (arith, c .before .before .before .before .before .before .before .before .before .before .before .before .before .before .before .before .before .before .before .before .before .before .before .before .before .before .before .before .before .before .before .before .before .before .before .before .before .before .before .before .before .before .before .before .before .before .before .before .before .before .before .pre .0),
-  zeros-again _ (length (c .before .before .before .before .before .before .before .before .before .before .before .before .before .before .before .before .judge .last .1 .1 .1 .1 .1 .1 .1 .1 .0))
-      (c .before .before .before .before .before .before .clear-wide2 .ensures),
-)
+layout-requires c κs =
+    let at-clear-wide2 = c .before .before .before .before .before .before in
+    let at-judge = at-clear-wide2 .before .before .before .before .before .before .before .before .before .before in
+    let back = at-judge .before .before .before .before .before .before .before .before .before .before .before .before .before .before .before in
+    let back2 = back .before .before .before .before .before .before .before .before .before .before .before .before .before .before .before in
+    let start = back2 .before .before .before .before .before in
+    (omega (arith, start .pre .0), zeros-again _ (length (at-judge .judge .last .1 .1 .1 .1 .1 .1 .1 .1 .0)) (at-clear-wide2 .clear-wide2 .ensures))
 
 join-requires : tie.Need-join-requires
 join-requires c κs = search needs
@@ -41,49 +43,75 @@ end-of-requires-3 : tie.Need-end-of-requires-3
 end-of-requires-3 c κs = search needs
 
 same-length : tie.Need-same-length
-same-length c = c .before .before .before .before .before .before .before .before .before .before .before .before .before .before .before .before .before .before .before .before .before .before .before .before .before .before .before .before .before .before .before .before .before .before .before .before .before .before .before .before .before .before .before .before .before .before .meanings .kept .1 .1 .1 .1 .0
+same-length c =
+    let back = c .before .before .before .before .before .before .before .before .before .before .before .before .before .before .before in
+    let back2 = back .before .before .before .before .before .before .before .before .before .before .before .before .before .before .before in
+    let back3 = back2 .before .before .before .before .before .before .before .before .before .before .before .before .before .before .before in
+    let at-meanings = back3 .before in
+    at-meanings .meanings .kept .1 .1 .1 .1 .0
 
 same-length-2 : tie.Need-same-length-2
-same-length-2 c = c .before .before .before .before .before .before .before .before .before .before .before .before .before .before .before .before .before .before .before .before .before .before .before .before .before .before .before .before .before .before .before .before .before .before .before .before .before .before .before .before .before .before .before .before .before .before .meanings .kept .1 .1 .1 .1 .1 .0
+same-length-2 c =
+    let back = c .before .before .before .before .before .before .before .before .before .before .before .before .before .before .before in
+    let back2 = back .before .before .before .before .before .before .before .before .before .before .before .before .before .before .before in
+    let back3 = back2 .before .before .before .before .before .before .before .before .before .before .before .before .before .before .before in
+    let at-meanings = back3 .before in
+    at-meanings .meanings .kept .1 .1 .1 .1 .1 .0
 
 same-length-3 : tie.Need-same-length-3
-same-length-3 c = c .before .before .before .before .before .before .before .before .before .before .before .before .before .before .before .before .before .before .before .before .before .before .before .before .before .before .before .before .before .before .before .before .before .before .before .before .before .before .before .before .before .before .before .before .before .before .meanings .kept .1 .1 .1 .1 .1 .1 .0
+same-length-3 c =
+    let back = c .before .before .before .before .before .before .before .before .before .before .before .before .before .before .before in
+    let back2 = back .before .before .before .before .before .before .before .before .before .before .before .before .before .before .before in
+    let back3 = back2 .before .before .before .before .before .before .before .before .before .before .before .before .before .before .before in
+    let at-meanings = back3 .before in
+    at-meanings .meanings .kept .1 .1 .1 .1 .1 .1 .0
 
 same-length-4 : tie.Need-same-length-4
-same-length-4 c = c .before .before .before .before .before .before .before .before .before .before .before .before .before .before .before .before .before .before .before .before .before .before .before .before .before .before .before .before .before .before .before .before .before .before .before .before .before .before .before .before .before .before .before .before .before .before .meanings .kept .1 .1 .1 .1 .1 .1 .1 .0
+same-length-4 c =
+    let back = c .before .before .before .before .before .before .before .before .before .before .before .before .before .before .before in
+    let back2 = back .before .before .before .before .before .before .before .before .before .before .before .before .before .before .before in
+    let back3 = back2 .before .before .before .before .before .before .before .before .before .before .before .before .before .before .before in
+    let at-meanings = back3 .before in
+    at-meanings .meanings .kept .1 .1 .1 .1 .1 .1 .1 .0
 
 same-length-5 : tie.Need-same-length-5
-same-length-5 c = c .before .before .before .before .before .before .before .before .before .before .before .layout .kept .1 .1 .1 .1 .0 ∙ (c .before .before .before .before .before .before .before .before .before .before .before .before .before .before .before .before .before .before .before .before .before .before .clear-wide .kept .0
-    ∙ (c .before .before .before .before .before .before .before .before .before .before .before .before .before .before .before .before .before .before .before .before .before .before .before .before .before .before .before .before .judge .kept .1 .1 .1 .1 .1 .1 .1 .0
-    ∙ c .before .before .before .before .before .before .before .before .before .before .before .before .before .before .before .before .before .before .before .before .before .before .before .before .before .before .before .before .before .before .before .before .before .before .before .before .before .before .before .before .before .before .before .before .before .before .meanings .kept .1 .1 .1 .1 .1 .1 .1 .1 .0))
+same-length-5 c =
+    let at-layout = c .before .before .before .before .before .before .before .before .before .before .before in
+    let at-clear-wide = at-layout .before .before .before .before .before .before .before .before .before .before .before in
+    let at-judge = at-clear-wide .before .before .before .before .before .before in
+    let back = at-judge .before .before .before .before .before .before .before .before .before .before .before .before .before .before .before in
+    let at-meanings = back .before .before .before in
+    at-layout .layout .kept .1 .1 .1 .1 .0 ∙ (at-clear-wide .clear-wide .kept .0 ∙ (at-judge .judge .kept .1 .1 .1 .1 .1 .1 .1 .0 ∙ at-meanings .meanings .kept .1 .1 .1 .1 .1 .1 .1 .1 .0))
 
 same-length-6 : tie.Need-same-length-6
-same-length-6 c = c .before .before .before .before .before .before .before .before .before .before .before .layout .kept .1 .1 .1 .0 ∙ (c .before .before .before .before .before .before .before .before .before .before .before .before .before .before .before .before .before .before .clear-wide2 .kept .0
-    ∙ (c .before .before .before .before .before .before .before .before .before .before .before .before .before .before .before .before .before .before .before .before .before .before .before .before .before .before .before .before .judge .kept .1 .1 .1 .1 .1 .1 .1 .1 .0
-    ∙ c .before .before .before .before .before .before .before .before .before .before .before .before .before .before .before .before .before .before .before .before .before .before .before .before .before .before .before .before .before .before .before .before .before .before .before .before .before .before .before .before .before .before .before .before .before .before .meanings .kept .1 .1 .1 .1 .1 .1 .1 .1 .1 .0))
+same-length-6 c =
+    let at-layout = c .before .before .before .before .before .before .before .before .before .before .before in
+    let at-clear-wide2 = at-layout .before .before .before .before .before .before .before in
+    let at-judge = at-clear-wide2 .before .before .before .before .before .before .before .before .before .before in
+    let back = at-judge .before .before .before .before .before .before .before .before .before .before .before .before .before .before .before in
+    let at-meanings = back .before .before .before in
+    at-layout .layout .kept .1 .1 .1 .0 ∙ (at-clear-wide2 .clear-wide2 .kept .0 ∙ (at-judge .judge .kept .1 .1 .1 .1 .1 .1 .1 .1 .0 ∙ at-meanings .meanings .kept .1 .1 .1 .1 .1 .1 .1 .1 .1 .0))
 
 returns : tie.Need-returns
-returns c = (
-  record {
-    cells-is = c .before .before .before .before .end-of .ensures .0;
-    two-is = c .before .before .end-of2 .ensures .0;
-    three-is = c .end-of3 .ensures .0;
-  },
-  λ ts x t ek ef bm bo bw lo. settled ts x _ _ _ _ t ek ef _ _ _ _ _ _ _ _ _ bm bo bw (c .before .before .before .before .before .before .before .before .before .before .before .before .before .before .before .before .before .before .before .before .before .before .before .before .before .before .before .before .before .before .before .before .before .before .before .before .before .before .before .before .before .before .before .before .before .before .meanings .ensures)
-      _ _ _ (length (c .before .before .before .before .before .before .before .before .before .before .before .before .before .before .before .before .before .before .clear-wide2 .last .0))
-      _ _ _ _ (omega (
-        arith,
-        c .before .before .before .before .before .before .before .before .before .before .before .before .before .before .before .before .before .before .before .before .before .before .before .before .before .before .before .before .before .before .before .before .before .before .before .before .before .before .before .before .before .before .before .before .before .before .before .before .before .before .before .before .before .before .before .before .before .before .before .before .before .before .before .pre .2,
-        c .before .before .before .before .before .before .before .before .before .before .before .before .before .before .before .before .before .before .clear-wide2 .kept .0,
-        c .before .before .before .before .before .before .before .before .before .before .before .before .before .before .before .before .before .before .before .before .before .before .before .before .before .before .before .before .judge .kept .1 .1 .1 .1 .1 .1 .1 .1 .0,
-        c .before .before .before .before .before .before .before .before .before .before .before .before .before .before .before .before .before .before .before .before .before .before .before .before .before .before .before .before .before .before .before .before .before .before .before .before .before .before .before .before .before .before .before .before .before .before .meanings .kept .1 .1 .1 .1 .1 .1 .1 .1 .1 .0,
-      ))
-      (c .before .before .before .before .before .before .before .before .before .before .before .before .before .before .before .before .before .before .before .before .before .before .clear-wide .ensures
-      ∙ ap (λ (n : ℕ). replicate n 0) (c .before .before .before .before .before .before .before .before .before .before .before .before .before .before .before .before .before .before .before .before .before .before .before .before .before .before .before .before .judge .kept .1 .1 .1 .1 .1 .1 .1 .0
-      ∙ (c .before .before .before .before .before .before .before .before .before .before .before .before .before .before .before .before .before .before .before .before .before .before .before .before .before .before .before .before .before .before .before .before .before .before .before .before .before .before .before .before .before .before .before .before .before .before .meanings .kept .1 .1 .1 .1 .1 .1 .1 .1 .0
-      ∙ lo))) (c .before .before .before .before .before .before .before .before .before .before .before .before .before .before .before .before .before .before .before .before .before .before .before .before .before .before .before .before .judge .ensures)
-      (c .before .before .before .before .before .before .before .before .before .before .before .layout .ensures) refl (c .before .before .before .before .before .before .join .ensures),
-)
+returns c =
+    let at-end-of2 = c .before .before in
+    let at-end-of = at-end-of2 .before .before in
+    let at-join = at-end-of .before .before in
+    let at-layout = at-join .before .before .before .before .before in
+    let at-clear-wide2 = at-layout .before .before .before .before .before .before .before in
+    let at-clear-wide = at-clear-wide2 .before .before .before .before in
+    let at-judge = at-clear-wide .before .before .before .before .before .before in
+    let back = at-judge .before .before .before .before .before .before .before .before .before .before .before .before .before .before .before in
+    let at-meanings = back .before .before .before in
+    let back2 = at-meanings .before .before .before .before .before .before .before .before .before .before .before .before .before .before .before in
+    let start = back2 .before .before in (
+      record { cells-is = at-end-of .end-of .ensures .0; two-is = at-end-of2 .end-of2 .ensures .0; three-is = c .end-of3 .ensures .0 },
+      λ ts x t ek ef bm bo bw lo.
+          settled ts x _ _ _ _ t ek ef _ _ _ _ _ _ _ _ _ bm bo bw (at-meanings .meanings .ensures) _ _ _ (length (at-clear-wide2 .clear-wide2 .last .0)) _ _ _ _ (omega
+          (arith, start .pre .2, at-clear-wide2 .clear-wide2 .kept .0, at-judge .judge .kept .1 .1 .1 .1 .1 .1 .1 .1 .0, at-meanings .meanings .kept .1 .1 .1 .1 .1 .1 .1 .1 .1 .0))
+          (at-clear-wide .clear-wide .ensures ∙ ap (λ (n : ℕ). replicate n 0) (at-judge .judge .kept .1 .1 .1 .1 .1 .1 .1 .0 ∙ (at-meanings .meanings .kept .1 .1 .1 .1 .1 .1 .1 .1 .0
+          ∙ lo))) (at-judge .judge .ensures) (at-layout .layout .ensures) refl (at-join .join .ensures),
+    )
 
 pub settle-spec : {M : Type 1} → statement M
 settle-spec =

@@ -17,252 +17,221 @@ enum-known-tokens : tie.Need-enum-known-tokens
 enum-known-tokens c = search needs
 
 add-m : tie.Need-add-m
-add-m c = omega (
-  arith,
-  fits-in (c .before .before .before .before .before .before .before .before .before .before .before .before .before .before .before .before .before .before .before .before .before .before .before .before .before .before .args .src .now)
-      _ (c .before .before .before .before .before .before .before .before .before .read .ensures .is) _ (c .before .tokens .given .1) (c .before .before .before .before .before .before .before .before .before .before .before .before .before .before .before .before .before .before .before .before .before .before .before .before .before .before .pre .for-tape),
-)
+add-m c =
+    let at-tokens = c .before in
+    let at-read = at-tokens .before .before .before .before .before .before .before .before in
+    let back = at-read .before .before .before .before .before .before .before .before .before .before .before .before .before .before .before in
+    let start = back .before .before in
+    omega (arith, fits-in (start .args .src .now) _ (at-read .read .ensures .is) _ (at-tokens .tokens .given .1) (start .pre .for-tape))
 
 slice-reshare-prefix-translate-tokens : tie.Need-slice-reshare-prefix-translate-tokens
-slice-reshare-prefix-translate-tokens c = omega (
-  arith,
-  fits-in (c .before .before .before .before .before .before .before .before .before .before .before .before .before .before .before .before .before .before .before .before .before .before .before .before .before .before .args .src .now)
-      _ (c .before .before .before .before .before .before .before .before .before .read .ensures .is) _ (c .before .tokens .given .1) (c .before .before .before .before .before .before .before .before .before .before .before .before .before .before .before .before .before .before .before .before .before .before .before .before .before .before .pre .for-kinds),
-  c .before .before .before .before .before .before .before .before .before .read .kept .1 .0,
-)
+slice-reshare-prefix-translate-tokens c =
+    let at-tokens = c .before in
+    let at-read = at-tokens .before .before .before .before .before .before .before .before in
+    let back = at-read .before .before .before .before .before .before .before .before .before .before .before .before .before .before .before in
+    let start = back .before .before in
+    omega (arith, fits-in (start .args .src .now) _ (at-read .read .ensures .is) _ (at-tokens .tokens .given .1) (start .pre .for-kinds), at-read .read .kept .1 .0)
 
 slice-aggregate-translate-tokens : tie.Need-slice-aggregate-translate-tokens
-slice-aggregate-translate-tokens c = cut-long _ _ _ (omega (
-  arith,
-  fits-in (c .before .before .before .before .before .before .before .before .before .before .before .before .before .before .before .before .before .before .before .before .before .before .before .before .before .before .before .args .src .now)
-      _ (c .before .before .before .before .before .before .before .before .before .before .read .ensures .is) _ (c .before .before .tokens .given .1) (c .before .before .before .before .before .before .before .before .before .before .before .before .before .before .before .before .before .before .before .before .before .before .before .before .before .before .before .pre .for-kinds),
-  c .before .before .before .before .before .before .before .before .before .before .read .kept .1 .0,
-)) refl
+slice-aggregate-translate-tokens c =
+    let at-tokens = c .before .before in
+    let at-read = at-tokens .before .before .before .before .before .before .before .before in
+    let back = at-read .before .before .before .before .before .before .before .before .before .before .before .before .before .before .before in
+    let start = back .before .before in
+    cut-long _ _ _ (omega (arith, fits-in (start .args .src .now) _ (at-read .read .ensures .is) _ (at-tokens .tokens .given .1) (start .pre .for-kinds), at-read .read .kept .1 .0))
+    refl
 
 slice-reshare-prefix-translate-tokens-2 : tie.Need-slice-reshare-prefix-translate-tokens-2
-slice-reshare-prefix-translate-tokens-2 c = omega (
-  arith,
-  fits-in (c .before .before .before .before .before .before .before .before .before .before .before .before .before .before .before .before .before .before .before .before .before .before .before .before .before .before .before .args .src .now)
-      _ (c .before .before .before .before .before .before .before .before .before .before .read .ensures .is) _ (c .before .before .tokens .given .1) (c .before .before .before .before .before .before .before .before .before .before .before .before .before .before .before .before .before .before .before .before .before .before .before .before .before .before .before .pre .for-values),
-  c .before .before .before .before .before .before .before .before .before .before .read .kept .1 .1 .0,
-)
+slice-reshare-prefix-translate-tokens-2 c =
+    let at-tokens = c .before .before in
+    let at-read = at-tokens .before .before .before .before .before .before .before .before in
+    let back = at-read .before .before .before .before .before .before .before .before .before .before .before .before .before .before .before in
+    let start = back .before .before in
+    omega (arith, fits-in (start .args .src .now) _ (at-read .read .ensures .is) _ (at-tokens .tokens .given .1) (start .pre .for-values), at-read .read .kept .1 .1 .0)
 
 slice-aggregate-translate-tokens-2 : tie.Need-slice-aggregate-translate-tokens-2
-slice-aggregate-translate-tokens-2 c = cut-long _ _ _ (omega (
-  arith,
-  fits-in (c .before .before .before .before .before .before .before .before .before .before .before .before .before .before .before .before .before .before .before .before .before .before .before .before .before .before .before .before .args .src .now)
-      _ (c .before .before .before .before .before .before .before .before .before .before .before .read .ensures .is) _ (c .before .before .before .tokens .given .1) (c .before .before .before .before .before .before .before .before .before .before .before .before .before .before .before .before .before .before .before .before .before .before .before .before .before .before .before .before .pre .for-values),
-  c .before .before .before .before .before .before .before .before .before .before .before .read .kept .1 .1 .0,
-)) refl
+slice-aggregate-translate-tokens-2 c =
+    let at-tokens = c .before .before .before in
+    let at-read = at-tokens .before .before .before .before .before .before .before .before in
+    let back = at-read .before .before .before .before .before .before .before .before .before .before .before .before .before .before .before in
+    let start = back .before .before in
+    cut-long _ _ _ (omega (arith, fits-in (start .args .src .now) _ (at-read .read .ensures .is) _ (at-tokens .tokens .given .1) (start .pre .for-values), at-read .read .kept .1 .1 .0))
+    refl
 
 slice-relend-prefix-translate-tokens : tie.Need-slice-relend-prefix-translate-tokens
-slice-relend-prefix-translate-tokens c = omega (
-  arith,
-  fits-in (c .before .before .before .before .before .before .before .before .before .before .before .before .before .before .before .before .before .before .before .before .before .before .before .before .before .before .before .before .args .src .now)
-      _ (c .before .before .before .before .before .before .before .before .before .before .before .read .ensures .is) _ (c .before .before .before .tokens .given .1) (c .before .before .before .before .before .before .before .before .before .before .before .before .before .before .before .before .before .before .before .before .before .before .before .before .before .before .before .before .pre .for-tape),
-)
+slice-relend-prefix-translate-tokens c =
+    let at-tokens = c .before .before .before in
+    let at-read = at-tokens .before .before .before .before .before .before .before .before in
+    let back = at-read .before .before .before .before .before .before .before .before .before .before .before .before .before .before .before in
+    let start = back .before .before in
+    omega (arith, fits-in (start .args .src .now) _ (at-read .read .ensures .is) _ (at-tokens .tokens .given .1) (start .pre .for-tape))
 
 slice-aggregate-translate-tokens-3 : tie.Need-slice-aggregate-translate-tokens-3
-slice-aggregate-translate-tokens-3 c = cut-long _ _ _ (omega (
-  arith,
-  fits-in (c .before .before .before .before .before .before .before .before .before .before .before .before .before .before .before .before .before .before .before .before .before .before .before .before .before .before .before .before .before .args .src .now)
-      _ (c .before .before .before .before .before .before .before .before .before .before .before .before .read .ensures .is) _ (c .before .before .before .before .tokens .given .1)
-      (c .before .before .before .before .before .before .before .before .before .before .before .before .before .before .before .before .before .before .before .before .before .before .before .before .before .before .before .before .before .pre .for-tape),
-))
-    refl
+slice-aggregate-translate-tokens-3 c =
+    let at-tokens = c .before .before .before .before in
+    let at-read = at-tokens .before .before .before .before .before .before .before .before in
+    let back = at-read .before .before .before .before .before .before .before .before .before .before .before .before .before .before .before in
+    let start = back .before .before in
+    cut-long _ _ _ (omega (arith, fits-in (start .args .src .now) _ (at-read .read .ensures .is) _ (at-tokens .tokens .given .1) (start .pre .for-tape))) refl
 
 slice-relend-prefix-translate-tokens-2 : tie.Need-slice-relend-prefix-translate-tokens-2
-slice-relend-prefix-translate-tokens-2 c = omega (
-  arith,
-  fits-in (c .before .before .before .before .before .before .before .before .before .before .before .before .before .before .before .before .before .before .before .before .before .before .before .before .before .before .before .before .before .args .src .now)
-      _ (c .before .before .before .before .before .before .before .before .before .before .before .before .read .ensures .is) _ (c .before .before .before .before .tokens .given .1)
-      (c .before .before .before .before .before .before .before .before .before .before .before .before .before .before .before .before .before .before .before .before .before .before .before .before .before .before .before .before .before .pre .for-found),
-)
+slice-relend-prefix-translate-tokens-2 c =
+    let at-tokens = c .before .before .before .before in
+    let at-read = at-tokens .before .before .before .before .before .before .before .before in
+    let back = at-read .before .before .before .before .before .before .before .before .before .before .before .before .before .before .before in
+    let start = back .before .before in
+    omega (arith, fits-in (start .args .src .now) _ (at-read .read .ensures .is) _ (at-tokens .tokens .given .1) (start .pre .for-found))
 
 slice-aggregate-translate-tokens-4 : tie.Need-slice-aggregate-translate-tokens-4
-slice-aggregate-translate-tokens-4 c = cut-long _ _ _ (omega (
-  arith,
-  fits-in (c .before .before .before .before .before .before .before .before .before .before .before .before .before .before .before .before .before .before .before .before .before .before .before .before .before .before .before .before .before .before .args .src .now)
-      _ (c .before .before .before .before .before .before .before .before .before .before .before .before .before .read .ensures .is) _ (c .before .before .before .before .before .tokens .given .1)
-      (c .before .before .before .before .before .before .before .before .before .before .before .before .before .before .before .before .before .before .before .before .before .before .before .before .before .before .before .before .before .before .pre .for-found),
-))
-    refl
+slice-aggregate-translate-tokens-4 c =
+    let at-tokens = c .before .before .before .before .before in
+    let at-read = at-tokens .before .before .before .before .before .before .before .before in
+    let back = at-read .before .before .before .before .before .before .before .before .before .before .before .before .before .before .before in
+    let start = back .before .before in
+    cut-long _ _ _ (omega (arith, fits-in (start .args .src .now) _ (at-read .read .ensures .is) _ (at-tokens .tokens .given .1) (start .pre .for-found))) refl
 
 slice-relend-prefix-translate-tokens-3 : tie.Need-slice-relend-prefix-translate-tokens-3
-slice-relend-prefix-translate-tokens-3 c = omega (
-  arith,
-  fits-in (c .before .before .before .before .before .before .before .before .before .before .before .before .before .before .before .before .before .before .before .before .before .before .before .before .before .before .before .before .before .before .args .src .now)
-      _ (c .before .before .before .before .before .before .before .before .before .before .before .before .before .read .ensures .is) _ (c .before .before .before .before .before .tokens .given .1)
-      (c .before .before .before .before .before .before .before .before .before .before .before .before .before .before .before .before .before .before .before .before .before .before .before .before .before .before .before .before .before .before .pre .for-goes),
-)
+slice-relend-prefix-translate-tokens-3 c =
+    let at-tokens = c .before .before .before .before .before in
+    let at-read = at-tokens .before .before .before .before .before .before .before .before in
+    let back = at-read .before .before .before .before .before .before .before .before .before .before .before .before .before .before .before in
+    let start = back .before .before in
+    omega (arith, fits-in (start .args .src .now) _ (at-read .read .ensures .is) _ (at-tokens .tokens .given .1) (start .pre .for-goes))
 
 slice-aggregate-translate-tokens-5 : tie.Need-slice-aggregate-translate-tokens-5
-slice-aggregate-translate-tokens-5 c = cut-long _ _ _ (omega (
-  arith,
-  fits-in (c .before .before .before .before .before .before .before .before .before .before .before .before .before .before .before .before .before .before .before .before .before .before .before .before .before .before .before .before .before .before .before .args .src .now)
-      _ (c .before .before .before .before .before .before .before .before .before .before .before .before .before .before .read .ensures .is) _ (c .before .before .before .before .before .before .tokens .given .1)
-      (c .before .before .before .before .before .before .before .before .before .before .before .before .before .before .before .before .before .before .before .before .before .before .before .before .before .before .before .before .before .before .before .pre .for-goes),
-))
-    refl
+slice-aggregate-translate-tokens-5 c =
+    let at-tokens = c .before .before .before .before .before .before in
+    let at-read = at-tokens .before .before .before .before .before .before .before .before in
+    let back = at-read .before .before .before .before .before .before .before .before .before .before .before .before .before .before .before in
+    let start = back .before .before in
+    cut-long _ _ _ (omega (arith, fits-in (start .args .src .now) _ (at-read .read .ensures .is) _ (at-tokens .tokens .given .1) (start .pre .for-goes))) refl
 
 slice-relend-prefix-translate-tokens-4 : tie.Need-slice-relend-prefix-translate-tokens-4
-slice-relend-prefix-translate-tokens-4 c = omega (
-  arith,
-  fits-in (c .before .before .before .before .before .before .before .before .before .before .before .before .before .before .before .before .before .before .before .before .before .before .before .before .before .before .before .before .before .before .before .args .src .now)
-      _ (c .before .before .before .before .before .before .before .before .before .before .before .before .before .before .read .ensures .is) _ (c .before .before .before .before .before .before .tokens .given .1)
-      (c .before .before .before .before .before .before .before .before .before .before .before .before .before .before .before .before .before .before .before .before .before .before .before .before .before .before .before .before .before .before .before .pre .for-opens),
-  c .before .before .before .before .before .before .before .before .before .before .before .before .before .before .read .kept .1 .1 .1 .0,
-)
+slice-relend-prefix-translate-tokens-4 c =
+    let at-tokens = c .before .before .before .before .before .before in
+    let at-read = at-tokens .before .before .before .before .before .before .before .before in
+    let back = at-read .before .before .before .before .before .before .before .before .before .before .before .before .before .before .before in
+    let start = back .before .before in
+    omega (arith, fits-in (start .args .src .now) _ (at-read .read .ensures .is) _ (at-tokens .tokens .given .1) (start .pre .for-opens), at-read .read .kept .1 .1 .1 .0)
 
 slice-aggregate-translate-tokens-6 : tie.Need-slice-aggregate-translate-tokens-6
-slice-aggregate-translate-tokens-6 c = cut-long _ _ _ (omega (
-  arith,
-  fits-in (c .before .before .before .before .before .before .before .before .before .before .before .before .before .before .before .before .before .before .before .before .before .before .before .before .before .before .before .before .before .before .before .before .args .src .now)
-      _ (c .before .before .before .before .before .before .before .before .before .before .before .before .before .before .before .read .ensures .is) _ (c .before .before .before .before .before .before .before .tokens .given .1)
-      (c .before .before .before .before .before .before .before .before .before .before .before .before .before .before .before .before .before .before .before .before .before .before .before .before .before .before .before .before .before .before .before .before .pre .for-opens),
-  c .before .before .before .before .before .before .before .before .before .before .before .before .before .before .before .read .kept .1 .1 .1 .0,
-)) refl
+slice-aggregate-translate-tokens-6 c =
+    let at-tokens = c .before .before .before .before .before .before .before in
+    let at-read = at-tokens .before .before .before .before .before .before .before .before in
+    let back = at-read .before .before .before .before .before .before .before .before .before .before .before .before .before .before .before in
+    let start = back .before .before in
+    cut-long _ _ _ (omega (arith, fits-in (start .args .src .now) _ (at-read .read .ensures .is) _ (at-tokens .tokens .given .1) (start .pre .for-opens), at-read .read .kept .1 .1 .1 .0))
+    refl
 
 slice-relend-prefix-translate-tokens-5 : tie.Need-slice-relend-prefix-translate-tokens-5
-slice-relend-prefix-translate-tokens-5 c = omega (
-  arith,
-  fits-in (c .before .before .before .before .before .before .before .before .before .before .before .before .before .before .before .before .before .before .before .before .before .before .before .before .before .before .before .before .before .before .before .before .args .src .now)
-      _ (c .before .before .before .before .before .before .before .before .before .before .before .before .before .before .before .read .ensures .is) _ (c .before .before .before .before .before .before .before .tokens .given .1)
-      (c .before .before .before .before .before .before .before .before .before .before .before .before .before .before .before .before .before .before .before .before .before .before .before .before .before .before .before .before .before .before .before .before .pre .for-written),
-)
+slice-relend-prefix-translate-tokens-5 c =
+    let at-tokens = c .before .before .before .before .before .before .before in
+    let at-read = at-tokens .before .before .before .before .before .before .before .before in
+    let back = at-read .before .before .before .before .before .before .before .before .before .before .before .before .before .before .before in
+    let start = back .before .before in
+    omega (arith, fits-in (start .args .src .now) _ (at-read .read .ensures .is) _ (at-tokens .tokens .given .1) (start .pre .for-written))
 
 slice-aggregate-translate-tokens-7 : tie.Need-slice-aggregate-translate-tokens-7
-slice-aggregate-translate-tokens-7 c = cut-long _ _ _ (omega (
-  arith,
-  fits-in (c .before .before .before .before .before .before .before .before .before .before .before .before .before .before .before .before .before .before .before .before .before .before .before .before .before .before .before .before .before .before .before .before .before .args .src .now)
-      _ (c .before .before .before .before .before .before .before .before .before .before .before .before .before .before .before .before .read .ensures .is) _ (c .before .before .before .before .before .before .before .before .tokens .given .1)
-      (c .before .before .before .before .before .before .before .before .before .before .before .before .before .before .before .before .before .before .before .before .before .before .before .before .before .before .before .before .before .before .before .before .before .pre .for-written),
-))
-    refl
+slice-aggregate-translate-tokens-7 c =
+    let at-tokens = c .before .before .before .before .before .before .before .before in
+    let at-read = at-tokens .before .before .before .before .before .before .before .before in
+    let back = at-read .before .before .before .before .before .before .before .before .before .before .before .before .before .before .before in
+    let start = back .before .before in
+    cut-long _ _ _ (omega (arith, fits-in (start .args .src .now) _ (at-read .read .ensures .is) _ (at-tokens .tokens .given .1) (start .pre .for-written))) refl
 
 slice-relend-prefix-translate-tokens-6 : tie.Need-slice-relend-prefix-translate-tokens-6
-slice-relend-prefix-translate-tokens-6 c = omega (
-  arith,
-  fits-in (c .before .before .before .before .before .before .before .before .before .before .before .before .before .before .before .before .before .before .before .before .before .before .before .before .before .before .before .before .before .before .before .before .before .args .src .now)
-      _ (c .before .before .before .before .before .before .before .before .before .before .before .before .before .before .before .before .read .ensures .is) _ (c .before .before .before .before .before .before .before .before .tokens .given .1)
-      (c .before .before .before .before .before .before .before .before .before .before .before .before .before .before .before .before .before .before .before .before .before .before .before .before .before .before .before .before .before .before .before .before .before .pre .for-means),
-)
+slice-relend-prefix-translate-tokens-6 c =
+    let at-tokens = c .before .before .before .before .before .before .before .before in
+    let at-read = at-tokens .before .before .before .before .before .before .before .before in
+    let back = at-read .before .before .before .before .before .before .before .before .before .before .before .before .before .before .before in
+    let start = back .before .before in
+    omega (arith, fits-in (start .args .src .now) _ (at-read .read .ensures .is) _ (at-tokens .tokens .given .1) (start .pre .for-means))
 
 slice-aggregate-translate-tokens-8 : tie.Need-slice-aggregate-translate-tokens-8
-slice-aggregate-translate-tokens-8 c = cut-long _ _ _ (omega (
-  arith,
-  fits-in (c .before .before .before .before .before .before .before .before .before .before .before .before .before .before .before .before .before .before .before .before .before .before .before .before .before .before .before .before .before .before .before .before .before .before .args .src .now)
-      _ (c .before .before .before .before .before .before .before .before .before .before .before .before .before .before .before .before .before .read .ensures .is) _ (c .before .before .before .before .before .before .before .before .before .tokens .given .1)
-      (c .before .before .before .before .before .before .before .before .before .before .before .before .before .before .before .before .before .before .before .before .before .before .before .before .before .before .before .before .before .before .before .before .before .before .pre .for-means),
-))
-    refl
+slice-aggregate-translate-tokens-8 c =
+    let at-tokens = c .before .before .before .before .before .before .before .before .before in
+    let at-read = at-tokens .before .before .before .before .before .before .before .before in
+    let back = at-read .before .before .before .before .before .before .before .before .before .before .before .before .before .before .before in
+    let start = back .before .before in
+    cut-long _ _ _ (omega (arith, fits-in (start .args .src .now) _ (at-read .read .ensures .is) _ (at-tokens .tokens .given .1) (start .pre .for-means))) refl
 
 slice-relend-prefix-translate-tokens-7 : tie.Need-slice-relend-prefix-translate-tokens-7
-slice-relend-prefix-translate-tokens-7 c = omega (
-  arith,
-  fits-in (c .before .before .before .before .before .before .before .before .before .before .before .before .before .before .before .before .before .before .before .before .before .before .before .before .before .before .before .before .before .before .before .before .before .before .args .src .now)
-      _ (c .before .before .before .before .before .before .before .before .before .before .before .before .before .before .before .before .before .read .ensures .is) _ (c .before .before .before .before .before .before .before .before .before .tokens .given .1)
-      (c .before .before .before .before .before .before .before .before .before .before .before .before .before .before .before .before .before .before .before .before .before .before .before .before .before .before .before .before .before .before .before .before .before .before .pre .for-under),
-)
+slice-relend-prefix-translate-tokens-7 c =
+    let at-tokens = c .before .before .before .before .before .before .before .before .before in
+    let at-read = at-tokens .before .before .before .before .before .before .before .before in
+    let back = at-read .before .before .before .before .before .before .before .before .before .before .before .before .before .before .before in
+    let start = back .before .before in
+    omega (arith, fits-in (start .args .src .now) _ (at-read .read .ensures .is) _ (at-tokens .tokens .given .1) (start .pre .for-under))
 
 slice-aggregate-translate-tokens-9 : tie.Need-slice-aggregate-translate-tokens-9
-slice-aggregate-translate-tokens-9 c = cut-long _ _ _ (omega (
-  arith,
-  fits-in (c .before .before .before .before .before .before .before .before .before .before .before .before .before .before .before .before .before .before .before .before .before .before .before .before .before .before .before .before .before .before .before .before .before .before .before .args .src .now)
-      _ (c .before .before .before .before .before .before .before .before .before .before .before .before .before .before .before .before .before .before .read .ensures .is)
-      _ (c .before .before .before .before .before .before .before .before .before .before .tokens .given .1) (c .before .before .before .before .before .before .before .before .before .before .before .before .before .before .before .before .before .before .before .before .before .before .before .before .before .before .before .before .before .before .before .before .before .before .before .pre .for-under),
-))
-    refl
+slice-aggregate-translate-tokens-9 c =
+    let at-tokens = c .before .before .before .before .before .before .before .before .before .before in
+    let at-read = at-tokens .before .before .before .before .before .before .before .before in
+    let back = at-read .before .before .before .before .before .before .before .before .before .before .before .before .before .before .before in
+    let start = back .before .before in
+    cut-long _ _ _ (omega (arith, fits-in (start .args .src .now) _ (at-read .read .ensures .is) _ (at-tokens .tokens .given .1) (start .pre .for-under))) refl
 
 slice-relend-prefix-translate-tokens-8 : tie.Need-slice-relend-prefix-translate-tokens-8
-slice-relend-prefix-translate-tokens-8 c = omega (
-  arith,
-  fits-in (c .before .before .before .before .before .before .before .before .before .before .before .before .before .before .before .before .before .before .before .before .before .before .before .before .before .before .before .before .before .before .before .before .before .before .before .args .src .now)
-      _ (c .before .before .before .before .before .before .before .before .before .before .before .before .before .before .before .before .before .before .read .ensures .is)
-      _ (c .before .before .before .before .before .before .before .before .before .before .tokens .given .1) (c .before .before .before .before .before .before .before .before .before .before .before .before .before .before .before .before .before .before .before .before .before .before .before .before .before .before .before .before .before .before .before .before .before .before .before .pre .for-offsets),
-)
+slice-relend-prefix-translate-tokens-8 c =
+    let at-tokens = c .before .before .before .before .before .before .before .before .before .before in
+    let at-read = at-tokens .before .before .before .before .before .before .before .before in
+    let back = at-read .before .before .before .before .before .before .before .before .before .before .before .before .before .before .before in
+    let start = back .before .before in
+    omega (arith, fits-in (start .args .src .now) _ (at-read .read .ensures .is) _ (at-tokens .tokens .given .1) (start .pre .for-offsets))
 
 slice-aggregate-translate-tokens-10 : tie.Need-slice-aggregate-translate-tokens-10
-slice-aggregate-translate-tokens-10 c = cut-long _ _ _ (omega (
-  arith,
-  fits-in (c .before .before .before .before .before .before .before .before .before .before .before .before .before .before .before .before .before .before .before .before .before .before .before .before .before .before .before .before .before .before .before .before .before .before .before .before .args .src .now)
-      _ (c .before .before .before .before .before .before .before .before .before .before .before .before .before .before .before .before .before .before .before .read .ensures .is)
-      _ (c .before .before .before .before .before .before .before .before .before .before .before .tokens .given .1) (c .before .before .before .before .before .before .before .before .before .before .before .before .before .before .before .before .before .before .before .before .before .before .before .before .before .before .before .before .before .before .before .before .before .before .before .before .pre .for-offsets),
-))
-    refl
+slice-aggregate-translate-tokens-10 c =
+    let at-tokens = c .before .before .before .before .before .before .before .before .before .before .before in
+    let at-read = at-tokens .before .before .before .before .before .before .before .before in
+    let back = at-read .before .before .before .before .before .before .before .before .before .before .before .before .before .before .before in
+    let start = back .before .before in
+    cut-long _ _ _ (omega (arith, fits-in (start .args .src .now) _ (at-read .read .ensures .is) _ (at-tokens .tokens .given .1) (start .pre .for-offsets))) refl
 
 translate-tokens-requires : tie.Need-translate-tokens-requires
-translate-tokens-requires c κs = cut-lent (c .before .before .before .before .before .before .before .before .before .before .before .before .before .before .before .before .before .before .before .before .before .before .before .before .before .before .before .before .before .before .before .before .before .before .before .before .before .before .args .src .now)
-    (17 + c .before .before .before .before .before .before .before .before .before .before .before .before .before .tokens .given .0 .0) _ _ _ _ _ _ _ _ _ (all-read (c .before .before .before .before .before .before .before .before .before .before .before .before .before .before .before .before .before .before .before .before .before .before .before .before .before .before .before .before .before .before .before .before .before .before .before .before .before .before .args .src .now)
-    _ (c .before .before .before .before .before .before .before .before .before .before .before .before .before .before .before .before .before .before .before .before .before .read .ensures .is)
-    _ (c .before .before .before .before .before .before .before .before .before .before .before .before .before .tokens .given .1)) (omega arith) (omega (
+translate-tokens-requires c κs =
+    let at-tokens = c .before .before .before .before .before .before .before .before .before .before .before .before .before in
+    let at-read = at-tokens .before .before .before .before .before .before .before .before in
+    let back = at-read .before .before .before .before .before .before .before .before .before .before .before .before .before .before .before in
+    let start = back .before .before in
+    cut-lent (start .args .src .now) (17 + at-tokens .tokens .given .0 .0) _ _ _ _ _ _ _ _ _ (all-read (start .args .src .now) _ (at-read .read .ensures .is) _
+    (at-tokens .tokens .given .1)) (omega arith) (omega (
       arith,
-      few-read
-          (c .before .before .before .before .before .before .before .before .before .before .before .before .before .before .before .before .before .before .before .before .before .before .before .before .before .before .before .before .before .before .before .before .before .before .before .before .before .before .args .src .now)
-          _ (c .before .before .before .before .before .before .before .before .before .before .before .before .before .before .before .before .before .before .before .before .before .read .ensures .is)
-          _ (c .before .before .before .before .before .before .before .before .before .before .before .before .before .tokens .given .1),
-      c .before .before .before .before .before .before .before .before .before .before .before .before .before .before .before .before .before .before .before .before .before .before .before .before .before .before .before .before .before .before .before .before .before .before .before .before .before .before .pre .short,
+      few-read (start .args .src .now) _ (at-read .read .ensures .is) _ (at-tokens .tokens .given .1),
+      start .pre .short,
     )) (
       omega (
         arith,
-        fits-in (c .before .before .before .before .before .before .before .before .before .before .before .before .before .before .before .before .before .before .before .before .before .before .before .before .before .before .before .before .before .before .before .before .before .before .before .before .before .before .args .src .now)
-            _ (c .before .before .before .before .before .before .before .before .before .before .before .before .before .before .before .before .before .before .before .before .before .read .ensures .is)
-            _ (c .before .before .before .before .before .before .before .before .before .before .before .before .before .tokens .given .1) (c .before .before .before .before .before .before .before .before .before .before .before .before .before .before .before .before .before .before .before .before .before .before .before .before .before .before .before .before .before .before .before .before .before .before .before .before .before .before .pre .for-kinds),
-        c .before .before .before .before .before .before .before .before .before .before .before .before .before .before .before .before .before .before .before .before .before .read .kept .1 .0,
+        fits-in (start .args .src .now) _ (at-read .read .ensures .is) _ (at-tokens .tokens .given .1) (start .pre .for-kinds),
+        at-read .read .kept .1 .0,
       ),
       omega (
         arith,
-        fits-in (c .before .before .before .before .before .before .before .before .before .before .before .before .before .before .before .before .before .before .before .before .before .before .before .before .before .before .before .before .before .before .before .before .before .before .before .before .before .before .args .src .now)
-            _ (c .before .before .before .before .before .before .before .before .before .before .before .before .before .before .before .before .before .before .before .before .before .read .ensures .is)
-            _ (c .before .before .before .before .before .before .before .before .before .before .before .before .before .tokens .given .1) (c .before .before .before .before .before .before .before .before .before .before .before .before .before .before .before .before .before .before .before .before .before .before .before .before .before .before .before .before .before .before .before .before .before .before .before .before .before .before .pre .for-values),
-        c .before .before .before .before .before .before .before .before .before .before .before .before .before .before .before .before .before .before .before .before .before .read .kept .1 .1 .0,
+        fits-in (start .args .src .now) _ (at-read .read .ensures .is) _ (at-tokens .tokens .given .1) (start .pre .for-values),
+        at-read .read .kept .1 .1 .0,
+      ),
+      omega (arith, fits-in (start .args .src .now) _ (at-read .read .ensures .is) _ (at-tokens .tokens .given .1) (start .pre .for-tape)),
+      omega (arith, fits-in (start .args .src .now) _ (at-read .read .ensures .is) _ (at-tokens .tokens .given .1) (start .pre .for-opens), at-read .read .kept .1 .1 .1 .0),
+      omega (arith, fits-in (start .args .src .now) _ (at-read .read .ensures .is) _ (at-tokens .tokens .given .1) (start .pre .for-written)),
+      omega (
+        arith,
+        fits-in
+            (start .args .src .now) _ (at-read .read .ensures .is) _ (at-tokens .tokens .given .1) (start .pre .for-means),
       ),
       omega (
         arith,
-        fits-in (c .before .before .before .before .before .before .before .before .before .before .before .before .before .before .before .before .before .before .before .before .before .before .before .before .before .before .before .before .before .before .before .before .before .before .before .before .before .before .args .src .now)
-            _ (c .before .before .before .before .before .before .before .before .before .before .before .before .before .before .before .before .before .before .before .before .before .read .ensures .is)
-            _ (c .before .before .before .before .before .before .before .before .before .before .before .before .before .tokens .given .1) (c .before .before .before .before .before .before .before .before .before .before .before .before .before .before .before .before .before .before .before .before .before .before .before .before .before .before .before .before .before .before .before .before .before .before .before .before .before .before .pre .for-tape),
+        fits-in (start .args .src .now) _
+            (at-read .read .ensures .is) _ (at-tokens .tokens .given .1) (start .pre .for-under),
       ),
       omega (
         arith,
-        fits-in (c .before .before .before .before .before .before .before .before .before .before .before .before .before .before .before .before .before .before .before .before .before .before .before .before .before .before .before .before .before .before .before .before .before .before .before .before .before .before .args .src .now)
-            _ (c .before .before .before .before .before .before .before .before .before .before .before .before .before .before .before .before .before .before .before .before .before .read .ensures .is)
-            _ (c .before .before .before .before .before .before .before .before .before .before .before .before .before .tokens .given .1) (c .before .before .before .before .before .before .before .before .before .before .before .before .before .before .before .before .before .before .before .before .before .before .before .before .before .before .before .before .before .before .before .before .before .before .before .before .before .before .pre .for-opens),
-        c .before .before .before .before .before .before .before .before .before .before .before .before .before .before .before .before .before .before .before .before .before .read .kept .1 .1 .1 .0,
+        fits-in (start .args .src .now) _ (at-read .read .ensures .is)
+            _ (at-tokens .tokens .given .1) (start .pre .for-offsets),
       ),
-      omega (
-        arith,
-        fits-in (c .before .before .before .before .before .before .before .before .before .before .before .before .before .before .before .before .before .before .before .before .before .before .before .before .before .before .before .before .before .before .before .before .before .before .before .before .before .before .args .src .now)
-            _ (c .before .before .before .before .before .before .before .before .before .before .before .before .before .before .before .before .before .before .before .before .before .read .ensures .is)
-            _ (c .before .before .before .before .before .before .before .before .before .before .before .before .before .tokens .given .1) (c .before .before .before .before .before .before .before .before .before .before .before .before .before .before .before .before .before .before .before .before .before .before .before .before .before .before .before .before .before .before .before .before .before .before .before .before .before .before .pre .for-written),
-      ),
-      omega (
-        arith,
-        fits-in (c .before .before .before .before .before .before .before .before .before .before .before .before .before .before .before .before .before .before .before .before .before .before .before .before .before .before .before .before .before .before .before .before .before .before .before .before .before .before .args .src .now)
-            _ (c .before .before .before .before .before .before .before .before .before .before .before .before .before .before .before .before .before .before .before .before .before .read .ensures .is)
-            _ (c .before .before .before .before .before .before .before .before .before .before .before .before .before .tokens .given .1) (c .before .before .before .before .before .before .before .before .before .before .before .before .before .before .before .before .before .before .before .before .before .before .before .before .before .before .before .before .before .before .before .before .before .before .before .before .before .before .pre .for-means),
-      ),
-      omega (
-        arith,
-        fits-in (c .before .before .before .before .before .before .before .before .before .before .before .before .before .before .before .before .before .before .before .before .before .before .before .before .before .before .before .before .before .before .before .before .before .before .before .before .before .before .args .src .now)
-            _ (c .before .before .before .before .before .before .before .before .before .before .before .before .before .before .before .before .before .before .before .before .before .read .ensures .is)
-            _ (c .before .before .before .before .before .before .before .before .before .before .before .before .before .tokens .given .1) (c .before .before .before .before .before .before .before .before .before .before .before .before .before .before .before .before .before .before .before .before .before .before .before .before .before .before .before .before .before .before .before .before .before .before .before .before .before .before .pre .for-under),
-      ),
-      omega (
-        arith,
-        fits-in (c .before .before .before .before .before .before .before .before .before .before .before .before .before .before .before .before .before .before .before .before .before .before .before .before .before .before .before .before .before .before .before .before .before .before .before .before .before .before .args .src .now)
-            _ (c .before .before .before .before .before .before .before .before .before .before .before .before .before .before .before .before .before .before .before .before .before .read .ensures .is)
-            _ (c .before .before .before .before .before .before .before .before .before .before .before .before .before .tokens .given .1) (c .before .before .before .before .before .before .before .before .before .before .before .before .before .before .before .before .before .before .before .before .before .before .before .before .before .before .before .before .before .before .before .before .before .before .before .before .before .before .pre .for-offsets),
-      ),
-    )
-    (omega (
+    ) (omega (
       arith,
-      few-read (c .before .before .before .before .before .before .before .before .before .before .before .before .before .before .before .before .before .before .before .before .before .before .before .before .before .before .before .before .before .before .before .before .before .before .before .before .before .before .args .src .now)
-          _ (c .before .before .before .before .before .before .before .before .before .before .before .before .before .before .before .before .before .before .before .before .before .read .ensures .is)
-          _ (c .before .before .before .before .before .before .before .before .before .before .before .before .before .tokens .given .1),
-      c .before .before .before .before .before .before .before .before .before .before .before .before .before .before .before .before .before .before .before .before .before .before .before .before .before .before .before .before .before .before .before .before .before .before .before .before .before .before .pre .for-work,
-    ))
-    (c .before .before .before .before .before .before .before .before .before .before .before .before .before .before .before .before .before .before .before .before .before .before .before .before .before .before .before .before .before .before .before .before .before .before .before .before .before .before .pre .work-short)
+      few-read (start .args .src .now) _ (at-read .read .ensures .is) _ (at-tokens .tokens .given .1),
+      start .pre .for-work,
+    )) (start .pre .work-short)
 
 enum-told : tie.Need-enum-told
 enum-told c = search needs
@@ -277,101 +246,132 @@ enum-known-tokens-4 : tie.Need-enum-known-tokens-4
 enum-known-tokens-4 c = search needs
 
 same-length : tie.Need-same-length
-same-length c = c .before .before .before .before .before .before .before .before .before .before .before .before .before .before .before .before .before .before .before .before .before .before .before .before .before .before .before .before .before .before .before .before .before .before .before .before .before .before .before .before .before .before .read .kept .1 .0
+same-length c =
+    let back = c .before .before .before .before .before .before .before .before .before .before .before .before .before .before .before in
+    let back2 = back .before .before .before .before .before .before .before .before .before .before .before .before .before .before .before in
+    let at-read = back2 .before .before .before .before .before .before .before .before .before .before .before .before in
+    at-read .read .kept .1 .0
 
 same-length-2 : tie.Need-same-length-2
-same-length-2 c = c .before .before .before .before .before .before .before .before .before .before .before .before .before .before .before .before .before .before .before .before .before .before .before .before .before .before .before .before .before .before .before .before .before .before .before .before .before .before .before .before .before .before .read .kept .1 .1 .0
+same-length-2 c =
+    let back = c .before .before .before .before .before .before .before .before .before .before .before .before .before .before .before in
+    let back2 = back .before .before .before .before .before .before .before .before .before .before .before .before .before .before .before in
+    let at-read = back2 .before .before .before .before .before .before .before .before .before .before .before .before in
+    at-read .read .kept .1 .1 .0
 
 same-length-3 : tie.Need-same-length-3
-same-length-3 c = length-front (c .before .before .before .before .before .before .before .before .before .before .before .before .before .before .before .before .before .before .before .before .before .before .before .before .before .before .before .before .before .before .before .before .before .before .before .before .before .before .before .before .before .before .before .before .before .before .before .before .before .before .before .before .before .before .before .before .before .before .before .args .tape .now)
-    (c .before .before .before .before .before .before .before .before .before .before .before .before .before .before .before .before .before .before .before .before .translate-tokens .last .1 .1 .1 .0)
-    (17 + c .before .before .before .before .before .before .before .before .before .before .before .before .before .before .before .before .before .before .before .before .before .before .before .before .before .before .before .before .before .before .before .before .before .before .tokens .given .0 .0)
-    (c .before .before .before .before .before .before .before .before .before .before .before .before .before .before .before .before .before .before .before .before .translate-tokens .kept .1 .1 .1 .0)
+same-length-3 c =
+    let back = c .before .before .before .before .before .before .before .before .before .before .before .before .before .before .before in
+    let at-translate-tokens = back .before .before .before .before .before in
+    let at-tokens = at-translate-tokens .before .before .before .before .before .before .before .before .before .before .before .before .before .before in
+    let back2 = at-tokens .before .before .before .before .before .before .before .before .before .before .before .before .before .before .before in
+    let start = back2 .before .before .before .before .before .before .before .before .before .before in
+    length-front (start .args .tape .now) (at-translate-tokens .translate-tokens .last .1 .1 .1 .0) (17 + at-tokens .tokens .given .0 .0) (at-translate-tokens .translate-tokens .kept .1 .1 .1 .0)
 
 same-length-4 : tie.Need-same-length-4
-same-length-4 c = length-front (c .before .before .before .before .before .before .before .before .before .before .before .before .before .before .before .before .before .before .before .before .before .before .before .before .before .before .before .before .before .before .before .before .before .before .before .before .before .before .before .before .before .before .before .before .before .before .before .before .before .before .before .before .before .before .before .before .before .before .before .args .found .now)
-    (c .before .before .before .before .before .before .before .before .before .before .before .before .before .before .before .before .before .before .before .before .translate-tokens .last .1 .1 .1 .1 .0)
-    (17 + c .before .before .before .before .before .before .before .before .before .before .before .before .before .before .before .before .before .before .before .before .before .before .before .before .before .before .before .before .before .before .before .before .before .before .tokens .given .0 .0)
-    (c .before .before .before .before .before .before .before .before .before .before .before .before .before .before .before .before .before .before .before .before .translate-tokens .kept .1 .1 .1 .1 .0)
+same-length-4 c =
+    let back = c .before .before .before .before .before .before .before .before .before .before .before .before .before .before .before in
+    let at-translate-tokens = back .before .before .before .before .before in
+    let at-tokens = at-translate-tokens .before .before .before .before .before .before .before .before .before .before .before .before .before .before in
+    let back2 = at-tokens .before .before .before .before .before .before .before .before .before .before .before .before .before .before .before in
+    let start = back2 .before .before .before .before .before .before .before .before .before .before in
+    length-front (start .args .found .now) (at-translate-tokens .translate-tokens .last .1 .1 .1 .1 .0) (17 + at-tokens .tokens .given .0 .0) (at-translate-tokens .translate-tokens .kept .1 .1 .1 .1 .0)
 
 same-length-5 : tie.Need-same-length-5
-same-length-5 c = length-front (c .before .before .before .before .before .before .before .before .before .before .before .before .before .before .before .before .before .before .before .before .before .before .before .before .before .before .before .before .before .before .before .before .before .before .before .before .before .before .before .before .before .before .before .before .before .before .before .before .before .before .before .before .before .before .before .before .before .before .before .args .goes .now)
-    (c .before .before .before .before .before .before .before .before .before .before .before .before .before .before .before .before .before .before .before .before .translate-tokens .last .1 .1 .1 .1 .1 .0)
-    (17 + c .before .before .before .before .before .before .before .before .before .before .before .before .before .before .before .before .before .before .before .before .before .before .before .before .before .before .before .before .before .before .before .before .before .before .tokens .given .0 .0)
-    (c .before .before .before .before .before .before .before .before .before .before .before .before .before .before .before .before .before .before .before .before .translate-tokens .kept .1 .1 .1 .1 .1 .0)
+same-length-5 c =
+    let back = c .before .before .before .before .before .before .before .before .before .before .before .before .before .before .before in
+    let at-translate-tokens = back .before .before .before .before .before in
+    let at-tokens = at-translate-tokens .before .before .before .before .before .before .before .before .before .before .before .before .before .before in
+    let back2 = at-tokens .before .before .before .before .before .before .before .before .before .before .before .before .before .before .before in
+    let start = back2 .before .before .before .before .before .before .before .before .before .before in
+    length-front (start .args .goes .now) (at-translate-tokens .translate-tokens .last .1 .1 .1 .1 .1 .0) (17 + at-tokens .tokens .given .0 .0) (at-translate-tokens .translate-tokens .kept .1 .1 .1 .1 .1 .0)
 
 same-length-6 : tie.Need-same-length-6
-same-length-6 c = length-front (c .before .before .before .before .before .before .before .before .before .before .before .before .before .before .before .before .before .before .before .before .before .before .before .before .before .before .before .before .before .before .before .before .before .before .before .before .before .before .before .before .before .before .read .last .1 .1 .1 .0)
-    (c .before .before .before .before .before .before .before .before .before .before .before .before .before .before .before .before .before .before .before .before .translate-tokens .last .1 .1 .1 .1 .1 .1 .0)
-    (17 + c .before .before .before .before .before .before .before .before .before .before .before .before .before .before .before .before .before .before .before .before .before .before .before .before .before .before .before .before .before .before .before .before .before .before .tokens .given .0 .0)
-    (c .before .before .before .before .before .before .before .before .before .before .before .before .before .before .before .before .before .before .before .before .translate-tokens .kept .1 .1 .1 .1 .1 .1 .0)
-    ∙ c .before .before .before .before .before .before .before .before .before .before .before .before .before .before .before .before .before .before .before .before .before .before .before .before .before .before .before .before .before .before .before .before .before .before .before .before .before .before .before .before .before .before .read .kept .1 .1 .1 .0
+same-length-6 c =
+    let back = c .before .before .before .before .before .before .before .before .before .before .before .before .before .before .before in
+    let at-translate-tokens = back .before .before .before .before .before in
+    let at-tokens = at-translate-tokens .before .before .before .before .before .before .before .before .before .before .before .before .before .before in
+    let at-read = at-tokens .before .before .before .before .before .before .before .before in
+    length-front (at-read .read .last .1 .1 .1 .0) (at-translate-tokens .translate-tokens .last .1 .1 .1 .1 .1 .1 .0) (17 + at-tokens .tokens .given .0 .0)
+    (at-translate-tokens .translate-tokens .kept .1 .1 .1 .1 .1 .1 .0) ∙ at-read .read .kept .1 .1 .1 .0
 
 same-length-7 : tie.Need-same-length-7
-same-length-7 c = length-front (c .before .before .before .before .before .before .before .before .before .before .before .before .before .before .before .before .before .before .before .before .before .before .before .before .before .before .before .before .before .before .before .before .before .before .before .before .before .before .before .before .before .before .before .before .before .before .before .before .before .before .before .before .before .before .before .before .before .before .before .args .written .now)
-    (c .before .before .before .before .before .before .before .before .before .before .before .before .before .before .before .before .before .before .before .before .translate-tokens .last .1 .1 .1 .1 .1 .1 .1 .0)
-    (17 + c .before .before .before .before .before .before .before .before .before .before .before .before .before .before .before .before .before .before .before .before .before .before .before .before .before .before .before .before .before .before .before .before .before .before .tokens .given .0 .0)
-    (c .before .before .before .before .before .before .before .before .before .before .before .before .before .before .before .before .before .before .before .before .translate-tokens .kept .1 .1 .1 .1 .1 .1 .1 .0)
+same-length-7 c =
+    let back = c .before .before .before .before .before .before .before .before .before .before .before .before .before .before .before in
+    let at-translate-tokens = back .before .before .before .before .before in
+    let at-tokens = at-translate-tokens .before .before .before .before .before .before .before .before .before .before .before .before .before .before in
+    let back2 = at-tokens .before .before .before .before .before .before .before .before .before .before .before .before .before .before .before in
+    let start = back2 .before .before .before .before .before .before .before .before .before .before in
+    length-front (start .args .written .now) (at-translate-tokens .translate-tokens .last .1 .1 .1 .1 .1 .1 .1 .0) (17 + at-tokens .tokens .given .0 .0)
+    (at-translate-tokens .translate-tokens .kept .1 .1 .1 .1 .1 .1 .1 .0)
 
 same-length-8 : tie.Need-same-length-8
-same-length-8 c = length-front (c .before .before .before .before .before .before .before .before .before .before .before .before .before .before .before .before .before .before .before .before .before .before .before .before .before .before .before .before .before .before .before .before .before .before .before .before .before .before .before .before .before .before .before .before .before .before .before .before .before .before .before .before .before .before .before .before .before .before .before .args .means .now)
-    (c .before .before .before .before .before .before .before .before .before .before .before .before .before .before .before .before .before .before .before .before .translate-tokens .last .1 .1 .1 .1 .1 .1 .1 .1 .0)
-    (17 + c .before .before .before .before .before .before .before .before .before .before .before .before .before .before .before .before .before .before .before .before .before .before .before .before .before .before .before .before .before .before .before .before .before .before .tokens .given .0 .0)
-    (c .before .before .before .before .before .before .before .before .before .before .before .before .before .before .before .before .before .before .before .before .translate-tokens .kept .1 .1 .1 .1 .1 .1 .1 .1 .0)
+same-length-8 c =
+    let back = c .before .before .before .before .before .before .before .before .before .before .before .before .before .before .before in
+    let at-translate-tokens = back .before .before .before .before .before in
+    let at-tokens = at-translate-tokens .before .before .before .before .before .before .before .before .before .before .before .before .before .before in
+    let back2 = at-tokens .before .before .before .before .before .before .before .before .before .before .before .before .before .before .before in
+    let start = back2 .before .before .before .before .before .before .before .before .before .before in
+    length-front (start .args .means .now) (at-translate-tokens .translate-tokens .last .1 .1 .1 .1 .1 .1 .1 .1 .0) (17 + at-tokens .tokens .given .0 .0)
+    (at-translate-tokens .translate-tokens .kept .1 .1 .1 .1 .1 .1 .1 .1 .0)
 
 same-length-9 : tie.Need-same-length-9
-same-length-9 c = length-front (c .before .before .before .before .before .before .before .before .before .before .before .before .before .before .before .before .before .before .before .before .before .before .before .before .before .before .before .before .before .before .before .before .before .before .before .before .before .before .before .before .before .before .before .before .before .before .before .before .before .before .before .before .before .before .before .before .before .before .before .args .under .now)
-    (c .before .before .before .before .before .before .before .before .before .before .before .before .before .before .before .before .before .before .before .before .translate-tokens .last .1 .1 .1 .1 .1 .1 .1 .1 .1 .0)
-    (17 + c .before .before .before .before .before .before .before .before .before .before .before .before .before .before .before .before .before .before .before .before .before .before .before .before .before .before .before .before .before .before .before .before .before .before .tokens .given .0 .0)
-    (c .before .before .before .before .before .before .before .before .before .before .before .before .before .before .before .before .before .before .before .before .translate-tokens .kept .1 .1 .1 .1 .1 .1 .1 .1 .1 .0)
+same-length-9 c =
+    let back = c .before .before .before .before .before .before .before .before .before .before .before .before .before .before .before in
+    let at-translate-tokens = back .before .before .before .before .before in
+    let at-tokens = at-translate-tokens .before .before .before .before .before .before .before .before .before .before .before .before .before .before in
+    let back2 = at-tokens .before .before .before .before .before .before .before .before .before .before .before .before .before .before .before in
+    let start = back2 .before .before .before .before .before .before .before .before .before .before in
+    length-front (start .args .under .now) (at-translate-tokens .translate-tokens .last .1 .1 .1 .1 .1 .1 .1 .1 .1 .0) (17 + at-tokens .tokens .given .0 .0)
+    (at-translate-tokens .translate-tokens .kept .1 .1 .1 .1 .1 .1 .1 .1 .1 .0)
 
 same-length-10 : tie.Need-same-length-10
-same-length-10 c = length-front (c .before .before .before .before .before .before .before .before .before .before .before .before .before .before .before .before .before .before .before .before .before .before .before .before .before .before .before .before .before .before .before .before .before .before .before .before .before .before .before .before .before .before .before .before .before .before .before .before .before .before .before .before .before .before .before .before .before .before .before .args .offsets .now)
-    (c .before .before .before .before .before .before .before .before .before .before .before .before .before .before .before .before .before .before .before .before .translate-tokens .last .1 .1 .1 .1 .1 .1 .1 .1 .1 .1 .0)
-    (17 + c .before .before .before .before .before .before .before .before .before .before .before .before .before .before .before .before .before .before .before .before .before .before .before .before .before .before .before .before .before .before .before .before .before .before .tokens .given .0 .0)
-    (c .before .before .before .before .before .before .before .before .before .before .before .before .before .before .before .before .before .before .before .before .translate-tokens .kept .1 .1 .1 .1 .1 .1 .1 .1 .1 .1 .0)
+same-length-10 c =
+    let back = c .before .before .before .before .before .before .before .before .before .before .before .before .before .before .before in
+    let at-translate-tokens = back .before .before .before .before .before in
+    let at-tokens = at-translate-tokens .before .before .before .before .before .before .before .before .before .before .before .before .before .before in
+    let back2 = at-tokens .before .before .before .before .before .before .before .before .before .before .before .before .before .before .before in
+    let start = back2 .before .before .before .before .before .before .before .before .before .before in
+    length-front (start .args .offsets .now) (at-translate-tokens .translate-tokens .last .1 .1 .1 .1 .1 .1 .1 .1 .1 .1 .0) (17 + at-tokens .tokens .given .0 .0)
+    (at-translate-tokens .translate-tokens .kept .1 .1 .1 .1 .1 .1 .1 .1 .1 .1 .0)
 
 same-length-11 : tie.Need-same-length-11
-same-length-11 c = c .before .before .before .before .before .before .before .before .before .before .before .before .before .before .before .before .before .before .before .before .translate-tokens .kept .1 .1 .1 .1 .1 .1 .1 .1 .1 .1 .1 .0
+same-length-11 c =
+    let back = c .before .before .before .before .before .before .before .before .before .before .before .before .before .before .before in
+    let at-translate-tokens = back .before .before .before .before .before in
+    at-translate-tokens .translate-tokens .kept .1 .1 .1 .1 .1 .1 .1 .1 .1 .1 .1 .0
 
 same-length-12 : tie.Need-same-length-12
-same-length-12 c = c .before .before .before .before .before .before .before .before .before .before .before .before .before .before .before .before .before .before .before .before .translate-tokens .kept .1 .1 .1 .1 .1 .1 .1 .1 .1 .1 .1 .1 .0
+same-length-12 c =
+    let back = c .before .before .before .before .before .before .before .before .before .before .before .before .before .before .before in
+    let at-translate-tokens = back .before .before .before .before .before in
+    at-translate-tokens .translate-tokens .kept .1 .1 .1 .1 .1 .1 .1 .1 .1 .1 .1 .1 .0
 
 returns : tie.Need-returns
-returns c = text-read _ _ _ _ _ (c .before .before .before .before .before .before .before .before .before .before .before .before .before .before .before .before .before .before .before .before .before .before .before .before .before .before .before .before .before .before .before .before .before .before .before .before .before .before .before .before .before .before .read .ensures)
-    _ (c .before .before .before .before .before .before .before .before .before .before .before .before .before .before .before .before .before .before .before .before .before .before .before .before .before .before .before .before .before .before .before .before .before .before .tokens .given .1)
-    _ _ _ _ _ _ (cut-blanks _ _ _ _ _ (c .before .before .before .before .before .before .before .before .before .before .before .before .before .before .before .before .before .before .before .before .before .before .before .before .before .before .before .before .before .before .before .before .before .before .before .before .before .before .before .before .before .before .read .ensures)
-    _ (c .before .before .before .before .before .before .before .before .before .before .before .before .before .before .before .before .before .before .before .before .before .before .before .before .before .before .before .before .before .before .before .before .before .before .tokens .given .1)
-    (c .before .before .before .before .before .before .before .before .before .before .before .before .before .before .before .before .before .before .before .before .before .before .before .before .before .before .before .before .before .before .before .before .before .before .before .before .before .before .before .before .before .before .before .before .before .before .before .before .before .before .before .before .before .before .before .before .before .before .before .args .found .now)
-    (c .before .before .before .before .before .before .before .before .before .before .before .before .before .before .before .before .before .before .before .before .before .before .before .before .before .before .before .before .before .before .before .before .before .before .before .before .before .before .before .before .before .before .before .before .before .before .before .before .before .before .before .before .before .before .before .before .before .before .before .args .goes .now)
-    (c .before .before .before .before .before .before .before .before .before .before .before .before .before .before .before .before .before .before .before .before .before .before .before .before .before .before .before .before .before .before .before .before .before .before .before .before .before .before .before .before .before .before .before .before .before .before .before .before .before .before .before .before .before .before .before .before .before .before .before .args .means .now) (
-      c .before .before .before .before .before .before .before .before .before .before .before .before .before .before .before .before .before .before .before .before .before .before .before .before .before .before .before .before .before .before .before .before .before .before .before .before .before .before .before .before .before .before .before .before .before .before .before .before .before .before .before .before .before .before .before .before .before .before .before .pre .no-found,
-      c .before .before .before .before .before .before .before .before .before .before .before .before .before .before .before .before .before .before .before .before .before .before .before .before .before .before .before .before .before .before .before .before .before .before .before .before .before .before .before .before .before .before .before .before .before .before .before .before .before .before .before .before .before .before .before .before .before .before .before .pre .no-goes,
-      c .before .before .before .before .before .before .before .before .before .before .before .before .before .before .before .before .before .before .before .before .before .before .before .before .before .before .before .before .before .before .before .before .before .before .before .before .before .before .before .before .before .before .before .before .before .before .before .before .before .before .before .before .before .before .before .before .before .before .before .pre .no-means,
-    ) (
+returns c =
+    let back = c .before .before .before .before .before .before .before .before .before .before .before .before .before .before .before in
+    let at-translate-tokens = back .before .before .before .before .before in
+    let at-tokens = at-translate-tokens .before .before .before .before .before .before .before .before .before .before .before .before .before .before in
+    let at-read = at-tokens .before .before .before .before .before .before .before .before in
+    let back2 = at-read .before .before .before .before .before .before .before .before .before .before .before .before .before .before .before in
+    let start = back2 .before .before in
+    text-read _ _ _ _ _ (at-read .read .ensures) _ (at-tokens .tokens .given .1) _ _ _ _ _ _ (cut-blanks _ _ _ _ _ (at-read .read .ensures) _ (at-tokens .tokens .given .1)
+    (start .args .found .now) (start .args .goes .now) (start .args .means .now) (start .pre .no-found, start .pre .no-goes, start .pre .no-means) (
       omega (
         arith,
-        fits-in (c .before .before .before .before .before .before .before .before .before .before .before .before .before .before .before .before .before .before .before .before .before .before .before .before .before .before .before .before .before .before .before .before .before .before .before .before .before .before .before .before .before .before .before .before .before .before .before .before .before .before .before .before .before .before .before .before .before .before .before .args .src .now)
-            _ (c .before .before .before .before .before .before .before .before .before .before .before .before .before .before .before .before .before .before .before .before .before .before .before .before .before .before .before .before .before .before .before .before .before .before .before .before .before .before .before .before .before .before .read .ensures .is)
-            _ (c .before .before .before .before .before .before .before .before .before .before .before .before .before .before .before .before .before .before .before .before .before .before .before .before .before .before .before .before .before .before .before .before .before .before .tokens .given .1)
-            (c .before .before .before .before .before .before .before .before .before .before .before .before .before .before .before .before .before .before .before .before .before .before .before .before .before .before .before .before .before .before .before .before .before .before .before .before .before .before .before .before .before .before .before .before .before .before .before .before .before .before .before .before .before .before .before .before .before .before .before .pre .for-found),
+        fits-in (start .args .src .now) _ (at-read .read .ensures .is) _ (at-tokens .tokens .given .1) (start .pre .for-found),
       ),
       omega (
         arith,
-        fits-in (c .before .before .before .before .before .before .before .before .before .before .before .before .before .before .before .before .before .before .before .before .before .before .before .before .before .before .before .before .before .before .before .before .before .before .before .before .before .before .before .before .before .before .before .before .before .before .before .before .before .before .before .before .before .before .before .before .before .before .before .args .src .now)
-            _ (c .before .before .before .before .before .before .before .before .before .before .before .before .before .before .before .before .before .before .before .before .before .before .before .before .before .before .before .before .before .before .before .before .before .before .before .before .before .before .before .before .before .before .read .ensures .is)
-            _ (c .before .before .before .before .before .before .before .before .before .before .before .before .before .before .before .before .before .before .before .before .before .before .before .before .before .before .before .before .before .before .before .before .before .before .tokens .given .1)
-            (c .before .before .before .before .before .before .before .before .before .before .before .before .before .before .before .before .before .before .before .before .before .before .before .before .before .before .before .before .before .before .before .before .before .before .before .before .before .before .before .before .before .before .before .before .before .before .before .before .before .before .before .before .before .before .before .before .before .before .before .pre .for-goes),
+        fits-in (start .args .src .now)
+            _ (at-read .read .ensures .is) _ (at-tokens .tokens .given .1) (start .pre .for-goes),
       ),
       omega (
         arith,
-        fits-in (c .before .before .before .before .before .before .before .before .before .before .before .before .before .before .before .before .before .before .before .before .before .before .before .before .before .before .before .before .before .before .before .before .before .before .before .before .before .before .before .before .before .before .before .before .before .before .before .before .before .before .before .before .before .before .before .before .before .before .before .args .src .now)
-            _ (c .before .before .before .before .before .before .before .before .before .before .before .before .before .before .before .before .before .before .before .before .before .before .before .before .before .before .before .before .before .before .before .before .before .before .before .before .before .before .before .before .before .before .read .ensures .is)
-            _ (c .before .before .before .before .before .before .before .before .before .before .before .before .before .before .before .before .before .before .before .before .before .before .before .before .before .before .before .before .before .before .before .before .before .before .tokens .given .1)
-            (c .before .before .before .before .before .before .before .before .before .before .before .before .before .before .before .before .before .before .before .before .before .before .before .before .before .before .before .before .before .before .before .before .before .before .before .before .before .before .before .before .before .before .before .before .before .before .before .before .before .before .before .before .before .before .before .before .before .before .before .pre .for-means),
+        fits-in (start .args .src .now) _ (at-read .read .ensures .is)
+            _ (at-tokens .tokens .given .1) (start .pre .for-means),
       ),
-    ))
-    (c .before .before .before .before .before .before .before .before .before .before .before .before .before .before .before .before .before .before .before .before .translate-tokens .ensures)
+    )) (at-translate-tokens .translate-tokens .ensures)
 
 same-length-13 : tie.Need-same-length-13
 same-length-13 c = search needs
