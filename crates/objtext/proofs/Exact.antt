@@ -1,4 +1,4 @@
--- What the reader takes is exactly the text of an object, and it takes every such text: `exactly`. Backwards through the reader: a line, a frame, a content,
+-- What the reader takes is exactly the text of an object, and it takes every such text: `exactly`, `form`. Backwards through the reader: a line, a frame, a content,
 -- a segment, an object. Assumes nothing.
 use Prim.Native.Nat.{ℕ, zero, suc, _+_, _-_, _*_, _/_, _%_, _<_, _≤_, min}
 use mathlib.Core.Path.{_≡_, refl, sym, ap, ap₂, _∙_, subst}
@@ -17,7 +17,7 @@ use Rattle.base.specs.Numbers.{bytesOf}
 use Rattle.base.proofs.Lists.{all-both}
 use Rattle.base.proofs.Tables.{all-below}
 use Rattle.base.proofs.Tests.{cases, implied, never-true}
-use Rattle.objtext.specs.Object.{Segment, program, cells, Bytes, contentFrame, contentFrames, framesFor, headFrame, segmentFrames, objectFrames, hexDigit, hex, line, textOf, newline, objectText, Data, IsData, Object, IsObject}
+use Rattle.objtext.specs.Object.{Segment, program, cells, Bytes, contentFrame, contentFrames, framesFor, headFrame, segmentFrames, objectFrames, hexDigit, hex, line, textOf, newline, objectText, Data, IsData, Object, IsObject, Form, of-object, of-none}
 use Rattle.objtext.specs.Reader.{digitOf, joinOf, byteOf, frontBytes, twoOf, isLine, isContentFrame, isContent, headLength, headFrom, headTo, isProgramHead, isDataHead, also, isProgram, programAt, afterProgram, isData, dataAt, afterData, isLast, Read, onSegment, atLast, readData, readObject}
 use Rattle.objtext.proofs.Lines.{byte-back, two-back, before, line-before, front-back, length-line}
 use Rattle.objtext.proofs.Written.{text-append, only-frames, segmentText, segment-before, the-program, past-program, the-data, past-data, read-written}
@@ -358,3 +358,11 @@ read-exact t gs e =
 -- "exactly of the form above": a text is read as the object whose text it is, and no other text is read
 pub exactly : (t : List ℕ) (gs : List Segment) → readObject t ≡ some gs ↔ Object gs × (objectText gs ≡ t)
 exactly t gs = (read-exact t gs, λ f. ap readObject (sym (f .1)) ∙ read-written gs (f .0))
+
+-- so the reader tells of each text whether it is of the form
+unfoldable pub form : (t : List ℕ) → Form t
+form t = go (readObject t) refl
+  where
+    go : (r : Read) → readObject t ≡ r → Form t
+    go none e = of-none (λ gs o q. no-some gs (sym e ∙ exactly t gs .1 (o, q)))
+    go (some gs) e = of-object gs (read-exact t gs e .0) (read-exact t gs e .1)
