@@ -3,13 +3,16 @@
 use crate::grammar::{program, Block, Declaration, Item, Statement};
 use crate::layout::{layout, Place};
 use crate::machine::origin;
-use crate::refusals::{entries, page};
-use crate::runner::{run, RunAnswer, STORAGE_NEEDED};
+use crate::manual;
+use crate::refusals::{entries, page, Entry};
+use crate::runcase::{answer_line, Case};
+use crate::runner::{RunAnswer, STORAGE_NEEDED};
 use crate::token::{spelling, tokens, Spelling};
 use crate::translate::translate;
+use crate::vectors::{self, UNLIMITED};
 use crate::violations::Violations;
 use std::collections::HashMap;
-use std::io;
+use std::io::{self, Write};
 use std::path::Path;
 
 /// Instructions that a run may take unless its line says otherwise.
@@ -103,19 +106,26 @@ fn register(name: &str) -> Option<usize> {
     }
 }
 
-/// Runs an accepted text; `given` has registers, `budget` and `code`, all others are 0.
-pub fn finished(text: &[u8], given: &[(String, i64)]) -> Option<Finished> {
-    let object = translate(text, None);
-    let (mut regs, mut budget, mut code) = ([0; 16], BUDGET, 0);
+/// What a run may be given: registers, `budget` and `code`; all others are 0.
+pub type Given = Vec<(String, i64)>;
+
+/// A run of an accepted text.
+fn case(text: &[u8], given: &Given) -> Option<Case> {
+    let object = translate(text, None).object;
+    let mut case = Case { object, budget: BUDGET, cc: 0, storage_length: STORAGE_NEEDED, regs: [0; 16] };
     for (name, value) in given {
         match name.as_str() {
-            "budget" => budget = *value as u32,
-            "code" => code = *value as u64,
-            name => regs[register(name)?] = *value as u32,
+            "budget" => case.budget = *value as u32,
+            "code" => case.cc = *value as u64,
+            name => case.regs[register(name)?] = *value as u32,
         }
     }
-    let mut storage = vec![0; STORAGE_NEEDED];
-    let answer = run(&object.object, regs, code, budget, &mut storage);
+    Some(case)
+}
+
+/// The end of that run.
+pub fn finished(text: &[u8], given: &Given) -> Option<Finished> {
+    let (answer, storage) = case(text, given)?.run();
     Some(Finished { answer, storage, cells: cells(text)? })
 }
 
@@ -124,7 +134,7 @@ fn broken(what: String) -> io::Error {
 }
 
 /// `NAME=VALUE` pairs.
-fn pairs(words: &str) -> io::Result<Vec<(String, i64)>> {
+pub fn pairs(words: &str) -> io::Result<Given> {
     let pair = |word: &str| {
         let (name, value) = word.split_once('=')?;
         Some((name.to_string(), value.parse().ok()?))
@@ -132,22 +142,29 @@ fn pairs(words: &str) -> io::Result<Vec<(String, i64)>> {
     words.split_ascii_whitespace().map(|word| pair(word).ok_or_else(|| broken(format!("no pair: {word}")))).collect()
 }
 
+/// A line of `runs` that is one: the text, what it is given, and what is asked for.
+fn run_line<'a>(dir: &Path, line: &'a str) -> io::Result<Option<(Vec<u8>, Given, &'a str)>> {
+    let (before, after) = match line.split_once(" :") {
+        Some(halves) if !line.starts_with('#') => halves,
+        _ => return Ok(None),
+    };
+    let (file, given) = before.split_once(' ').unwrap_or((before, ""));
+    Ok(Some((std::fs::read(dir.join(file))?, pairs(given)?, after)))
+}
+
 /// `runs` made again: each line `FILE NAME=VALUE … : NAME=VALUE …` with the values that the run gives after the colon.
 pub fn runs(dir: &Path) -> io::Result<String> {
     let mut made = String::new();
     for line in std::fs::read_to_string(dir.join("runs"))?.lines() {
-        let (before, after) = match line.split_once(" :") {
-            Some(halves) if !line.starts_with('#') => halves,
-            _ => {
+        let (text, given, after) = match run_line(dir, line)? {
+            Some(run) => run,
+            None => {
                 made += &format!("{line}\n");
                 continue;
             }
         };
-        let (file, given) = before.split_once(' ').unwrap_or((before, ""));
-        let text = std::fs::read(dir.join(file))?;
-        let end = finished(&text, &pairs(given)?).ok_or_else(|| broken(line.to_string()))?;
-        made += before;
-        made += " :";
+        let end = finished(&text, &given).ok_or_else(|| broken(line.to_string()))?;
+        made += line.strip_suffix(after).unwrap_or(line);
         for name in after.split_ascii_whitespace().map(|word| word.split('=').next().unwrap_or(word)) {
             let value = end.value(name).ok_or_else(|| broken(format!("{name} in {line}")))?;
             made += &format!(" {name}={value}");
@@ -157,30 +174,38 @@ pub fn runs(dir: &Path) -> io::Result<String> {
     Ok(made)
 }
 
+/// What a line of `datum.sites` gives the program.
+fn site(line: &str) -> io::Result<Option<Given>> {
+    match line.split_ascii_whitespace().collect::<Vec<_>>().as_slice() {
+        [east, north, flag, ..] if !line.starts_with('#') => {
+            pairs(&format!("R1={east} R3={north} R5={flag}")).map(Some)
+        }
+        _ => Ok(None),
+    }
+}
+
 /// `datum.sites` made again: `east north flag`, then what the program answers.
 pub fn sites(dir: &Path) -> io::Result<String> {
     let text = std::fs::read(dir.join("datum.pl360"))?;
     let mut made = String::new();
     for line in std::fs::read_to_string(dir.join("datum.sites"))?.lines() {
-        let words: Vec<&str> = line.split_ascii_whitespace().collect();
-        match words.as_slice() {
-            [east, north, flag, ..] if !line.starts_with('#') => {
-                let end = finished(&text, &pairs(&format!("R1={east} R3={north} R5={flag}"))?)
-                    .filter(|end| end.answer.stop == 1)
-                    .ok_or_else(|| broken(line.to_string()))?;
-                let value = |name| end.value(name).unwrap_or(0);
-                let (answer, east_new, north_new) = (value("ANSWER"), value("NEWEAST"), value("NEWNORTH"));
-                made += &format!("{east:>11} {north:>11} {flag:>4} {answer:>6} {east_new:>11} {north_new:>11}\n");
-            }
-            _ => made += &format!("{line}\n"),
+        if let Some(given) = site(line)? {
+            let end =
+                finished(&text, &given).filter(|end| end.answer.stop == 1).ok_or_else(|| broken(line.to_string()))?;
+            let (east, north, flag) = (given[0].1, given[1].1, given[2].1);
+            let value = |name| end.value(name).unwrap_or(0);
+            let (answer, east_new, north_new) = (value("ANSWER"), value("NEWEAST"), value("NEWNORTH"));
+            made += &format!("{east:>11} {north:>11} {flag:>4} {answer:>6} {east_new:>11} {north_new:>11}\n");
+        } else {
+            made += &format!("{line}\n");
         }
     }
     Ok(made)
 }
 
-/// `texts` made again: a line `FILE number place length` for each text in the folders, by name.
-pub fn texts(dir: &Path) -> io::Result<String> {
-    let mut made = String::new();
+/// The texts in the folders, by name.
+fn sources(dir: &Path) -> io::Result<Vec<(String, Vec<u8>)>> {
+    let mut sources = Vec::new();
     for folder in ["", "blanks", "refusals"] {
         let mut names: Vec<String> = std::fs::read_dir(dir.join(folder))?
             .filter_map(|entry| entry.ok()?.file_name().into_string().ok())
@@ -189,11 +214,55 @@ pub fn texts(dir: &Path) -> io::Result<String> {
         names.sort();
         for name in names {
             let file = if folder.is_empty() { name } else { format!("{folder}/{name}") };
-            let answer = translate(&std::fs::read(dir.join(&file))?, None);
-            made += &format!("{file} {} {} {}\n", answer.number, answer.place, answer.object.len());
+            let text = std::fs::read(dir.join(&file))?;
+            sources.push((file, text));
         }
     }
-    Ok(made)
+    Ok(sources)
+}
+
+/// `texts` made again: a line `FILE number place length` for each text.
+pub fn texts(dir: &Path) -> io::Result<String> {
+    let line = |(file, text): &(String, Vec<u8>)| {
+        let answer = translate(text, None);
+        format!("{file} {} {} {}\n", answer.number, answer.place, answer.object.len())
+    };
+    Ok(sources(dir)?.iter().map(line).collect())
+}
+
+/// All texts, the manual's too, in the form of the stored vectors.
+fn text_vectors(dir: &Path, entries: &[Entry], manual: &[manual::Told]) -> io::Result<Vec<u8>> {
+    let mut cases: Vec<_> = sources(dir)?.into_iter().map(|(_, text)| vectors::case(text, UNLIMITED)).collect();
+    for example in entries.iter().flat_map(|entry| [&entry.gets, &entry.not]) {
+        cases.extend(example.with("room").map(|room| vectors::case(example.text(), room as usize)));
+    }
+    cases.extend(manual.iter().map(|told| vectors::case(told.text.clone().into_bytes(), UNLIMITED)));
+    Ok(vectors::records(&cases))
+}
+
+/// All runs, the manual's too, in the form of the stored vectors.
+fn run_vectors(dir: &Path, entries: &[Entry], manual: &[manual::Told]) -> io::Result<Vec<u8>> {
+    let datum = std::fs::read(dir.join("datum.pl360"))?;
+    let mut cases = Vec::new();
+    for line in std::fs::read_to_string(dir.join("runs"))?.lines() {
+        cases.extend(run_line(dir, line)?.and_then(|(text, given, _)| case(&text, &given)));
+    }
+    for line in std::fs::read_to_string(dir.join("datum.sites"))?.lines() {
+        cases.extend(site(line)?.and_then(|given| case(&datum, &given)));
+    }
+    cases.extend(entries.iter().flat_map(|entry| [entry.gets.case(), entry.not.case()]).flatten());
+    for told in manual {
+        for (given, _) in told.gives.iter().filter_map(|line| manual::run(line)) {
+            cases.extend(case(told.text.as_bytes(), &given));
+        }
+    }
+    let mut records = Vec::new();
+    for case in &cases {
+        let (answer, storage) = case.run();
+        case.write(&mut records)?;
+        writeln!(records, "{}", answer_line(&answer, &storage))?;
+    }
+    Ok(records)
 }
 
 /// Every file of `examples/` that is made, with its content; the page on refusals as `../docs/REFUSALS.md`.
@@ -212,5 +281,8 @@ pub fn files(dir: &Path) -> io::Result<Vec<(String, Vec<u8>)>> {
     files.push(("datum.sites".to_string(), sites(dir)?.into_bytes()));
     files.push(("runs".to_string(), runs(dir)?.into_bytes()));
     files.push(("texts".to_string(), texts(dir)?.into_bytes()));
+    let manual = manual::texts(&std::fs::read_to_string(dir.join("../docs/LANGUAGE.md"))?);
+    files.push(("vectors/texts".to_string(), text_vectors(dir, &entries, &manual)?));
+    files.push(("vectors/runs".to_string(), run_vectors(dir, &entries, &manual)?));
     Ok(files)
 }

@@ -3,7 +3,7 @@
 //! In the second stand the program's instructions, a line of bytes with words behind them each; `segment K` with a segment's bytes;
 //! `refusal N at PLACE`; or `run NAME=VALUE … : NAME=VALUE …`, what a run is given and what it ends with.
 
-use crate::examples::finished;
+use crate::examples::{finished, pairs, Given};
 use crate::objread;
 use crate::translate::translate;
 
@@ -73,7 +73,7 @@ pub fn wrong(told: &Told) -> Vec<String> {
                     wrong.push(format!("{line}: it is {found:?}"));
                 }
             }
-            ["run", pairs @ ..] => wrong.extend(wrong_run(told, line, pairs)),
+            ["run", ..] => wrong.extend(wrong_run(told, line)),
             [bytes, ..] if is_bytes(bytes) => code += bytes,
             _ => wrong.push(format!("{line}: not understood")),
         }
@@ -84,20 +84,20 @@ pub fn wrong(told: &Told) -> Vec<String> {
     wrong
 }
 
-fn wrong_run(told: &Told, line: &str, pairs: &[&str]) -> Vec<String> {
-    let colon = pairs.iter().position(|&word| word == ":").unwrap_or(pairs.len());
-    let pair = |word: &&str| {
-        let (name, value) = word.split_once('=')?;
-        Some((name.to_string(), value.parse().ok()?))
-    };
-    let given: Option<Vec<(String, i64)>> = pairs[..colon].iter().map(pair).collect();
-    let wanted: Option<Vec<(String, i64)>> = pairs.iter().skip(colon + 1).map(pair).collect();
-    match (given.and_then(|given| finished(told.text.as_bytes(), &given)), wanted) {
-        (Some(end), Some(wanted)) => wanted
+/// What a line `run` gives the text, and what it says of its end.
+pub fn run(line: &str) -> Option<(Given, Given)> {
+    let (given, end) = line.strip_prefix("run ")?.split_once(':')?;
+    Some((pairs(given).ok()?, pairs(end).ok()?))
+}
+
+fn wrong_run(told: &Told, line: &str) -> Vec<String> {
+    let ended = run(line).and_then(|(given, said)| Some((finished(told.text.as_bytes(), &given)?, said)));
+    match ended {
+        Some((end, said)) => said
             .iter()
             .filter(|(name, value)| end.value(name) != Some(*value))
             .map(|(name, _)| format!("{line}: {name} is {:?}", end.value(name)))
             .collect(),
-        _ => vec![format!("{line}: not understood")],
+        None => vec![format!("{line}: not understood")],
     }
 }

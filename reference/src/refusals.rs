@@ -1,7 +1,8 @@
 //! The refusals and stops in words, read from `examples/refusals.data`, each with a text that gets it and one that does not; the page
 //! that is made of them; and what the texts are answered.
 
-use crate::runner::run;
+use crate::runcase::Case;
+use crate::runner::STORAGE_NEEDED;
 use crate::translate::translate;
 use std::fmt::Write;
 
@@ -55,28 +56,30 @@ impl Example {
         text.into_bytes()
     }
 
-    fn with(&self, name: &str) -> Option<u64> {
+    pub fn with(&self, name: &str) -> Option<u64> {
         self.with.iter().find(|(given, _)| given == name).map(|&(_, value)| value)
     }
 
-    /// The answer to the example: a run's where it gives one that only a run has.
+    /// The run, where the example gives what only a run can.
+    pub fn case(&self) -> Option<Case> {
+        let of_run = matches!(self.gives, Some(Answer::Stop(_) | Answer::Number { number: 17..=19, .. }));
+        (self.is_object || of_run).then(|| Case {
+            object: if self.is_object { self.text() } else { translate(&self.text(), None).object },
+            budget: self.with("budget").unwrap_or(1_000_000) as u32,
+            cc: self.with("code").unwrap_or(0),
+            storage_length: self.with("storage").unwrap_or(STORAGE_NEEDED as u64) as usize,
+            regs: [0; 16],
+        })
+    }
+
     pub fn answer(&self) -> Answer {
-        let text = self.text();
-        let translation = translate(&text, self.with("room").map(|room| room as usize));
-        let (number, place) = (translation.number, translation.place);
-        let ran =
-            self.is_object || matches!(self.gives, Some(Answer::Stop(_) | Answer::Number { number: 17..=19, .. }));
-        if !ran {
-            return Answer::Number { number, place };
-        }
-        let object = if self.is_object { text } else { translation.object };
-        let (code, budget) = (self.with("code").unwrap_or(0), self.with("budget").unwrap_or(1_000_000));
-        let mut storage = vec![0; self.with("storage").unwrap_or(20_480) as usize];
-        let told = run(&object, [0; 16], code, budget as u32, &mut storage);
-        if told.number == 0 {
-            Answer::Stop(told.stop)
-        } else {
-            Answer::Number { number: told.number, place: told.place as usize }
+        match self.case().map(|case| case.run().0) {
+            Some(told) if told.number == 0 => Answer::Stop(told.stop),
+            Some(told) => Answer::Number { number: told.number, place: told.place as usize },
+            None => {
+                let told = translate(&self.text(), self.with("room").map(|room| room as usize));
+                Answer::Number { number: told.number, place: told.place }
+            }
         }
     }
 
@@ -131,7 +134,10 @@ pub fn entries(data: &str) -> Result<Vec<Entry>, String> {
         let entry = entries.last_mut().ok_or_else(wrong)?;
         match word {
             "title" => entry.title = rest.to_string(),
-            "means" => entry.means = rest.to_string(),
+            "means" => {
+                let separator = if entry.means.is_empty() { "" } else { "\n" };
+                entry.means = format!("{}{separator}{rest}", entry.means);
+            }
             "place" => entry.place = rest.to_string(),
             "gets" | "not" => in_gets = word == "gets",
             _ => {
@@ -195,14 +201,15 @@ pub fn page(entries: &[Entry]) -> String {
     let mut page = "# Refusals and stops\n\nMade from `examples/refusals.data` by `examples/make`; the texts stand in `examples/refusals/`.\n\n\
         A translation answers a number, a place and a length. Number 0 means accepted; 1 to 16 say why not, and the place is the offset of the byte from which on\n\
         the matter stands, counted from 0. When several apply, the first of these groups decides: 1; 2, 3; 4, 5; 6 to 13; 14; 15; 16; inside a group the smallest\n\
-        place, then the smaller number. A run answers 17 to 19, asked in this order, or it ran and says why it stopped: 0 to 4. A stopped instruction has changed nothing and is not counted.\n\n\
+        place, then the smaller number. A run answers 17 to 19, asked in this order, or it ran and says why it stopped: 0 to 4. A stopped instruction has changed\n\
+        nothing and is not counted.\n\n\
         | | |\n|---|---|\n"
         .to_string();
     for entry in entries {
         let _ = writeln!(page, "| {} | {} |", entry.answer(), entry.title);
     }
     for entry in entries {
-        let place = if entry.place.is_empty() { String::new() } else { format!(" Place: {}.", entry.place) };
+        let place = if entry.place.is_empty() { String::new() } else { format!("\nPlace: {}.", entry.place) };
         let mut name = entry.answer();
         name[..1].make_ascii_uppercase();
         let _ = write!(page, "\n## {name}: {}\n\n{}{place}\n\n", entry.title, entry.means);

@@ -99,7 +99,7 @@ fn the_datum_program_computes_what_the_model_does() {
     assert_eq!(rests.len(), 70);
     assert!(rests.iter().all(|rest| rest.abs() <= 900));
     let computed = |east: i64, north: i64, flag: i64| {
-        let given = [("R1", east), ("R3", north), ("R5", flag)].map(|(name, value)| (name.to_string(), value));
+        let given = [("R1", east), ("R3", north), ("R5", flag)].map(|(name, value)| (name.to_string(), value)).to_vec();
         let end = finished(text.as_bytes(), &given).expect("accepted");
         assert_eq!(end.answer.stop, 1);
         let value = |name| end.value(name).expect("declared");
