@@ -11,6 +11,8 @@
 //!
 //! `watch` watches a run of an accepted text, by what `meant` reads in the text; `hunt` makes texts that aim at protection,
 //! `slips` has wrong translators, and `watching` runs and tries the watcher on many.
+//!
+//! `examples` makes the results beside the examples, `refusals` the page on refusals, and `manual` reads the manual's texts.
 
 pub mod assemble;
 pub mod build;
@@ -20,6 +22,7 @@ pub mod cmd_watch;
 pub mod code;
 pub mod codetable;
 pub mod earley;
+pub mod examples;
 pub mod gen;
 pub mod genrun;
 pub mod grammar;
@@ -29,12 +32,14 @@ pub mod kinds;
 pub mod labels;
 pub mod layout;
 pub mod machine;
+pub mod manual;
 pub mod meant;
 pub mod names;
 pub mod object;
 pub mod objread;
 pub mod points;
 pub mod random;
+pub mod refusals;
 pub mod rules;
 pub mod runcase;
 pub mod runner;

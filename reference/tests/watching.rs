@@ -19,10 +19,14 @@ const STORAGE: usize = 20_480;
 
 /// A run of the text from registers that hold 4·n, watched, with the object text of a translator with a slip.
 fn watched(slip: Slip, text: &str, budget: u32) -> Result<Watched, Cry> {
+    watched_from(std::array::from_fn(|n| 4 * n as u32), slip, text, budget)
+}
+
+fn watched_from(regs: [u32; 16], slip: Slip, text: &str, budget: u32) -> Result<Watched, Cry> {
     let object = translate_with(slip, text.as_bytes(), None).object;
     let program = objread::read(&object).unwrap_or_else(|| panic!("refused: {text}")).program;
     let known = Text { meant: meant(text.as_bytes()).expect("a program"), code: program };
-    let given = Given { regs: std::array::from_fn(|n| 4 * n as u32), cc: 0, budget, storage_length: STORAGE };
+    let given = Given { regs, cc: 0, budget, storage_length: STORAGE };
     let mut run = |budget| {
         let case = Case { object: object.clone(), budget, cc: given.cc, storage_length: STORAGE, regs: given.regs };
         reference_runner(&case)
@@ -162,6 +166,25 @@ fn a_text_is_read_as_it_is_translated() {
     }
     assert!(accepted > 3_000, "{accepted}");
     assert!(kinds.iter().all(|&times| times > 1_000), "{kinds:?}");
+}
+
+#[test]
+fn the_examples_are_watched_in_silence() {
+    let text = |name: &str| {
+        let file = format!("{}/../examples/{name}.pl360", env!("CARGO_MANIFEST_DIR"));
+        std::fs::read_to_string(file).expect("an example")
+    };
+    let run = |name: &str, given: &[(usize, u32)]| {
+        let mut regs = [0; 16];
+        given.iter().for_each(|&(register, value)| regs[register] = value);
+        watched_from(regs, Slip::None, &text(name), 100_000).unwrap_or_else(|cry| panic!("{name}: {cry}"))
+    };
+    let magic = run("magic", &[(0, 7)]);
+    assert_eq!((magic.stop, magic.instructions, magic.calls), (1, 1153, 1));
+    let search = run("search", &[(1, 34)]);
+    assert_eq!((search.stop, search.instructions), (1, 40));
+    let datum = run("datum", &[(1, 614_321), (3, 289_876)]);
+    assert_eq!((datum.stop, datum.calls, datum.returns, datum.indexed), (1, 2, 2, 8));
 }
 
 fn silent(tally: &Tally, count: u64) {
