@@ -206,8 +206,8 @@ content-form (suc m) k o n s q e = go f (content-form m k (o + 16) (n - 16) (f .
           bytes = all-both (λ (x : ℕ). x < 256) a b (f .bytes) (c .bytes);
           long = omega (arith, length-append a b, f .long, c .long);
           whole = rw (p .0, p .1)
-            (f .whole ∙ sym (line-before (contentFrame k o a) (f .rest)) ∙ ap (λ (x : List ℕ). line (contentFrame k o a) ++ x) (c .whole)
-            ∙ sym (append-assoc (line (contentFrame k o a)) (textOf (contentFrames m k (o + 16) b)) (c .rest)));
+              (f .whole ∙ sym (line-before (contentFrame k o a) (f .rest)) ∙ ap (λ (x : List ℕ). line (contentFrame k o a) ++ x) (c .whole)
+              ∙ sym (append-assoc (line (contentFrame k o a)) (textOf (contentFrames m k (o + 16) b)) (c .rest)));
         }
 
 -- ── segments ──
@@ -265,21 +265,21 @@ data-exact k s hk e =
     let l = f .long in
     let is : IsData (f .content) (headFrom s) (headTo s)
     = record {
-        bytes = f .bytes;
-        short = omega (arith, leb-true (headLength s) 4096 (b .1));
-        order = leb-true (headFrom s) (headTo s) (d .1);
-        inside = omega (arith, leb-true (headTo s) (headLength s) (c .1));
-      } in
+      bytes = f .bytes;
+      short = omega (arith, leb-true (headLength s) 4096 (b .1));
+      order = leb-true (headFrom s) (headTo s) (d .1);
+      inside = omega (arith, leb-true (headTo s) (headLength s) (c .1));
+    } in
     let u : drop 8 s ≡ hex (bytesOf 2 (headFrom s)) ++ drop 12 s = rw (← drop-drop 4 8 s) (p .0) in
     let v : drop 12 s ≡ hex (bytesOf 2 (headTo s)) ++ drop 16 s = rw (← drop-drop 4 12 s) (q .0) in
     let x = f .content in
     let r = f .rest in
     let w : s ≡ segmentText k (cells x (headFrom s) (headTo s)) r
     = rw l
-      (h .0
-      ∙ ap (λ (t : List ℕ). hex (2 ∷ k ∷ bytesOf 2 (headLength s)) ++ t)
-        (u ∙ ap (λ (t : List ℕ). hex (bytesOf 2 (headFrom s)) ++ t)
-          (v ∙ ap (λ (t : List ℕ). hex (bytesOf 2 (headTo s)) ++ t) (m ∙ ap (λ (t : List ℕ). newline ∷ t) (f .whole))))) in
+    (h .0
+    ∙ ap (λ (t : List ℕ). hex (2 ∷ k ∷ bytesOf 2 (headLength s)) ++ t)
+    (u ∙ ap (λ (t : List ℕ). hex (bytesOf 2 (headFrom s)) ++ t)
+    (v ∙ ap (λ (t : List ℕ). hex (bytesOf 2 (headTo s)) ++ t) (m ∙ ap (λ (t : List ℕ). newline ∷ t) (f .whole))))) in
     taken Data k (cells x (headFrom s) (headTo s)) (dataAt s) s (afterData s) r
     (ap dataAt w ∙ the-data k x (headFrom s) (headTo s) r hk is) (ap afterData w ∙ past-data k x (headFrom s) (headTo s) r hk is) is (sym w)
 
@@ -347,9 +347,10 @@ read-exact t gs e =
     let r = rest-more 2 1 (afterProgram t) third (b .others) (omega arith) d (data-exactly 2 2 (afterData (afterProgram t)) (d .others) (omega arith) (d .read)) in
     let p = program-exact 0 t (omega arith) (b .is) in
     let n : 1 ≤ length (b .others) = rw (d .whole) (omega arith) in
-    subst (λ (hs : List Segment). Object hs × (objectText hs ≡ t)) (sym (b .whole))
-    (object (programAt t) (b .others) (p .is) n (r .few) (r .data-segments),
-    text-append (segmentFrames 0 (programAt t)) (objectFrames 1 (b .others)) ∙ ap (λ (x : List ℕ). textOf (segmentFrames 0 (programAt t)) ++ x) (r .whole) ∙ p .whole)
+    subst (λ (hs : List Segment). Object hs × (objectText hs ≡ t)) (sym (b .whole)) (
+      object (programAt t) (b .others) (p .is) n (r .few) (r .data-segments),
+      text-append (segmentFrames 0 (programAt t)) (objectFrames 1 (b .others)) ∙ ap (λ (x : List ℕ). textOf (segmentFrames 0 (programAt t)) ++ x) (r .whole) ∙ p .whole,
+    )
   where
     object : (g : Segment) (gs : List Segment) → Program g → 1 ≤ length gs → length gs ≤ 3 → All Data gs → Object (g ∷ gs)
     object (program c) gs p n f a = record { bytes = p .0; short = p .1; some = n; few = f; data-segments = a }

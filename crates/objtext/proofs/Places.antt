@@ -234,11 +234,10 @@ pub after-data-place : (t : List ℕ) (i : ℕ) → drop (i + (17 + contentLengt
 unfolding afterData
 after-data-place t i = sym (drop-drop (17 + contentLength (headLength (drop i t))) i t)
 
-pub last-place : (t : List ℕ) (i : ℕ) → (eqb (byteOf (drop i t)) 255 && eqb (getD t (i + 2) 0) newline && eqb (i + 3) (length t)) ≡ isLast (drop i t)
-unfolding isLast
-last-place t i =
-    let e : eqb (i + 3) (length t) ≡ eqb (length (drop i t)) 3
-    = cases (eqb (i + 3) (length t))
-    (λ h. let q = eqb-true (i + 3) (length t) h in h ∙ sym (eq-eqb (length (drop i t)) 3 (omega (arith, length-drop i t))))
-    (λ h. let q = eqb-false (i + 3) (length t) h in h ∙ sym (ne-eqb (length (drop i t)) 3 (λ z. q (omega (arith, length-drop i t))))) in
-    rw (getD-drop i t 2 0, e)
+-- two tests that are passed together
+pub same-test : (a b : Bool) → (a ≡ true → b ≡ true) → (a ≡ false → b ≡ false) → a ≡ b
+same-test a b f g = cases a (λ h. h ∙ sym (f h)) (λ h. h ∙ sym (g h))
+
+pub last-place : (t : List ℕ) (i : ℕ) {x y : Bool} → x ≡ y
+    → (eqb (byteOf (drop i t)) 255 && eqb (getD t (i + 2) 0) newline && x) ≡ (eqb (byteOf (drop i t)) 255 && eqb (getD (drop i t) 2 0) newline && y)
+last-place t i e = rw (getD-drop i t 2 0, e)
