@@ -1,19 +1,25 @@
--- What a reader of document 01's "Text and tokens" may rely on, over the reading of a text: refusals 1 to 3 are given exactly when and where the table says. Each is
--- proved by citation. Assumes nothing.
+-- What a reader of document 01's "Text and tokens" may rely on, over the reading of a text: refusals 1 to 3 are given exactly when and where the table says, and
+-- no second answer fits. Assumes nothing.
 use Prim.Native.Nat.{ℕ, _≤_, _<_}
 use mathlib.Core.Path.{_≡_, refl, sym, ap, _∙_, subst}
 use mathlib.Core.Bool.{Bool, true, false}
 use mathlib.Core.List.{List}
 use mathlib.Core.Logic.{_↔_}
 use native.Mathlib.Omega.{arith}
-use lib.Dec.{ltb}
+use lib.Dec.{eqb, ltb}
 use lib.ListN.{length}
 use borrow.Author.Tests.{ltb-true, ltb-false, lt-ltb, le-ltb}
+use Rattle.base.specs.Choose.{choose}
 use Rattle.base.proofs.Tests.{cases}
-use Rattle.token.specs.Text.{Reading, TEXT-LIMIT, readFrom, refusedAt, tokensOf}
-use Rattle.token.specs.Refusals.{Leads, StandsAt, TwoAt, ThreeAt}
+use Rattle.token.specs.declared.Next.{Next}
+use Rattle.token.specs.declared.Next.the-variants as N
+use Rattle.token.specs.declared.Tokens.{Tokens}
+use Rattle.token.specs.declared.Tokens.the-variants as S
+use Rattle.token.specs.Text.{Outcome, read, refused, Reading, TEXT-LIMIT, refusedAt, tokensOf}
+use Rattle.token.specs.Answers.{outcomeOf, Summary, summaryOf}
+use Rattle.token.specs.Refusals.{TwoAt, ThreeAt}
 use Rattle.token.proofs.Readings.{rest}
-use Rattle.token.proofs.Refused.{Answers, led, Told, none, at-no-token, at-out-of-range, told, stands-no, stands-out}
+use Rattle.token.proofs.Refused.{led, Told, none, at-no-token, at-out-of-range, told, stands-no, stands-out}
 
 -- which refusal reading a text answers, and where
 pub data Refusal (s : List ℕ) (r : Reading) : Type 0 where
@@ -83,3 +89,35 @@ module _ (s : List ℕ) where
           let a = led s (h .reached) in
           let q = stands-out s p (h .inside) (h .stands) in
           rw (not-long (h .short)) (a .number ∙ ap (λ (r : Reading). r .number) q, a .place ∙ ap (λ (r : Reading). r .place) q)
+
+-- ── no second answer fits: answers that say the same are the same ──
+
+nextBack : Outcome → Next
+nextBack (read t end) = N.Token t end
+nextBack (refused number place) = choose (eqb number 2) (N.NoToken place) (N.OutOfRange place)
+
+next-back : (a : Next) → nextBack (outcomeOf a) ≡ a
+unfolding nextBack
+next-back (N.Token t end) = refl
+next-back (N.NoToken place) = refl
+next-back (N.OutOfRange place) = refl
+
+pub one-next : (a b : Next) → outcomeOf a ≡ outcomeOf b → a ≡ b
+one-next a b e = sym (next-back a) ∙ ap nextBack e ∙ next-back b
+
+tokensBack : Summary → Tokens
+tokensBack s =
+    choose (eqb (s .number) 0) (S.Read (s .count))
+    (choose (eqb (s .number) 1) S.TooLong
+    (choose (eqb (s .number) 2) (S.NoToken (s .place)) (choose (eqb (s .number) 3) (S.OutOfRange (s .place)) (S.Room (s .place)))))
+
+tokens-back : (a : Tokens) → tokensBack (summaryOf a) ≡ a
+unfolding tokensBack
+tokens-back (S.Read count) = refl
+tokens-back S.TooLong = refl
+tokens-back (S.NoToken place) = refl
+tokens-back (S.OutOfRange place) = refl
+tokens-back (S.Room needed) = refl
+
+pub one-tokens : (a b : Tokens) → summaryOf a ≡ summaryOf b → a ≡ b
+one-tokens a b e = sym (tokens-back a) ∙ ap tokensBack e ∙ tokens-back b

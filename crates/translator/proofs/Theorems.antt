@@ -1,12 +1,13 @@
 -- What a reader of document 01's "Numbers answered" may rely on, over `translate source room`: the page to read first. Each is proved by citation. Assumes nothing.
-use mathlib.Core.Path.{_≡_, subst}
+use mathlib.Core.Path.{_≡_, refl, subst}
 use mathlib.Core.Logic.{_↔_}
 use mathlib.Core.List.{List}
 use Prim.Native.Nat.{ℕ, _<_, _≤_}
+use native.Mathlib.Omega.{arith}
 use lib.ListN.{length}
 use Rattle.objtext.specs.Object.{Segment, Object, objectText}
 use Rattle.translator.specs.Image.{segments}
-use Rattle.translator.specs.Translate.{Answer, accepted, refused, make, translate}
+use Rattle.translator.specs.Translate.{Answer, accepted, refused, numberOf, lengthOf, make, translate}
 use Rattle.translator.specs.Rows.{Given}
 use Rattle.translator.proofs.Answers.{acceptance, fits-room, room-only}
 use Rattle.translator.proofs.Objects.{accepted-object}
@@ -23,6 +24,14 @@ module _ (source : List ℕ) (room : ℕ) where
 
   pub object-length : (t : List ℕ) → translate source room ≡ accepted t → 0 < length t
   object-length t e = text-some source room t e
+
+  -- an answer with number 0 and length 0 is none
+  pub not-both : numberOf (translate source room) ≡ 0 → lengthOf (translate source room) ≡ 0 → ⊥
+  not-both = go (translate source room) refl
+    where
+      go : (a : Answer) → translate source room ≡ a → numberOf a ≡ 0 → lengthOf a ≡ 0 → ⊥
+      go (accepted t) e n l = omega (arith, object-length t e)
+      go (refused n p) e z l = omega (arith, refusal-number n p e)
 
   -- "bytes written": an object text that is accepted fits the buffer, and the room counts for nothing else
   pub object-fits : (t : List ℕ) → translate source room ≡ accepted t → length t ≤ room

@@ -60,12 +60,12 @@ pub data Given (source : List ℕ) (room : ℕ) : Answer → Type 0 where
   row-5 : (ts : List Token) (t : ℕ) → Tokens source ts → FiveAt (kindsOf ts) firstToken t → Given source room (refused 5 (placeAt ts t))
   -- 6 to 13: "the smallest place wins, then the smaller number", as the broken rules are joined
   rows-6-to-13 : (ts : List Token) (x : Statement) (n : ℕ) → Program source ts x → make ts x .broken .number ≡ suc n
-    → Given source room (refused (suc n) (placeAt ts (make ts x .broken .at)))
+      → Given source room (refused (suc n) (placeAt ts (make ts x .broken .at)))
   -- "14: program over 4,096 bytes … 0"
   row-14 : (ts : List Token) (x : Statement) → Keeps source ts x → segmentLimit < sizes (make ts x .instructions) → Given source room (refused 14 0)
   -- "15: literals end past 4,096 … 0"
   row-15 : (ts : List Token) (x : Statement) → Keeps source ts x → sizes (make ts x .instructions) ≤ segmentLimit → segmentLimit < literalsEnd (make ts x .layout)
-    → Given source room (refused 15 0)
+      → Given source room (refused 15 0)
   -- "16: buffer shorter than the object text … length needed"
   row-16 : (ts : List Token) (x : Statement) → Fits source ts x → room < length (objectOf ts x) → Given source room (refused 16 (length (objectOf ts x)))
   -- "Accepted is 0, place 0, bytes written": none of these
