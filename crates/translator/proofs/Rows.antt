@@ -10,17 +10,14 @@ use lib.ListN.{length, length-append}
 use borrow.Author.Tests.{ltb-true, ltb-false, lt-ltb, le-ltb}
 use Rattle.base.proofs.Tests.{cases}
 use Rattle.token.specs.declared.Token.{Token}
-use Rattle.token.specs.Text.{Reading, TEXT-LIMIT, tokensOf}
-use Rattle.token.specs.Refusals.{TwoAt, ThreeAt}
+use Rattle.token.specs.Text.{Reading, tokensOf}
 use Rattle.token.proofs.Theorems.{Refusal, all-read, one, two, three, refusal, refusal-1, refusal-2, refusal-3}
 use Rattle.grammar.specs.Tree.{Statement}
 use Rattle.grammar.specs.Reader.{Result, ok, bad}
-use Rattle.grammar.specs.Grammar.{nesting, program}
-use Rattle.grammar.specs.Derives.{isProgramWithin}
-use Rattle.grammar.specs.Refusals.{FourAt, FiveAt}
+use Rattle.grammar.specs.Grammar.{program}
 use Rattle.grammar.proofs.Theorems as G
 use Rattle.names.specs.Search.{inFront, firstToken}
-use Rattle.objtext.specs.Object.{Segment, objectFrames, segmentFrames, headFrame, line, hex, newline, textOf, objectText}
+use Rattle.objtext.specs.Object.{Segment, contentOf, framesFor, headFrame, contentFrames, objectFrames, line, hex, newline, textOf, objectText}
 use Rattle.translator.specs.Instructions.{sizes}
 use Rattle.translator.specs.Layout.{literalsEnd, segmentLimit}
 use Rattle.translator.specs.Image.{segments}
@@ -144,10 +141,13 @@ module _ (source : List ℕ) (room : ℕ) where
 
 -- ── no second answer ──
 
-pub some-text : (gs : List Segment) → 0 < length (objectText gs)
+some-line : (f : List ℕ) (fs : List (List ℕ)) → 0 < length (textOf (f ∷ fs))
+some-line f fs = omega (arith, length-append (line f) (textOf fs), length-append (hex f) (newline ∷ []))
+
+some-text : (gs : List Segment) → 0 < length (objectText gs)
 unfolding objectText
-some-text [] = omega (arith, length-append (hex (255 ∷ [])) (newline ∷ []))
-some-text (g ∷ gs) = omega (arith, length-append (line (headFrame 0 g)) _, length-append (hex (headFrame 0 g)) (newline ∷ []))
+some-text [] = some-line (255 ∷ []) []
+some-text (g ∷ gs) = some-line (headFrame 0 g) (contentFrames (framesFor (length (contentOf g))) 0 0 (contentOf g) ++ objectFrames 1 gs)
 
 pub number-some : (source : List ℕ) (room n p : ℕ) → translate source room ≡ refused n p → 0 < n
 number-some source room n p e = go (refused n p) (subst (Given source room) e (row-given source room)) n p refl
