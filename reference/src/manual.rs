@@ -1,6 +1,7 @@
 //! The texts of the manual, `docs/LANGUAGE.md`, each with what is said of it: a fence `pl360` with the text, then a fence `gives`.
 //!
 //! In the second stand the program's instructions, a line of bytes with words behind them each; `segment K` with a segment's bytes;
+//! `object` with a line of the object text;
 //! `refusal N at PLACE`; or `run NAME=VALUE … : NAME=VALUE …`, what a run is given and what it ends with.
 
 use crate::examples::{finished, pairs, Given};
@@ -55,7 +56,7 @@ pub fn wrong(told: &Told) -> Vec<String> {
         None => Vec::new(),
     };
     let mut wrong = Vec::new();
-    let mut code = String::new();
+    let (mut code, mut object) = (String::new(), String::new());
     let mut refused = false;
     for line in &told.gives {
         let words: Vec<&str> = line.split_ascii_whitespace().collect();
@@ -73,10 +74,17 @@ pub fn wrong(told: &Told) -> Vec<String> {
                     wrong.push(format!("{line}: it is {found:?}"));
                 }
             }
+            ["object", line] => {
+                object += line;
+                object.push('\n');
+            }
             ["run", ..] => wrong.extend(wrong_run(told, line)),
             [bytes, ..] if is_bytes(bytes) => code += bytes,
             _ => wrong.push(format!("{line}: not understood")),
         }
+    }
+    if !object.is_empty() && object.as_bytes() != answer.object {
+        wrong.push("another object text".to_string());
     }
     if !refused && (answer.number != 0 || segments.first() != Some(&code)) {
         wrong.push(format!("answer {} at {}, program {:?}", answer.number, answer.place, segments.first()));

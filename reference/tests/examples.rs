@@ -60,7 +60,9 @@ fn a_wrong_manual_is_found_out() {
     };
     let right = "5810E010 loads\n0A00 ends\nsegment 1 00000000 00000000 00000000 00000000 00000005\nrun : R1=5 stop=1";
     assert_eq!(said(right), 0);
-    for (one, other) in [("5810", "5820"), ("00000005", "00000006"), ("R1=5", "R1=6"), ("0A00 ends", "ends")] {
+    for (one, other) in
+        [("5810", "5820"), ("00000005", "00000006"), ("R1=5", "R1=6"), ("0A00 ends", "ends"), ("run", "object FF\nrun")]
+    {
         assert!(said(&right.replace(one, other)) > 0, "{other}");
     }
     assert!(said("refusal 10 at 6") > 0 && said("run R1 : R1") > 0);
