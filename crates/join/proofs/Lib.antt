@@ -1,0 +1,4 @@
+pub mod Safe
+pub mod Flows
+pub mod Chain
+pub mod Loading
