@@ -13,6 +13,7 @@ use Rattle.kinds.specs.Meaning.{Based, Cell, elementSize}
 use Rattle.kinds.specs.Meanings.{dataBase}
 use Rattle.machine.specs.declared.Shift.{Shift}
 use Rattle.machine.specs.Instructions.{Short, applies, multiplies, branches, ends, unlisted, Long, appliesTo, multipliesBy, stores, branchesTo, links, shifts, unlistedLong, shortKind, longKind}
+pub use Rattle.machine.proofs.Effects.{PlainShort, Reads, Serves}
 use Rattle.translator.specs.Instructions.{Datum, element, literal, entry, Instruction, rr, rx, shift, branch, link, stop, opcode, addRow}
 use Rattle.translator.specs.Core.{Core, skip, run, seq, mark, scope, jump, call, procedure, base, when, either, loop, count}
 use Rattle.translator.specs.Code.{Mark, own}
@@ -40,28 +41,6 @@ pub record Guarded (n : ℕ) (p : Point) : Type 0 where
   pub return : (v : Within) → p .within ≡ some v → (v .return ∈ p .kept) × (0 < v .return) × (v .return < 16)
 
 -- ── plain instructions: those that go on to the next ──
-
--- "an odd register field in 1C or 5C" is no instruction
-abbrev pub PlainShort : Short → ℕ → Type 0
-PlainShort (applies f) r = Unit {0}
-PlainShort multiplies r = r % 2 ≡ 0
-PlainShort branches r = ⊥
-PlainShort ends r = ⊥
-PlainShort unlisted r = ⊥
-
--- an opcode that reads z bytes
-abbrev pub Reads : Long → ℕ → ℕ → Type 0
-Reads (appliesTo n f) z r = n ≡ z
-Reads multipliesBy z r = (z ≡ 4) × (r % 2 ≡ 0)
-Reads (stores n) z r = ⊥
-Reads branchesTo z r = ⊥
-Reads links z r = ⊥
-Reads (shifts f) z r = ⊥
-Reads unlistedLong z r = ⊥
-
--- one that reads or stores z bytes
-abbrev pub Serves : Long → ℕ → ℕ → Type 0
-Serves k z r = Reads k z r ⊎ (k ≡ stores z)
 
 -- the element at o of a cell, under a base in force
 pub record InCell (l : Layout) (p : Point) (c : Cell) (o x : ℕ) : Type 0 where

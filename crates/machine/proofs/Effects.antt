@@ -6,7 +6,6 @@ use mathlib.Core.Logic.{_⊎_, inl, inr}
 use mathlib.Core.Bool.{Bool, true, false}
 use mathlib.Core.List.{List, [], _∷_}
 use native.Mathlib.Omega.{arith}
-use native.Mathlib.Numerals.{add-one}
 use lib.Dec.{eqb, leb, ltb}
 use lib.ListN.{length, getD, set, length-set}
 use lib.Seq.{getD-set-other, set-getD}
@@ -19,40 +18,10 @@ use Rattle.machine.specs.declared.Fun.the-variants.{Load, Add, Subtract,
 use Rattle.machine.specs.declared.Shift.{Shift}
 use Rattle.machine.specs.Space.{Space, origin, readable, writable}
 use Rattle.machine.specs.Instructions.{Short, applies, multiplies, branches, ends, unlisted, Long, appliesTo, multipliesBy, stores, branchesTo, links, shifts, unlistedLong, shortKind, longKind}
+use Rattle.machine.specs.Writes.{writesBy, writesShort, writesLong}
 use Rattle.machine.specs.Step.{Cpu, cpu, Turn, Stepped, stepped, went, halted, moved, executed, paired, completed, forbidden, misaligned, address, asked, link, operand, onOperand, shortBy, longBy, step}
 
--- ── the registers that an instruction of a kind writes, r being its register field ──
-
-abbrev pub funWrites : Fun → ℕ → List ℕ
-funWrites Load r = r ∷ []
-funWrites Add r = r ∷ []
-funWrites Subtract r = r ∷ []
-funWrites AddLogical r = r ∷ []
-funWrites SubtractLogical r = r ∷ []
-funWrites And r = r ∷ []
-funWrites Or r = r ∷ []
-funWrites ExclusiveOr r = r ∷ []
-funWrites Compare r = []
-funWrites Positive r = r ∷ []
-funWrites Negative r = r ∷ []
-funWrites Complement r = r ∷ []
-funWrites MultiplyHalf r = r ∷ []
-
-abbrev pub shortWrites : Short → ℕ → List ℕ
-shortWrites (applies f) r = funWrites f r
-shortWrites multiplies r = r ∷ suc r ∷ []
-shortWrites branches r = []
-shortWrites ends r = []
-shortWrites unlisted r = []
-
-abbrev pub longWrites : Long → ℕ → List ℕ
-longWrites (appliesTo n f) r = funWrites f r
-longWrites multipliesBy r = r ∷ suc r ∷ []
-longWrites (stores n) r = []
-longWrites branchesTo r = []
-longWrites links r = r ∷ []
-longWrites (shifts f) r = r ∷ []
-longWrites unlistedLong r = []
+-- ── registers ──
 
 -- as many registers as before, and all but those of ws as they were
 pub record Changes (c : Cpu) (ws : List ℕ) (d : Cpu) : Type 0 where
@@ -69,14 +38,14 @@ one c r v k a = record { long = length-set (c .regs) r v; others = λ q h. getD-
 same : (c : Cpu) (r k a : ℕ) → Changes c [] (cpu (set (c .regs) r (getD (c .regs) r 0)) k a)
 same c r k a = record { long = length-set (c .regs) r _; others = λ q h. ap (λ (l : List ℕ). getD l q 0) (set-getD (c .regs) r 0) }
 
-two : (c : Cpu) (r b a : ℕ) → Changes c (r ∷ suc r ∷ []) (paired c r b a)
+two : (c : Cpu) (r b a : ℕ) → Changes c (r ∷ (r + 1) ∷ []) (paired c r b a)
 two c r b a =
     record {
       long = length-set (set (c .regs) r _) (r + 1) _ ∙ length-set (c .regs) r _;
-      others = λ q h. getD-set-other (set (c .regs) r _) (r + 1) q _ 0 (λ e. h (inr (inl (e ∙ add-one r)))) ∙ getD-set-other (c .regs) r q _ 0 (λ e. h (inl e));
+      others = λ q h. getD-set-other (set (c .regs) r _) (r + 1) q _ 0 (λ e. h (inr (inl e))) ∙ getD-set-other (c .regs) r q _ 0 (λ e. h (inl e));
     }
 
-executes : (c : Cpu) (f : Fun) (r b a : ℕ) → Changes c (funWrites f r) (executed c f r b a)
+executes : (c : Cpu) (f : Fun) (r b a : ℕ) → Changes c (writesBy f r) (executed c f r b a)
 executes c Load r b a = one c r _ _ a
 executes c Add r b a = one c r _ _ a
 executes c Subtract r b a = one c r _ _ a
@@ -95,7 +64,7 @@ executes c MultiplyHalf r b a = one c r _ _ a
 abbrev TurnChanges : Cpu → List ℕ → Turn → Type 0
 TurnChanges c ws t = Changes c ws (t .cpu)
 
-pub short-changes : (k : Short) (rx : ℕ) (c : Cpu) → Changes c (shortWrites k (rx / 16)) (shortBy k rx c .cpu)
+pub short-changes : (k : Short) (rx : ℕ) (c : Cpu) → Changes c (writesShort k (rx / 16)) (shortBy k rx c .cpu)
 short-changes (applies f) rx c = executes c f (rx / 16) _ _
 short-changes multiplies rx c = by-test (TurnChanges c _) (eqb (rx / 16 % 2) 0) _ _ (λ e. two c (rx / 16) (getD (c .regs) (rx % 16) 0) _) (λ e. unchanged c _ _)
 short-changes branches rx c =
@@ -107,7 +76,7 @@ short-changes unlisted rx c = unchanged c _ _
 abbrev StepChanges : Cpu → List ℕ → Stepped → Type 0
 StepChanges c ws o = Changes c ws (o .turn .cpu)
 
-pub long-changes : (k : Long) (m : Space) (rx b d : ℕ) (c : Cpu) (s : List ℕ) → Changes c (longWrites k (rx / 16)) (longBy k m rx b d c s .turn .cpu)
+pub long-changes : (k : Long) (m : Space) (rx b d : ℕ) (c : Cpu) (s : List ℕ) → Changes c (writesLong k (rx / 16)) (longBy k m rx b d c s .turn .cpu)
 long-changes (appliesTo n f) m rx b d c s =
     let a = address (c .regs) (rx % 16) b d in
     by-test (TurnChanges c _) (eqb (a % n) 0) _ _
@@ -151,33 +120,37 @@ pub record Onward (n : ℕ) (c : Cpu) (t : Turn) : Type 0 where
   pub stop : t .stop ≡ completed
   pub counter : t .cpu .counter ≡ c .counter + n
 
--- a two-byte instruction that only works on registers
-pub data Plain : Short → ℕ → Type 0 where
-  applied : {f : Fun} {r : ℕ} → Plain (applies f) r
-  product : {r : ℕ} → r % 2 ≡ 0 → Plain multiplies r
+-- a two-byte instruction that goes on: "an odd register field in 1C" is none
+abbrev pub PlainShort : Short → ℕ → Type 0
+PlainShort (applies f) r = Unit {0}
+PlainShort multiplies r = r % 2 ≡ 0
+PlainShort branches r = ⊥
+PlainShort ends r = ⊥
+PlainShort unlisted r = ⊥
 
-pub plain-onward : (k : Short) (rx : ℕ) (c : Cpu) → Plain k (rx / 16) → Onward 2 c (shortBy k rx c)
-plain-onward k rx c applied = record { stop = refl; counter = refl }
-plain-onward k rx c (product e) = rw (eq-eqb (rx / 16 % 2) 0 e) (record { stop = refl; counter = refl })
+pub plain-onward : (k : Short) (rx : ℕ) (c : Cpu) → PlainShort k (rx / 16) → Onward 2 c (shortBy k rx c)
+plain-onward (applies f) rx c h = record { stop = refl; counter = refl }
+plain-onward multiplies rx c h = rw (eq-eqb (rx / 16 % 2) 0 h) (record { stop = refl; counter = refl })
+plain-onward branches rx c h = absurd h
+plain-onward ends rx c h = absurd h
+plain-onward unlisted rx c h = absurd h
 
 pub shift-onward : (f : Shift) (m : Space) (rx b d : ℕ) (c : Cpu) (s : List ℕ) → Onward 4 c (longBy (shifts f) m rx b d c s .turn)
 shift-onward f m rx b d c s = record { stop = refl; counter = refl }
 
--- a four-byte instruction with an operand of n bytes in storage, and r as its register field
-pub data Touches : Long → ℕ → ℕ → Type 0 where
-  reads : {n r : ℕ} {f : Fun} → Touches (appliesTo n f) n r
-  readsPair : {r : ℕ} → r % 2 ≡ 0 → Touches multipliesBy 4 r
-  writes : {n r : ℕ} → Touches (stores n) n r
+-- a four-byte instruction that reads z bytes: "an odd register field in … 5C" is none
+abbrev pub Reads : Long → ℕ → ℕ → Type 0
+Reads (appliesTo n f) z r = n ≡ z
+Reads multipliesBy z r = (z ≡ 4) × (r % 2 ≡ 0)
+Reads (stores n) z r = ⊥
+Reads branchesTo z r = ⊥
+Reads links z r = ⊥
+Reads (shifts f) z r = ⊥
+Reads unlistedLong z r = ⊥
 
--- whether the map allows it an operand of n bytes at a
-abbrev pub allowed : Long → Space → ℕ → ℕ → Bool
-allowed (appliesTo z f) m a n = readable m a n
-allowed multipliesBy m a n = readable m a n
-allowed (stores z) m a n = writable m a n
-allowed branchesTo m a n = false
-allowed links m a n = false
-allowed (shifts f) m a n = false
-allowed unlistedLong m a n = false
+-- one that reads or stores z bytes
+abbrev pub Serves : Long → ℕ → ℕ → Type 0
+Serves k z r = Reads k z r ⊎ (k ≡ stores z)
 
 -- it goes on, or stops by 2 or 3 for the reason X
 pub data Ended (c : Cpu) (t : Turn) (X : Type 0) : Type 0 where
@@ -196,18 +169,28 @@ operand-ends {A} {X} f c ok a n done halt o e h = go (eqb (a % n) 0) ok refl ref
     go false q p r (inl x) = off (inr (e misaligned)) x
     go false q p r (inr g) = never-true (sym p ∙ eq-eqb (a % n) 0 (g .0))
 
-pub touch-ends : {X : Type 0} (k : Long) (n : ℕ) (m : Space) (rx b d : ℕ) (c : Cpu) (s : List ℕ) → Touches k n (rx / 16)
-    → X ⊎ ((address (c .regs) (rx % 16) b d % n ≡ 0) × (allowed k m (address (c .regs) (rx % 16) b d) n ≡ true)) → Ended c (longBy k m rx b d c s .turn) X
-touch-ends k n m rx b d c s reads h =
+pub read-ends : {X : Type 0} (k : Long) (z : ℕ) (m : Space) (rx b d : ℕ) (c : Cpu) (s : List ℕ) → Reads k z (rx / 16)
+    → X ⊎ ((address (c .regs) (rx % 16) b d % z ≡ 0) × (readable m (address (c .regs) (rx % 16) b d) z ≡ true)) → Ended c (longBy k m rx b d c s .turn) X
+read-ends (appliesTo n f) z m rx b d c s e h =
     let a = address (c .regs) (rx % 16) b d in
-    operand-ends (λ t. t) c (readable m a n) a n _ (λ j. halted j c) (record { stop = refl; counter = refl }) (λ j. refl) h
-touch-ends k n m rx b d c s (readsPair e) h =
+    operand-ends (λ t. t) c (readable m a n) a n (went (executed c f (rx / 16) (operand s a n) (c .counter + 4))) (λ j. halted j c)
+    (record { stop = refl; counter = refl }) (λ j. refl) (rw e h)
+read-ends multipliesBy z m rx b d c s e h =
     let a = address (c .regs) (rx % 16) b d in
-    rw (eq-eqb (rx / 16 % 2) 0 e)
-    (operand-ends (λ t. t) c (readable m a 4) a 4 (went (paired c (rx / 16) (operand s a 4) (c .counter + 4))) (λ j. halted j c) (record { stop = refl; counter = refl }) (λ j. refl) h)
-touch-ends k n m rx b d c s writes h =
+    rw (eq-eqb (rx / 16 % 2) 0 (e .1))
+    (operand-ends (λ t. t) c (readable m a 4) a 4 (went (paired c (rx / 16) (operand s a 4) (c .counter + 4))) (λ j. halted j c)
+    (record { stop = refl; counter = refl }) (λ j. refl) (rw (e .0) at h))
+read-ends (stores n) z m rx b d c s e h = absurd e
+read-ends branchesTo z m rx b d c s e h = absurd e
+read-ends links z m rx b d c s e h = absurd e
+read-ends (shifts f) z m rx b d c s e h = absurd e
+read-ends unlistedLong z m rx b d c s e h = absurd e
+
+pub store-ends : {X : Type 0} (z : ℕ) (m : Space) (rx b d : ℕ) (c : Cpu) (s : List ℕ)
+    → X ⊎ ((address (c .regs) (rx % 16) b d % z ≡ 0) × (writable m (address (c .regs) (rx % 16) b d) z ≡ true)) → Ended c (longBy (stores z) m rx b d c s .turn) X
+store-ends z m rx b d c s h =
     let a = address (c .regs) (rx % 16) b d in
-    operand-ends (λ (o : Stepped). o .turn) c (writable m a n) a n _ (λ j. stepped (halted j c) s) (record { stop = refl; counter = refl }) (λ j. refl) h
+    operand-ends (λ (o : Stepped). o .turn) c (writable m a z) a z _ (λ j. stepped (halted j c) s) (record { stop = refl; counter = refl }) (λ j. refl) h
 
 -- ── branches ──
 

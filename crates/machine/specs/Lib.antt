@@ -4,3 +4,4 @@ pub mod Instructions
 pub mod Step
 pub mod Run
 pub mod Lent
+pub mod Writes

@@ -1,3 +1,4 @@
 pub mod Loads
+pub mod Loaded
 pub mod Spaces
 pub mod Cases
