@@ -5,3 +5,4 @@ pub mod Step
 pub mod Run
 pub mod Lent
 pub mod Writes
+pub mod Operands
