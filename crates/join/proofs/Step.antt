@@ -39,7 +39,7 @@ use Rattle.translator.proofs.Literals.{Takes, index-lt}
 use Rattle.translator.proofs.Rooms.{startOf, CellAt}
 use Rattle.join.specs.Writes.{writes}
 use Rattle.join.specs.Points.{Within, Writes, Point, withBase, Placed}
-use Rattle.join.specs.Operands.{namedFrom, namedBytes, Whole, Named, Indexed}
+use Rattle.join.specs.Operands.{namedFrom, namedBytes, namedAt, Whole, Named, Indexed}
 use Rattle.join.proofs.Safe.{Spared, Counted, Guarded, InCell, Fits, Plain, Basing}
 use Rattle.join.proofs.Flows.{Under, Good, Enters, Calls, Onward, Opens, Returns, Branches, Goes, Flows}
 use Rattle.join.proofs.Chain.{Holds, afterCall, Chain, outermost, called}
@@ -382,3 +382,208 @@ module _ (n : ℕ) (l : Layout) (e : ℕ) (w : List Placed) (m : Space) (s₀ : 
           go (inl g) (inr t) = stores-fine op r (element d o x) x (d .base .register) place width q (i .index) st t (inl g) u
           go (inr g) (inl t) = reads-fine op r (element d o x) x (d .base .register) place width q (i .index) st t (inr (g .0, g .1)) u
           go (inr g) (inr t) = stores-fine op r (element d o x) x (d .base .register) place width q (i .index) st t (inr (g .0, g .2)) u
+
+    -- ── branches ──
+
+    -- an instruction to which one may come stands near
+    good-near : (a : ℕ) (q : Point) → Good w (here .segment) a q → (a < room) × (origin (here .segment) + a < 2 ^ 24)
+    good-near a q g =
+        let t = near (g .to) (g .one) a (g .at) in
+        let sh = t .short in
+        let sm = t .small in
+        let e = g .segment in
+        (omega arith, omega arith)
+
+    -- 15 and a displacement
+    from-base : (a : ℕ) → origin (here .segment) + a < 2 ^ 24 → address (c .regs) 0 programBase a ≡ origin (here .segment) + a
+    from-base a h = address-based (c .regs) programBase a (origin (here .segment)) (omega arith) (v .base) h
+
+    branch-fine : (k t : ℕ) → here .instruction ≡ branch k t → Branches w here k t → Fine n w m s₀ c s (branch k t)
+    unfolding encode
+    branch-fine k t q u = go (branch-goes m (k * 16 + 0) programBase t c s)
+      where
+        b : (t < room) × (origin (here .segment) + t < 2 ^ 24)
+        b = good-near t (here .point) (u .to)
+
+        st : step m c s ≡ longBy branchesTo m (k * 16 + 0) programBase t c s
+        st = decode (branch k t) 0x47 k 0 programBase t q refl refl (omega arith) (b .0)
+
+        ch : Changes c [] next
+        ch = long-writes branchesTo k 0 programBase t (omega arith) st
+
+        to-address : address (c .regs) ((k * 16 + 0) % 16) programBase t ≡ origin (here .segment) + t
+        to-address = rw (second-field k 0 (omega arith)) (from-base t (b .1))
+
+        past : (k ≡ 15 → ⊥) → (k ≡ always) ⊎ Good w (here .segment) (here .at + 4) (here .point) → Good w (here .segment) (here .at + 4) (here .point)
+        past f (inl e) = absurd (f e)
+        past f (inr g) = g
+
+        go : Branched ((k * 16 + 0) / 16) c (address (c .regs) ((k * 16 + 0) % 16) programBase t) (longBy branchesTo m (k * 16 + 0) programBase t c s .turn) → Fine n w m s₀ c s (branch k t)
+        go (taken a g) =
+            wrote (branch k t) [] t (ap (λ (o : Stepped). o .turn .stop) st ∙ a) (ap (λ (o : Stepped). o .turn .cpu .counter) st ∙ (g ∙ to-address)) ch
+            (λ x h i. h) (λ z i x h. absurd h) (u .to)
+        go (passed f o) =
+            let ct : next .counter ≡ c .counter + 4 = ap (λ (y : Stepped). y .turn .cpu .counter) st ∙ o .counter in
+            let z = v .counter in
+            wrote (branch k t) [] (here .at + 4) (ap (λ (y : Stepped). y .turn .stop) st ∙ o .stop) (omega arith) ch
+            (λ x h i. h) (λ z i x h. absurd h) (past (λ e. f (first-field k 0 (omega arith) ∙ e)) (u .next))
+
+    link-fine : (r t : ℕ) → here .instruction ≡ link r t → Calls w here r t → Fine n w m s₀ c s (link r t)
+    unfolding encode
+    link-fine r t q k =
+        let to = k .body .to in
+        let nr = near to (k .body .one) t (k .body .at) in
+        let sh = nr .short in
+        let sm = nr .small in
+        let sg : to .segment ≡ here .segment = k .body .segment ∙ k .segment in
+        let fw : origin (here .segment) + t < 2 ^ 24 = omega arith in
+        let fs = second-field r 0 (omega arith) in
+        let ff = first-field r 0 (omega arith) in
+        let back = M.link (c .code) (c .counter + 4) in
+        let st : step m c s ≡ stepped (went (cpu (set (c .regs) r back) (c .code) (origin (here .segment) + t))) s =
+        decode (link r t) 0x45 r 0 programBase t q refl refl (omega arith) sh ∙ rw (fs, ff, from-base t fw) in
+        let ch : Changes c (r ∷ []) next = long-writes links r 0 programBase t (omega arith) (decode (link r t) 0x45 r 0 programBase t q refl refl (omega arith) sh) in
+        let ct : next .counter ≡ origin (here .segment) + t = ap (λ (o : Stepped). o .turn .cpu .counter) st in
+        let lg = v .sixteen in
+        let small = k .small in
+        let rv : reg next r ≡ back = ap (λ (o : Stepped). getD (o .turn .cpu .regs) r 0) st ∙ getD-set-same (c .regs) r back 0 (omega arith) in
+        let sc = around .small in
+        let cn = v .counter in
+        let lk : reg next r % 2 ^ 24 ≡ afterCall here = ap (λ (x : ℕ). x % 2 ^ 24) rv ∙ (link-address (c .code) (c .counter + 4) (omega arith) ∙ omega arith) in
+        let g : Good w (here .segment) t (to .point) =
+        record { to = to; one = k .body .one; segment = sg; at = k .body .at; under = record { bases = λ b h. h; within = refl } } in
+        arrives (link r t) (r ∷ []) (to .point) t (ap (λ (o : Stepped). o .turn .stop) st) ct ch (λ h. k .spared programBase (inl (only programBase h)) fifteen-kept)
+        (chain-call n w (reg c) (reg next) here r t k (v .one) q (guarded to (k .body .one)) (λ x h. ch .others x (λ i. h (just x i))) lk (v .chain)) g
+      where
+        just : (x : ℕ) → (x ≡ r) ⊎ ⊥ → x ≡ r
+        just x (inl e) = e
+        just x (inr h) = absurd h
+
+        only : (x : ℕ) → (x ≡ r) ⊎ ⊥ → x ≡ k .v .return
+        only x h = just x h ∙ sym (k .return)
+
+    -- ── base declarations ──
+
+    -- the table's word is as it was loaded
+    table-word : (k : ℕ) → k < 2 + n → valueAt s (origin 1 + 4 * k) 4 ≡ origin k
+    table-word k h =
+        let few = p .map .few in
+        ap valueOf (same-part s s₀ (origin 1 + 4 * k) 4 0 (v .keeps .long) (λ j i. v .keeps .kept (origin 1 + 4 * k + j) (p .map .below (origin 1 + 4 * k + j) (omega arith))))
+        ∙ p .table k h
+
+    base-fine : (r k : ℕ) → here .instruction ≡ rx 0x58 r (entry k) → Opens n w here 0x58 r k → Fine n w m s₀ c s (rx 0x58 r (entry k))
+    unfolding encode
+    base-fine r k q u =
+        let b = u .basing in
+        let ex = b .exists in
+        let few = p .map .few in
+        let fs = second-field r 0 (omega arith) in
+        let ff = first-field r 0 (omega arith) in
+        let a : address (c .regs) 0 14 (4 * k) ≡ origin 1 + 4 * k =
+        address-based (c .regs) 14 (4 * k) (origin 1) (omega arith) (base-holds dataBase (guarded here (v .one) .fourteen)) (omega arith) in
+        let al : (origin 1 + 4 * k) % 4 ≡ 0 = omega arith in
+        let st : step m c s ≡ stepped (went (cpu (set (c .regs) r (origin k)) (c .code) (c .counter + 4))) s =
+        decode (rx 0x58 r (entry k)) 0x58 r 0 14 (4 * k) q refl refl (omega arith) (omega arith)
+        ∙ rw (fs, ff, a, eq-eqb ((origin 1 + 4 * k) % 4) 0 al, p .map .entries k ex, table-word k ex) in
+        let ch : Changes c (r ∷ []) next =
+        long-writes (appliesTo 4 Load) r 0 14 (4 * k) (omega arith) (decode (rx 0x58 r (entry k)) 0x58 r 0 14 (4 * k) q refl refl (omega arith) (omega arith)) in
+        let cn = v .counter in
+        let ct : next .counter ≡ origin (here .segment) + (here .at + 4) = ap (λ (o : Stepped). o .turn .cpu .counter) st ∙ omega arith in
+        let lg = v .sixteen in
+        let sm = b .small in
+        let rv : reg next r ≡ origin k = ap (λ (o : Stepped). getD (o .turn .cpu .regs) r 0) st ∙ getD-set-same (c .regs) r (origin k) 0 (omega arith) in
+        let kept = chain-kept n w (reg c) (reg next) (λ x. x ≡ r) (here .point) (b .spared) (b .counted) (λ x h. ch .others x (λ i. h (just x i))) (v .chain) in
+        let g = u .next in
+        goes (ap (λ (o : Stepped). o .turn .stop) st)
+        (record {
+          x = g .to;
+          one = g .one;
+          counter = let z = g .at in let y = g .segment in omega arith;
+          base = ch .others programBase (λ h. b .spared programBase (just programBase h) fifteen-kept) ∙ (v .base ∙ ap origin (sym (g .segment)));
+          sixteen = ch .long ∙ v .sixteen;
+          chain = chain-at n w (reg next) (here .point) (g .to .point) (g .under .within) (guarded (g .to) (g .one))
+              (λ d i. held d (g .under .bases d i) rv (chain-holds n w (reg next) (here .point) kept)) kept;
+          keeps = keeps-on (v .keeps) (step-keeps m c s);
+        })
+      where
+        just : (x : ℕ) → (x ≡ r) ⊎ ⊥ → x ≡ r
+        just x (inl e) = e
+        just x (inr h) = absurd h
+
+        held : (d : Based) → (d ≡ record { register = r; segment = k }) ⊎ (d ∈ here .point .bases) → reg next r ≡ origin k → Holds (reg next) (here .point)
+            → reg next (d .register) ≡ origin (d .segment)
+        held d (inl e) h f = subst (λ (y : Based). reg next (y .register) ≡ origin (y .segment)) (sym e) h
+        held d (inr i) h f = f d i
+
+    -- ── any instruction ──
+
+    flow : Goes n l e w here (here .instruction)
+    flow = all-in (Flows n l e w) w (p .flows) here (v .one) .goes
+
+    fine : (i : Instruction) → here .instruction ≡ i → Goes n l e w here i → Fine n w m s₀ c s i
+    fine (rr op r x) q (inl u) =
+        let z : rr 0x07 15 x ≡ rr op r x = λ i. rr (sym (u .branches) i) (sym (u .taken) i) x in
+        subst (λ (i : Instruction). Fine n w m s₀ c s i) z (return-fine x (u .v) (q ∙ sym z) (u .within) (u .segment) (u .return))
+    fine (rr op r x) q (inr u) = short-fine op r x q u
+    fine (rx op r (element d o x)) q u = let f = fits (rx op r (element d o x)) q u in cell-fine d o x (f .1 .0) op r q (f .0) (f .1 .1) u
+    fine (rx op r (literal y)) q u = literal-fine op r y q u
+    fine (rx op r (entry k)) q u =
+        let o : op ≡ 0x58 = u .loads ∙ load-opcode in
+        let z : rx 0x58 r (entry k) ≡ rx op r (entry k) = λ i. rx (sym o i) r (entry k) in
+        subst (λ (i : Instruction). Fine n w m s₀ c s i) z (base-fine r k (q ∙ sym z) (subst (λ (y : ℕ). Opens n w here y r k) o u))
+    fine (shift op r x d) q u = shift-fine op r x d q u
+    fine (branch k t) q u = branch-fine k t q u
+    fine (link r t) q u = link-fine r t q u
+    fine stop q u = stop-fine q
+
+    pub step-fine : Fine n w m s₀ c s (v .x .instruction)
+    step-fine = fine (v .x .instruction) refl flow
+
+    -- ── operands ──
+
+    whole : (op r : ℕ) (a : Datum) (b d : ℕ) → here .instruction ≡ rx op r a → encode l (rx op r a) ≡ fourBytes op r 0 b d → d < 4096
+        → address (c .regs) 0 b d ≡ namedFrom l a + namedAt a → (z : ℕ) → 0 < z → operandBytes (longKind op) ≡ z → namedAt a + z ≤ namedBytes a → Whole l c s a
+    whole op r a b d q en h ad z pos k wi =
+        let by = subst (λ (bs : List ℕ). StandAt s (c .counter) bs) en (stand (rx op r a) q) in
+        let o : operandBytes (longKind (getD s (c .counter) 0)) ≡ z = ap (λ (y : ℕ). operandBytes (longKind y)) (decode-opcode m c s op r 0 b d by) ∙ k in
+        record { at = decode-address m c s op r 0 b d (omega arith) h by ∙ ad; some = omega arith; inside = omega arith }
+
+    named : (i : Instruction) → here .instruction ≡ i → Goes n l e w here i → Named l (here .segment) c s i
+    unfolding encode
+    named (rr op r x) q u = tt
+    named (rx op r (element d o x)) q u = λ h.
+        let f = fits (rx op r (element d o x)) q u in
+        let i = f .1 .0 in
+        let en : encode l (rx op r (element d o x)) ≡ fourBytes op r 0 (d .base .register) (offsetOf (l .placed) (d .name) + o) =
+        ap (λ (y : ℕ). fourBytes op r y (d .base .register) (offsetOf (l .placed) (d .name) + o)) h in
+        whole op r (element d o x) (d .base .register) (offsetOf (l .placed) (d .name) + o) q en (cell-near d o x i) (cell-address d o x i ∙ omega arith) (elementSize (d .width))
+        (size-positive (d .width)) (serves-bytes (longKind op) (elementSize (d .width)) r (f .1 .1)) (i .whole)
+    named (rx op r (literal y)) q u = λ h.
+        let f = fits (rx op r (literal y)) q u in
+        let j = literal-place op r y q in
+        whole op r (literal y) 14 (l .literalsAt + 4 * indexOf y (l .literals)) q refl (omega arith) (literal-address op r y q ∙ omega arith) 4 (omega arith)
+        (reads-some (longKind op) 4 r (f .1)) (omega arith)
+    named (rx op r (entry k)) q u = λ h.
+        let ex = u .basing .exists in
+        let few = p .map .few in
+        let a : address (c .regs) 0 14 (4 * k) ≡ origin 1 + 4 * k =
+        address-based (c .regs) 14 (4 * k) (origin 1) (omega arith) (base-holds dataBase (guarded here (v .one) .fourteen)) (omega arith) in
+        whole op r (entry k) 14 (4 * k) q refl (omega arith) (a ∙ omega arith) 4 (omega arith) (ap (λ (y : ℕ). operandBytes (longKind y)) (u .loads ∙ load-opcode)) (omega arith)
+    named (shift op r x d) q u = tt
+    named (branch k t) q u =
+        let b = good-near t (here .point) (u .to) in
+        decode-address m c s 0x47 k 0 programBase t (omega arith) (b .0) (stand (branch k t) q) ∙ from-base t (b .1)
+    named (link r t) q u =
+        let nr = near (u .body .to) (u .body .one) t (u .body .at) in
+        let sh = nr .short in
+        let sm = nr .small in
+        let sg : u .body .to .segment ≡ here .segment = u .body .segment ∙ u .segment in
+        decode-address m c s 0x45 r 0 programBase t (omega arith) sh (stand (link r t) q) ∙ from-base t (omega arith)
+    named stop q u = tt
+
+    pub operand-named : Named l (v .x .segment) c s (v .x .instruction)
+    operand-named = named (v .x .instruction) refl flow
+
+    -- the final instruction is the last
+    pub stop-last : v .x .instruction ≡ stop → v .x .at ≡ e
+    stop-last q = subst (λ (i : Instruction). Goes n l e w here i) q flow
