@@ -1,3 +1,4 @@
+pub mod Placement
 pub mod Safe
 pub mod Flows
 pub mod Chain
