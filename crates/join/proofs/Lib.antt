@@ -1,7 +1,10 @@
+pub mod Placement
 pub mod Safe
 pub mod Flows
+pub mod Flow
 pub mod Chain
 pub mod Loading
+pub mod Mapping
 pub mod ChainMoves
 pub mod Decode
 pub mod Step

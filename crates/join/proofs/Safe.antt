@@ -33,11 +33,15 @@ Spared p P = (x : ℕ) → P x → x ∈ p .kept → ⊥
 abbrev pub Counted : Point → (ℕ → Type 0) → Type 0
 Counted p P = (v : Within) → p .within ≡ some v → (x : ℕ) → P x → Writes v x
 
+-- a base whose register is protected and not 0, of a segment that exists where the text has n base declarations
+abbrev pub KeptBase : ℕ → List ℕ → Based → Type 0
+KeptBase n kept b = (b .register ∈ kept) × (0 < b .register) × (b .register < 16) × (1 ≤ b .segment) × (b .segment < 2 + n)
+
 -- 15, the bases in force and the return register are protected; bases and the return register are not register 0. The text has n base declarations.
 pub record Guarded (n : ℕ) (p : Point) : Type 0 where
   pub fifteen : programBase ∈ p .kept
   pub fourteen : dataBase ∈ p .bases
-  pub bases : (b : Based) → b ∈ p .bases → (b .register ∈ p .kept) × (0 < b .register) × (b .register < 16) × (1 ≤ b .segment) × (b .segment < 2 + n)
+  pub bases : (b : Based) → b ∈ p .bases → KeptBase n (p .kept) b
   pub return : (v : Within) → p .within ≡ some v → (v .return ∈ p .kept) × (0 < v .return) × (v .return < 16)
 
 -- ── plain instructions: those that go on to the next ──
