@@ -403,7 +403,7 @@ module _ (written : List Registers) (n : ℕ) (l : Layout) (c : Core) where
       let w = program written c in
       at-same w (sizeOf c) _ start (omega arith) (at-here w (sizeOf c) stop start (all-last _ (placed written [] [] c 0 start) (here (sizeOf c) stop start ∷ []) all-mine .0))
 
-  guarded-start : Guarded n start
+  pub guarded-start : Guarded n start
   guarded-start = record {
     fifteen = inl refl;
     fourteen = inl refl;

@@ -8,3 +8,8 @@ pub mod Mapping
 pub mod ChainMoves
 pub mod Decode
 pub mod Step
+pub mod Runs
+pub mod Start
+pub mod Reached
+pub mod Answered
+pub mod Theorems

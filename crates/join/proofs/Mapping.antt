@@ -63,7 +63,7 @@ end-data : (l : Layout) (k : ℕ) → endOf (dataOf l k) ≡ cellsEnd l k
 unfolding dataOf
 end-data l k = fill-length k (l .placed) (replicate (cellsEnd l k) 0) ∙ length-replicate {A = ℕ} (cellsEnd l k) 0
 
-end-firstData : (l : Layout) → endOf (firstData l) ≡ endOfFirst l
+pub end-firstData : (l : Layout) → endOf (firstData l) ≡ endOfFirst l
 unfolding firstData
 end-firstData l =
     length-sets (fill 1 (l .placed) (replicate (endOfFirst l) 0)) (l .literalsAt) (words (l .literals))

@@ -84,14 +84,14 @@ pub record Inv (n : ℕ) (w : List Placed) (m : Space) (s₀ : List ℕ) (c : Cp
 abbrev pub Allowed : Instruction → ℕ → Type 0
 Allowed i k = ((k ≡ atEnd) × (i ≡ stop)) ⊎ (((k ≡ forbidden) ⊎ (k ≡ misaligned)) × Indexed i)
 
--- an instruction stops as it may, or leads to a state that meets the invariant
+-- an instruction stops as it may, or leads to a state that meets the invariant, with no registers changed but those that it writes
 pub data Fine (n : ℕ) (w : List Placed) (m : Space) (s₀ : List ℕ) (c : Cpu) (s : List ℕ) (i : Instruction) : Type 0 where
   stops : Allowed i (step m c s .turn .stop) → Fine n w m s₀ c s i
-  goes : step m c s .turn .stop ≡ completed → Inv n w m s₀ (step m c s .turn .cpu) (step m c s .store) → Fine n w m s₀ c s i
+  goes : step m c s .turn .stop ≡ completed → Changes c (writes i) (step m c s .turn .cpu) → Inv n w m s₀ (step m c s .turn .cpu) (step m c s .store) → Fine n w m s₀ c s i
 
 -- ── small laws ──
 
-two-or-more : (i : Instruction) → 2 ≤ size i
+pub two-or-more : (i : Instruction) → 2 ≤ size i
 two-or-more (rr op r s) = omega arith
 two-or-more (rx op r a) = omega arith
 two-or-more (shift op r s n) = omega arith
@@ -128,7 +128,7 @@ keeps-on : {m : Space} {s t u : List ℕ} → Keeps m s t → Keeps m t u → Ke
 keeps-on p q = record { long = q .long ∙ p .long; kept = λ a h. q .kept a h ∙ p .kept a h }
 
 module _ (n : ℕ) (l : Layout) (e : ℕ) (w : List Placed) (m : Space) (s₀ : List ℕ) (p : InStorage n l e w m s₀) where
-  guarded : (x : Placed) → x ∈ w → Guarded n (x .point)
+  pub guarded : (x : Placed) → x ∈ w → Guarded n (x .point)
   guarded x h = all-in (Flows n l e w) w (p .flows) x h .guarded
 
   -- ── places ──
@@ -193,10 +193,10 @@ module _ (n : ℕ) (l : Layout) (e : ℕ) (w : List Placed) (m : Space) (s₀ : 
     abbrev next : Cpu
     next = step m c s .turn .cpu
 
-    arrives : (i : Instruction) (ws : List ℕ) (q : Point) (a : ℕ) → step m c s .turn .stop ≡ completed → next .counter ≡ origin (here .segment) + a → Changes c ws next
-        → (programBase ∈ ws → ⊥) → Chain n w (reg next) q → Good w (here .segment) a q → Fine n w m s₀ c s i
-    arrives i ws q a st ct ch f k g =
-        goes st
+    arrives : (i : Instruction) (q : Point) (a : ℕ) → step m c s .turn .stop ≡ completed → next .counter ≡ origin (here .segment) + a → Changes c (writes i) next
+        → (programBase ∈ writes i → ⊥) → Chain n w (reg next) q → Good w (here .segment) a q → Fine n w m s₀ c s i
+    arrives i q a st ct ch f k g =
+        goes st ch
         (record {
           x = g .to;
           one = g .one;
@@ -208,15 +208,16 @@ module _ (n : ℕ) (l : Layout) (e : ℕ) (w : List Placed) (m : Space) (s₀ : 
         })
 
     -- with registers written that are not protected here
-    wrote : (i : Instruction) (ws : List ℕ) (a : ℕ) → step m c s .turn .stop ≡ completed → next .counter ≡ origin (here .segment) + a → Changes c ws next
-        → Spared (here .point) (λ x. x ∈ ws) → Counted (here .point) (λ x. x ∈ ws) → Good w (here .segment) a (here .point) → Fine n w m s₀ c s i
-    wrote i ws a st ct ch d k g =
-        arrives i ws (here .point) a st ct ch (fifteen-spared (λ x. x ∈ ws) d) (chain-kept n w (reg c) (reg next) (λ x. x ∈ ws) (here .point) d k (ch .others) (v .chain)) g
+    wrote : (i : Instruction) (a : ℕ) → step m c s .turn .stop ≡ completed → next .counter ≡ origin (here .segment) + a → Changes c (writes i) next
+        → Spared (here .point) (λ x. x ∈ writes i) → Counted (here .point) (λ x. x ∈ writes i) → Good w (here .segment) a (here .point) → Fine n w m s₀ c s i
+    wrote i a st ct ch d k g =
+        arrives i (here .point) a st ct ch (fifteen-spared (λ x. x ∈ writes i) d)
+        (chain-kept n w (reg c) (reg next) (λ x. x ∈ writes i) (here .point) d k (ch .others) (v .chain)) g
 
     onward : (i : Instruction) → here .instruction ≡ i → E.Onward (size i) c (step m c s .turn) → Changes c (writes i) next → Onward l w here → Fine n w m s₀ c s i
     onward i q o ch u =
         let ct : next .counter ≡ origin (here .segment) + (here .at + size i) = let a = o .counter in let b = v .counter in omega arith in
-        wrote i (writes i) (here .at + size i) (o .stop) ct ch
+        wrote i (here .at + size i) (o .stop) ct ch
         (subst (λ (j : Instruction). Spared (here .point) (λ x. x ∈ writes j)) q (u .plain .spared))
         (subst (λ (j : Instruction). Counted (here .point) (λ x. x ∈ writes j)) q (u .plain .counted))
         (subst (λ (j : Instruction). Good w (here .segment) (here .at + size j) (here .point)) q (u .next))
@@ -258,7 +259,7 @@ module _ (n : ℕ) (l : Layout) (e : ℕ) (w : List Placed) (m : Space) (s₀ : 
         ap (λ (o : Stepped). o .turn .cpu .counter) st ∙ (ap (λ (x : ℕ). reg c x % 2 ^ 24) (sym e2) ∙ (b .value ∙ ap (λ (x : ℕ). origin x + (b .y .at + 4)) e3)) in
         let ch : Changes c [] next = subst (λ (o : Stepped). Changes c [] (o .turn .cpu)) (sym st) (record { long = refl; others = λ x h. refl }) in
         let go : Good w (here .segment) (b .y .at + 4) (b .y .point) = rw e3 at (k .back) in
-        arrives (rr 0x07 15 r) [] (b .y .point) (b .y .at + 4) (ap (λ (o : Stepped). o .turn .stop) st) ct ch (λ h. h)
+        arrives (rr 0x07 15 r) (b .y .point) (b .y .at + 4) (ap (λ (o : Stepped). o .turn .stop) st) ct ch (λ h. h)
         (chain-kept n w (reg c) (reg next) (λ x. x ∈ []) (b .y .point) (λ x h i. h) (λ z i x h. absurd h) (ch .others) (b .chain)) go
 
     -- ── four bytes ──
@@ -420,12 +421,12 @@ module _ (n : ℕ) (l : Layout) (e : ℕ) (w : List Placed) (m : Space) (s₀ : 
 
         go : Branched ((k * 16 + 0) / 16) c (address (c .regs) ((k * 16 + 0) % 16) programBase t) (longBy branchesTo m (k * 16 + 0) programBase t c s .turn) → Fine n w m s₀ c s (branch k t)
         go (taken a g) =
-            wrote (branch k t) [] t (ap (λ (o : Stepped). o .turn .stop) st ∙ a) (ap (λ (o : Stepped). o .turn .cpu .counter) st ∙ (g ∙ to-address)) ch
+            wrote (branch k t) t (ap (λ (o : Stepped). o .turn .stop) st ∙ a) (ap (λ (o : Stepped). o .turn .cpu .counter) st ∙ (g ∙ to-address)) ch
             (λ x h i. h) (λ z i x h. absurd h) (u .to)
         go (passed f o) =
             let ct : next .counter ≡ c .counter + 4 = ap (λ (y : Stepped). y .turn .cpu .counter) st ∙ o .counter in
             let z = v .counter in
-            wrote (branch k t) [] (here .at + 4) (ap (λ (y : Stepped). y .turn .stop) st ∙ o .stop) (omega arith) ch
+            wrote (branch k t) (here .at + 4) (ap (λ (y : Stepped). y .turn .stop) st ∙ o .stop) (omega arith) ch
             (λ x h i. h) (λ z i x h. absurd h) (past (λ e. f (first-field k 0 (omega arith) ∙ e)) (u .next))
 
     link-fine : (r t : ℕ) → here .instruction ≡ link r t → Calls w here r t → Fine n w m s₀ c s (link r t)
@@ -452,7 +453,7 @@ module _ (n : ℕ) (l : Layout) (e : ℕ) (w : List Placed) (m : Space) (s₀ : 
         let lk : reg next r % 2 ^ 24 ≡ afterCall here = ap (λ (x : ℕ). x % 2 ^ 24) rv ∙ (link-address (c .code) (c .counter + 4) (omega arith) ∙ omega arith) in
         let g : Good w (here .segment) t (to .point) =
         record { to = to; one = k .body .one; segment = sg; at = k .body .at; under = record { bases = λ b h. h; within = refl } } in
-        arrives (link r t) (r ∷ []) (to .point) t (ap (λ (o : Stepped). o .turn .stop) st) ct ch (λ h. k .spared programBase (inl (only programBase h)) fifteen-kept)
+        arrives (link r t) (to .point) t (ap (λ (o : Stepped). o .turn .stop) st) ct ch (λ h. k .spared programBase (inl (only programBase h)) fifteen-kept)
         (chain-call n w (reg c) (reg next) here r t k (v .one) q (guarded to (k .body .one)) (λ x h. ch .others x (λ i. h (just x i))) lk (v .chain)) g
       where
         just : (x : ℕ) → (x ≡ r) ⊎ ⊥ → x ≡ r
@@ -494,7 +495,7 @@ module _ (n : ℕ) (l : Layout) (e : ℕ) (w : List Placed) (m : Space) (s₀ : 
         let rv : reg next r ≡ origin k = ap (λ (o : Stepped). getD (o .turn .cpu .regs) r 0) st ∙ getD-set-same (c .regs) r (origin k) 0 (omega arith) in
         let kept = chain-kept n w (reg c) (reg next) (λ x. x ≡ r) (here .point) (b .spared) (b .counted) (λ x h. ch .others x (λ i. h (just x i))) (v .chain) in
         let g = u .next in
-        goes (ap (λ (o : Stepped). o .turn .stop) st)
+        goes (ap (λ (o : Stepped). o .turn .stop) st) ch
         (record {
           x = g .to;
           one = g .one;

@@ -15,7 +15,7 @@ use Rattle.base.specs.Numbers.{valueOf, valueAt, stored}
 use Rattle.base.proofs.Lists.{all-getD}
 use Rattle.base.proofs.Parts.{sets-before, sets-there, same-part}
 use Rattle.base.proofs.Numbers.{valueAt-stored}
-use Rattle.objtext.specs.Object.{Segment, program, cells, contentOf, Data, Object}
+use Rattle.objtext.specs.Object.{Segment, program, cells, contentOf, Data, Object, IsData, IsObject}
 use Rattle.machine.specs.Space.{room, origin, needed}
 use Rattle.machine.proofs.Outside.{byte-elsewhere}
 use Rattle.runner.specs.Load.{placed, tableWord, tabled, tableLength, cleared, loaded}
@@ -29,6 +29,17 @@ Short gs = All (λ (g : Segment). length (contentOf g) ≤ room) gs
 -- segment i
 abbrev pub segmentAt : List Segment → ℕ → Segment
 segmentAt gs i = getD gs i (program [])
+
+-- an object's segments are short, and at most four
+data-short : (gs : List Segment) → All Data gs → Short gs
+data-short [] a = tt
+data-short (program c ∷ gs) a = absurd (a .0)
+data-short (cells c from to ∷ gs) a = (a .0 .short, data-short gs (a .1))
+
+pub object-short : (gs : List Segment) → Object gs → Short gs × (length gs ≤ 4)
+object-short [] o = absurd o
+object-short (program c ∷ gs) o = ((o .short, data-short gs (o .data-segments)), let f = o .few in omega arith)
+object-short (cells c from to ∷ gs) o = absurd o
 
 -- below the segments that are placed nothing changes
 placed-below : (k : ℕ) (gs : List Segment) (s : List ℕ) (a : ℕ) → a < origin k → getD (placed k gs s) a 0 ≡ getD s a 0
