@@ -15,10 +15,9 @@ use Rattle.names.specs.Broken.{unbroken, _⊕_}
 use Rattle.names.specs.Search.{inFront, firstToken, around}
 use Rattle.names.specs.Names.{Named, nameStatement}
 use Rattle.names.specs.Labels.{Labelled, labelStatement}
-use Rattle.kinds.specs.Meanings.{Meant, meanStatement, dataBase, standard}
+use Rattle.kinds.specs.Meanings.{Meant, meanProgram, standard}
 use Rattle.kinds.specs.Tables.{Tables}
-use Rattle.kinds.specs.Rules.{protected}
-use Rattle.kinds.specs.Kinds.{kindStatement}
+use Rattle.kinds.specs.Kinds.{rulesOf}
 use Rattle.objtext.specs.Object.{Segment, objectText}
 use Rattle.translator.specs.Instructions.{Instruction, sizes}
 use Rattle.translator.specs.Core.{coreStatement}
@@ -80,7 +79,7 @@ pub record Made : Type 0 where
   pub broken : Broken
 
 unfoldable pub meant : List Token → Named → Statement → Meant
-meant ts n x = meanStatement (kindsOf ts) (valuesOf ts) (n .found) x 0 dataBase (standard (length ts - firstToken))
+meant ts n x = meanProgram (kindsOf ts) (valuesOf ts) (n .found) x (standard (length ts - firstToken))
 
 abbrev pub tablesOf : List Token → Named → Labelled → Meant → Tables
 tablesOf ts n l m = record {
@@ -101,7 +100,7 @@ make ts x =
     let f = tablesOf ts n l m in
     let is = instructions (coreStatement f x) in
     let y = layout (m .bases) (m .cells) is in
-    record { tables = f; instructions = is; layout = y; bases = m .bases; broken = n .broken ⊕ l .broken ⊕ kindStatement f x protected ⊕ y .broken }
+    record { tables = f; instructions = is; layout = y; bases = m .bases; broken = n .broken ⊕ l .broken ⊕ rulesOf f x ⊕ y .broken }
 
 -- ── the groups ──
 
