@@ -5,3 +5,6 @@ pub mod Flow
 pub mod Chain
 pub mod Loading
 pub mod Mapping
+pub mod Opcodes
+pub mod Plain
+pub mod Rules

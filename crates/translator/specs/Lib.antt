@@ -5,4 +5,3 @@ pub mod Layout
 pub mod Bytes
 pub mod Image
 pub mod Translate
-pub mod Worked

@@ -12,9 +12,9 @@ use Rattle.grammar.specs.Reader.{Result, ok, bad}
 use Rattle.grammar.specs.Grammar.{program}
 use Rattle.names.specs.declared.Broken.{Broken}
 use Rattle.names.specs.Broken.{unbroken, _⊕_}
-use Rattle.names.specs.Search.{inFront, firstToken, around}
-use Rattle.names.specs.Names.{Named, nameStatement}
-use Rattle.names.specs.Labels.{Labelled, labelStatement}
+use Rattle.names.specs.Search.{inFront, firstToken}
+use Rattle.names.specs.Names.{Named, nameProgram}
+use Rattle.names.specs.Labels.{Labelled, labelProgram}
 use Rattle.kinds.specs.Meanings.{Meant, meanProgram, standard}
 use Rattle.kinds.specs.Tables.{Tables}
 use Rattle.kinds.specs.Kinds.{rulesOf}
@@ -65,10 +65,10 @@ placeAt ts i = getD (map (λ (t : Token). t .place) ts) i 0
 -- ── refusals 6 to 13, and what they are judged by ──
 
 unfoldable pub named : List Token → Statement → Named
-named ts x = nameStatement (valuesOf ts) x around (record { found = replicate (length ts) 0; count = 0; broken = unbroken })
+named ts x = nameProgram (valuesOf ts) x (record { found = replicate (length ts) 0; count = 0; broken = unbroken })
 
 unfoldable pub labelled : List Token → Statement → Labelled
-labelled ts x = labelStatement (valuesOf ts) x [] (record { goes = replicate (length ts) 0; count = 0; broken = unbroken })
+labelled ts x = labelProgram (valuesOf ts) x (record { goes = replicate (length ts) 0; count = 0; broken = unbroken })
 
 -- a text with its names, labels and meanings found, its instructions and its layout
 pub record Made : Type 0 where
