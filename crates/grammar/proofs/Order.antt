@@ -20,7 +20,7 @@ module _ (kinds : List ℕ) where
     where
       pub text-keeps : (es : List Event) (p : Place) (i : ℕ) (s : S) → Text kinds es p i j → I i s → I j (along f es p s)
       unfolding Text along
-      text-keeps [] p i s (e, h) k = later i j s h k
+      text-keeps [] p i s h k = later i j s h k
       text-keeps (e ∷ es) p i s (x, h) k = text-keeps es (after e p) (x .to) (f e p s) h (turn e p i s x (text-rises kinds es (after e p) (x .to) j h) k)
 
   -- ── what has been declared ──

@@ -1,7 +1,7 @@
 -- The events of every program are a text (`program-text`): the one induction over the tree, from the rules of `Derives`. What a pass sets in a table at an event's own
 -- tokens stays to the end of a text (`settles`).
-use mathlib.Core.Path.{_≡_, refl, ap, sym, _∙_}
-use mathlib.Core.List.{List, [], _∷_}
+use mathlib.Core.Path.{_≡_, refl, ap, sym, subst, _∙_}
+use mathlib.Core.List.{List, [], _∷_, _++_}
 use mathlib.Core.Option.{Option, none, some}
 use Prim.Native.Nat.{ℕ, _+_, _≤_, _<_}
 use native.Mathlib.Omega.{arith}
@@ -10,8 +10,9 @@ use Rattle.token.specs.Kinds as K
 use Rattle.grammar.specs.Tree.{Designator, Operand, number, place, Sign, plain, abs, neg, negAbs, Term, Assignment, Condition, compared, bare, Width, Register, Item, Declaration, registers, cells, base, Statement, assign, call, block, goto, null, ifThen, ifElse, while, for, Body, declare, procedure, items, Items, ended, label, item}
 use Rattle.grammar.specs.Derives.{Part, isDesignator, isOperand, isCondition, isSign, areTerms, isAssignment, areNumbers, isItem, isRegister, areMore, areSome, isType, isDeclaration, isStatement, isBody, isItems, isProgram}
 use Rattle.grammar.specs.Events.{Edge, opened, closed, entered, left, Route, labelled, sent, Entry, named, celled, itemed, valued, based, Phrase, aimed, driven, signed, given, joined, tested, limited, called, Mark, Event, edge, route, entry, phrase, mark, each, eventsValue, eventsItem, eventsRegister, eventsDeclaration, eventsSign, eventsTerm, eventsChain, labelsOnto, labelsOf, eventsStatement, eventsBody, eventsItems, eventsOf}
-use Rattle.grammar.specs.Places.{Block, Frame, within, body, Place, after, along, Along}
+use Rattle.grammar.specs.Places.{Block, Frame, within, body, Place, after, afterAll, along, Along}
 use Rattle.grammar.specs.Texts.{InBlock, Fits, isEntry, isEvent, Stands, Text}
+use Rattle.grammar.proofs.Places.{Appends}
 use Rattle.grammar.proofs.Kept.{Kept, keep-designator, keep-operand, keep-condition, keep-sign, keep-register, keep-type}
 
 module _ (kinds : List ℕ) (j : ℕ) where
@@ -21,7 +22,7 @@ module _ (kinds : List ℕ) (j : ℕ) where
 
   sooner : (es : List Event) (p : Place) (i i′ : ℕ) → i′ ≤ i → Text kinds es p i j → Text kinds es p i′ j
   unfolding Text
-  sooner [] p i i′ l (e, h) = (e, omega arith)
+  sooner [] p i i′ l h = omega arith
   sooner (e ∷ es) p i i′ l (s, h) = (record { fits = s .fits; from = s .from; to = s .to; later = (let g = s .later in omega arith); rises = s .rises; is = s .is }, h)
 
   module _ (e : Event) (p : Place) (k : List Event) where
@@ -154,9 +155,13 @@ module _ (kinds : List ℕ) (j : ℕ) where
 
 -- ── programs ──
 
+pub statement-text : (kinds : List ℕ) (x : Statement) (i j : ℕ) → isStatement kinds x i j → Text kinds (eventsOf x) [] i j
+unfolding Text
+statement-text kinds x i j h = statement kinds j x [] [] i j h (omega arith)
+
 pub program-text : (kinds : List ℕ) (x : Statement) (i j : ℕ) → isProgram kinds x i j → Text kinds (eventsOf x) [] i j
 unfolding isProgram Text
-program-text kinds x i j (m, (e, h), (a, q)) = statement kinds j x [] [] i m h (refl, omega arith)
+program-text kinds x i j (m, (e, h), (a, q)) = statement kinds j x [] [] i m h (omega arith)
 
 -- each event of a text stands where it does
 pub text-stands : (kinds : List ℕ) (es : List Event) (p : Place) (i j : ℕ) → Text kinds es p i j → Along (λ e p. Stands kinds e p 0) es p
@@ -166,8 +171,20 @@ text-stands kinds (e ∷ es) p i j (s, h) = (record { fits = s .fits; from = s .
 
 pub text-rises : (kinds : List ℕ) (es : List Event) (p : Place) (i j : ℕ) → Text kinds es p i j → i ≤ j
 unfolding Text
-text-rises kinds [] p i j (e, h) = h
+text-rises kinds [] p i j h = h
 text-rises kinds (e ∷ es) p i j (s, h) = (let l = s .later in let r = s .rises in let t = text-rises kinds es (after e p) (s .to) j h in omega arith)
+
+-- ── parts of a text ──
+
+text-append : (kinds : List ℕ) (es k : List Event) (p : Place) (i j : ℕ) → Text kinds (es ++ k) p i j → (m : ℕ) × Text kinds es p i m × Text kinds k (afterAll es p) m j
+unfolding Text afterAll
+text-append kinds [] k p i j h = (i, omega arith, h)
+text-append kinds (e ∷ es) k p i j (s, h) = let (m, a, b) = text-append kinds es k (after e p) (s .to) j h in (m, (s, a), b)
+
+-- of what comes first, and of what follows it
+pub text-parts : (kinds : List ℕ) (out : List Event → List Event) → Appends out → (k : List Event) (p : Place) (i j : ℕ) → Text kinds (out k) p i j
+    → (m : ℕ) × Text kinds (out []) p i m × Text kinds k (afterAll (out []) p) m j
+text-parts kinds out a k p i j h = text-append kinds (out []) k p i j (subst (λ (es : List Event). Text kinds es p i j) (a [] k) h)
 
 -- ── tables by token ──
 

@@ -35,6 +35,7 @@ use Rattle.kinds.specs.Tables.{Tables, valueAt, meaningAt}
 use Rattle.kinds.specs.Rules as R
 use Rattle.kinds.specs.Rules.{bareName, protected}
 use Rattle.kinds.specs.Kinds.{keptIn, rulesAt, ruleEvent, rulesOf}
+use Rattle.kinds.proofs.Elements.{range-is, from-zero}
 use Rattle.kinds.proofs.Unbroken.{rules-onto}
 use Rattle.rules.specs.Parts.{designatorAt, operandAt, termAt}
 use Rattle.judge.specs.declared.Cells.{Cells}
@@ -196,15 +197,15 @@ module _ (f : Tables) where
     unfolding judgeEvent heldAfter cellsAfter targetAfter eventRule declarationRule isRegister R.valueRules
     turn-entry (named r) (within k ∷ p) c b s n room g x u i j h q o e =
         let l : r .number ≡ r .name + 2 = omega (arith, h .0, h .2 .1 .0) in
-        judged (entry (named r)) (within k ∷ p) c b s n room g x s n room g (complete c room b x q e) tt join-right (rw l)
+        judged (entry (named r)) (within k ∷ p) c b s n room g x s n room g (complete c room b x q e) tt join-right (rw (l, from-zero 15 (valueAt f (r .name + 2)) (omega arith)))
     turn-entry (celled none full) (within k ∷ p) c b s n room g x u i j h q o e =
         judged (entry (celled none full)) (within k ∷ p) c b s n room g x false 1 room g (complete c room b x q e) (refl, refl) join-right refl
     turn-entry (celled none short) (within k ∷ p) c b s n room g x u i j h q o e =
         judged (entry (celled none short)) (within k ∷ p) c b s n room g x true 1 room g (complete c room b x q e) (refl, refl) join-right refl
     turn-entry (celled (some t) full) (within k ∷ p) c b s n room g x u i j h q o e =
-        judged (entry (celled (some t) full)) (within k ∷ p) c b s n room g x false (valueAt f t) room g (complete c room b x q e) (refl, refl) join-right refl
+        judged (entry (celled (some t) full)) (within k ∷ p) c b s n room g x false (valueAt f t) room g (complete c room b x q e) (refl, refl) join-right (rw (range-is 1 2048 (valueAt f t) (omega arith)))
     turn-entry (celled (some t) short) (within k ∷ p) c b s n room g x u i j h q o e =
-        judged (entry (celled (some t) short)) (within k ∷ p) c b s n room g x true (valueAt f t) room g (complete c room b x q e) (refl, refl) join-right refl
+        judged (entry (celled (some t) short)) (within k ∷ p) c b s n room g x true (valueAt f t) room g (complete c room b x q e) (refl, refl) join-right (rw (range-is 1 2048 (valueAt f t) (omega arith)))
     turn-entry (itemed m w y) (within k ∷ p) c b s n room g x u i j h q o e = turn-item m w y c k p b s n room g x q o e
     turn-entry (valued t) (within k ∷ p) c b s n room g x u i j h q o e = turn-value t c k p b s n room g x q o e
     turn-entry (based t) (within k ∷ p) c b s n room g x u i j h q o e =

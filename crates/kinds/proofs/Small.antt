@@ -1,16 +1,12 @@
 -- Where no rule is broken, every register that a name means is one of 0 to 15, and so are the bases of cells and the return registers of procedures; a cell
 -- has at least one element.
-use mathlib.Core.Path.{_≡_, refl, sym, subst}
+use mathlib.Core.Path.{_≡_, sym, subst}
 use mathlib.Core.List.{List, [], _∷_, _++_, map}
-use mathlib.Core.Bool.{Bool, true, false, _&&_}
 use mathlib.Core.Option.{Option, none, some}
 use Prim.Native.Nat.{ℕ, _<_, _≤_}
 use native.Mathlib.Omega.{arith}
-use lib.Dec.{leb}
 use lib.ListN.{getD, replicate}
-use borrow.Author.Tests.{leb-true}
 use Rattle.base.specs.Lists.{All}
-use Rattle.base.proofs.Tests.{never-true}
 use Rattle.base.proofs.Lists.{all-set, all-getD, all-replicate, all-both}
 use Rattle.grammar.specs.Tree.{Statement}
 use Rattle.grammar.specs.Events.{Entry, named, celled, itemed, valued, based, Phrase, aimed, driven, signed, given, joined, tested, limited, called, Event, edge, route, entry, phrase, mark, eventsOf}
@@ -22,7 +18,8 @@ use Rattle.kinds.specs.Registers.{sixteen}
 use Rattle.kinds.specs.Meaning.{Meaning, nothing, register, cell, routine, meaningOf, registerOf}
 use Rattle.kinds.specs.Meanings.{Meant, write, openBase, addCell, countOf, cellOf, meaningIn, newest, baseIn, meanEvent, meanProgram, standard}
 use Rattle.kinds.specs.Tables.{Tables, valueAt}
-use Rattle.kinds.specs.Kinds.{rulesAt}
+use Rattle.kinds.specs.Rules.{inRange, mostElements}
+use Rattle.kinds.proofs.Elements.{in-range}
 use Rattle.kinds.proofs.Heeds.{Alike, Heeds, enters, names, adds, opens, other, heeds}
 use Rattle.kinds.proofs.Unbroken.{Unbroken}
 
@@ -70,16 +67,10 @@ module _ (f : Tables) where
   Counted (aiming d) = Unit {0}
   Counted (declaring n w ts) = 1 ≤ countOf (f .values) n
 
-  first : (a b : Bool) → (a && b) ≡ true → a ≡ true
-  first true b h = refl
-  first false b h = never-true h
-
   counted-entry : (d : Entry) (p : Place) (c : Context) → Unbroken f (entry d) p → Suits (entry d) c → Counted c → Counted (contextAfter (entry d) c)
   counted-entry (named r) p c q u h = tt
   counted-entry (celled none w) p c q u h = omega arith
-  counted-entry (celled (some t) w) p c q u h =
-      let v = rule-holds (leb 1 (valueAt f t) && leb (valueAt f t) 2048) 11 t (omega arith) q in
-      leb-true 1 (valueAt f t) (first (leb 1 (valueAt f t)) (leb (valueAt f t) 2048) v)
+  counted-entry (celled (some t) w) p c q u h = in-range 1 mostElements (valueAt f t) (rule-holds (inRange 1 mostElements (valueAt f t)) 11 t (omega arith) q) .0
   counted-entry (itemed n w i) p (declaring m v ts) q u h = subst (λ (k : Option ℕ). 1 ≤ countOf (f .values) k) (u .0) h
   counted-entry (valued t) p (declaring m v (x ∷ ts)) q u h = h
   counted-entry (based n) p c q u h = tt
@@ -109,7 +100,7 @@ module _ (f : Tables) where
   unfolding openBase write addCell
   heeds-small {p} {s} (enters n r) c q u h = all-set Small (s .means) n (routine (registerOf (meaningIn (f .found) s r))) (h .means) (named-small s r (h .means))
   heeds-small {p} {s} (names r) c q u h =
-      let e : getD (f .values) (r .number) 0 ≤ 15 = leb-true _ _ (rule-holds (leb (valueAt f (r .number)) 15) 9 (r .number) (omega arith) q) in
+      let e : getD (f .values) (r .number) 0 ≤ 15 = in-range 0 15 (valueAt f (r .number)) (rule-holds (inRange 0 15 (valueAt f (r .number))) 9 (r .number) (omega arith) q) .1 in
       all-set Small (s .means) (r .name) (register (getD (f .values) (r .number) 0)) (h .means) (omega arith)
   heeds-small {p} {s} (adds n w i) c q u h =
       all-set Small (s .means) (i .name) (cell (cellOf (f .values) n w (baseIn (f .found) s p) i)) (h .means) (base-small s p (h .means), counted-entry (itemed n w i) p c q u (h .count))

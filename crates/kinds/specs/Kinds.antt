@@ -2,7 +2,6 @@
 -- whole text has been read: what follows a broken rule has some meaning, and only later places can change by it.
 use mathlib.Core.List.{List, [], _∷_, _++_, map}
 use Prim.Native.Nat.{ℕ}
-use lib.Dec.{leb}
 use Rattle.grammar.specs.Tree.{Statement}
 use Rattle.grammar.specs.Events.{Edge, opened, closed, entered, left, Entry, named, celled, itemed, valued, based, Phrase, aimed, driven, signed, given, joined, tested, limited, called, Event, edge, route, entry, phrase, mark, eventsOf}
 use Rattle.grammar.specs.Places.{within, body, Place, along}
@@ -11,7 +10,7 @@ use Rattle.names.specs.Broken.{unbroken, rule, _⊕_}
 use Rattle.kinds.specs.Meaning.{registerOf}
 use Rattle.kinds.specs.Meanings.{countOf}
 use Rattle.kinds.specs.Tables.{Tables, valueAt, meaningAt}
-use Rattle.kinds.specs.Rules.{protected, registerRule, zeroRule, operandRules, targetRules, controlRules, signBy, firstBy, termBy, conditionRules, callRules, countRule, valueRules, baseRules}
+use Rattle.kinds.specs.Rules.{protected, inRange, registerRule, zeroRule, operandRules, targetRules, controlRules, signBy, firstBy, termBy, conditionRules, callRules, countRule, valueRules, baseRules}
 
 module _ (f : Tables) where
   -- "Protected at a point: 15, 14, the bases of enclosing blocks declared so far, the return registers of enclosing procedures."
@@ -29,7 +28,7 @@ module _ (f : Tables) where
 
   -- "9: register not 0 to 15"; a value is judged with its cell, which has the count and the width
   abbrev pub entryRules : Entry → Place → Broken
-  entryRules (named r) p = rule (leb (valueAt f (r .number)) 15) 9 (r .number)
+  entryRules (named r) p = rule (inRange 0 15 (valueAt f (r .number))) 9 (r .number)
   entryRules (celled c w) p = countRule f c
   entryRules (itemed c w i) p = valueRules f w (countOf (f .values) c) (i .numbers)
   entryRules (valued t) p = unbroken

@@ -50,9 +50,16 @@ isBare (some s) (some x) = false
 abbrev pub bareName : Designator → Bool
 bareName d = isBare (d .subscript) (d .index)
 
+-- "Rules on a number's value or sign read its 32 bits as signed."
+abbrev pub negative : ℕ → Bool
+negative v = leb 2147483648 v
+
+abbrev pub inRange : (low high : ℕ) → ℕ → Bool
+inRange low high v = not (negative v) && (leb low v && leb v high)
+
 -- "A subscript is a byte offset, … is a multiple of the element size, and its element lies inside the array."
 abbrev pub inside : Cell → ℕ → Bool
-inside c v = eqb (v % elementSize (c .width)) 0 && leb (v + elementSize (c .width)) (elementSize (c .width) * c .elements)
+inside c v = not (negative v) && (eqb (v % elementSize (c .width)) 0 && leb (v + elementSize (c .width)) (elementSize (c .width) * c .elements))
 
 abbrev pub shifts : List ℕ
 shifts = K.SHLL ∷ K.SHRL ∷ K.SHLA ∷ K.SHRA ∷ []
@@ -80,10 +87,14 @@ signBy (register r) g = unbroken
 signBy (cell c) g = noSign g
 signBy (routine r) g = unbroken
 
--- "A value for a short cell has signed value -32768 to 65535": a number's 32 bits are read as signed
+-- "A value for a short cell has signed value -32768 to 65535"
 abbrev pub fitsWidth : Width → ℕ → Bool
 fitsWidth full v = true
-fitsWidth short v = leb v 65535 || leb (4294967296 - 32768) v
+fitsWidth short v = if negative v then leb (4294967296 - 32768) v else leb v 65535
+
+-- "11: … array count not 1 to 2,048"
+abbrev pub mostElements : ℕ
+mostElements = 2048
 
 -- the last of segments 1 to 3: "12: … a third base declaration"
 abbrev pub lastSegment : ℕ
@@ -133,7 +144,7 @@ module _ (f : Tables) where
 
   -- "Shift operands are a number 0 to 63 or a register."
   unfoldable pub shiftRules : Operand → Broken
-  shiftRules (number t) = rule (leb (valueAt f t) 63) 11 t
+  shiftRules (number t) = rule (inRange 0 63 (valueAt f t)) 11 t
   shiftRules (place d) = onlyRegister (place d) ⊕ zeroRule (d .name)
 
   unfoldable pub noShort : Operand → Broken
@@ -206,10 +217,9 @@ module _ (f : Tables) where
   valueRules w zero (t ∷ ts) = broken 11 t ⊕ valueRules w zero ts
   valueRules w (suc room) (t ∷ ts) = rule (fitsWidth w (valueAt f t)) 11 t ⊕ valueRules w room ts
 
-  -- "11: … array count not 1 to 2,048"
   abbrev pub countRule : Option ℕ → Broken
   countRule none = unbroken
-  countRule (some t) = rule (leb 1 (valueAt f t) && leb (valueAt f t) 2048) 11 t
+  countRule (some t) = rule (inRange 1 mostElements (valueAt f t)) 11 t
 
   unfoldable pub baseRules : List ℕ → ℕ → Broken
   baseRules kept n = registerRule n ⊕ zeroRule n ⊕ writeRule kept (registerOf (meaningAt f n)) n ⊕ rule (leb (getD (f .opens) n 0) lastSegment) 12 n

@@ -1,5 +1,5 @@
 -- On the tape of a program labelling is what the definition says of it. The finished chains hold, for each block that is open at an event, all its labels.
-use mathlib.Core.Path.{_≡_, refl, ap, sym, _∙_}
+use mathlib.Core.Path.{_≡_, refl, ap, sym, subst, _∙_}
 use mathlib.Core.List.{List, [], _∷_}
 use mathlib.Core.Bool.{Bool, false}
 use Prim.Native.Nat.{ℕ, _+_, _%_, _≤_, _<_}
@@ -11,9 +11,10 @@ use Rattle.base.specs.Lists.{All}
 use Rattle.grammar.specs.Tree.{Statement}
 use Rattle.grammar.specs.Derives.{isProgram}
 use Rattle.grammar.specs.Events.{Edge, opened, closed, entered, left, Route, labelled, sent, Entry, Event, edge, route, entry, phrase, mark, eventsOf}
-use Rattle.grammar.specs.Places.{Block, within, body, Place, enterEntry, after, along, Along}
+use Rattle.grammar.specs.Places.{Block, within, body, Place, enterEntry, after, afterAll, along, Along}
 use Rattle.grammar.specs.Texts.{InBlock, EdgeFits, RouteFits, Stands, Text}
 use Rattle.grammar.proofs.Texts.{program-text, text-rises}
+use Rattle.grammar.proofs.Places.{after-statement}
 use Rattle.tape.specs.Tape.{tapeStatement}
 use Rattle.tape.specs.Pass.{pass}
 use Rattle.tape.specs.Events as E
@@ -182,12 +183,12 @@ module _ (kinds keys links outer : List ℕ) where
       finish (phrase k) p s g h g′ f n = (tt, n)
       finish (mark k) p s g h g′ f n = (tt, n)
 
-    finished : (es : List Event) (p : Place) (lo : ℕ) (m : Linking) → Text kinds es p lo j → Going kinds j p lo m → Ends es m → Along Good es p × Final p
-    unfolding Text linkAll Along
-    finished [] p lo m (e, h) g f = (tt, rw e tt)
-    finished (e ∷ es) p lo m (s, t) g f =
+    finished : (es : List Event) (p : Place) (lo : ℕ) (m : Linking) → Text kinds es p lo j → Going kinds j p lo m → Ends es m → Final (afterAll es p) → Along Good es p × Final p
+    unfolding Text linkAll Along afterAll
+    finished [] p lo m h g f n = (tt, n)
+    finished (e ∷ es) p lo m (s, t) g f z =
         let g′ = step kinds j e p lo m s (text-rises kinds es (after e p) (s .to) j t) g in
-        let (all, n) = finished es (after e p) (s .to) (linkEvent e m) t g′ f in
+        let (all, n) = finished es (after e p) (s .to) (linkEvent e m) t g′ f z in
         let (good, here) = finish es lo m e p s g t g′ f n in
         ((good, all), here)
 
@@ -196,13 +197,13 @@ module _ (kinds keys links outer : List ℕ) where
 pub labelled-program :
     (kinds keys links outer goes : List ℕ) (x : Statement) (i j : ℕ) → isProgram kinds x i j → 0 < i → j ≤ length links → j ≤ length outer
     → labelledAlong (tapeStatement x []) keys links outer goes ≡ labelProgram keys x (record { goes = goes; count = 0; broken = unbroken })
-unfolding labelledAlong labelledBy linked
+unfolding labelledAlong labelledBy linked afterAll
 labelled-program kinds keys links outer goes x i j h z wl wo =
     let m : Linking = record { links = links; outer = outer; block = 0 } in
     let es = eventsOf x in
     let done = linkAll es m in
     let g : Going kinds j [] i m = record { block = refl; held = tt; real = z; wide-links = wl; wide-outer = wo } in
-    let good = finished kinds keys (done .links) (done .outer) j es [] i m (program-text kinds x i j h) g (refl, refl) .0 in
+    let good = finished kinds keys (done .links) (done .outer) j es [] i m (program-text kinds x i j h) g (refl, refl) (subst (λ (p : Place). Final kinds keys (done .links) (done .outer) p) (sym (after-statement x [] [])) tt) .0 in
     rw (tree-tape x, link-all es m)
     (ap (λ (s : Labelling). s .labelled)
     (follows (labelOp keys (done .links) (done .outer)) (labelEvent keys) (At kinds keys (done .links) (done .outer)) (Good kinds keys (done .links) (done .outer)) (turn kinds keys (done .links) (done .outer)) es [] _ _ good refl))

@@ -6,6 +6,7 @@ use native.Mathlib.Omega.{arith}
 use lib.ListN.{getD, set, replicate, length-replicate}
 use Rattle.base.specs.Choose.{if_then_else_}
 use Rattle.names.specs.Search.{firstToken}
+use Rattle.names.proofs.Early.{Early}
 use Rattle.grammar.specs.Tree.{Statement}
 use Rattle.grammar.specs.Derives.{isProgram}
 use Rattle.tape.specs.Tape.{tapeStatement}
@@ -17,7 +18,7 @@ use Rattle.tables.specs.Packed.{low, packed, numberIn, unpacked, meaningsFrom, 
 use Rattle.tables.proofs.Sets.{set-none}
 use Rattle.meanings.specs.Along.{meanEvent, beginning}
 use Rattle.meanings.specs.Flat.{meantOf, registersNamed}
-use Rattle.meanings.proofs.Trees.{tabled, Small, Early, meant-program}
+use Rattle.meanings.proofs.Trees.{tabled, Small, meant-program}
 
 blank-means : (n t : ℕ) (bases : List ℕ) → meaningsFrom t (replicate n 0) bases ≡ replicate n nothing
 unfolding meaningsFrom unpacked
@@ -42,7 +43,7 @@ blank n bases =
 
 -- a program's tape, from arrays of zeros
 pub meant-text :
-    (kinds values found bases : List ℕ) (n : ℕ) → Small kinds values found → Early kinds values found → (x : Statement) (i j : ℕ) → isProgram kinds x i j → j ≤ firstToken + n
+    (kinds values found bases : List ℕ) (n : ℕ) → Small kinds values found → Early found → (x : Statement) (i j : ℕ) → isProgram kinds x i j → j ≤ firstToken + n
     → pass (meanEvent kinds values found) (beginning (meantOf (registersNamed 16 (replicate (firstToken + n) 0)) bases (replicate (firstToken + n) 0) (replicate (firstToken + n) 0) 0)) (tapeStatement x []) .meant
     ≡ tabled (meanProgram kinds values found x (standard n))
 meant-text kinds values found bases n small early x i j h l =

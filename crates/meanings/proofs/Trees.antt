@@ -28,6 +28,7 @@ use Rattle.tape.specs.Pass.{pass}
 use Rattle.tape.specs.Written.{operandShape, signCode, conditionCode, opOf, tokenOf}
 use Rattle.tape.proofs.Numbers.{by-shape, by-operand}
 use Rattle.tape.proofs.Written.{tree-tape, follows-in}
+use Rattle.names.proofs.Early.{Early}
 use Rattle.kinds.specs.Meaning.{Meaning, nothing, register, cell, routine, Based, meaningOf, registerOf, isLong, longOperand, isProduct}
 use Rattle.kinds.specs.Meanings as D
 use Rattle.kinds.specs.Meanings.{Meant, mean, write, writeText, callWrites, targetWrites, openBase, addCell, countOf, isArray, meaningIn, ownIn, newest, baseIn, meanProgram}
@@ -53,10 +54,6 @@ module _ (kinds values found : List ℕ) where
   abbrev pub Small : Type 0
   Small = (t : ℕ) → getD kinds t 0 ≡ K.NUMBER → getD values t 0 < 4294967296
 
-  -- "a name's earlier declaration"
-  abbrev pub Early : Type 0
-  Early = (t : ℕ) → getD found t 0 ≤ t
-
   -- the bases in force around each open block
   abbrev outerIn : Meant → Place → List Based
   outerIn s [] = []
@@ -65,7 +62,7 @@ module _ (kinds values found : List ℕ) where
 
   -- ── a base stays in force ──
 
-  module _ (early : Early) (i : ℕ) (s t : Meant) (stays : Stays i s t) where
+  module _ (early : Early found) (i : ℕ) (s t : Meant) (stays : Stays i s t) where
     newest-stays : (ns : List ℕ) (p : Place) → Earlier kinds i (within (record { at = 0; names = []; bases = ns; labels = []; set = [] }) ∷ p) → baseIn found t p ≡ baseIn found s p
         → newest found t ns (baseIn found t p) ≡ newest found s ns (baseIn found s p)
     newest-stays [] p h e = e
@@ -284,7 +281,7 @@ module _ (kinds values found : List ℕ) where
 
   -- ── along the tape ──
 
-  module _ (small : Small) (early : Early) (N : ℕ) where
+  module _ (small : Small) (early : Early found) (N : ℕ) where
     next : (e : Event) (p : Place) (c : Context) (s : Meant) (form target : ℕ) → Placed kinds N e p → N ≡ length (s .opens) → Suits e c → Opens c s form target → Next e p c s form target
     unfolding D.meanEvent
     next e p c s form target x l q o = go e x q o (settles e x)
@@ -310,7 +307,7 @@ module _ (kinds values found : List ℕ) where
 -- ── programs ──
 
 pub meant-program :
-    (kinds values found : List ℕ) → Small kinds values found → Early kinds values found → (x : Statement) (i j : ℕ) → isProgram kinds x i j → (s : Meant) → j ≤ length (s .opens)
+    (kinds values found : List ℕ) → Small kinds values found → Early found → (x : Statement) (i j : ℕ) → isProgram kinds x i j → (s : Meant) → j ≤ length (s .opens)
     → pass (meanEvent kinds values found) (beginning (tabled s)) (tapeStatement x []) .meant ≡ tabled (meanProgram kinds values found x s)
 meant-program kinds values found small early x i j h s l =
     let N = length (s .opens) in

@@ -46,7 +46,7 @@ module _ (kinds keys : List ℕ) where
         rise-up [] i j h = h
         rise-up (t ∷ ts) i j (l, h) = (let r = rise-up ts (t + 1) j h in omega arith)
 
-  declare-keeps : (ts : List ℕ) (bs : List (List ℕ)) (s : Named) → declareNames keys ts bs s .found ≡ s .found
+  pub declare-keeps : (ts : List ℕ) (bs : List (List ℕ)) (s : Named) → declareNames keys ts bs s .found ≡ s .found
   unfolding declareNames declareName
   declare-keeps [] bs s = refl
   declare-keeps (t ∷ ts) bs s = declare-keeps ts (enter t bs) (declareName keys t bs s)

@@ -5,3 +5,4 @@ pub mod Layout
 pub mod Bytes
 pub mod Image
 pub mod Translate
+pub mod Worked
