@@ -8,3 +8,4 @@ pub mod Mapping
 pub mod Opcodes
 pub mod Plain
 pub mod Rules
+pub mod Accepted

@@ -22,7 +22,7 @@ use Rattle.grammar.specs.Places.{Block, Frame, Place, after, Along}
 use Rattle.grammar.specs.Places as P
 use Rattle.names.specs.declared.Broken.{Broken}
 use Rattle.names.specs.Broken.{rule, _⊕_}
-use Rattle.names.specs.Search.{firstToken, around}
+use Rattle.names.specs.Search.{firstToken, around, innermost}
 use Rattle.names.specs.Names.{namesIn}
 use Rattle.names.specs.Labels.{labelsIn}
 use Rattle.names.proofs.Joins.{quiet-left, quiet-right, rule-holds}
@@ -65,6 +65,10 @@ is-register (register r) h = refl
 is-register (cell c) h = never-true h
 is-register (routine r) h = never-true h
 
+both-first : (a b : Bool) → (a && b) ≡ true → a ≡ true
+both-first true b h = refl
+both-first false b h = never-true h
+
 -- a register that is not 0
 positive : (m : Meaning) → isRegister m ≡ true → not (isZero m) ≡ true → 0 < registerOf m
 positive nothing h k = never-true h
@@ -83,9 +87,9 @@ Bare (routine r) = ⊥
 -- the names in front of the text
 in-front : (d : ℕ) → B.Within d around → d < firstToken
 unfolding B.Within
-in-front d (inl h) = all-in (λ (t : ℕ). t < firstToken) _ low d h
+in-front d (inl h) = all-in (λ (t : ℕ). t < firstToken) (innermost around) low d h
   where
-    low : All (λ (t : ℕ). t < firstToken) (1 ∷ 2 ∷ 3 ∷ 4 ∷ 5 ∷ 6 ∷ 7 ∷ 8 ∷ 9 ∷ 10 ∷ 11 ∷ 12 ∷ 13 ∷ 14 ∷ 15 ∷ 16 ∷ [])
+    low : All (λ (t : ℕ). t < firstToken) (innermost around)
     low = omega arith
 in-front d (inr h) = absurd h
 
@@ -121,11 +125,11 @@ module _ (kinds values found goes : List ℕ) (z : Meant) (l : Layout) where
   -- the base in force is one of them
   base-in : (p : Place) → baseIn found z p ∈ basesIn p
   base-in [] = inl refl
-  base-in (P.within b ∷ p) = go (b .bases)
+  base-in (P.within b ∷ p) = go (b .bases) (base-in p)
     where
-      go : (ns : List ℕ) → newest found z ns (baseIn found z p) ∈ (map baseOf ns ++ basesIn p)
-      go [] = base-in p
-      go (n ∷ ns) = inl refl
+      go : (ns : List ℕ) → baseIn found z p ∈ basesIn p → newest found z ns (baseIn found z p) ∈ (map baseOf ns ++ basesIn p)
+      go [] h = h
+      go (n ∷ ns) h = inl refl
   base-in (P.body n r ∷ p) = base-in p
 
   -- what the text around a place writes is counted there
@@ -159,7 +163,7 @@ module _ (kinds values found goes : List ℕ) (z : Meant) (l : Layout) where
 
   -- ── what holds of each event at its place ──
 
-  abbrev Leads : Event → Place → Type 0
+  abbrev pub Leads : Event → Place → Type 0
   Leads (edge x) p = Unit {0}
   Leads (route (labelled t)) p = Unit {0}
   Leads (route (sent t n)) p = B.Within (getD goes n 0) (labelsIn p)
@@ -324,11 +328,11 @@ module _ (kinds values found goes : List ℕ) (z : Meant) (l : Layout) where
                 counted v o y (inr w) b h = counted-in p y (w .0) (b .1 y (w .0) (w .1)) v o
 
                 above : (n r : ℕ) → meaningAt f n ≡ routine r → 0 < getD found n 0
-                above n r e = go (getD found n 0) refl
+                above n r e = upon (getD found n 0) refl
                   where
-                    go : (u : ℕ) → getD found n 0 ≡ u → 0 < getD found n 0
-                    go zero i = absurd (not-zero n (routine r) i e)
-                    go (suc u) i = omega arith
+                    upon : (u : ℕ) → getD found n 0 ≡ u → 0 < getD found n 0
+                    upon zero i = absurd (not-zero n (routine r) i e)
+                    upon (suc u) i = omega arith
 
       -- ── what is in force, inward ──
 
@@ -508,12 +512,12 @@ module _ (kinds values found goes : List ℕ) (z : Meant) (l : Layout) where
 
       -- the target of FOR is a register that may be written
       control-free : (a : Assignment) (p : Place) → Fact (phrase (driven (a .target))) p → (meaningAt f (a .target .name) ≡ register (controlOf f a)) × Free (pointIn p) (controlOf f a)
-      unfolding R.controlRules R.registerRule
+      unfolding R.controlRules R.onlyRegister
       control-free a p k =
           let d = a .target in
-          let e = is-register (meaningAt f (d .name)) (rule-holds (isRegister (meaningAt f (d .name))) 8 (d .name) (omega arith) (quiet-left (R.registerRule f (d .name)) _ (k .unbroken))) in
-          let q = quiet-right (rule (R.bareName d) 8 (d .name)) _ (quiet-right (R.registerRule f (d .name)) _ (k .unbroken)) in
-          (e, free-target p d (controlOf f a) e (register-at (d .name)) q (k .told))
+          let b = rule-holds (isRegister (meaningAt f (d .name)) && R.bareName d) 8 (d .name) (omega arith) (quiet-left (R.onlyRegister f (place d)) _ (k .unbroken)) in
+          let e = is-register (meaningAt f (d .name)) (both-first (isRegister (meaningAt f (d .name))) (R.bareName d) b) in
+          (e, free-target p d (controlOf f a) e (register-at (d .name)) (quiet-right (R.onlyRegister f (place d)) _ (k .unbroken)) (k .told))
 
       mutual
         unfolding eventsStatement coreStatement Safe Along
@@ -541,10 +545,15 @@ module _ (kinds values found goes : List ℕ) (z : Meant) (l : Layout) where
             let r = chain-of a _ p hs in
             let (m, ms) = r .2 in
             let s = safe-statement x _ p ls gs i c ms in
-            let y = control-free a p h in
-            ((register-plain p gs i (controlOf f a) a (y .0) (register-at (a .target .name)) (y .1) (r .0) (r .1),
-            plain-compared f small l (pointIn p) stands (controlOf f a) o (seen-operand p gs i o (m .bound)) (m .unbroken),
-            plain-step l (pointIn p) (controlOf f a) (valueAt f v) (y .1), s .0), s .1 .1)
+            let y = control-free a p h in (
+              (
+                register-plain p gs i (controlOf f a) a (y .0) (register-at (a .target .name)) (y .1) (r .0) (r .1),
+                plain-compared f small l (pointIn p) stands (controlOf f a) o (seen-operand p gs i o (m .bound)) (m .unbroken),
+                plain-step l (pointIn p) (controlOf f a) (valueAt f v) (y .1),
+                s .0,
+              ),
+              s .1 .1,
+            )
 
         safe-body : (x : Body) (k : List Event) (b : Block) (p : Place) (ls : List ℕ) (gs : List Routine) → InForce (P.within b ∷ p) gs → Covers (labelsIn p) ls
             → ((d : ℕ) → d ∈ b .labels → d ∈ E.labelsOf x []) → Along Fact (eventsBody x k) (P.within b ∷ p) → SafeAt (P.within b ∷ p) ls gs (coreBody f x) × Next k p
@@ -571,7 +580,9 @@ module _ (kinds values found goes : List ℕ) (z : Meant) (l : Layout) where
         safe-items : (is : Items) (k : List Event) (b : Block) (p : Place) (ls : List ℕ) (gs : List Routine) → InForce (P.within b ∷ p) gs → Covers (labelsIn (P.within b ∷ p)) ls
             → Along Fact (eventsItems is k) (P.within b ∷ p) → SafeAt (P.within b ∷ p) ls gs (coreItems f is) × Next k p
         safe-items T.ended k b p ls gs i c h = (tt, record { block = b; rest = h })
-        safe-items (T.label t is) k b p ls gs i c (h, hs) = safe-items is k _ p ls gs i c hs
+        safe-items (T.label t is) k b p ls gs i c (h, hs) =
+            let next : Block = record { at = b .at; names = b .names; bases = b .bases; labels = b .labels; set = t ∷ b .set } in
+            safe-items is k next p ls gs (record { names = i .names; around = i .around }) c hs
         safe-items (T.item x is) k b p ls gs i c h =
             let r = safe-statement x (eventsItems is k) (P.within b ∷ p) ls gs i c h in
             let s = safe-items is k b p ls gs i c (r .1) in

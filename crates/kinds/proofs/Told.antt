@@ -447,9 +447,10 @@ module _ (kinds values found : List ℕ) where
         let k = uses-before (phrase (called n)) p i y .0 in
         let q = early n in
         let has-both = call-has _ (ownIn p) d r s (meaning-then (called n) p i y s z l e n k ∙ m) l h in
-        let kept : Same s z d = f d pos (omega arith) around ∙ phrase-same (called n) p s d (not-own d p pos around) in
-        (e .grows (ownIn p) r h (has-both .0),
-        λ v b w. e .grows (ownIn p) v b (has-both .1 v b (subst (λ (o : Registers). has o v ≡ true) kept w)))
+        let kept : Same s z d = f d pos (omega arith) around ∙ phrase-same (called n) p s d (not-own d p pos around) in (
+          e .grows (ownIn p) r h (has-both .0),
+          λ v b w. e .grows (ownIn p) v b (has-both .1 v b (subst (λ (o : Registers). has o v ≡ true) kept w)),
+        )
 
     -- ── declarations and bodies ──
 
@@ -469,9 +470,12 @@ module _ (kinds values found : List ℕ) where
         let h = y .is in
         let k = e .stays .of-opens n (omega arith) ∙ opened-is s n (omega arith) in
         let b = e .bases in
-        let t = meaning-stays (y .to) (step (entry (based n)) p s) z n (e .stays) (omega arith) in
-        (omega arith, omega arith, λ g. e .grows (ownIn p) _ g (subst (λ (x : ℕ). WrittenBy (step (entry (based n)) p s) (ownIn p) x) (ap registerOf t)
-        (based-has (ownIn p) (registerOf (meaningIn found s n)) n s l (subst (λ (x : ℕ). x < 16) (sym (ap registerOf t)) g))))
+        let t = meaning-stays (y .to) (step (entry (based n)) p s) z n (e .stays) (omega arith) in (
+          omega arith,
+          omega arith,
+          λ g. e .grows (ownIn p) _ g (subst (λ (x : ℕ). WrittenBy (step (entry (based n)) p s) (ownIn p) x) (ap registerOf t)
+              (based-has (ownIn p) (registerOf (meaningIn found s n)) n s l (subst (λ (x : ℕ). x < 16) (sym (ap registerOf t)) g))),
+        )
       where
         opened-is : (s : Meant) (n : ℕ) → n < length (s .opens) → getD (set (s .opens) n (2 + s .bases)) n 0 ≡ 2 + s .bases
         opened-is s n h = getD-set-same (s .opens) n (2 + s .bases) 0 h
@@ -485,7 +489,7 @@ module _ (kinds values found : List ℕ) where
         let b = uses-before (edge (entered n r)) p i y .0 in
         let q = early r in
         let is : getD (z .means) n nothing ≡ routine (registerOf (meaningIn found s r))
-          = e .stays .of-means n (omega arith) ∙ getD-set-same (s .means) n _ nothing (omega arith) in
+        = e .stays .of-means n (omega arith) ∙ getD-set-same (s .means) n _ nothing (omega arith) in
         is ∙ ap (λ (k : Meaning). routine (registerOf k)) (go (ℕ-discrete (getD found r 0) n) is b q isreg)
       where
         go : Dec (getD found r 0 ≡ n) → getD (z .means) n nothing ≡ routine (registerOf (meaningIn found s r)) → r < y .to → getD found r 0 ≤ r → R.isRegister (meaningIn found z r) ≡ true
