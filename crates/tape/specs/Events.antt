@@ -4,6 +4,10 @@ use Prim.Native.Nat.{ℕ}
 abbrev pub EVENTS : ℕ
 EVENTS = 64
 
+-- the number of a token is below this, since an event on the tape has 32 bits
+abbrev pub TOKEN-LIMIT : ℕ
+TOKEN-LIMIT = 67108864
+
 abbrev pub BLOCK : ℕ
 BLOCK = 0
 
