@@ -7,3 +7,5 @@ pub mod Loading
 pub mod Mapping
 pub mod Opcodes
 pub mod Plain
+pub mod Rules
+pub mod Accepted

@@ -21,7 +21,7 @@ use Rattle.kinds.specs.Meaning.{Meaning, nothing, register, cell, routine, Cell
 use Rattle.kinds.specs.Tables.{Tables, kindAt, valueAt, meaningAt}
 use Rattle.kinds.specs.Rules as R
 use Rattle.kinds.specs.Rules.{shifts, fullOnly, inside, isShort}
-use Rattle.kinds.proofs.Elements.{inside-is}
+use Rattle.kinds.proofs.Elements.{in-range, inside-is}
 use Rattle.kinds.proofs.Small.{Small, register-small, meaning-small}
 use Rattle.machine.specs.declared.Fun.{Fun}
 use Rattle.machine.specs.declared.Fun.the-variants.{Positive, Complement, Negative, MultiplyHalf}
@@ -234,7 +234,7 @@ module _
     plain-shift : (op r : ℕ) (a : Operand) → (64 ≤ op) × ((s : Shift) × (longKind op ≡ M.shifts s)) → R.shiftRules f a .number ≡ 0 → Free p r → All (Plain l p) (shiftBy f op r a)
     unfolding shiftBy R.shiftRules
     plain-shift op r (number t) h q y =
-        let e = leb-true (valueAt f t) 63 (rule-holds (leb (valueAt f t) 63) 11 t (omega arith) q) in
+        let e = in-range 0 63 (valueAt f t) (rule-holds (R.inRange 0 63 (valueAt f t)) 11 t (omega arith) q) .1 in
         (plain-by l p (shift op r 0 (valueAt f t)) (h .0, h .1, omega arith) (λ x i. only x i), tt)
       where
         only : (x : ℕ) → (x ≡ r) ⊎ ⊥ → Free p x
