@@ -15,6 +15,7 @@ use Rattle.token.specs.declared.Token.{Token}
 use Rattle.token.specs.Text.{tokensOf}
 use Rattle.grammar.specs.Tree.{Statement, full}
 use Rattle.grammar.specs.Grammar as G
+use Rattle.grammar.proofs.Theorems.{read-is-program}
 use Rattle.names.specs.Search.{inFront, firstToken}
 use Rattle.machine.specs.Space.{room, origin, needed}
 use Rattle.machine.specs.Step.{Cpu, cpu, atEnd, noInstruction, forbidden, misaligned}
@@ -27,18 +28,17 @@ use Rattle.translator.specs.Instructions.{Instruction, stop, sizes}
 use Rattle.translator.specs.Core.{Core, coreStatement}
 use Rattle.translator.specs.Code.{sizeOf, instructions}
 use Rattle.translator.specs.Layout.{layout}
-use Rattle.translator.specs.Translate.{Made, make, kindsOf}
+use Rattle.translator.specs.Translate.{make, kindsOf}
 use Rattle.translator.proofs.Sizes.{sizes-instructions}
 use Rattle.translator.proofs.Rooms.{round-up}
-use Rattle.translator.proofs.Tables.{Derived, accepted-derived}
 use Rattle.translator.proofs.Answers.{Accepted}
 use Rattle.translator.proofs.Objects.{few, fitting, accepted-object, accepted-read}
 use Rattle.join.specs.Writes.{writes}
-use Rattle.join.specs.Points.{Within, Placed, start}
+use Rattle.join.specs.Points.{Within, Placed}
 use Rattle.join.specs.Operands.{Named, Indexed}
 use Rattle.join.specs.Programs.{tokensIn, treeFrom, treeOf, madeOf, instructionsOf, layoutOf, segmentsOf, placedOf, stateOf, At, Fixed, Stops, CalledFrom}
 use Rattle.join.proofs.Placement.{program-code}
-use Rattle.join.proofs.Safe.{Safe}
+use Rattle.join.proofs.Accepted.{accepted-safe}
 use Rattle.join.proofs.Step.{InStorage, Inv, Allowed}
 use Rattle.join.proofs.Runs.{Ends}
 use Rattle.join.proofs.Start.{placed-in}
@@ -53,22 +53,21 @@ module _ (source object : List ℕ) (a : Accepted source object) where
   tree-is : a .tree ≡ treeOf source
   tree-is = sym (ap treeFrom (a .read)) ∙ ap (λ (ts : List Token). treeFrom (G.program (kindsOf ts) firstToken)) (a .text)
 
-  pub program-of : Safe (make (a .tokens) (a .tree) .tables .written) (make (a .tokens) (a .tree) .bases) (make (a .tokens) (a .tree) .layout) [] [] start
-      (coreStatement (make (a .tokens) (a .tree) .tables) (a .tree)) → Program (tokensIn source) (treeOf source) object
+  pub accepted-program : Program (tokensIn source) (treeOf source) object
   unfolding make layout
-  program-of safe =
-      let d = accepted-derived source object a in
+  accepted-program =
+      let d = read-is-program (kindsOf (a .tokens)) firstToken (a .tree) (a .next) (a .read) in
       subst (λ (ts : List Token). Program ts (treeOf source) object) (a .text)
       (subst (λ (x : Statement). Program (a .tokens) x object) tree-is
       (record {
-        fitting = fitting (a .tokens) (a .tree) (d .to) front (d .derived) (a .quiet) (a .room);
-        few = few (a .tokens) (a .tree) (d .to) front (d .derived) (a .quiet);
+        fitting = fitting (a .tokens) (a .tree) (a .next) front d (a .quiet) (a .room);
+        few = few (a .tokens) (a .tree) (a .next) front d (a .quiet);
         aligned = round-up full _ .1;
         known = refl;
         short = a .short;
         is-object = accepted-object source object a;
         read = accepted-read source object a;
-        safe = safe;
+        safe = accepted-safe source object a;
       }))
 
 -- ── the answer ──

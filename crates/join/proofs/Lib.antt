@@ -5,6 +5,10 @@ pub mod Flow
 pub mod Chain
 pub mod Loading
 pub mod Mapping
+pub mod Opcodes
+pub mod Plain
+pub mod Rules
+pub mod Accepted
 pub mod ChainMoves
 pub mod Decode
 pub mod Step

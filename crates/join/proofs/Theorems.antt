@@ -3,7 +3,7 @@
 -- translation (`instructionsOf`, `layoutOf`, `placedOf`), and is proved by citation.
 use mathlib.Core.Path.{_≡_}
 use mathlib.Core.Logic.{_⊎_}
-use mathlib.Core.List.{List, []}
+use mathlib.Core.List.{List}
 use mathlib.Core.Option.{some}
 use Prim.Native.Nat.{ℕ, _+_, _≤_, _<_}
 use lib.ListN.{length, getD}
@@ -14,25 +14,19 @@ use Rattle.machine.specs.Run.{budgetUsed}
 use Rattle.runner.specs.Load.{loaded}
 use Rattle.runner.specs.Runner.{runner}
 use Rattle.translator.specs.Instructions.{Instruction, stop}
-use Rattle.translator.specs.Core.{coreStatement}
-use Rattle.translator.specs.Translate.{accepted, make, translated, translate}
-use Rattle.translator.proofs.Answers.{Accepted, fits-room, acceptance}
+use Rattle.translator.specs.Translate.{accepted, translated, translate}
+use Rattle.translator.proofs.Answers.{fits-room, acceptance}
 use Rattle.join.specs.Writes.{writes}
-use Rattle.join.specs.Points.{Within, Placed, start}
+use Rattle.join.specs.Points.{Within, Placed}
 use Rattle.join.specs.Operands.{Named, Indexed}
 use Rattle.join.specs.Programs.{tokensIn, treeOf, instructionsOf, layoutOf, segmentsOf, placedOf, stateOf, At, Fixed, Stops, CalledFrom}
-use Rattle.join.proofs.Safe.{Safe}
 use Rattle.join.proofs.Reached.{Program}
 use Rattle.join.proofs.Answered as By
 
-module _
-  (safe : (source object : List ℕ) (a : Accepted source object) → Safe (make (a .tokens) (a .tree) .tables .written) (make (a .tokens) (a .tree) .bases)
-      (make (a .tokens) (a .tree) .layout) [] [] start (coreStatement (make (a .tokens) (a .tree) .tables) (a .tree)))
-  (source object : List ℕ) (room : ℕ) (accepts : translate source room ≡ accepted object)
-  where
+module _ (source object : List ℕ) (room : ℕ) (accepts : translate source room ≡ accepted object) where
   program : Program (tokensIn source) (treeOf source) object
   unfolding translate
-  program = let a = acceptance source object (fits-room (translated source) room object accepts .0) in By.program-of source object a (safe source object a)
+  program = By.accepted-program source object (acceptance source object (fits-room (translated source) room object accepts .0))
 
   module _ (regs : List ℕ) (sixteen : length regs ≡ 16) (code : ℕ) (valid : code ≤ 3) (budget : ℕ) (s : List ℕ) (enough : needed ≤ length s) where
     -- the runner takes the object text, and runs it

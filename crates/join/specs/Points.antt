@@ -5,7 +5,7 @@ use mathlib.Core.Logic.{_⊎_}
 use mathlib.Core.List.{List, [], _∷_, _++_}
 use mathlib.Core.Bool.{Bool, true}
 use mathlib.Core.Option.{Option, none, some}
-use Prim.Native.Nat.{ℕ, _+_}
+use Prim.Native.Nat.{ℕ, _+_, _<_}
 use lib.ListN.{getD}
 use Rattle.kinds.specs.Registers.{Registers, noRegisters, has}
 use Rattle.kinds.specs.Meaning.{Based}
@@ -26,7 +26,7 @@ pub record Within : Type 0 where
 
 -- "A call writes the procedure's return register and all that its body's text writes"
 abbrev pub Writes : Within → ℕ → Type 0
-Writes v x = (x ≡ v .return) ⊎ (has (v .written) x ≡ true)
+Writes v x = (x ≡ v .return) ⊎ ((x < 16) × (has (v .written) x ≡ true))
 
 -- the data bases in force, the protected registers, both innermost first, and the innermost procedure
 pub record Point : Type 0 where
