@@ -1,0 +1,2 @@
+-- Laws behind the call that translates, loads and runs.
+pub mod Going
