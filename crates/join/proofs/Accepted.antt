@@ -158,7 +158,10 @@ module _ (source object : List ℕ) (a : Accepted source object) where
   abbrev FactOf : Event → Place → Type 0
   FactOf e p = Fact (kindsOf ts) (valuesOf ts) (n .found) (lb .goes) m y e p
 
-  leads : (e : Event) (p : Place) → Led (valuesOf ts) (lb .goes) e p → LabelFound (valuesOf ts) e p → Leads (kindsOf ts) (valuesOf ts) (n .found) (lb .goes) m y e p
+  abbrev LeadsTo : Event → Place → Type 0
+  LeadsTo e p = Leads (kindsOf ts) (valuesOf ts) (n .found) (lb .goes) m y e p
+
+  leads : (e : Event) (p : Place) → Led (valuesOf ts) (lb .goes) e p → LabelFound (valuesOf ts) e p → LeadsTo e p
   leads (edge z) p h k = tt
   leads (route (labelled t)) p h k = tt
   leads (route (sent t u)) p h k = go (by-search (valuesOf ts) (getD (lb .goes) u 0) (getD (valuesOf ts) u 0) (labelsIn p) h)
@@ -170,15 +173,28 @@ module _ (source object : List ℕ) (a : Accepted source object) where
   leads (phrase z) p h k = tt
   leads (mark z) p h k = tt
 
+  -- by its rules and the tables
+  abbrev Judged : Event → Place → Type 0
+  Judged e p = Unbroken f e p × Told (kindsOf ts) (valuesOf ts) (n .found) m e p
+
+  judged : Along Judged (eventsOf x) []
+  judged =
+      along-by (Unbroken f) (Told (kindsOf ts) (valuesOf ts) (n .found) m) Judged (λ e p h k. (h, k)) (eventsOf x) []
+      (O.quiet-along ts x (a .next) front read (a .quiet)) told
+
+  -- by the search for its names and its label
+  abbrev Sought : Event → Place → Type 0
+  Sought e p = Found (valuesOf ts) (n .found) e p × LeadsTo e p
+
+  sought : Along Sought (eventsOf x) []
+  sought =
+      along-by (Found (valuesOf ts) (n .found)) LeadsTo Sought (λ e p h k. (h, k)) (eventsOf x) [] (accepted-names source object a)
+      (along-by (Led (valuesOf ts) (lb .goes)) (LabelFound (valuesOf ts)) LeadsTo leads (eventsOf x) [] (accepted-labels source object a) label-found)
+
   facts : Along FactOf (eventsOf x) []
   facts =
-      along-by _ _ FactOf (λ e p h k. record { unbroken = h .0; told = h .1; bound = bound-names (valuesOf ts) (n .found) e p (k .0); leads = leads e p (k .1 .0) (k .1 .1) }) (eventsOf x) []
-      (along-by (Unbroken f) (Told (kindsOf ts) (valuesOf ts) (n .found) m) (λ e p. Unbroken f e p × Told (kindsOf ts) (valuesOf ts) (n .found) m e p) (λ e p h k. (h, k)) (eventsOf x) []
-      (O.quiet-along ts x (a .next) front read (a .quiet)) told)
-      (along-by (Found (valuesOf ts) (n .found)) (λ e p. Led (valuesOf ts) (lb .goes) e p × LabelFound (valuesOf ts) e p) (λ e p. Found (valuesOf ts) (n .found) e p × (Led (valuesOf ts) (lb .goes) e p × LabelFound (valuesOf ts) e p)) (λ e p h k. (h, k)) (eventsOf x) []
-      (accepted-names source object a)
-      (along-by (Led (valuesOf ts) (lb .goes)) (LabelFound (valuesOf ts)) (λ e p. Led (valuesOf ts) (lb .goes) e p × LabelFound (valuesOf ts) e p) (λ e p h k. (h, k)) (eventsOf x) []
-      (accepted-labels source object a) label-found))
+      along-by Judged Sought FactOf
+      (λ e p h k. record { unbroken = h .0; told = h .1; bound = bound-names (valuesOf ts) (n .found) e p (k .0); leads = k .1 }) (eventsOf x) [] judged sought
 
   pub accepted-safe : Safe (make (a .tokens) (a .tree) .tables .written) (make (a .tokens) (a .tree) .bases) (make (a .tokens) (a .tree) .layout) [] [] start
       (coreStatement (make (a .tokens) (a .tree) .tables) (a .tree))

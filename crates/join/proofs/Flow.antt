@@ -26,10 +26,10 @@ use Rattle.join.proofs.Flows.{Good, Enters, Calls, Goes, Flows}
 abbrev namesOf : List Mark → List ℕ
 namesOf ms = map (λ (m : Mark). m .name) ms
 
-some-is : {A : Type 0} (a b : A) → some a ≡ some b → a ≡ b
+pub some-is : {A : Type 0} (a b : A) → some a ≡ some b → a ≡ b
 some-is a b e = cc
 
-none-some : {A : Type 0} (a : A) → none ≡ some a → ⊥
+pub none-some : {A : Type 0} (a : A) → none ≡ some a → ⊥
 none-some a e = let z : _≡_ {A = ℕ} 0 1 = cc in omega arith
 
 -- ── the labels of a block: their names do not depend on where it starts ──

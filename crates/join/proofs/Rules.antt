@@ -47,13 +47,8 @@ use Rattle.translator.specs.Layout.{Layout, offsetOf}
 use Rattle.translator.proofs.Rooms.{CellAt}
 use Rattle.join.specs.Points.{Within, Writes, Point, start, withBase, inBody, procedureOf}
 use Rattle.join.proofs.Safe.{Plain, Routine, first, Callable, Basing, labelsOf, Safe}
+use Rattle.join.proofs.Flow.{some-is, none-some}
 use Rattle.join.proofs.Plain.{Free, Seen, SeenOperand, Below, used, spared-by, plain-load, plain-term, plain-compared, plain-stored, plain-step}
-
-some-is : {A : Type 0} (a b : A) → some a ≡ some b → a ≡ b
-some-is a b e = cc
-
-none-some : {A : Type 0} (a : A) → none ≡ some a → ⊥
-none-some a e = let z : _≡_ {A = ℕ} 0 1 = cc in omega arith
 
 -- the number of a rule is not 0
 refused : {A : Type 0} (n : ℕ) → suc n ≡ 0 → A
@@ -260,8 +255,8 @@ module _ (kinds values found goes : List ℕ) (z : Meant) (l : Layout) where
             (used f small l (pointIn p) stands (a .first) (seen-operand p gs x (a .first) (g .bound)) (subst (λ (m : Meaning). R.firstBy f m (a .first) .number ≡ 0) e (g .unbroken))) y)
             (chain-plain (a .target) r (a .rest) e h y ts)
 
-        assign-plain : (a : Assignment) → Fact (phrase (aimed (a .target))) p → Fact (phrase (given (a .target) (a .first))) p → All (λ (t : Term). Fact (phrase (joined (a .target) t)) p) (a .rest)
-            → PlainHere (assignmentOf f a)
+        assign-plain : (a : Assignment) → Fact (phrase (aimed (a .target))) p → Fact (phrase (given (a .target) (a .first))) p
+            → All (λ (t : Term). Fact (phrase (joined (a .target) t)) p) (a .rest) → PlainHere (assignmentOf f a)
         unfolding assignmentOf R.targetRules
         assign-plain a k g ts = go (meaningAt f (a .target .name)) refl
           where
@@ -271,7 +266,8 @@ module _ (kinds values found goes : List ℕ) (z : Meant) (l : Layout) where
                 let h : r < 16 = subst Small e (small-at (a .target .name)) in
                 register-plain r a e h (free-target p (a .target) r e h (quiet-right (R.placeRules f (a .target)) _ (k .unbroken)) (k .told)) g ts
             go (cell c) e =
-                plain-stored f small l (pointIn p) stands (sourceOf f (a .first)) (a .target) c e (seen p gs x (a .target .name) (k .bound .0)) (quiet-left (R.placeRules f (a .target)) _ (k .unbroken))
+                plain-stored f small l (pointIn p) stands (sourceOf f (a .first)) (a .target) c e (seen p gs x (a .target .name) (k .bound .0))
+                (quiet-left (R.placeRules f (a .target)) _ (k .unbroken))
             go (routine r) e = tt
 
         test-plain : (t : ℕ) (c : Condition) → Fact (phrase (tested t c)) p → PlainHere (testOf f c)
@@ -307,7 +303,8 @@ module _ (kinds values found goes : List ℕ) (z : Meant) (l : Layout) where
                 let m = subst (Means (basesIn p) gs d) e (x .names d i) in
                 let h : r < 16 = subst Small e (small-at n) in
                 let free = spared-by f small l (pointIn p) stands r n (quiet-left (R.writeRule (keptIn f p) r n) _ q) in
-                let text = spares-is (getD (z .written) d noRegisters) (keptIn f p) (rule-holds (spares (getD (z .written) d noRegisters) (keptIn f p)) 10 n (omega arith) (quiet-right (R.writeRule (keptIn f p) r n) _ q)) in
+                let set = getD (z .written) d noRegisters in
+                let text = spares-is set (keptIn f p) (rule-holds (spares set (keptIn f p)) 10 n (omega arith) (quiet-right (R.writeRule (keptIn f p) r n) _ q)) in
                 let has-both = k .told r h e (above n r e) (not-around d r p (x .around) e free) in
                 record {
                   g = record { within = procedureOf (z .written) d r; bases = m .0 };
@@ -373,7 +370,8 @@ module _ (kinds values found goes : List ℕ) (z : Meant) (l : Layout) where
       abbrev routineOf : ℕ → ℕ → List Based → Routine
       routineOf n r bs = record { within = procedureOf (z .written) n r; bases = bs }
 
-      known-more : (n r : ℕ) (hs bs : List Based) (gs : List Routine) (d : ℕ) (m : Meaning) → meant n ≡ routine r → meant d ≡ m → Means bs gs d m → Means bs (routineOf n r hs ∷ gs) d m
+      known-more : (n r : ℕ) (hs bs : List Based) (gs : List Routine) (d : ℕ) (m : Meaning) → meant n ≡ routine r → meant d ≡ m
+          → Means bs gs d m → Means bs (routineOf n r hs ∷ gs) d m
       unfolding first
       known-more n r hs bs gs d nothing e i h = tt
       known-more n r hs bs gs d (register s) e i h = tt
@@ -451,7 +449,8 @@ module _ (kinds values found goes : List ℕ) (z : Meant) (l : Layout) where
           }
 
       -- a procedure: its return register, and what its name means
-      return-safe : (n r : ℕ) (p : Place) → Fact (edge (entered n r)) p → ((0 < registerOf (meaningAt f r)) × (registerOf (meaningAt f r) < 16)) × (meant n ≡ routine (registerOf (meaningAt f r)))
+      return-safe : (n r : ℕ) (p : Place) → Fact (edge (entered n r)) p
+          → ((0 < registerOf (meaningAt f r)) × (registerOf (meaningAt f r) < 16)) × (meant n ≡ routine (registerOf (meaningAt f r)))
       unfolding R.registerRule R.zeroRule
       return-safe n r p k =
           let a = rule-holds (isRegister (meaningAt f r)) 8 r (omega arith) (quiet-left (R.registerRule f r) _ (k .unbroken)) in
@@ -472,7 +471,8 @@ module _ (kinds values found goes : List ℕ) (z : Meant) (l : Layout) where
           go (inr e) = inr (inr e)
       own-labels (T.item x is) earlier q d h = own-labels is earlier (q + sizeOf (coreStatement f x)) d h
 
-      labels-in : (is : Items) (bs : List ℕ) (ps : List (List ℕ)) (ls : List ℕ) → ((d : ℕ) → d ∈ bs → d ∈ labelsOnto is []) → Covers ps ls → Covers (bs ∷ ps) (labelsOf (coreItems f is) ++ ls)
+      labels-in : (is : Items) (bs : List ℕ) (ps : List (List ℕ)) (ls : List ℕ) → ((d : ℕ) → d ∈ bs → d ∈ labelsOnto is []) → Covers ps ls
+          → Covers (bs ∷ ps) (labelsOf (coreItems f is) ++ ls)
       unfolding B.Within
       labels-in is bs ps ls h c d (inl w) = go (own-labels is [] 0 d (h d w))
         where
