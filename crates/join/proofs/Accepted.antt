@@ -12,9 +12,10 @@ use Rattle.token.specs.Text.{tokensOf}
 use Rattle.grammar.specs.Tree.{Statement}
 use Rattle.grammar.specs.Derives.{isProgram}
 use Rattle.grammar.specs.Events.{labelled, sent, Event, edge, route, entry, phrase, mark, eventsOf}
-use Rattle.grammar.specs.Places.{Place, after, along, Along}
+use Rattle.grammar.specs.Places.{Place, Along}
 use Rattle.grammar.specs.Texts.{Text}
 use Rattle.grammar.specs.Contexts.{nowhere}
+use Rattle.grammar.proofs.Places.{along-with}
 use Rattle.grammar.proofs.Texts.{program-text}
 use Rattle.grammar.proofs.Theorems.{read-is-program, program-inside}
 use Rattle.grammar.proofs.Contexts.{program-coherent}
@@ -26,8 +27,8 @@ use Rattle.names.specs.Labels.{Labelled, labelsIn}
 use Rattle.names.specs.Found.{Found, Led}
 use Rattle.names.proofs.Joins.{quiet-left, quiet-right}
 use Rattle.names.proofs.Bound as B
-use Rattle.names.proofs.Bound.{by-search, bound-names, Bound}
-use Rattle.names.proofs.Led.{LabelFound, labels-found}
+use Rattle.names.proofs.Bound.{by-search, Bound}
+use Rattle.names.proofs.Led.{bound-names, LabelFound, labels-found}
 use Rattle.names.proofs.Early.{Early, found-early}
 use Rattle.kinds.specs.Registers.{sixteen, noRegisters, Registers}
 use Rattle.kinds.specs.Meaning.{Meaning, nothing, register, cell, routine, Cell}
@@ -49,12 +50,6 @@ use Rattle.translator.proofs.Objects as O
 use Rattle.join.specs.Points.{start}
 use Rattle.join.proofs.Safe.{Safe}
 use Rattle.join.proofs.Rules.{Bare, Leads, Fact, safe-program}
-
--- what holds of each event by two facts of it
-along-by : (P Q R : Event → Place → Type 0) → ((e : Event) (p : Place) → P e p → Q e p → R e p) → (es : List Event) (p : Place) → Along P es p → Along Q es p → Along R es p
-unfolding Along
-along-by P Q R f [] p h k = tt
-along-by P Q R f (e ∷ es) p (h, hs) (k, ks) = (f e p h k, along-by P Q R f es (after e p) hs ks)
 
 map-in : (c : Cell) (ds : List Filled) → c ∈ map (λ (d : Filled). d .cell) ds → (d : Filled) × (d ∈ ds) × (c ≡ d .cell)
 map-in c [] h = absurd h
@@ -179,7 +174,7 @@ module _ (source object : List ℕ) (a : Accepted source object) where
 
   judged : Along Judged (eventsOf x) []
   judged =
-      along-by (Unbroken f) (Told (kindsOf ts) (valuesOf ts) (n .found) m) Judged (λ e p h k. (h, k)) (eventsOf x) []
+      along-with (Unbroken f) (Told (kindsOf ts) (valuesOf ts) (n .found) m) Judged (λ e p h k. (h, k)) (eventsOf x) []
       (O.quiet-along ts x (a .next) front read (a .quiet)) told
 
   -- by the search for its names and its label
@@ -188,12 +183,12 @@ module _ (source object : List ℕ) (a : Accepted source object) where
 
   sought : Along Sought (eventsOf x) []
   sought =
-      along-by (Found (valuesOf ts) (n .found)) LeadsTo Sought (λ e p h k. (h, k)) (eventsOf x) [] (accepted-names source object a)
-      (along-by (Led (valuesOf ts) (lb .goes)) (LabelFound (valuesOf ts)) LeadsTo leads (eventsOf x) [] (accepted-labels source object a) label-found)
+      along-with (Found (valuesOf ts) (n .found)) LeadsTo Sought (λ e p h k. (h, k)) (eventsOf x) [] (accepted-names source object a)
+      (along-with (Led (valuesOf ts) (lb .goes)) (LabelFound (valuesOf ts)) LeadsTo leads (eventsOf x) [] (accepted-labels source object a) label-found)
 
   facts : Along FactOf (eventsOf x) []
   facts =
-      along-by Judged Sought FactOf
+      along-with Judged Sought FactOf
       (λ e p h k. record { unbroken = h .0; told = h .1; bound = bound-names (valuesOf ts) (n .found) e p (k .0); leads = k .1 }) (eventsOf x) [] judged sought
 
   pub accepted-safe : Safe (make (a .tokens) (a .tree) .tables .written) (make (a .tokens) (a .tree) .bases) (make (a .tokens) (a .tree) .layout) [] [] start

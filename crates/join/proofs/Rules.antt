@@ -26,6 +26,7 @@ use Rattle.names.specs.Search.{firstToken, around, innermost}
 use Rattle.names.specs.Names.{namesIn}
 use Rattle.names.specs.Labels.{labelsIn}
 use Rattle.names.proofs.Joins.{quiet-left, quiet-right, rule-holds}
+use Rattle.names.proofs.Led.{none-at-edge}
 use Rattle.names.proofs.Bound as B
 use Rattle.names.proofs.Bound.{Bound}
 use Rattle.kinds.specs.Registers.{Registers, noRegisters, has, spares}
@@ -38,6 +39,7 @@ use Rattle.kinds.specs.Kinds.{keptIn}
 use Rattle.kinds.proofs.Flags.{spares-is}
 use Rattle.kinds.proofs.Small.{Small, register-small, meaning-small}
 use Rattle.kinds.proofs.Unbroken.{Unbroken}
+use Rattle.kinds.proofs.Kept.{kept-return, kept-in-block, kept-in-body}
 use Rattle.kinds.proofs.Told.{WrittenBy, NotAround, Told}
 use Rattle.translator.specs.Instructions.{Instruction}
 use Rattle.translator.specs.Core as C
@@ -281,8 +283,9 @@ module _ (kinds values found goes : List ℕ) (z : Meant) (l : Layout) where
         -- a procedure that may be called is not around
         not-around : (d r : ℕ) (q : Place) → Around q → meant d ≡ routine r → (r ∈ keptIn f q → ⊥) → NotAround d q
         not-around d r [] a e h = tt
-        not-around d r (P.within b ∷ q) a e h = not-around d r q a e (λ i. h (in-right r (map (λ (n : ℕ). registerOf (meaningAt f n)) (b .bases)) (keptIn f q) i))
-        not-around d r (P.body n s ∷ q) (k, a) e h = (λ i. h (inl (same d n r s i k e)), not-around d r q a e (λ i. h (inr i)))
+        not-around d r (P.within b ∷ q) a e h = not-around d r q a e (λ i. h (kept-in-block f b q r i))
+        not-around d r (P.body n s ∷ q) (k, a) e h =
+            (λ i. h (subst (λ (u : ℕ). u ∈ keptIn f (P.body n s ∷ q)) (sym (same d n r s i k e)) (kept-return f n s q)), not-around d r q a e (λ i. h (kept-in-body f n s q r i)))
           where
             same : (d n r s : ℕ) → d ≡ n → meant n ≡ routine (registerOf (meaningAt f s)) → meant d ≡ routine r → r ≡ registerOf (meaningAt f s)
             same d n r s i k e = ap returnOf (sym e ∙ (ap meant i ∙ k))
@@ -505,7 +508,7 @@ module _ (kinds values found goes : List ℕ) (z : Meant) (l : Layout) where
       unfolding eventsDeclaration Along
       base-are n k p h = h
 
-      -- no label is known in a body
+      -- no label is known outside all blocks
       no-label : (d : ℕ) → B.Within d [] → d ∈ []
       unfolding B.Within
       no-label d w = w
@@ -572,7 +575,7 @@ module _ (kinds values found goes : List ℕ) (z : Meant) (l : Layout) where
             let known = routineOf n (registerOf (meaningAt f r)) (basesIn (P.within b ∷ p)) ∷ gs in
             let inner = withNames b (n ∷ b .names) in
             let j = with-routine n (registerOf (meaningAt f r)) b p gs (q .1) i in
-            let s = safe-statement x _ (P.body n r ∷ P.within inner ∷ p) [] known (record { names = j .names; around = (q .1, j .around) }) (λ d w. no-label d w) hs in
+            let s = safe-statement x _ (P.body n r ∷ P.within inner ∷ p) [] known (record { names = j .names; around = (q .1, j .around) }) (λ d w. absurd (none-at-edge n r (P.within inner ∷ p) d w)) hs in
             let u = safe-body y k inner p ls known j c o (s .1 .1) in
             ((q .0, s .0, u .0), u .1)
         safe-body (T.items is) k b p ls gs i c o h = safe-items is k b p (labelsOf (coreItems f is) ++ ls) gs i (labels-in is (b .labels) (labelsIn p) ls o c) h
