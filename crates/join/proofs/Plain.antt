@@ -315,8 +315,8 @@ module _
 
         go : (i : Bool) → member kind shifts ≡ i → (j : Bool) → eqb kind K.TIMES ≡ j → (z : Bool) → member kind fullOnly ≡ z
             → (if i then R.shiftRules f a else
-              if j then R.productRules f (p .kept) r t ⊕ R.operandRules f a else
-              if z then R.operandRules f a ⊕ R.noShort f a else R.operandRules f a) .number ≡ 0
+            if j then R.productRules f (p .kept) r t ⊕ R.operandRules f a else
+            if z then R.operandRules f a ⊕ R.noShort f a else R.operandRules f a) .number ≡ 0
             → All (Plain l p) (if i then shiftBy f (shiftCode kind) r a else if j then apply timesRow (productTarget f r a) (useOf f a) else apply (rowOf kind) r (useOf f a))
         go true e j g z o q = plain-shift (shiftCode kind) r a (shift-kind kind (member-in kind shifts e)) q y
         go false e true g z o q =
