@@ -1,7 +1,7 @@
 -- Every accepted program is safe (`accepted-safe`): no rule is broken at any of its events, and its tables have what each of them tells.
-use mathlib.Core.Path.{_≡_, refl, sym, ap, subst, _∙_}
-use mathlib.Core.Logic.{_⊎_, inl, inr}
-use mathlib.Core.List.{List, [], _∷_, _++_, map}
+use mathlib.Core.Path.{_≡_, refl, sym, subst, _∙_}
+use mathlib.Core.Logic.{inl, inr}
+use mathlib.Core.List.{List, [], _∷_, map}
 use Prim.Native.Nat.{ℕ, zero, suc, _+_, _-_, _<_, _≤_}
 use native.Mathlib.Omega.{arith}
 use lib.ListN.{length, getD, replicate, length-replicate, length-append}
@@ -20,9 +20,9 @@ use Rattle.grammar.proofs.Texts.{program-text}
 use Rattle.grammar.proofs.Theorems.{read-is-program, program-inside}
 use Rattle.grammar.proofs.Contexts.{program-coherent}
 use Rattle.names.specs.declared.Broken.{Broken}
-use Rattle.names.specs.Broken.{unbroken, _⊕_}
+use Rattle.names.specs.Broken.{unbroken}
 use Rattle.names.specs.Search.{inFront, firstToken, find}
-use Rattle.names.specs.Names.{Named, namesIn}
+use Rattle.names.specs.Names.{Named}
 use Rattle.names.specs.Labels.{Labelled, labelsIn}
 use Rattle.names.specs.Found.{Found, Led}
 use Rattle.names.proofs.Joins.{quiet-left, quiet-right}
@@ -31,7 +31,7 @@ use Rattle.names.proofs.Bound.{by-search, Bound}
 use Rattle.names.proofs.Led.{bound-names, LabelFound, labels-found}
 use Rattle.names.proofs.Early.{Early, found-early}
 use Rattle.kinds.specs.Registers.{sixteen, noRegisters, Registers}
-use Rattle.kinds.specs.Meaning.{Meaning, nothing, register, cell, routine, Cell}
+use Rattle.kinds.specs.Meaning.{Meaning, nothing, register, cell, Cell}
 use Rattle.kinds.specs.Meanings.{Filled, Meant, standard}
 use Rattle.kinds.specs.Tables.{Tables, meaningAt}
 use Rattle.kinds.proofs.Small.{Small, meant-small, standard-small}

@@ -4,24 +4,23 @@ use mathlib.Core.Logic.{_⊎_, inl, inr}
 use mathlib.Core.List.{List, [], _∷_, _++_, map}
 use mathlib.Core.Bool.{Bool, true, false, not, _&&_}
 use mathlib.Core.Option.{Option, none, some}
-use Prim.Native.Nat.{ℕ, zero, suc, _+_, _-_, _<_, _≤_}
+use Prim.Native.Nat.{ℕ, zero, suc, _+_, _-_, _<_}
 use native.Mathlib.Omega.{arith}
-use lib.Dec.{eqb, leb}
+use lib.Dec.{eqb}
 use lib.ListN.{getD}
 use borrow.Author.Tests.{eqb-true, eq-eqb}
-use Rattle.base.specs.Choose.{choose, if_then_else_}
-use Rattle.base.specs.Lists.{_∈_, All, member}
+use Rattle.base.specs.Choose.{if_then_else_}
+use Rattle.base.specs.Lists.{_∈_, All}
 use Rattle.base.proofs.Lists.{in-left, in-right, all-in, all-both}
 use Rattle.base.proofs.Tests.{never-true}
-use Rattle.token.specs.Kinds as K
 use Rattle.grammar.specs.Tree as T
 use Rattle.grammar.specs.Tree.{Designator, Operand, number, place, Sign, plain, abs, neg, negAbs, Term, Assignment, Condition, compared, bare, Width, Register, Item, Statement, Body, Items}
 use Rattle.grammar.specs.Events as E
-use Rattle.grammar.specs.Events.{opened, closed, entered, left, labelled, sent, named, celled, itemed, valued, based, aimed, driven, signed, given, joined, tested, limited, called, Event, edge, route, entry, phrase, mark, operandNames, conditionNames, uses, each, eventsValue, eventsItem, eventsRegister, eventsDeclaration, eventsSign, eventsTerm, eventsChain, labelsOnto, eventsStatement, eventsBody, eventsItems, eventsOf}
-use Rattle.grammar.specs.Places.{Block, Frame, Place, after, Along}
+use Rattle.grammar.specs.Events.{opened, closed, entered, labelled, sent, celled, based, aimed, driven, given, joined, tested, called, Event, edge, route, entry, phrase, mark, operandNames, uses, each, eventsValue, eventsItem, eventsRegister, eventsDeclaration, eventsSign, eventsTerm, eventsChain, labelsOnto, eventsStatement, eventsBody, eventsItems, eventsOf}
+use Rattle.grammar.specs.Places.{Block, Place, after, Along}
 use Rattle.grammar.specs.Places as P
 use Rattle.names.specs.declared.Broken.{Broken}
-use Rattle.names.specs.Broken.{rule, _⊕_}
+use Rattle.names.specs.Broken.{rule}
 use Rattle.names.specs.Search.{firstToken, around, innermost}
 use Rattle.names.specs.Names.{namesIn}
 use Rattle.names.specs.Labels.{labelsIn}
@@ -29,12 +28,12 @@ use Rattle.names.proofs.Joins.{quiet-left, quiet-right, rule-holds}
 use Rattle.names.proofs.Led.{none-at-edge}
 use Rattle.names.proofs.Bound as B
 use Rattle.names.proofs.Bound.{Bound}
-use Rattle.kinds.specs.Registers.{Registers, noRegisters, has, spares}
-use Rattle.kinds.specs.Meaning.{Meaning, nothing, register, cell, routine, Based, Cell, registerOf, longOperand, isProduct}
-use Rattle.kinds.specs.Meanings.{Meant, meaningIn, ownIn, newest, baseIn, dataBase, cellOf}
-use Rattle.kinds.specs.Tables.{Tables, kindAt, valueAt, meaningAt}
+use Rattle.kinds.specs.Registers.{noRegisters, has, spares}
+use Rattle.kinds.specs.Meaning.{Meaning, nothing, register, cell, routine, Based, Cell, registerOf}
+use Rattle.kinds.specs.Meanings.{Meant, meaningIn, ownIn, newest, baseIn, dataBase}
+use Rattle.kinds.specs.Tables.{Tables, valueAt, meaningAt}
 use Rattle.kinds.specs.Rules as R
-use Rattle.kinds.specs.Rules.{isRegister, isZero, lastSegment}
+use Rattle.kinds.specs.Rules.{isRegister, isZero}
 use Rattle.kinds.specs.Kinds.{keptIn}
 use Rattle.kinds.proofs.Flags.{spares-is}
 use Rattle.kinds.proofs.Small.{Small, register-small, meaning-small}
@@ -42,15 +41,14 @@ use Rattle.kinds.proofs.Unbroken.{Unbroken}
 use Rattle.kinds.proofs.Kept.{kept-return, kept-in-block, kept-in-body}
 use Rattle.kinds.proofs.Told.{WrittenBy, NotAround, Told}
 use Rattle.translator.specs.Instructions.{Instruction}
-use Rattle.translator.specs.Core as C
-use Rattle.translator.specs.Core.{Core, useOf, load, chainOf, termOf, toRegister, sourceOf, assignBy, assignmentOf, compareWith, testOf, controlOf, returnOf, coreStatement, coreBody, coreItems}
+use Rattle.translator.specs.Core.{Core, useOf, load, chainOf, termOf, toRegister, sourceOf, assignBy, assignmentOf, testOf, controlOf, returnOf, coreStatement, coreBody, coreItems}
 use Rattle.translator.specs.Code.{Mark, own, sizeOf}
 use Rattle.translator.specs.Layout.{Layout, offsetOf}
 use Rattle.translator.proofs.Rooms.{CellAt}
-use Rattle.join.specs.Points.{Within, Writes, Point, start, withBase, inBody, procedureOf}
+use Rattle.join.specs.Points.{Within, Writes, Point, start, procedureOf}
 use Rattle.join.proofs.Safe.{Plain, Routine, first, Callable, Basing, labelsOf, Safe}
 use Rattle.join.proofs.Flow.{some-is, none-some}
-use Rattle.join.proofs.Plain.{Free, Seen, SeenOperand, Below, used, spared-by, plain-load, plain-term, plain-compared, plain-stored, plain-step}
+use Rattle.join.proofs.Plain.{Free, SeenOperand, used, spared-by, plain-load, plain-term, plain-compared, plain-stored, plain-step}
 
 -- the number of a rule is not 0
 refused : {A : Type 0} (n : ℕ) → suc n ≡ 0 → A

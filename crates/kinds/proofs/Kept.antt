@@ -1,7 +1,7 @@
 -- What is protected at a place: the bases of its blocks, the return registers of its procedures, and whatever is protected around it.
-use mathlib.Core.Path.{_≡_, refl, ap}
-use mathlib.Core.Logic.{_⊎_, inl, inr}
-use mathlib.Core.List.{List, [], _∷_, _++_, map}
+use mathlib.Core.Path.{refl, ap}
+use mathlib.Core.Logic.{inl, inr}
+use mathlib.Core.List.{List, [], _∷_, map}
 use Prim.Native.Nat.{ℕ}
 use Rattle.base.specs.Lists.{_∈_}
 use Rattle.base.proofs.Lists.{in-left, in-right}

@@ -1,10 +1,8 @@
 -- What the finished tables have of each event at its place (`told-text`): what a declared name means, the segment that a base declaration opens, and that the text of
 -- the procedure around it writes what it writes. Tokens rise along the text, and what is written only grows.
 use mathlib.Core.Path.{_≡_, refl, sym, ap, subst, _∙_}
-use mathlib.Core.Logic.{_⊎_, inl, inr}
 use mathlib.Core.List.{List, [], _∷_}
 use mathlib.Core.Bool.{Bool, true, false, _&&_}
-use mathlib.Core.Option.{Option, none, some}
 use Prim.Native.Nat.{ℕ, zero, suc, _+_, _-_, _<_, _≤_}
 use native.Mathlib.Omega.{arith}
 use native.Mathlib.Decide.{ℕ-discrete}
@@ -26,7 +24,7 @@ use Rattle.grammar.proofs.Order.{Earlier, earlier-after}
 use Rattle.token.specs.Kinds as K
 use Rattle.kinds.specs.Registers.{Registers, noRegisters, has, addRegister, union}
 use Rattle.kinds.specs.Meaning.{Meaning, nothing, register, cell, routine, Based, Cell, registerOf, isLong, longOperand, isProduct}
-use Rattle.kinds.specs.Meanings.{Meant, mean, growWritten, write, writeText, callWrites, targetWrites, openBase, addCell, cellOf, meaningIn, ownIn, newest, baseIn, meanPhrase, meanEvent}
+use Rattle.kinds.specs.Meanings.{Meant, growWritten, write, writeText, callWrites, targetWrites, openBase, addCell, cellOf, meaningIn, ownIn, newest, baseIn, meanPhrase, meanEvent}
 use Rattle.kinds.specs.Rules as R
 use Rattle.kinds.proofs.Flags.{add-has, add-keeps, union-left, union-right}
 use Rattle.kinds.proofs.Heeds.{Alike, phrase-alike, Heeds, enters, names, adds, opens, other, heeds}

@@ -4,7 +4,7 @@ use mathlib.Core.Path.{_≡_}
 use mathlib.Core.List.{List, [], _∷_}
 use Prim.Native.Nat.{ℕ, _<_}
 use native.Mathlib.Omega.{arith}
-use lib.Dec.{eqb, ltb}
+use lib.Dec.{ltb}
 use lib.ListN.{getD}
 use borrow.Author.Tests.{ltb-true}
 use Rattle.base.specs.Lists.{All}
@@ -12,7 +12,7 @@ use Rattle.base.proofs.Lists.{all-map}
 use Rattle.grammar.specs.Events.{labelled, sent, Event, edge, route, entry, phrase, mark, uses}
 use Rattle.grammar.specs.Places.{body, Place, after, along, Along}
 use Rattle.names.specs.declared.Broken.{Broken}
-use Rattle.names.specs.Broken.{rule, _⊕_}
+use Rattle.names.specs.Broken.{rule}
 use Rattle.names.specs.Search.{find}
 use Rattle.names.specs.Names.{namesIn}
 use Rattle.names.specs.Labels.{Labelled, labelsIn, noteLabel, setLabel, labelEvent}
