@@ -1,7 +1,7 @@
 -- Every accepted program is safe (`accepted-safe`): no rule is broken at any of its events, and its tables have what each of them tells.
-use mathlib.Core.Path.{_≡_, refl, sym, ap, subst, _∙_}
-use mathlib.Core.Logic.{_⊎_, inl, inr}
-use mathlib.Core.List.{List, [], _∷_, _++_, map}
+use mathlib.Core.Path.{_≡_, refl, sym, subst, _∙_}
+use mathlib.Core.Logic.{inl, inr}
+use mathlib.Core.List.{List, [], _∷_, map}
 use Prim.Native.Nat.{ℕ, zero, suc, _+_, _-_, _<_, _≤_}
 use native.Mathlib.Omega.{arith}
 use lib.ListN.{length, getD, replicate, length-replicate, length-append}
@@ -12,25 +12,26 @@ use Rattle.token.specs.Text.{tokensOf}
 use Rattle.grammar.specs.Tree.{Statement}
 use Rattle.grammar.specs.Derives.{isProgram}
 use Rattle.grammar.specs.Events.{labelled, sent, Event, edge, route, entry, phrase, mark, eventsOf}
-use Rattle.grammar.specs.Places.{Place, after, along, Along}
+use Rattle.grammar.specs.Places.{Place, Along}
 use Rattle.grammar.specs.Texts.{Text}
 use Rattle.grammar.specs.Contexts.{nowhere}
+use Rattle.grammar.proofs.Places.{along-with}
 use Rattle.grammar.proofs.Texts.{program-text}
 use Rattle.grammar.proofs.Theorems.{read-is-program, program-inside}
 use Rattle.grammar.proofs.Contexts.{program-coherent}
 use Rattle.names.specs.declared.Broken.{Broken}
-use Rattle.names.specs.Broken.{unbroken, _⊕_}
+use Rattle.names.specs.Broken.{unbroken}
 use Rattle.names.specs.Search.{inFront, firstToken, find}
-use Rattle.names.specs.Names.{Named, namesIn}
+use Rattle.names.specs.Names.{Named}
 use Rattle.names.specs.Labels.{Labelled, labelsIn}
 use Rattle.names.specs.Found.{Found, Led}
 use Rattle.names.proofs.Joins.{quiet-left, quiet-right}
 use Rattle.names.proofs.Bound as B
-use Rattle.names.proofs.Bound.{by-search, bound-names, Bound}
-use Rattle.names.proofs.Led.{LabelFound, labels-found}
+use Rattle.names.proofs.Bound.{by-search, Bound}
+use Rattle.names.proofs.Led.{bound-names, LabelFound, labels-found}
 use Rattle.names.proofs.Early.{Early, found-early}
 use Rattle.kinds.specs.Registers.{sixteen, noRegisters, Registers}
-use Rattle.kinds.specs.Meaning.{Meaning, nothing, register, cell, routine, Cell}
+use Rattle.kinds.specs.Meaning.{Meaning, nothing, register, cell, Cell}
 use Rattle.kinds.specs.Meanings.{Filled, Meant, standard}
 use Rattle.kinds.specs.Tables.{Tables, meaningAt}
 use Rattle.kinds.proofs.Small.{Small, meant-small, standard-small}
@@ -49,12 +50,6 @@ use Rattle.translator.proofs.Objects as O
 use Rattle.join.specs.Points.{start}
 use Rattle.join.proofs.Safe.{Safe}
 use Rattle.join.proofs.Rules.{Bare, Leads, Fact, safe-program}
-
--- what holds of each event by two facts of it
-along-by : (P Q R : Event → Place → Type 0) → ((e : Event) (p : Place) → P e p → Q e p → R e p) → (es : List Event) (p : Place) → Along P es p → Along Q es p → Along R es p
-unfolding Along
-along-by P Q R f [] p h k = tt
-along-by P Q R f (e ∷ es) p (h, hs) (k, ks) = (f e p h k, along-by P Q R f es (after e p) hs ks)
 
 map-in : (c : Cell) (ds : List Filled) → c ∈ map (λ (d : Filled). d .cell) ds → (d : Filled) × (d ∈ ds) × (c ≡ d .cell)
 map-in c [] h = absurd h
@@ -158,7 +153,10 @@ module _ (source object : List ℕ) (a : Accepted source object) where
   abbrev FactOf : Event → Place → Type 0
   FactOf e p = Fact (kindsOf ts) (valuesOf ts) (n .found) (lb .goes) m y e p
 
-  leads : (e : Event) (p : Place) → Led (valuesOf ts) (lb .goes) e p → LabelFound (valuesOf ts) e p → Leads (kindsOf ts) (valuesOf ts) (n .found) (lb .goes) m y e p
+  abbrev LeadsTo : Event → Place → Type 0
+  LeadsTo e p = Leads (kindsOf ts) (valuesOf ts) (n .found) (lb .goes) m y e p
+
+  leads : (e : Event) (p : Place) → Led (valuesOf ts) (lb .goes) e p → LabelFound (valuesOf ts) e p → LeadsTo e p
   leads (edge z) p h k = tt
   leads (route (labelled t)) p h k = tt
   leads (route (sent t u)) p h k = go (by-search (valuesOf ts) (getD (lb .goes) u 0) (getD (valuesOf ts) u 0) (labelsIn p) h)
@@ -170,15 +168,28 @@ module _ (source object : List ℕ) (a : Accepted source object) where
   leads (phrase z) p h k = tt
   leads (mark z) p h k = tt
 
+  -- by its rules and the tables
+  abbrev Judged : Event → Place → Type 0
+  Judged e p = Unbroken f e p × Told (kindsOf ts) (valuesOf ts) (n .found) m e p
+
+  judged : Along Judged (eventsOf x) []
+  judged =
+      along-with (Unbroken f) (Told (kindsOf ts) (valuesOf ts) (n .found) m) Judged (λ e p h k. (h, k)) (eventsOf x) []
+      (O.quiet-along ts x (a .next) front read (a .quiet)) told
+
+  -- by the search for its names and its label
+  abbrev Sought : Event → Place → Type 0
+  Sought e p = Found (valuesOf ts) (n .found) e p × LeadsTo e p
+
+  sought : Along Sought (eventsOf x) []
+  sought =
+      along-with (Found (valuesOf ts) (n .found)) LeadsTo Sought (λ e p h k. (h, k)) (eventsOf x) [] (accepted-names source object a)
+      (along-with (Led (valuesOf ts) (lb .goes)) (LabelFound (valuesOf ts)) LeadsTo leads (eventsOf x) [] (accepted-labels source object a) label-found)
+
   facts : Along FactOf (eventsOf x) []
   facts =
-      along-by _ _ FactOf (λ e p h k. record { unbroken = h .0; told = h .1; bound = bound-names (valuesOf ts) (n .found) e p (k .0); leads = leads e p (k .1 .0) (k .1 .1) }) (eventsOf x) []
-      (along-by (Unbroken f) (Told (kindsOf ts) (valuesOf ts) (n .found) m) (λ e p. Unbroken f e p × Told (kindsOf ts) (valuesOf ts) (n .found) m e p) (λ e p h k. (h, k)) (eventsOf x) []
-      (O.quiet-along ts x (a .next) front read (a .quiet)) told)
-      (along-by (Found (valuesOf ts) (n .found)) (λ e p. Led (valuesOf ts) (lb .goes) e p × LabelFound (valuesOf ts) e p) (λ e p. Found (valuesOf ts) (n .found) e p × (Led (valuesOf ts) (lb .goes) e p × LabelFound (valuesOf ts) e p)) (λ e p h k. (h, k)) (eventsOf x) []
-      (accepted-names source object a)
-      (along-by (Led (valuesOf ts) (lb .goes)) (LabelFound (valuesOf ts)) (λ e p. Led (valuesOf ts) (lb .goes) e p × LabelFound (valuesOf ts) e p) (λ e p h k. (h, k)) (eventsOf x) []
-      (accepted-labels source object a) label-found))
+      along-with Judged Sought FactOf
+      (λ e p h k. record { unbroken = h .0; told = h .1; bound = bound-names (valuesOf ts) (n .found) e p (k .0); leads = k .1 }) (eventsOf x) [] judged sought
 
   pub accepted-safe : Safe (make (a .tokens) (a .tree) .tables .written) (make (a .tokens) (a .tree) .bases) (make (a .tokens) (a .tree) .layout) [] [] start
       (coreStatement (make (a .tokens) (a .tree) .tables) (a .tree))

@@ -1,17 +1,15 @@
 -- The chain of calls at a point: every point on it holds in the registers as they are now. Register 15 is no part of it: it belongs to the instruction at the counter.
-use mathlib.Core.Path.{_≡_, refl, sym, ap, subst, _∙_}
-use mathlib.Core.Logic.{_⊎_, inl, inr}
-use mathlib.Core.List.{List, [], _∷_}
-use mathlib.Core.Option.{Option, none, some}
+use mathlib.Core.Path.{_≡_}
+use mathlib.Core.List.{List}
+use mathlib.Core.Option.{none, some}
 use Prim.Native.Nat.{ℕ, _+_, _%_, _^_}
-use native.Mathlib.Omega.{arith}
-use Rattle.base.specs.Lists.{_∈_, All}
+use Rattle.base.specs.Lists.{_∈_}
 use Rattle.kinds.specs.Meaning.{Based}
 use Rattle.machine.specs.Space.{origin}
-use Rattle.translator.specs.Instructions.{Instruction, link}
-use Rattle.join.specs.Points.{Within, Writes, Point, Placed}
-use Rattle.join.proofs.Safe.{Spared, Counted, Guarded}
-use Rattle.join.proofs.Flows.{Under, Good, Enters, Calls}
+use Rattle.translator.specs.Instructions.{link}
+use Rattle.join.specs.Points.{Within, Point, Placed}
+use Rattle.join.proofs.Safe.{Guarded}
+use Rattle.join.proofs.Flows.{Calls}
 
 -- the data bases in force hold their segments' origins
 abbrev pub Holds : (ℕ → ℕ) → Point → Type 0

@@ -3,19 +3,19 @@ use mathlib.Core.Path.{_≡_, refl, sym, ap, subst, _∙_}
 use mathlib.Core.Logic.{_⊎_, inl, inr}
 use mathlib.Core.List.{List, [], _∷_, _++_, map, map-append}
 use mathlib.Core.Bool.{Bool, true, false}
-use mathlib.Core.Option.{Option, none, some}
-use Prim.Native.Nat.{ℕ, zero, suc, _+_, _<_, _≤_}
+use mathlib.Core.Option.{none, some}
+use Prim.Native.Nat.{ℕ, _+_, _<_}
 use native.Mathlib.Omega.{arith}
 use lib.Dec.{eqb}
 use borrow.Author.Tests.{eqb-false}
-use Rattle.base.specs.Choose.{choose, if_then_else_}
+use Rattle.base.specs.Choose.{if_then_else_}
 use Rattle.base.specs.Lists.{_∈_, _⊆_, All}
 use Rattle.base.proofs.Lists.{all-both, all-first, all-last, all-map, all-of}
 use Rattle.kinds.specs.Registers.{Registers}
 use Rattle.kinds.specs.Meaning.{Based}
 use Rattle.kinds.specs.Meanings.{dataBase}
 use Rattle.kinds.specs.Rules.{protected}
-use Rattle.translator.specs.Instructions.{Datum, element, literal, entry, Instruction, rr, rx, shift, branch, link, stop, size, sizes, opcode, loadRow, addRow, always}
+use Rattle.translator.specs.Instructions.{element, literal, entry, Instruction, rr, rx, shift, branch, link, stop, size, sizes, opcode, addRow, always}
 use Rattle.translator.specs.Core.{Core, skip, run, seq, mark, scope, jump, call, procedure, base, when, either, loop, count}
 use Rattle.translator.specs.Code.{Mark, own, markAt, sizeOf}
 use Rattle.translator.specs.Layout.{Layout}
@@ -26,10 +26,10 @@ use Rattle.join.proofs.Flows.{Good, Enters, Calls, Goes, Flows}
 abbrev namesOf : List Mark → List ℕ
 namesOf ms = map (λ (m : Mark). m .name) ms
 
-some-is : {A : Type 0} (a b : A) → some a ≡ some b → a ≡ b
+pub some-is : {A : Type 0} (a b : A) → some a ≡ some b → a ≡ b
 some-is a b e = cc
 
-none-some : {A : Type 0} (a : A) → none ≡ some a → ⊥
+pub none-some : {A : Type 0} (a : A) → none ≡ some a → ⊥
 none-some a e = let z : _≡_ {A = ℕ} 0 1 = cc in omega arith
 
 -- ── the labels of a block: their names do not depend on where it starts ──

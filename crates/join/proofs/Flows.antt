@@ -1,12 +1,12 @@
 -- Where control can go from an instruction: `Flows`, to instructions that were written, with no more bases in force and in the same procedure.
 use mathlib.Core.Path.{_≡_}
-use mathlib.Core.Logic.{_⊎_, inl, inr}
-use mathlib.Core.List.{List, [], _∷_}
-use mathlib.Core.Option.{Option, none, some}
+use mathlib.Core.Logic.{_⊎_}
+use mathlib.Core.List.{List}
+use mathlib.Core.Option.{some}
 use Prim.Native.Nat.{ℕ, _+_, _<_}
 use Rattle.base.specs.Lists.{_∈_, _⊆_}
 use Rattle.kinds.specs.Meaning.{Based}
-use Rattle.translator.specs.Instructions.{Datum, element, literal, entry, Instruction, rr, rx, shift, branch, link, stop, size, opcode, loadRow, always}
+use Rattle.translator.specs.Instructions.{element, literal, entry, Instruction, rr, rx, shift, branch, link, stop, size, opcode, loadRow, always}
 use Rattle.translator.specs.Layout.{Layout}
 use Rattle.join.specs.Points.{Within, Writes, Point, withBase, Placed}
 use Rattle.join.proofs.Safe.{Spared, Counted, Guarded, Plain, Basing}

@@ -1,7 +1,7 @@
 -- What is asked of the storage map, of storage after loading, and of an instruction that goes on to the next: `Mapped`, `LoadedAs`, `Moves`.
 use mathlib.Core.Path.{_≡_}
 use mathlib.Core.List.{List}
-use mathlib.Core.Bool.{Bool, true, false}
+use mathlib.Core.Bool.{true, false}
 use Prim.Native.Nat.{ℕ, _+_, _*_, _%_, _<_, _≤_}
 use lib.ListN.{length, getD}
 use Rattle.base.specs.Lists.{_∈_}

@@ -1,18 +1,17 @@
 -- The storage map of a program whose layout fits: table entries, cells and literals lie in it, and program, table and literals cannot be stored to (`mapped`).
-use mathlib.Core.Path.{_≡_, refl, sym, ap, subst, _∙_}
-use mathlib.Core.List.{List, [], _∷_, map}
+use mathlib.Core.Path.{_≡_, refl, ap, _∙_}
+use mathlib.Core.List.{List, map}
 use mathlib.Core.Bool.{Bool, true, false, _&&_}
 use Prim.Native.Nat.{ℕ, zero, suc, _+_, _*_, _/_, _%_, _<_, _≤_}
 use native.Mathlib.Omega.{arith}
 use native.Mathlib.Decide.{decLe}
-use lib.Dec.{eqb, leb}
+use lib.Dec.{leb}
 use lib.ListN.{length, getD, replicate, length-replicate}
 use lib.Seq.{length-sets}
 use borrow.Author.Tests.{le-leb, lt-leb, ne-eqb}
-use Rattle.base.specs.Choose.{choose, if_then_else_}
 use Rattle.objtext.specs.Object.{Segment, program, cells}
 use Rattle.machine.specs.Space.{Space, room, origin, readable, writable}
-use Rattle.runner.specs.Load.{endOf, fromOf, toOf, byPage, spaceOf}
+use Rattle.runner.specs.Load.{endOf, fromOf, toOf, spaceOf}
 use Rattle.translator.specs.Instructions.{Instruction}
 use Rattle.translator.specs.Layout.{Layout, tableBytes, cellsEnd, literalsEnd}
 use Rattle.translator.specs.Bytes.{encodeAll}

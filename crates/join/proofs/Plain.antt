@@ -1,16 +1,16 @@
 -- Where no rule is broken at them, the instructions of operands, terms, loads, comparisons and stores are plain.
 use mathlib.Core.Path.{_≡_, refl, sym, ap, subst, _∙_}
 use mathlib.Core.Logic.{_⊎_, inl, inr}
-use mathlib.Core.List.{List, [], _∷_, _++_}
-use mathlib.Core.Bool.{Bool, true, false, not, _&&_}
+use mathlib.Core.List.{List}
+use mathlib.Core.Bool.{Bool, true, false, not}
 use mathlib.Core.Option.{Option, none, some}
-use Prim.Native.Nat.{ℕ, zero, suc, _+_, _*_, _-_, _%_, _<_, _≤_}
+use Prim.Native.Nat.{ℕ, _+_, _*_, _-_, _%_, _<_, _≤_}
 use native.Mathlib.Omega.{arith}
-use lib.Dec.{eqb, leb}
-use borrow.Author.Tests.{eqb-true, eqb-false, leb-true}
-use Rattle.base.specs.Choose.{choose, if_then_else_}
+use lib.Dec.{eqb}
+use borrow.Author.Tests.{eqb-true, eqb-false}
+use Rattle.base.specs.Choose.{if_then_else_}
 use Rattle.base.specs.Lists.{_∈_, All, member}
-use Rattle.base.proofs.Lists.{all-both, member-in, in-member}
+use Rattle.base.proofs.Lists.{member-in, in-member}
 use Rattle.base.proofs.Tests.{never-true}
 use Rattle.token.specs.Kinds as K
 use Rattle.grammar.specs.Tree.{Designator, Operand, number, place, Sign, plain, abs, neg, negAbs, Term, Width, full, short}
@@ -23,19 +23,18 @@ use Rattle.kinds.specs.Rules as R
 use Rattle.kinds.specs.Rules.{shifts, fullOnly, inside, isShort}
 use Rattle.kinds.proofs.Elements.{in-range, inside-is}
 use Rattle.kinds.proofs.Small.{Small, register-small, meaning-small}
-use Rattle.machine.specs.declared.Fun.{Fun}
 use Rattle.machine.specs.declared.Fun.the-variants.{Positive, Complement, Negative, MultiplyHalf}
 use Rattle.machine.specs.declared.Shift.{Shift}
 use Rattle.machine.specs.Instructions as M
-use Rattle.machine.specs.Instructions.{Short, applies, Long, appliesTo, multipliesBy, stores, shortKind, longKind}
-use Rattle.translator.specs.Instructions.{Datum, element, literal, entry, Instruction, rr, rx, shift, opcode, rowOf, loadRow, addRow, compareRow, timesRow, storeRow, column, shiftCode}
-use Rattle.translator.specs.Core.{Use, held, stored, absent, apply, signed, load, subscriptOf, indexOf, useBy, useOf, shiftBy, productTarget, termOf, sourceOf, compareWith}
+use Rattle.machine.specs.Instructions.{Short, Long, stores, longKind}
+use Rattle.translator.specs.Instructions.{Datum, element, literal, entry, Instruction, rr, rx, shift, opcode, rowOf, loadRow, addRow, compareRow, timesRow, storeRow, shiftCode}
+use Rattle.translator.specs.Core.{Use, held, stored, absent, apply, signed, load, subscriptOf, indexOf, useBy, useOf, shiftBy, productTarget, termOf, compareWith}
 use Rattle.translator.specs.Layout.{Layout, offsetOf}
 use Rattle.translator.proofs.Rooms.{CellAt}
-use Rattle.join.specs.Writes.{writes, writesBy, writesShort, writesLong}
+use Rattle.join.specs.Writes.{writes, writesShort, writesLong}
 use Rattle.join.specs.Points.{Within, Writes, Point}
-use Rattle.join.proofs.Safe.{Spared, Counted, PlainShort, Reads, Serves, InCell, FitsDatum, Fits, Plain}
-use Rattle.join.proofs.Opcodes.{writes-only, AppliesShort, AppliesLong, Row, ShortRow, load-row, add-row, compare-row, operator-row, short-row, shift-kind}
+use Rattle.join.proofs.Safe.{PlainShort, Reads, Serves, InCell, FitsDatum, Fits, Plain}
+use Rattle.join.proofs.Opcodes.{writes-only, AppliesShort, AppliesLong, Row, ShortRow, load-row, add-row, operator-row, short-row, shift-kind}
 
 -- register r may be written at p
 pub record Free (p : Point) (r : ℕ) : Type 0 where
@@ -314,7 +313,9 @@ module _
         a = t .operand
 
         go : (i : Bool) → member kind shifts ≡ i → (j : Bool) → eqb kind K.TIMES ≡ j → (z : Bool) → member kind fullOnly ≡ z
-            → (if i then R.shiftRules f a else if j then R.productRules f (p .kept) r t ⊕ R.operandRules f a else if z then R.operandRules f a ⊕ R.noShort f a else R.operandRules f a) .number ≡ 0
+            → (if i then R.shiftRules f a else
+            if j then R.productRules f (p .kept) r t ⊕ R.operandRules f a else
+            if z then R.operandRules f a ⊕ R.noShort f a else R.operandRules f a) .number ≡ 0
             → All (Plain l p) (if i then shiftBy f (shiftCode kind) r a else if j then apply timesRow (productTarget f r a) (useOf f a) else apply (rowOf kind) r (useOf f a))
         go true e j g z o q = plain-shift (shiftCode kind) r a (shift-kind kind (member-in kind shifts e)) q y
         go false e true g z o q =

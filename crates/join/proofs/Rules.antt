@@ -4,56 +4,51 @@ use mathlib.Core.Logic.{_⊎_, inl, inr}
 use mathlib.Core.List.{List, [], _∷_, _++_, map}
 use mathlib.Core.Bool.{Bool, true, false, not, _&&_}
 use mathlib.Core.Option.{Option, none, some}
-use Prim.Native.Nat.{ℕ, zero, suc, _+_, _-_, _<_, _≤_}
+use Prim.Native.Nat.{ℕ, zero, suc, _+_, _-_, _<_}
 use native.Mathlib.Omega.{arith}
-use lib.Dec.{eqb, leb}
+use lib.Dec.{eqb}
 use lib.ListN.{getD}
 use borrow.Author.Tests.{eqb-true, eq-eqb}
-use Rattle.base.specs.Choose.{choose, if_then_else_}
-use Rattle.base.specs.Lists.{_∈_, All, member}
+use Rattle.base.specs.Choose.{if_then_else_}
+use Rattle.base.specs.Lists.{_∈_, All}
 use Rattle.base.proofs.Lists.{in-left, in-right, all-in, all-both}
 use Rattle.base.proofs.Tests.{never-true}
-use Rattle.token.specs.Kinds as K
 use Rattle.grammar.specs.Tree as T
 use Rattle.grammar.specs.Tree.{Designator, Operand, number, place, Sign, plain, abs, neg, negAbs, Term, Assignment, Condition, compared, bare, Width, Register, Item, Statement, Body, Items}
 use Rattle.grammar.specs.Events as E
-use Rattle.grammar.specs.Events.{opened, closed, entered, left, labelled, sent, named, celled, itemed, valued, based, aimed, driven, signed, given, joined, tested, limited, called, Event, edge, route, entry, phrase, mark, operandNames, conditionNames, uses, each, eventsValue, eventsItem, eventsRegister, eventsDeclaration, eventsSign, eventsTerm, eventsChain, labelsOnto, eventsStatement, eventsBody, eventsItems, eventsOf}
-use Rattle.grammar.specs.Places.{Block, Frame, Place, after, Along}
+use Rattle.grammar.specs.Events.{opened, closed, entered, labelled, sent, celled, based, aimed, driven, given, joined, tested, called, Event, edge, route, entry, phrase, mark, operandNames, uses, each, eventsValue, eventsItem, eventsRegister, eventsDeclaration, eventsSign, eventsTerm, eventsChain, labelsOnto, eventsStatement, eventsBody, eventsItems, eventsOf}
+use Rattle.grammar.specs.Places.{Block, Place, after, Along}
 use Rattle.grammar.specs.Places as P
 use Rattle.names.specs.declared.Broken.{Broken}
-use Rattle.names.specs.Broken.{rule, _⊕_}
+use Rattle.names.specs.Broken.{rule}
 use Rattle.names.specs.Search.{firstToken, around, innermost}
 use Rattle.names.specs.Names.{namesIn}
 use Rattle.names.specs.Labels.{labelsIn}
 use Rattle.names.proofs.Joins.{quiet-left, quiet-right, rule-holds}
+use Rattle.names.proofs.Led.{none-at-edge}
 use Rattle.names.proofs.Bound as B
 use Rattle.names.proofs.Bound.{Bound}
-use Rattle.kinds.specs.Registers.{Registers, noRegisters, has, spares}
-use Rattle.kinds.specs.Meaning.{Meaning, nothing, register, cell, routine, Based, Cell, registerOf, longOperand, isProduct}
-use Rattle.kinds.specs.Meanings.{Meant, meaningIn, ownIn, newest, baseIn, dataBase, cellOf}
-use Rattle.kinds.specs.Tables.{Tables, kindAt, valueAt, meaningAt}
+use Rattle.kinds.specs.Registers.{noRegisters, has, spares}
+use Rattle.kinds.specs.Meaning.{Meaning, nothing, register, cell, routine, Based, Cell, registerOf}
+use Rattle.kinds.specs.Meanings.{Meant, meaningIn, ownIn, newest, baseIn, dataBase}
+use Rattle.kinds.specs.Tables.{Tables, valueAt, meaningAt}
 use Rattle.kinds.specs.Rules as R
-use Rattle.kinds.specs.Rules.{isRegister, isZero, lastSegment}
+use Rattle.kinds.specs.Rules.{isRegister, isZero}
 use Rattle.kinds.specs.Kinds.{keptIn}
 use Rattle.kinds.proofs.Flags.{spares-is}
 use Rattle.kinds.proofs.Small.{Small, register-small, meaning-small}
 use Rattle.kinds.proofs.Unbroken.{Unbroken}
+use Rattle.kinds.proofs.Kept.{kept-return, kept-in-block, kept-in-body}
 use Rattle.kinds.proofs.Told.{WrittenBy, NotAround, Told}
 use Rattle.translator.specs.Instructions.{Instruction}
-use Rattle.translator.specs.Core as C
-use Rattle.translator.specs.Core.{Core, useOf, load, chainOf, termOf, toRegister, sourceOf, assignBy, assignmentOf, compareWith, testOf, controlOf, returnOf, coreStatement, coreBody, coreItems}
+use Rattle.translator.specs.Core.{Core, useOf, load, chainOf, termOf, toRegister, sourceOf, assignBy, assignmentOf, testOf, controlOf, returnOf, coreStatement, coreBody, coreItems}
 use Rattle.translator.specs.Code.{Mark, own, sizeOf}
 use Rattle.translator.specs.Layout.{Layout, offsetOf}
 use Rattle.translator.proofs.Rooms.{CellAt}
-use Rattle.join.specs.Points.{Within, Writes, Point, start, withBase, inBody, procedureOf}
+use Rattle.join.specs.Points.{Within, Writes, Point, start, procedureOf}
 use Rattle.join.proofs.Safe.{Plain, Routine, first, Callable, Basing, labelsOf, Safe}
-use Rattle.join.proofs.Plain.{Free, Seen, SeenOperand, Below, used, spared-by, plain-load, plain-term, plain-compared, plain-stored, plain-step}
-
-some-is : {A : Type 0} (a b : A) → some a ≡ some b → a ≡ b
-some-is a b e = cc
-
-none-some : {A : Type 0} (a : A) → none ≡ some a → ⊥
-none-some a e = let z : _≡_ {A = ℕ} 0 1 = cc in omega arith
+use Rattle.join.proofs.Flow.{some-is, none-some}
+use Rattle.join.proofs.Plain.{Free, SeenOperand, used, spared-by, plain-load, plain-term, plain-compared, plain-stored, plain-step}
 
 -- the number of a rule is not 0
 refused : {A : Type 0} (n : ℕ) → suc n ≡ 0 → A
@@ -260,8 +255,8 @@ module _ (kinds values found goes : List ℕ) (z : Meant) (l : Layout) where
             (used f small l (pointIn p) stands (a .first) (seen-operand p gs x (a .first) (g .bound)) (subst (λ (m : Meaning). R.firstBy f m (a .first) .number ≡ 0) e (g .unbroken))) y)
             (chain-plain (a .target) r (a .rest) e h y ts)
 
-        assign-plain : (a : Assignment) → Fact (phrase (aimed (a .target))) p → Fact (phrase (given (a .target) (a .first))) p → All (λ (t : Term). Fact (phrase (joined (a .target) t)) p) (a .rest)
-            → PlainHere (assignmentOf f a)
+        assign-plain : (a : Assignment) → Fact (phrase (aimed (a .target))) p → Fact (phrase (given (a .target) (a .first))) p
+            → All (λ (t : Term). Fact (phrase (joined (a .target) t)) p) (a .rest) → PlainHere (assignmentOf f a)
         unfolding assignmentOf R.targetRules
         assign-plain a k g ts = go (meaningAt f (a .target .name)) refl
           where
@@ -271,7 +266,8 @@ module _ (kinds values found goes : List ℕ) (z : Meant) (l : Layout) where
                 let h : r < 16 = subst Small e (small-at (a .target .name)) in
                 register-plain r a e h (free-target p (a .target) r e h (quiet-right (R.placeRules f (a .target)) _ (k .unbroken)) (k .told)) g ts
             go (cell c) e =
-                plain-stored f small l (pointIn p) stands (sourceOf f (a .first)) (a .target) c e (seen p gs x (a .target .name) (k .bound .0)) (quiet-left (R.placeRules f (a .target)) _ (k .unbroken))
+                plain-stored f small l (pointIn p) stands (sourceOf f (a .first)) (a .target) c e (seen p gs x (a .target .name) (k .bound .0))
+                (quiet-left (R.placeRules f (a .target)) _ (k .unbroken))
             go (routine r) e = tt
 
         test-plain : (t : ℕ) (c : Condition) → Fact (phrase (tested t c)) p → PlainHere (testOf f c)
@@ -285,8 +281,9 @@ module _ (kinds values found goes : List ℕ) (z : Meant) (l : Layout) where
         -- a procedure that may be called is not around
         not-around : (d r : ℕ) (q : Place) → Around q → meant d ≡ routine r → (r ∈ keptIn f q → ⊥) → NotAround d q
         not-around d r [] a e h = tt
-        not-around d r (P.within b ∷ q) a e h = not-around d r q a e (λ i. h (in-right r (map (λ (n : ℕ). registerOf (meaningAt f n)) (b .bases)) (keptIn f q) i))
-        not-around d r (P.body n s ∷ q) (k, a) e h = (λ i. h (inl (same d n r s i k e)), not-around d r q a e (λ i. h (inr i)))
+        not-around d r (P.within b ∷ q) a e h = not-around d r q a e (λ i. h (kept-in-block f b q r i))
+        not-around d r (P.body n s ∷ q) (k, a) e h =
+            (λ i. h (subst (λ (u : ℕ). u ∈ keptIn f (P.body n s ∷ q)) (sym (same d n r s i k e)) (kept-return f n s q)), not-around d r q a e (λ i. h (kept-in-body f n s q r i)))
           where
             same : (d n r s : ℕ) → d ≡ n → meant n ≡ routine (registerOf (meaningAt f s)) → meant d ≡ routine r → r ≡ registerOf (meaningAt f s)
             same d n r s i k e = ap returnOf (sym e ∙ (ap meant i ∙ k))
@@ -307,7 +304,8 @@ module _ (kinds values found goes : List ℕ) (z : Meant) (l : Layout) where
                 let m = subst (Means (basesIn p) gs d) e (x .names d i) in
                 let h : r < 16 = subst Small e (small-at n) in
                 let free = spared-by f small l (pointIn p) stands r n (quiet-left (R.writeRule (keptIn f p) r n) _ q) in
-                let text = spares-is (getD (z .written) d noRegisters) (keptIn f p) (rule-holds (spares (getD (z .written) d noRegisters) (keptIn f p)) 10 n (omega arith) (quiet-right (R.writeRule (keptIn f p) r n) _ q)) in
+                let set = getD (z .written) d noRegisters in
+                let text = spares-is set (keptIn f p) (rule-holds (spares set (keptIn f p)) 10 n (omega arith) (quiet-right (R.writeRule (keptIn f p) r n) _ q)) in
                 let has-both = k .told r h e (above n r e) (not-around d r p (x .around) e free) in
                 record {
                   g = record { within = procedureOf (z .written) d r; bases = m .0 };
@@ -373,7 +371,8 @@ module _ (kinds values found goes : List ℕ) (z : Meant) (l : Layout) where
       abbrev routineOf : ℕ → ℕ → List Based → Routine
       routineOf n r bs = record { within = procedureOf (z .written) n r; bases = bs }
 
-      known-more : (n r : ℕ) (hs bs : List Based) (gs : List Routine) (d : ℕ) (m : Meaning) → meant n ≡ routine r → meant d ≡ m → Means bs gs d m → Means bs (routineOf n r hs ∷ gs) d m
+      known-more : (n r : ℕ) (hs bs : List Based) (gs : List Routine) (d : ℕ) (m : Meaning) → meant n ≡ routine r → meant d ≡ m
+          → Means bs gs d m → Means bs (routineOf n r hs ∷ gs) d m
       unfolding first
       known-more n r hs bs gs d nothing e i h = tt
       known-more n r hs bs gs d (register s) e i h = tt
@@ -451,7 +450,8 @@ module _ (kinds values found goes : List ℕ) (z : Meant) (l : Layout) where
           }
 
       -- a procedure: its return register, and what its name means
-      return-safe : (n r : ℕ) (p : Place) → Fact (edge (entered n r)) p → ((0 < registerOf (meaningAt f r)) × (registerOf (meaningAt f r) < 16)) × (meant n ≡ routine (registerOf (meaningAt f r)))
+      return-safe : (n r : ℕ) (p : Place) → Fact (edge (entered n r)) p
+          → ((0 < registerOf (meaningAt f r)) × (registerOf (meaningAt f r) < 16)) × (meant n ≡ routine (registerOf (meaningAt f r)))
       unfolding R.registerRule R.zeroRule
       return-safe n r p k =
           let a = rule-holds (isRegister (meaningAt f r)) 8 r (omega arith) (quiet-left (R.registerRule f r) _ (k .unbroken)) in
@@ -472,7 +472,8 @@ module _ (kinds values found goes : List ℕ) (z : Meant) (l : Layout) where
           go (inr e) = inr (inr e)
       own-labels (T.item x is) earlier q d h = own-labels is earlier (q + sizeOf (coreStatement f x)) d h
 
-      labels-in : (is : Items) (bs : List ℕ) (ps : List (List ℕ)) (ls : List ℕ) → ((d : ℕ) → d ∈ bs → d ∈ labelsOnto is []) → Covers ps ls → Covers (bs ∷ ps) (labelsOf (coreItems f is) ++ ls)
+      labels-in : (is : Items) (bs : List ℕ) (ps : List (List ℕ)) (ls : List ℕ) → ((d : ℕ) → d ∈ bs → d ∈ labelsOnto is []) → Covers ps ls
+          → Covers (bs ∷ ps) (labelsOf (coreItems f is) ++ ls)
       unfolding B.Within
       labels-in is bs ps ls h c d (inl w) = go (own-labels is [] 0 d (h d w))
         where
@@ -505,7 +506,7 @@ module _ (kinds values found goes : List ℕ) (z : Meant) (l : Layout) where
       unfolding eventsDeclaration Along
       base-are n k p h = h
 
-      -- no label is known in a body
+      -- no label is known outside all blocks
       no-label : (d : ℕ) → B.Within d [] → d ∈ []
       unfolding B.Within
       no-label d w = w
@@ -572,7 +573,7 @@ module _ (kinds values found goes : List ℕ) (z : Meant) (l : Layout) where
             let known = routineOf n (registerOf (meaningAt f r)) (basesIn (P.within b ∷ p)) ∷ gs in
             let inner = withNames b (n ∷ b .names) in
             let j = with-routine n (registerOf (meaningAt f r)) b p gs (q .1) i in
-            let s = safe-statement x _ (P.body n r ∷ P.within inner ∷ p) [] known (record { names = j .names; around = (q .1, j .around) }) (λ d w. no-label d w) hs in
+            let s = safe-statement x _ (P.body n r ∷ P.within inner ∷ p) [] known (record { names = j .names; around = (q .1, j .around) }) (λ d w. absurd (none-at-edge n r (P.within inner ∷ p) d w)) hs in
             let u = safe-body y k inner p ls known j c o (s .1 .1) in
             ((q .0, s .0, u .0), u .1)
         safe-body (T.items is) k b p ls gs i c o h = safe-items is k b p (labelsOf (coreItems f is) ++ ls) gs i (labels-in is (b .labels) (labelsIn p) ls o c) h

@@ -1,10 +1,8 @@
 -- What the finished tables have of each event at its place (`told-text`): what a declared name means, the segment that a base declaration opens, and that the text of
 -- the procedure around it writes what it writes. Tokens rise along the text, and what is written only grows.
 use mathlib.Core.Path.{_≡_, refl, sym, ap, subst, _∙_}
-use mathlib.Core.Logic.{_⊎_, inl, inr}
 use mathlib.Core.List.{List, [], _∷_}
 use mathlib.Core.Bool.{Bool, true, false, _&&_}
-use mathlib.Core.Option.{Option, none, some}
 use Prim.Native.Nat.{ℕ, zero, suc, _+_, _-_, _<_, _≤_}
 use native.Mathlib.Omega.{arith}
 use native.Mathlib.Decide.{ℕ-discrete}
@@ -26,7 +24,7 @@ use Rattle.grammar.proofs.Order.{Earlier, earlier-after}
 use Rattle.token.specs.Kinds as K
 use Rattle.kinds.specs.Registers.{Registers, noRegisters, has, addRegister, union}
 use Rattle.kinds.specs.Meaning.{Meaning, nothing, register, cell, routine, Based, Cell, registerOf, isLong, longOperand, isProduct}
-use Rattle.kinds.specs.Meanings.{Meant, mean, growWritten, write, writeText, callWrites, targetWrites, openBase, addCell, cellOf, meaningIn, ownIn, newest, baseIn, meanPhrase, meanEvent}
+use Rattle.kinds.specs.Meanings.{Meant, growWritten, write, writeText, callWrites, targetWrites, openBase, addCell, cellOf, meaningIn, ownIn, newest, baseIn, meanPhrase, meanEvent}
 use Rattle.kinds.specs.Rules as R
 use Rattle.kinds.proofs.Flags.{add-has, add-keeps, union-left, union-right}
 use Rattle.kinds.proofs.Heeds.{Alike, phrase-alike, Heeds, enters, names, adds, opens, other, heeds}
@@ -82,7 +80,8 @@ product-grows true m g own s = target-grows m g own s
 product-grows false m g own s = λ u x h k. k
 
 -- what is added to the set of a procedure is in it
-own-has : (own : ℕ) (g : Registers → Registers) (s : Meant) (x : ℕ) → own < length (s .written) → has (g (getD (s .written) own noRegisters)) x ≡ true → WrittenBy (growWritten own g s) own x
+own-has : (own : ℕ) (g : Registers → Registers) (s : Meant) (x : ℕ) → own < length (s .written) → has (g (getD (s .written) own noRegisters)) x ≡ true
+    → WrittenBy (growWritten own g s) own x
 own-has own g s x l h = ap (λ (a : Registers). has a x) (getD-set-same (s .written) own _ noRegisters l) ∙ h
 
 write-has : (own r : ℕ) (s : Meant) → own < length (s .written) → r < 16 → WrittenBy (write own r s) own r
@@ -233,7 +232,9 @@ module _ (kinds values found : List ℕ) where
   call-same nothing own d u s n = refl
   call-same (register r) own d u s n = refl
   call-same (cell c) own d u s n = refl
-  call-same (routine r) own d u s n = elsewhere own u (union (getD (growWritten own (addRegister r) s .written) d noRegisters)) (growWritten own (addRegister r) s) n ∙ elsewhere own u (addRegister r) s n
+  call-same (routine r) own d u s n =
+      let t = growWritten own (addRegister r) s in
+      elsewhere own u (union (getD (t .written) d noRegisters)) t n ∙ elsewhere own u (addRegister r) s n
 
   product-same : (b : Bool) (m : Meaning) (g : ℕ → ℕ) (own u : ℕ) (s : Meant) → (u ≡ own → ⊥) → Same s (if b then targetWrites m g own s else s) u
   product-same true m g own u s n = target-same m g own u s n
@@ -492,8 +493,8 @@ module _ (kinds values found : List ℕ) where
         = e .stays .of-means n (omega arith) ∙ getD-set-same (s .means) n _ nothing (omega arith) in
         is ∙ ap (λ (k : Meaning). routine (registerOf k)) (go (ℕ-discrete (getD found r 0) n) is b q isreg)
       where
-        go : Dec (getD found r 0 ≡ n) → getD (z .means) n nothing ≡ routine (registerOf (meaningIn found s r)) → r < y .to → getD found r 0 ≤ r → R.isRegister (meaningIn found z r) ≡ true
-            → meaningIn found s r ≡ meaningIn found z r
+        go : Dec (getD found r 0 ≡ n) → getD (z .means) n nothing ≡ routine (registerOf (meaningIn found s r)) → r < y .to → getD found r 0 ≤ r
+            → R.isRegister (meaningIn found z r) ≡ true → meaningIn found s r ≡ meaningIn found z r
         go (yes d) is b q k = never-true (sym (ap R.isRegister (ap (λ (u : ℕ). getD (z .means) u nothing) d ∙ is)) ∙ k)
         go (no d) is b q k =
             sym (e .stays .of-means (getD found r 0) (omega arith) ∙ getD-set-other (s .means) n (getD found r 0) _ nothing d)
