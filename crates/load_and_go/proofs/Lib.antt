@@ -1,2 +1,0 @@
--- Laws behind the call that translates, loads and runs.
-pub mod Going
