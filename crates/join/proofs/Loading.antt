@@ -1,13 +1,10 @@
--- What is asked of the storage map, of storage after loading, and of an instruction that goes on to the next: `Mapped`, `LoadedAs`, `Moves`.
+-- What is asked of the storage map: `Mapped`.
 use mathlib.Core.Path.{_≡_}
 use mathlib.Core.List.{List}
 use mathlib.Core.Bool.{true, false}
 use Prim.Native.Nat.{ℕ, _+_, _*_, _%_, _<_, _≤_}
-use lib.ListN.{length, getD}
-use Rattle.base.specs.Lists.{_∈_}
-use Rattle.base.specs.Numbers.{valueAt}
-use Rattle.machine.specs.Space.{Space, origin, room, needed, readable, writable}
-use Rattle.machine.specs.Step.{Cpu, Turn, went}
+use lib.ListN.{length}
+use Rattle.machine.specs.Space.{Space, origin, room, readable, writable}
 use Rattle.translator.specs.Layout.{Layout, tableBytes, cellsEnd, literalsEnd}
 use Rattle.translator.proofs.Rooms.{startOf}
 
@@ -27,17 +24,3 @@ pub record Mapped (n : ℕ) (l : Layout) (program : ℕ) (m : Space) : Type 0 wh
   pub cells-room : (k : ℕ) → cellsEnd l k ≤ room
   pub literals-room : literalsEnd l ≤ room
   pub literals-aligned : l .literalsAt % 4 ≡ 0
-
--- storage s with the program's bytes and a table of 2 + n origins
-pub record LoadedAs (n : ℕ) (code s : List ℕ) : Type 0 where
-  pub program : (j : ℕ) → j < length code → getD s (origin 0 + j) 0 ≡ getD code j 0
-  pub table : (k : ℕ) → k < 2 + n → valueAt s (origin 1 + 4 * k) 4 ≡ origin k
-  pub long : needed ≤ length s
-
--- on to the next instruction, len bytes further, with the registers ws written and no others
-pub record Moves (c : Cpu) (ws : List ℕ) (len : ℕ) (t : Turn) : Type 0 where
-  pub next : Cpu
-  pub is : t ≡ went next
-  pub counter : next .counter ≡ c .counter + len
-  pub sixteen : length (next .regs) ≡ length (c .regs)
-  pub others : (q : ℕ) → (q ∈ ws → ⊥) → getD (next .regs) q 0 ≡ getD (c .regs) q 0

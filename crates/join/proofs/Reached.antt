@@ -1,5 +1,5 @@
 -- What holds where a run of an accepted program ends, from the invariant: the instruction at the counter, its operand, what did not change, how it stopped.
-use mathlib.Core.Path.{_≡_, refl, sym, ap, subst, _∙_}
+use mathlib.Core.Path.{_≡_, refl, sym, ap, ap₂, subst, _∙_}
 use mathlib.Core.Logic.{_⊎_, inl, inr}
 use mathlib.Core.List.{List, [], _∷_}
 use mathlib.Core.Option.{Option, none, some}
@@ -78,78 +78,77 @@ same-placed p e (z ∷ xs) l x y (inr a) (inl b) h =
 -- ── where a run ends ──
 
 module _
-  (written : List Registers) (n : ℕ) (l : Layout) (c : Core) (m : Space) (s₀ : List ℕ) (p : InStorage n l (sizeOf c) (P.program written c) m s₀) (code-end : sizes (instructions c) ≡ sizeOf c + 2)
-  (short : sizes (instructions c) ≤ room) (d : Cpu) (s : List ℕ) (v : Inv n (P.program written c) m s₀ d s)
+    (written : List Registers) (n : ℕ) (l : Layout) (c : Core) (m : Space) (s₀ : List ℕ) (p : InStorage n l (sizeOf c) (P.program written c) m s₀) (code-end : sizes (instructions c) ≡ sizeOf c + 2)
+    (short : sizes (instructions c) ≤ room) (d : Cpu) (s : List ℕ) (v : Inv n (P.program written c) m s₀ d s)
   where
+    abbrev w : List Placed
+    w = P.program written c
 
-  abbrev w : List Placed
-  w = P.program written c
+    abbrev is : List Instruction
+    is = instructions c
 
-  abbrev is : List Instruction
-  is = instructions c
+    pub stand : Stands 0 (sizeOf c + 2) w (v .x)
+    stand = stands 0 (sizeOf c + 2) w (laid-program written c) (v .x) (v .one)
 
-  pub stand : Stands 0 (sizeOf c + 2) w (v .x)
-  stand = stands 0 (sizeOf c + 2) w (laid-program written c) (v .x) (v .one)
+    there : getD is (stand .i) stop ≡ v .x .instruction
+    there = rw (program-code written c) at (stand .is)
 
-  there : getD is (stand .i) stop ≡ v .x .instruction
-  there = rw (program-code written c) at (stand .is)
+    pub at-instruction : At (instructions c) (d .counter) (stand .i)
+    at-instruction =
+        let o : 0 + sizes (take (stand .i) is) ≡ v .x .at = rw (program-code written c) at (stand .offset) in
+        let k = v .counter in
+        let g = stand .segment in
+        record { index = rw (program-code written c) at (stand .index); counter = omega arith }
 
-  pub at-instruction : At (instructions c) (d .counter) (stand .i)
-  at-instruction =
-      let o : 0 + sizes (take (stand .i) is) ≡ v .x .at = rw (program-code written c) at (stand .offset) in
-      let k = v .counter in
-      let g = stand .segment in
-      record { index = rw (program-code written c) at (stand .index); counter = omega arith }
+    instruction-at : (i : ℕ) → At is (d .counter) i → getD is i stop ≡ v .x .instruction
+    instruction-at i a = ap (λ (j : ℕ). getD is j stop) (at-same is (d .counter) i (stand .i) a at-instruction) ∙ there
 
-  instruction-at : (i : ℕ) → At is (d .counter) i → getD is i stop ≡ v .x .instruction
-  instruction-at i a = ap (λ (j : ℕ). getD is j stop) (at-same is (d .counter) i (stand .i) a at-instruction) ∙ there
+    pub named-at : (i : ℕ) → At (instructions c) (d .counter) i → Named l 0 d s (getD (instructions c) i stop)
+    named-at i a =
+        subst (λ (j : Instruction). Named l 0 d s j) (sym (instruction-at i a))
+        (subst (λ (g : ℕ). Named l g d s (v .x .instruction)) (stand .segment) (operand-named n l (sizeOf c) w m s₀ p d s v))
 
-  pub named-at : (i : ℕ) → At (instructions c) (d .counter) i → Named l 0 d s (getD (instructions c) i stop)
-  named-at i a =
-      subst (λ (j : Instruction). Named l 0 d s j) (sym (instruction-at i a))
-      (subst (λ (g : ℕ). Named l g d s (v .x .instruction)) (stand .segment) (operand-named n l (sizeOf c) w m s₀ p d s v))
+    pub stops-at : (b k q : ℕ) → ((k ≡ budgetUsed) × (q ≡ b)) ⊎ Allowed (v .x .instruction) k → (i : ℕ) → At (instructions c) (d .counter) i → Stops (instructions c) b i k q
+    stops-at b k q (inl h) i a = inl h
+    stops-at b k q (inr (inl h)) i a =
+        let e = stop-last n l (sizeOf c) w m s₀ p d s v (h .1) in
+        let j = instruction-at i a ∙ h .1 in
+        let z : size (getD is i stop) ≡ 2 = ap size j in
+        let o = v .counter in
+        let g = stand .segment in
+        let t = a .counter in
+        inr (inl (h .0, j, last-number is i (a .index) (omega (arith, code-end))))
+    stops-at b k q (inr (inr h)) i a = inr (inr (h .0, subst Indexed (sym (instruction-at i a)) (h .1)))
 
-  pub stops-at : (b k q : ℕ) → ((k ≡ budgetUsed) × (q ≡ b)) ⊎ Allowed (v .x .instruction) k → (i : ℕ) → At (instructions c) (d .counter) i → Stops (instructions c) b i k q
-  stops-at b k q (inl h) i a = inl h
-  stops-at b k q (inr (inl h)) i a =
-      let e = stop-last n l (sizeOf c) w m s₀ p d s v (h .1) in
-      let j = instruction-at i a ∙ h .1 in
-      let z : size (getD is i stop) ≡ 2 = ap size j in
-      let o = v .counter in
-      let g = stand .segment in
-      let t = a .counter in
-      inr (inl (h .0, j, last-number is i (a .index) (omega (arith, code-end))))
-  stops-at b k q (inr (inr h)) i a = inr (inr (h .0, subst Indexed (sym (instruction-at i a)) (h .1)))
+    pub fixed-kept : (a : ℕ) → Fixed (instructions c) l a → getD s a 0 ≡ getD s₀ a 0
+    fixed-kept a (inl h) = v .keeps .kept a (p .map .below a (omega arith))
+    fixed-kept a (inr (inl h)) = v .keeps .kept a (p .map .below a (omega arith))
+    fixed-kept a (inr (inr h)) =
+        let r = p .map .literals-room in
+        let e : a ≡ origin 1 + (a - origin 1) = omega arith in
+        v .keeps .kept a (ap (λ (b : ℕ). writable m b 1) e ∙ p .map .fixed (a - origin 1) (omega arith) (omega arith))
 
-  pub fixed-kept : (a : ℕ) → Fixed (instructions c) l a → getD s a 0 ≡ getD s₀ a 0
-  fixed-kept a (inl h) = v .keeps .kept a (p .map .below a (omega arith))
-  fixed-kept a (inr (inl h)) = v .keeps .kept a (p .map .below a (omega arith))
-  fixed-kept a (inr (inr h)) =
-      let r = p .map .literals-room in
-      let e : a ≡ origin 1 + (a - origin 1) = omega arith in
-      v .keeps .kept a (ap (λ (b : ℕ). writable m b 1) e ∙ p .map .fixed (a - origin 1) (omega arith) (omega arith))
+    pub bases-held : (getD (d .regs) 14 0 ≡ origin 1) × (getD (d .regs) 15 0 ≡ origin 0)
+    bases-held =
+        (chain-holds n w (reg d) (v .x .point) (v .chain) dataBase (guarded n l (sizeOf c) w m s₀ p (v .x) (v .one) .fourteen), v .base ∙ ap origin (stand .segment))
 
-  pub bases-held : (getD (d .regs) 14 0 ≡ origin 1) × (getD (d .regs) 15 0 ≡ origin 0)
-  bases-held =
-      (chain-holds n w (reg d) (v .x .point) (v .chain) dataBase (guarded n l (sizeOf c) w m s₀ p (v .x) (v .one) .fourteen), v .base ∙ ap origin (stand .segment))
-
-  pub called-from : (y : Placed) → y ∈ P.program written c → d .counter ≡ origin (y .segment) + y .at → (u : Within) → y .point .within ≡ some u → CalledFrom (P.program written c) u (getD (d .regs) (u .return) 0)
-  called-from y i a u k =
-      let g = stand .segment in
-      let f = stands 0 (sizeOf c + 2) w (laid-program written c) y i .segment in
-      let o = v .counter in
-      let q : y ≡ v .x = same-placed 0 (sizeOf c + 2) w (laid-program written c) y (v .x) i (v .one) (omega arith) in
-      let b = chain-return n w (reg d) (v .x .point) u (subst (λ (z : Placed). z .point .within ≡ some u) q k) (v .chain) in
-      let r : b .r ≡ u .return = sym (b .calls .return) ∙ ap (λ (z : Within). z .return) (b .same) in
-      record {
-        call = b .y;
-        written = b .one;
-        body = b .calls .body .to;
-        placed = b .calls .body .one;
-        calls = b .is ∙ (λ j. link (r j) (sym (b .calls .body .at) j));
-        of-it = b .calls .body .within ∙ ap some (b .same);
-        holds = ap (λ (z : ℕ). reg d z % 2 ^ 24) (sym r) ∙ b .value;
-      }
+    pub called-from : (y : Placed) → y ∈ P.program written c → d .counter ≡ origin (y .segment) + y .at → (u : Within) → y .point .within ≡ some u → CalledFrom (P.program written c) u (getD (d .regs) (u .return) 0)
+    called-from y i a u k =
+        let g = stand .segment in
+        let f = stands 0 (sizeOf c + 2) w (laid-program written c) y i .segment in
+        let o = v .counter in
+        let q : y ≡ v .x = same-placed 0 (sizeOf c + 2) w (laid-program written c) y (v .x) i (v .one) (omega arith) in
+        let b = chain-return n w (reg d) (v .x .point) u (subst (λ (z : Placed). z .point .within ≡ some u) q k) (v .chain) in
+        let r : b .r ≡ u .return = sym (b .calls .return) ∙ ap (λ (z : Within). z .return) (b .same) in
+        record {
+          call = b .y;
+          written = b .one;
+          body = b .calls .body .to;
+          placed = b .calls .body .one;
+          calls = b .is ∙ ap₂ link r (sym (b .calls .body .at));
+          of-it = b .calls .body .within ∙ ap some (b .same);
+          holds = ap (λ (z : ℕ). reg d z % 2 ^ 24) (sym r) ∙ b .value;
+        }
 
 -- ── an accepted text ──
 

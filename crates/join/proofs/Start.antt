@@ -56,95 +56,94 @@ placed-in x (y ∷ w) (inl e) = inl (ap (λ (z : Placed). z .instruction) e)
 placed-in x (y ∷ w) (inr h) = inr (placed-in x w h)
 
 module _
-  (written : List Registers) (n : ℕ) (l : Layout) (c : Core) (safe : Safe written n l [] [] start c) (fit : Fitting l) (few : n ≤ 2) (aligned : l .literalsAt % 4 ≡ 0)
-  (known : l .literals ≡ literalsFrom [] (instructions c)) (short : sizes (instructions c) ≤ segmentLimit) (object : Object (segments n l (instructions c)))
-  (s : List ℕ) (enough : needed ≤ length s)
+    (written : List Registers) (n : ℕ) (l : Layout) (c : Core) (safe : Safe written n l [] [] start c) (fit : Fitting l) (few : n ≤ 2) (aligned : l .literalsAt % 4 ≡ 0)
+    (known : l .literals ≡ literalsFrom [] (instructions c)) (short : sizes (instructions c) ≤ segmentLimit) (object : Object (segments n l (instructions c)))
+    (s : List ℕ) (enough : needed ≤ length s)
   where
+    abbrev w : List Placed
+    w = P.program written c
 
-  abbrev w : List Placed
-  w = P.program written c
+    abbrev gs : List Segment
+    gs = segments n l (instructions c)
 
-  abbrev gs : List Segment
-  gs = segments n l (instructions c)
+    content-is : contentOf (segmentAt gs 0) ≡ encodeAll l (instructions c)
+    unfolding segments
+    content-is = refl
 
-  content-is : contentOf (segmentAt gs 0) ≡ encodeAll l (instructions c)
-  unfolding segments
-  content-is = refl
+    count-is : length gs ≡ 2 + n
+    unfolding segments
+    count-is = let e = length-data l 2 n in omega arith
 
-  count-is : length gs ≡ 2 + n
-  unfolding segments
-  count-is = let e = length-data l 2 n in omega arith
+    table-is : tableLength gs ≡ endOfFirst l
+    unfolding segments firstData
+    table-is = end-firstData l
 
-  table-is : tableLength gs ≡ endOfFirst l
-  unfolding segments firstData
-  table-is = end-firstData l
+    program-is : spaceOf gs .program ≡ sizes (instructions c)
+    unfolding spaceOf segments
+    program-is = length-encodeAll l (instructions c)
 
-  program-is : spaceOf gs .program ≡ sizes (instructions c)
-  unfolding spaceOf segments
-  program-is = length-encodeAll l (instructions c)
+    code-end : sizes (instructions c) ≡ sizeOf c + 2
+    code-end = sizes-instructions c
 
-  code-end : sizes (instructions c) ≡ sizeOf c + 2
-  code-end = sizes-instructions c
-
-  standing : (x : Placed) → x ∈ w → Standing l (spaceOf gs) (loaded gs s) x
-  standing x h =
-      let t = stands 0 (sizeOf c + 2) w (laid-program written c) x h in
-      let o = t .offset in
-      let g = t .segment in
-      let en = t .end in
-      let ev = sizes-even (take (t .i) (instructionsOf w)) in
-      record {
-        even = omega arith;
-        inside = omega (arith, program-is, code-end);
-        bytes = λ j k.
-            let z : j < size (x .instruction) = rw (length-encode l (x .instruction)) at k in
-            let a : origin (x .segment) + x .at + j ≡ origin 0 + (x .at + j) = omega arith in
-            let b : x .at + j < length (contentOf (segmentAt gs 0)) = rw content-is (omega (arith, length-encodeAll l (instructions c), code-end)) in
-            let f = object-short gs object in
-            ap (λ (i : ℕ). getD (loaded gs s) i 0) a
-            ∙ (loaded-bytes gs s (f .0) (f .1) enough 0 (x .at + j) (omega (arith, count-is)) b (λ q. absurd (let y : _≡_ {A = ℕ} 0 1 = q in omega arith))
-            ∙ (ap (λ (bs : List ℕ). getD bs (x .at + j) 0) (content-is ∙ ap (encodeAll l) (sym (program-code written c))) ∙ bytes-at l (sizeOf c + 2) w (laid-program written c) x h j z));
-      }
-
-  pub in-storage : InStorage n l (sizeOf c) (P.program written c) (spaceOf (segments n l (instructions c))) (loaded (segments n l (instructions c)) s)
-  in-storage =
-      let f = object-short gs object in
-      let e = end-first l fit .0 in
-      let g = fit .start in
-      record {
-        flows = program-flows written n l c safe;
-        map = subst (λ (k : ℕ). Mapped n l k (spaceOf gs)) (sym (program-is ∙ sym (length-encodeAll l (instructions c)))) (mapped n l (instructions c) fit few aligned);
-        short = omega (arith, program-is);
-        long = omega (arith, length-loaded gs s (f .0) (f .1) enough);
-        table = λ k h. loaded-table gs s (f .0) (f .1) enough k (omega (arith, count-is)) (omega (arith, table-is));
-        standing = standing;
-        literals = λ x h v t.
-            rw known (literals-have (instructions c) [] (x .instruction) v (subst (λ (is : List Instruction). x .instruction ∈ is) (program-code written c) (placed-in x w h)) t);
-      }
-
-  -- ── the start ──
-
-  module _ (regs : List ℕ) (sixteen : length regs ≡ 16) (k : ℕ) where
-    fourteen-is : getD (set (set regs 14 (origin 1)) 15 (origin 0)) 14 0 ≡ origin 1
-    fourteen-is = getD-set-other (set regs 14 (origin 1)) 15 14 (origin 0) 0 (λ e. omega arith) ∙ getD-set-same regs 14 (origin 1) 0 (omega arith)
-
-    fifteen-is : getD (set (set regs 14 (origin 1)) 15 (origin 0)) 15 0 ≡ origin 0
-    fifteen-is = getD-set-same (set regs 14 (origin 1)) 15 (origin 0) 0 (omega (arith, length-set regs 14 (origin 1)))
-
-    start-holds : Holds (reg (started regs k)) start
-    start-holds b (inl e) = subst (λ (d : Based). reg (started regs k) (d .register) ≡ origin (d .segment)) (sym e) fourteen-is
-    start-holds b (inr e) = absurd e
-
-    pub begins : Inv n (P.program written c) (spaceOf (segments n l (instructions c))) (loaded (segments n l (instructions c)) s) (started regs k) (loaded (segments n l (instructions c)) s)
-    begins =
-        let g = program-start written n l c in
+    standing : (x : Placed) → x ∈ w → Standing l (spaceOf gs) (loaded gs s) x
+    standing x h =
+        let t = stands 0 (sizeOf c + 2) w (laid-program written c) x h in
+        let o = t .offset in
+        let g = t .segment in
+        let en = t .end in
+        let ev = sizes-even (take (t .i) (instructionsOf w)) in
         record {
-          x = g .to;
-          one = g .one;
-          counter = let z = g .at in let y = g .segment in omega arith;
-          base = fifteen-is ∙ ap origin (sym (g .segment));
-          sixteen = length-set (set regs 14 (origin 1)) 15 (origin 0) ∙ (length-set regs 14 (origin 1) ∙ sixteen);
-          chain = chain-under n w (reg (started regs k)) start (g .to .point) (g .under) (guarded n l (sizeOf c) w (spaceOf gs) (loaded gs s) in-storage (g .to) (g .one))
-              (outermost refl (guarded-start written n l c) start-holds);
-          keeps = keeps-all (spaceOf gs) (loaded gs s);
+          even = omega arith;
+          inside = omega (arith, program-is, code-end);
+          bytes = λ j k.
+              let z : j < size (x .instruction) = rw (length-encode l (x .instruction)) at k in
+              let a : origin (x .segment) + x .at + j ≡ origin 0 + (x .at + j) = omega arith in
+              let b : x .at + j < length (contentOf (segmentAt gs 0)) = rw content-is (omega (arith, length-encodeAll l (instructions c), code-end)) in
+              let f = object-short gs object in
+              ap (λ (i : ℕ). getD (loaded gs s) i 0) a
+              ∙ (loaded-bytes gs s (f .0) (f .1) enough 0 (x .at + j) (omega (arith, count-is)) b (λ q. absurd (let y : _≡_ {A = ℕ} 0 1 = q in omega arith))
+              ∙ (ap (λ (bs : List ℕ). getD bs (x .at + j) 0) (content-is ∙ ap (encodeAll l) (sym (program-code written c))) ∙ bytes-at l (sizeOf c + 2) w (laid-program written c) x h j z));
         }
+
+    pub in-storage : InStorage n l (sizeOf c) (P.program written c) (spaceOf (segments n l (instructions c))) (loaded (segments n l (instructions c)) s)
+    in-storage =
+        let f = object-short gs object in
+        let e = end-first l fit .0 in
+        let g = fit .start in
+        record {
+          flows = program-flows written n l c safe;
+          map = subst (λ (k : ℕ). Mapped n l k (spaceOf gs)) (sym (program-is ∙ sym (length-encodeAll l (instructions c)))) (mapped n l (instructions c) fit few aligned);
+          short = omega (arith, program-is);
+          long = omega (arith, length-loaded gs s (f .0) (f .1) enough);
+          table = λ k h. loaded-table gs s (f .0) (f .1) enough k (omega (arith, count-is)) (omega (arith, table-is));
+          standing = standing;
+          literals = λ x h v t.
+              rw known (literals-have (instructions c) [] (x .instruction) v (subst (λ (is : List Instruction). x .instruction ∈ is) (program-code written c) (placed-in x w h)) t);
+        }
+
+    -- ── the start ──
+
+    module _ (regs : List ℕ) (sixteen : length regs ≡ 16) (k : ℕ) where
+      fourteen-is : getD (set (set regs 14 (origin 1)) 15 (origin 0)) 14 0 ≡ origin 1
+      fourteen-is = getD-set-other (set regs 14 (origin 1)) 15 14 (origin 0) 0 (λ e. omega arith) ∙ getD-set-same regs 14 (origin 1) 0 (omega arith)
+
+      fifteen-is : getD (set (set regs 14 (origin 1)) 15 (origin 0)) 15 0 ≡ origin 0
+      fifteen-is = getD-set-same (set regs 14 (origin 1)) 15 (origin 0) 0 (omega (arith, length-set regs 14 (origin 1)))
+
+      start-holds : Holds (reg (started regs k)) start
+      start-holds b (inl e) = subst (λ (d : Based). reg (started regs k) (d .register) ≡ origin (d .segment)) (sym e) fourteen-is
+      start-holds b (inr e) = absurd e
+
+      pub begins : Inv n (P.program written c) (spaceOf (segments n l (instructions c))) (loaded (segments n l (instructions c)) s) (started regs k) (loaded (segments n l (instructions c)) s)
+      begins =
+          let g = program-start written n l c in
+          record {
+            x = g .to;
+            one = g .one;
+            counter = let z = g .at in let y = g .segment in omega arith;
+            base = fifteen-is ∙ ap origin (sym (g .segment));
+            sixteen = length-set (set regs 14 (origin 1)) 15 (origin 0) ∙ (length-set regs 14 (origin 1) ∙ sixteen);
+            chain = chain-under n w (reg (started regs k)) start (g .to .point) (g .under) (guarded n l (sizeOf c) w (spaceOf gs) (loaded gs s) in-storage (g .to) (g .one))
+                (outermost refl (guarded-start written n l c) start-holds);
+            keeps = keeps-all (spaceOf gs) (loaded gs s);
+          }

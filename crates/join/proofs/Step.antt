@@ -28,7 +28,7 @@ use Rattle.machine.specs.Operands.{operandAddress, operandBytes}
 use Rattle.machine.specs.Writes.{writesShort, writesLong}
 use Rattle.machine.specs.Step as M
 use Rattle.machine.specs.Step.{Cpu, cpu, Turn, Stepped, stepped, went, moved, executed, completed, atEnd, forbidden, misaligned, address, operand, shortBy, longBy, step}
-use Rattle.machine.proofs.Outside.{Keeps, step-keeps}
+use Rattle.machine.proofs.Outside.{Keeps, keeps-then, step-keeps}
 use Rattle.machine.proofs.Effects as E
 use Rattle.machine.proofs.Effects.{Changes, short-changes, long-changes, PlainShort, Reads, Serves, plain-onward, shift-onward, Ended, on, off, read-ends, store-ends, Branched, taken, passed, branch-goes, return-goes, link-address}
 use Rattle.translator.specs.Instructions.{Datum, element, literal, entry, Instruction, rr, rx, shift, branch, link, stop, size, opcode, loadRow, always}
@@ -124,8 +124,10 @@ serves-bytes : (k : Long) (z r : ℕ) → Serves k z r → operandBytes k ≡ z
 serves-bytes k z r (inl h) = reads-some k z r h
 serves-bytes k z r (inr e) = ap operandBytes e
 
-keeps-on : {m : Space} {s t u : List ℕ} → Keeps m s t → Keeps m t u → Keeps m s u
-keeps-on p q = record { long = q .long ∙ p .long; kept = λ a h. q .kept a h ∙ p .kept a h }
+-- the one element of a list
+only-one : (x r : ℕ) → x ∈ (r ∷ []) → x ≡ r
+only-one x r (inl e) = e
+only-one x r (inr h) = absurd h
 
 module _ (n : ℕ) (l : Layout) (e : ℕ) (w : List Placed) (m : Space) (s₀ : List ℕ) (p : InStorage n l e w m s₀) where
   pub guarded : (x : Placed) → x ∈ w → Guarded n (x .point)
@@ -204,7 +206,7 @@ module _ (n : ℕ) (l : Layout) (e : ℕ) (w : List Placed) (m : Space) (s₀ : 
           base = ch .others programBase f ∙ (v .base ∙ ap origin (sym (g .segment)));
           sixteen = ch .long ∙ v .sixteen;
           chain = chain-under n w (reg next) q (g .to .point) (g .under) (guarded (g .to) (g .one)) k;
-          keeps = keeps-on (v .keeps) (step-keeps m c s);
+          keeps = keeps-then (v .keeps) (step-keeps m c s);
         })
 
     -- with registers written that are not protected here
@@ -363,9 +365,11 @@ module _ (n : ℕ) (l : Layout) (e : ℕ) (w : List Placed) (m : Space) (s₀ : 
           let g = segment-is in
           let lo = i .at .low in
           let k = p .map .cells (d .base .segment) place width (g .0) (g .1) (omega arith) (size-positive (d .width)) cell-place in
-          inr
-          (ap (λ (b : ℕ). b % width) a ∙ aligned-at (d .width) (d .base .segment) (offsetOf (l .placed) (d .name)) o (i .at .aligned) (i .aligned),
-          ap (λ (b : ℕ). readable m b width) a ∙ k .0, ap (λ (b : ℕ). writable m b width) a ∙ k .1)
+          inr (
+            ap (λ (b : ℕ). b % width) a ∙ aligned-at (d .width) (d .base .segment) (offsetOf (l .placed) (d .name)) o (i .at .aligned) (i .aligned),
+            ap (λ (b : ℕ). readable m b width) a ∙ k .0,
+            ap (λ (b : ℕ). writable m b width) a ∙ k .1,
+          )
       reach (suc y) e = inl (omega arith)
 
       cell-fine : (op r : ℕ) → here .instruction ≡ rx op r (element d o x) → 64 ≤ op → Serves (longKind op) width r → Onward l w here → Fine n w m s₀ c s (rx op r (element d o x))
@@ -453,15 +457,8 @@ module _ (n : ℕ) (l : Layout) (e : ℕ) (w : List Placed) (m : Space) (s₀ : 
         let lk : reg next r % 2 ^ 24 ≡ afterCall here = ap (λ (x : ℕ). x % 2 ^ 24) rv ∙ (link-address (c .code) (c .counter + 4) (omega arith) ∙ omega arith) in
         let g : Good w (here .segment) t (to .point) =
         record { to = to; one = k .body .one; segment = sg; at = k .body .at; under = record { bases = λ b h. h; within = refl } } in
-        arrives (link r t) (to .point) t (ap (λ (o : Stepped). o .turn .stop) st) ct ch (λ h. k .spared programBase (inl (only programBase h)) fifteen-kept)
-        (chain-call n w (reg c) (reg next) here r t k (v .one) q (guarded to (k .body .one)) (λ x h. ch .others x (λ i. h (just x i))) lk (v .chain)) g
-      where
-        just : (x : ℕ) → (x ≡ r) ⊎ ⊥ → x ≡ r
-        just x (inl e) = e
-        just x (inr h) = absurd h
-
-        only : (x : ℕ) → (x ≡ r) ⊎ ⊥ → x ≡ k .v .return
-        only x h = just x h ∙ sym (k .return)
+        arrives (link r t) (to .point) t (ap (λ (o : Stepped). o .turn .stop) st) ct ch (λ h. k .spared programBase (inl (only-one programBase r h ∙ sym (k .return))) fifteen-kept)
+        (chain-call n w (reg c) (reg next) here r t k (v .one) q (guarded to (k .body .one)) (λ x h. ch .others x (λ i. h (only-one x r i))) lk (v .chain)) g
 
     -- ── base declarations ──
 
@@ -493,24 +490,20 @@ module _ (n : ℕ) (l : Layout) (e : ℕ) (w : List Placed) (m : Space) (s₀ : 
         let lg = v .sixteen in
         let sm = b .small in
         let rv : reg next r ≡ origin k = ap (λ (o : Stepped). getD (o .turn .cpu .regs) r 0) st ∙ getD-set-same (c .regs) r (origin k) 0 (omega arith) in
-        let kept = chain-kept n w (reg c) (reg next) (λ x. x ≡ r) (here .point) (b .spared) (b .counted) (λ x h. ch .others x (λ i. h (just x i))) (v .chain) in
+        let kept = chain-kept n w (reg c) (reg next) (λ x. x ≡ r) (here .point) (b .spared) (b .counted) (λ x h. ch .others x (λ i. h (only-one x r i))) (v .chain) in
         let g = u .next in
         goes (ap (λ (o : Stepped). o .turn .stop) st) ch
         (record {
           x = g .to;
           one = g .one;
           counter = let z = g .at in let y = g .segment in omega arith;
-          base = ch .others programBase (λ h. b .spared programBase (just programBase h) fifteen-kept) ∙ (v .base ∙ ap origin (sym (g .segment)));
+          base = ch .others programBase (λ h. b .spared programBase (only-one programBase r h) fifteen-kept) ∙ (v .base ∙ ap origin (sym (g .segment)));
           sixteen = ch .long ∙ v .sixteen;
           chain = chain-at n w (reg next) (here .point) (g .to .point) (g .under .within) (guarded (g .to) (g .one))
               (λ d i. held d (g .under .bases d i) rv (chain-holds n w (reg next) (here .point) kept)) kept;
-          keeps = keeps-on (v .keeps) (step-keeps m c s);
+          keeps = keeps-then (v .keeps) (step-keeps m c s);
         })
       where
-        just : (x : ℕ) → (x ≡ r) ⊎ ⊥ → x ≡ r
-        just x (inl e) = e
-        just x (inr h) = absurd h
-
         held : (d : Based) → (d ≡ record { register = r; segment = k }) ⊎ (d ∈ here .point .bases) → reg next r ≡ origin k → Holds (reg next) (here .point)
             → reg next (d .register) ≡ origin (d .segment)
         held d (inl e) h f = subst (λ (y : Based). reg next (y .register) ≡ origin (y .segment)) (sym e) h

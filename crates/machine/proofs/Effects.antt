@@ -109,9 +109,14 @@ module _ (m : Space) (c : Cpu) (s : List ℕ) (even : c .counter % 2 ≡ 0) (low
       ≡ longBy (longKind op) m (getD s (c .counter + 1) 0) (getD s (c .counter + 2) 0 / 16) (getD s (c .counter + 2) 0 % 16 * 256 + getD s (c .counter + 3) 0) c s
   unfolding step
   step-long h e =
-      rw
-      (eq-eqb (c .counter % 2) 0 even, le-leb (origin 0) (c .counter) low, le-leb (c .counter + 2) (origin 0 + m .program) (omega arith), is, le-ltb op 64 h,
-      le-leb (c .counter + 4) (origin 0 + m .program) e)
+      rw (
+        eq-eqb (c .counter % 2) 0 even,
+        le-leb (origin 0) (c .counter) low,
+        le-leb (c .counter + 2) (origin 0 + m .program) (omega arith),
+        is,
+        le-ltb op 64 h,
+        le-leb (c .counter + 4) (origin 0 + m .program) e,
+      )
 
 -- ── where control goes ──
 
