@@ -23,7 +23,8 @@ use Rattle.machine.specs.Run.{Result, budgetUsed, run}
 use Rattle.machine.proofs.Effects.{Changes}
 use Rattle.runner.specs.Load.{loaded, spaceOf, started}
 use Rattle.runner.specs.Runner as R
-use Rattle.runner.specs.Runner.{Outcome, judged, runner}
+use Rattle.runner.specs.Runner.{Outcome, runner}
+use Rattle.runner.proofs.Forms.{runner-read}
 use Rattle.translator.specs.Instructions.{Instruction, stop, sizes}
 use Rattle.translator.specs.Core.{Core, coreStatement}
 use Rattle.translator.specs.Code.{instructions}
@@ -78,8 +79,8 @@ module _
     result = run b (spaceOf (segmentsOf source)) (started regs k) (loaded (segmentsOf source) s)
 
     pub answer-is : runner object regs k b s ≡ R.accepted (run b (spaceOf (segmentsOf source)) (started regs k) (loaded (segmentsOf source) s))
-    unfolding runner madeOf
-    answer-is = ap (λ (o : _). judged o regs k b s) (p .read) ∙ rw (le-ltb 3 k valid, le-ltb (length s) needed enough)
+    unfolding madeOf
+    answer-is = runner-read object regs k b s (segmentsOf source) (p .read) ∙ rw (le-ltb 3 k valid, le-ltb (length s) needed enough)
 
     -- where the run ends, with a property Q of registers that each instruction keeps
     ended : (Q : Cpu → Type 0) → ((y : Placed) → y ∈ placedOf source → (c d : Cpu) → Changes c (writes (y .instruction)) d → Q c → Q d) → Q (started regs k)

@@ -68,7 +68,7 @@ pub const CALL: u32 = 51;
 pub const GOTO: u32 = 52;
 
 // How many numbers of events a tape has room for.
-pub const EVENTS: u32 = 64;
+pub const EVENTS: u32 = 128;
 
 // The layers of events.
 pub const EDGE: u32 = 0;
