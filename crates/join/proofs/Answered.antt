@@ -27,10 +27,9 @@ use Rattle.runner.specs.Runner.{Outcome, runner}
 use Rattle.runner.proofs.Forms.{runner-read}
 use Rattle.translator.specs.Instructions.{Instruction, stop, sizes}
 use Rattle.translator.specs.Core.{Core, coreStatement}
-use Rattle.translator.specs.Code.{sizeOf, instructions}
+use Rattle.translator.specs.Code.{instructions}
 use Rattle.translator.specs.Layout.{layout}
 use Rattle.translator.specs.Translate.{make, kindsOf}
-use Rattle.translator.proofs.Sizes.{sizes-instructions}
 use Rattle.translator.proofs.Rooms.{round-up}
 use Rattle.translator.proofs.Answers.{Accepted}
 use Rattle.translator.proofs.Objects.{few, fitting, accepted-object, accepted-read}
@@ -40,10 +39,9 @@ use Rattle.join.specs.Operands.{Named, Indexed}
 use Rattle.join.specs.Programs.{tokensIn, treeFrom, treeOf, madeOf, instructionsOf, layoutOf, segmentsOf, placedOf, stateOf, At, Fixed, Stops, CalledFrom}
 use Rattle.join.proofs.Placement.{program-code}
 use Rattle.join.proofs.Accepted.{accepted-safe}
-use Rattle.join.proofs.Step.{InStorage, Inv, Allowed}
 use Rattle.join.proofs.Runs.{Ends}
 use Rattle.join.proofs.Start.{placed-in}
-use Rattle.join.proofs.Reached.{Program, loaded-program, ends, stand, at-instruction, named-at, stops-at, fixed-kept, bases-held, called-from}
+use Rattle.join.proofs.Reached.{Sound, Program, ends, sound-end}
 
 -- ── from an acceptance ──
 
@@ -84,99 +82,28 @@ module _
     unfolding madeOf
     answer-is = runner-read object regs k b s (segmentsOf source) (p .read) ∙ rw (le-ltb 3 k valid, le-ltb (length s) needed enough)
 
-    abbrev core : Core
-    core = coreStatement (madeOf source .tables) (treeOf source)
-
-    instructions-are : instructionsOf source ≡ instructions core
-    unfolding madeOf make
-    instructions-are = refl
-
-    stored : InStorage (madeOf source .bases) (layoutOf source) (sizeOf core) (placedOf source) (spaceOf (segmentsOf source)) (loaded (segmentsOf source) s)
-    unfolding madeOf
-    stored = loaded-program (tokensIn source) (treeOf source) object p s enough
-
-    short : sizes (instructions core) ≤ room
-    unfolding madeOf make
-    short = p .short
-
     -- where the run ends, with a property Q of registers that each instruction keeps
     ended : (Q : Cpu → Type 0) → ((y : Placed) → y ∈ placedOf source → (c d : Cpu) → Changes c (writes (y .instruction)) d → Q c → Q d) → Q (started regs k)
         → Ends (madeOf source .bases) (placedOf source) (spaceOf (segmentsOf source)) (loaded (segmentsOf source) s) Q b result
     unfolding madeOf
     ended Q keeps q = ends (tokensIn source) (treeOf source) object p s enough regs sixteen k Q keeps q b
 
-    reached : Ends (madeOf source .bases) (placedOf source) (spaceOf (segmentsOf source)) (loaded (segmentsOf source) s) (λ c. Unit {0}) b result
-    reached = ended (λ c. Unit {0}) (λ y h c d ch q. tt) tt
+    abbrev SoundOf : Outcome → Type 0
+    SoundOf o = Sound (placedOf source) (instructionsOf source) (layoutOf source) (loaded (segmentsOf source) s) (stateOf o) (o .store) b (o .stop) (o .count)
 
-    number : ℕ
-    number =
-        stand (madeOf source .tables .written) (madeOf source .bases) (layoutOf source) core (spaceOf (segmentsOf source)) (loaded (segmentsOf source) s) stored (sizes-instructions core)
-        short (result .cpu) (result .store) (reached .inv) .i
+    sound-run : SoundOf (R.accepted result)
+    unfolding madeOf
+    sound-run =
+        sound-end (tokensIn source) (treeOf source) object p s enough (λ c. Unit {0}) b result (ended (λ c. Unit {0}) (λ y h c d ch q. tt) tt)
 
-    -- ── of the run ──
-
-    at-run : At (instructionsOf source) (result .cpu .counter) number
-    unfolding number
-    at-run =
-        subst (λ (is : List Instruction). At is (result .cpu .counter) number) (sym instructions-are)
-        (at-instruction (madeOf source .tables .written) (madeOf source .bases) (layoutOf source) core (spaceOf (segmentsOf source)) (loaded (segmentsOf source) s) stored
-        (sizes-instructions core) short (result .cpu) (result .store) (reached .inv))
-
-    named-run : (i : ℕ) → At (instructionsOf source) (result .cpu .counter) i → Named (layoutOf source) 0 (result .cpu) (result .store) (getD (instructionsOf source) i stop)
-    named-run =
-        subst (λ (is : List Instruction). (i : ℕ) → At is (result .cpu .counter) i → Named (layoutOf source) 0 (result .cpu) (result .store) (getD is i stop)) (sym instructions-are)
-        (named-at (madeOf source .tables .written) (madeOf source .bases) (layoutOf source) core (spaceOf (segmentsOf source)) (loaded (segmentsOf source) s) stored
-        (sizes-instructions core) short (result .cpu) (result .store) (reached .inv))
-
-    stops-run : (i : ℕ) → At (instructionsOf source) (result .cpu .counter) i → Stops (instructionsOf source) b i (result .stop) (result .count)
-    stops-run =
-        subst (λ (is : List Instruction). (i : ℕ) → At is (result .cpu .counter) i → Stops is b i (result .stop) (result .count)) (sym instructions-are)
-        (stops-at (madeOf source .tables .written) (madeOf source .bases) (layoutOf source) core (spaceOf (segmentsOf source)) (loaded (segmentsOf source) s) stored
-        (sizes-instructions core) short (result .cpu) (result .store) (reached .inv) b (result .stop) (result .count) (reached .how))
-
-    fixed-run : (a : ℕ) → Fixed (instructionsOf source) (layoutOf source) a → getD (result .store) a 0 ≡ getD (loaded (segmentsOf source) s) a 0
-    fixed-run =
-        subst (λ (is : List Instruction). (a : ℕ) → Fixed is (layoutOf source) a → getD (result .store) a 0 ≡ getD (loaded (segmentsOf source) s) a 0) (sym instructions-are)
-        (fixed-kept (madeOf source .tables .written) (madeOf source .bases) (layoutOf source) core (spaceOf (segmentsOf source)) (loaded (segmentsOf source) s) stored
-        (sizes-instructions core) short (result .cpu) (result .store) (reached .inv))
-
-    -- ── of the answer ──
-
-    pub at-an-instruction : (i : ℕ) × At (instructionsOf source) (runner object regs k b s .counter) i
-    at-an-instruction = subst (λ (o : Outcome). (i : ℕ) × At (instructionsOf source) (o .counter) i) (sym answer-is) (number, at-run)
-
-    pub operand-is-named : (i : ℕ) → At (instructionsOf source) (runner object regs k b s .counter) i
-        → Named (layoutOf source) 0 (stateOf (runner object regs k b s)) (runner object regs k b s .store) (getD (instructionsOf source) i stop)
-    operand-is-named =
-        subst (λ (o : Outcome). (i : ℕ) → At (instructionsOf source) (o .counter) i → Named (layoutOf source) 0 (stateOf o) (o .store) (getD (instructionsOf source) i stop)) (sym answer-is)
-        named-run
-
-    pub fixed-stays : (a : ℕ) → Fixed (instructionsOf source) (layoutOf source) a → getD (runner object regs k b s .store) a 0 ≡ getD (loaded (segmentsOf source) s) a 0
-    fixed-stays =
-        subst (λ (o : Outcome). (a : ℕ) → Fixed (instructionsOf source) (layoutOf source) a → getD (o .store) a 0 ≡ getD (loaded (segmentsOf source) s) a 0) (sym answer-is) fixed-run
-
-    pub stops-as : (i : ℕ) → At (instructionsOf source) (runner object regs k b s .counter) i
-        → Stops (instructionsOf source) b i (runner object regs k b s .stop) (runner object regs k b s .count)
-    stops-as =
-        subst (λ (o : Outcome). (i : ℕ) → At (instructionsOf source) (o .counter) i → Stops (instructionsOf source) b i (o .stop) (o .count)) (sym answer-is) stops-run
-
-    pub bases-hold : (getD (runner object regs k b s .regs) 14 0 ≡ origin 1) × (getD (runner object regs k b s .regs) 15 0 ≡ origin 0)
-    bases-hold =
-        subst (λ (o : Outcome). (getD (o .regs) 14 0 ≡ origin 1) × (getD (o .regs) 15 0 ≡ origin 0)) (sym answer-is)
-        (bases-held (madeOf source .tables .written) (madeOf source .bases) (layoutOf source) core (spaceOf (segmentsOf source)) (loaded (segmentsOf source) s) stored
-        (sizes-instructions core) short (result .cpu) (result .store) (reached .inv))
-
-    pub return-holds : (y : Placed) → y ∈ placedOf source → runner object regs k b s .counter ≡ origin (y .segment) + y .at → (u : Within) → y .point .within ≡ some u
-        → CalledFrom (placedOf source) u (getD (runner object regs k b s .regs) (u .return) 0)
-    return-holds =
-        subst
-        (λ (o : Outcome). (y : Placed) → y ∈ placedOf source → o .counter ≡ origin (y .segment) + y .at → (u : Within) → y .point .within ≡ some u
-        → CalledFrom (placedOf source) u (getD (o .regs) (u .return) 0)) (sym answer-is)
-        (called-from (madeOf source .tables .written) (madeOf source .bases) (layoutOf source) core (spaceOf (segmentsOf source)) (loaded (segmentsOf source) s) stored
-        (sizes-instructions core) short (result .cpu) (result .store) (reached .inv))
+    pub sound-answer : Sound (placedOf source) (instructionsOf source) (layoutOf source) (loaded (segmentsOf source) s) (stateOf (runner object regs k b s))
+        (runner object regs k b s .store) b (runner object regs k b s .stop) (runner object regs k b s .count)
+    sound-answer = subst SoundOf (sym answer-is) sound-run
 
     pub is-run : runner object regs k b s .number ≡ 0
     is-run = ap (λ (o : Outcome). o .number) answer-is
+
+    -- ── stops ──
 
     not-four : (is : List Instruction) (i j q : ℕ) → Stops is b i j q → j ≡ noInstruction → ⊥
     not-four is i j q (inl h) e = let z = h .0 in omega arith
@@ -185,21 +112,32 @@ module _
     not-four is i j q (inr (inr (inr h, x))) e = omega arith
 
     pub never-four : runner object regs k b s .stop ≡ noInstruction → ⊥
-    never-four = let a = at-an-instruction in not-four (instructionsOf source) (a .0) _ _ (stops-as (a .0) (a .1))
+    never-four = not-four (instructionsOf source) (sound-answer .number) _ _ (sound-answer .stops (sound-answer .number) (sound-answer .at))
 
     zero-or-one : (is : List Instruction) (i j q : ℕ) → All (λ (x : Instruction). Indexed x → ⊥) is → Stops is b i j q → (j ≡ budgetUsed) ⊎ (j ≡ atEnd)
     zero-or-one is i j q n (inl h) = inl (h .0)
     zero-or-one is i j q n (inr (inl h)) = inr (h .0)
     zero-or-one is i j q n (inr (inr h)) = absurd (all-getD (λ (x : Instruction). Indexed x → ⊥) is i stop n (λ x. x) (h .1))
 
-    pub unindexed-stops : All (λ (x : Instruction). Indexed x → ⊥) (instructionsOf source) → (runner object regs k b s .stop ≡ budgetUsed) ⊎ (runner object regs k b s .stop ≡ atEnd)
-    unindexed-stops n = let a = at-an-instruction in zero-or-one (instructionsOf source) (a .0) _ _ n (stops-as (a .0) (a .1))
+    pub unindexed-stops : All (λ (x : Instruction). Indexed x → ⊥) (instructionsOf source)
+        → (runner object regs k b s .stop ≡ budgetUsed) ⊎ (runner object regs k b s .stop ≡ atEnd)
+    unindexed-stops n = zero-or-one (instructionsOf source) (sound-answer .number) _ _ n (sound-answer .stops (sound-answer .number) (sound-answer .at))
+
+    -- ── registers ──
+
+    abbrev core : Core
+    core = coreStatement (madeOf source .tables) (treeOf source)
+
+    instructions-are : instructions core ≡ instructionsOf source
+    unfolding madeOf make
+    instructions-are = refl
 
     written-here : (y : Placed) → y ∈ placedOf source → y .instruction ∈ instructionsOf source
     written-here y h =
-        subst (λ (is : List Instruction). y .instruction ∈ is) (program-code (madeOf source .tables .written) core ∙ sym instructions-are) (placed-in y (placedOf source) h)
+        subst (λ (is : List Instruction). y .instruction ∈ is) (program-code (madeOf source .tables .written) core ∙ instructions-are) (placed-in y (placedOf source) h)
 
-    pub unwritten-stays : (q : ℕ) → q < 14 → All (λ (x : Instruction). q ∈ writes x → ⊥) (instructionsOf source) → getD (runner object regs k b s .regs) q 0 ≡ getD regs q 0
+    pub unwritten-stays : (q : ℕ) → q < 14 → All (λ (x : Instruction). q ∈ writes x → ⊥) (instructionsOf source)
+        → getD (runner object regs k b s .regs) q 0 ≡ getD regs q 0
     unwritten-stays q h n =
         ap (λ (o : Outcome). getD (o .regs) q 0) answer-is
         ∙ ended (λ c. getD (c .regs) q 0 ≡ getD regs q 0)

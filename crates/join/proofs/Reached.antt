@@ -26,6 +26,7 @@ use Rattle.translator.specs.Code.{sizeOf, instructions}
 use Rattle.translator.specs.Layout.{Layout, segmentLimit, tableBytes, literalsFrom, literalsEnd}
 use Rattle.translator.specs.Image.{segments}
 use Rattle.translator.specs.Translate.{Made, make}
+use Rattle.translator.proofs.Sizes.{sizes-instructions}
 use Rattle.translator.proofs.Images.{Fitting}
 use Rattle.join.specs.Writes.{writes}
 use Rattle.join.specs.Points as P
@@ -77,6 +78,18 @@ same-placed p e (z ∷ xs) l x y (inr a) (inl b) h =
 
 -- ── where a run ends ──
 
+-- what holds of a program w with the instructions `is` and the layout l, loaded as s₀, at the state d and s where a run of b instructions ended with the stop k and
+-- the count q
+pub record Sound (w : List Placed) (is : List Instruction) (l : Layout) (s₀ : List ℕ) (d : Cpu) (s : List ℕ) (b k q : ℕ) : Type 0 where
+  pub number : ℕ
+  pub at : At is (d .counter) number
+  pub named : (i : ℕ) → At is (d .counter) i → Named l 0 d s (getD is i stop)
+  pub fixed : (a : ℕ) → Fixed is l a → getD s a 0 ≡ getD s₀ a 0
+  pub stops : (i : ℕ) → At is (d .counter) i → Stops is b i k q
+  pub bases : (getD (d .regs) 14 0 ≡ origin 1) × (getD (d .regs) 15 0 ≡ origin 0)
+  pub called : (y : Placed) → y ∈ w → d .counter ≡ origin (y .segment) + y .at → (u : Within) → y .point .within ≡ some u
+      → CalledFrom w u (getD (d .regs) (u .return) 0)
+
 module _
     (written : List Registers) (n : ℕ) (l : Layout) (c : Core) (m : Space) (s₀ : List ℕ) (p : InStorage n l (sizeOf c) (P.program written c) m s₀) (code-end : sizes (instructions c) ≡ sizeOf c + 2)
     (short : sizes (instructions c) ≤ room) (d : Cpu) (s : List ℕ) (v : Inv n (P.program written c) m s₀ d s)
@@ -87,13 +100,13 @@ module _
     abbrev is : List Instruction
     is = instructions c
 
-    pub stand : Stands 0 (sizeOf c + 2) w (v .x)
+    stand : Stands 0 (sizeOf c + 2) w (v .x)
     stand = stands 0 (sizeOf c + 2) w (laid-program written c) (v .x) (v .one)
 
     there : getD is (stand .i) stop ≡ v .x .instruction
     there = rw (program-code written c) at (stand .is)
 
-    pub at-instruction : At (instructions c) (d .counter) (stand .i)
+    at-instruction : At (instructions c) (d .counter) (stand .i)
     at-instruction =
         let o : 0 + sizes (take (stand .i) is) ≡ v .x .at = rw (program-code written c) at (stand .offset) in
         let k = v .counter in
@@ -103,12 +116,12 @@ module _
     instruction-at : (i : ℕ) → At is (d .counter) i → getD is i stop ≡ v .x .instruction
     instruction-at i a = ap (λ (j : ℕ). getD is j stop) (at-same is (d .counter) i (stand .i) a at-instruction) ∙ there
 
-    pub named-at : (i : ℕ) → At (instructions c) (d .counter) i → Named l 0 d s (getD (instructions c) i stop)
+    named-at : (i : ℕ) → At (instructions c) (d .counter) i → Named l 0 d s (getD (instructions c) i stop)
     named-at i a =
         subst (λ (j : Instruction). Named l 0 d s j) (sym (instruction-at i a))
         (subst (λ (g : ℕ). Named l g d s (v .x .instruction)) (stand .segment) (operand-named n l (sizeOf c) w m s₀ p d s v))
 
-    pub stops-at : (b k q : ℕ) → ((k ≡ budgetUsed) × (q ≡ b)) ⊎ Allowed (v .x .instruction) k → (i : ℕ) → At (instructions c) (d .counter) i → Stops (instructions c) b i k q
+    stops-at : (b k q : ℕ) → ((k ≡ budgetUsed) × (q ≡ b)) ⊎ Allowed (v .x .instruction) k → (i : ℕ) → At (instructions c) (d .counter) i → Stops (instructions c) b i k q
     stops-at b k q (inl h) i a = inl h
     stops-at b k q (inr (inl h)) i a =
         let e = stop-last n l (sizeOf c) w m s₀ p d s v (h .1) in
@@ -120,7 +133,7 @@ module _
         inr (inl (h .0, j, last-number is i (a .index) (omega (arith, code-end))))
     stops-at b k q (inr (inr h)) i a = inr (inr (h .0, subst Indexed (sym (instruction-at i a)) (h .1)))
 
-    pub fixed-kept : (a : ℕ) → Fixed (instructions c) l a → getD s a 0 ≡ getD s₀ a 0
+    fixed-kept : (a : ℕ) → Fixed (instructions c) l a → getD s a 0 ≡ getD s₀ a 0
     fixed-kept a (inl h) = v .keeps .kept a (p .map .below a (omega arith))
     fixed-kept a (inr (inl h)) = v .keeps .kept a (p .map .below a (omega arith))
     fixed-kept a (inr (inr h)) =
@@ -128,11 +141,11 @@ module _
         let e : a ≡ origin 1 + (a - origin 1) = omega arith in
         v .keeps .kept a (ap (λ (b : ℕ). writable m b 1) e ∙ p .map .fixed (a - origin 1) (omega arith) (omega arith))
 
-    pub bases-held : (getD (d .regs) 14 0 ≡ origin 1) × (getD (d .regs) 15 0 ≡ origin 0)
+    bases-held : (getD (d .regs) 14 0 ≡ origin 1) × (getD (d .regs) 15 0 ≡ origin 0)
     bases-held =
         (chain-holds n w (reg d) (v .x .point) (v .chain) dataBase (guarded n l (sizeOf c) w m s₀ p (v .x) (v .one) .fourteen), v .base ∙ ap origin (stand .segment))
 
-    pub called-from : (y : Placed) → y ∈ P.program written c → d .counter ≡ origin (y .segment) + y .at → (u : Within) → y .point .within ≡ some u → CalledFrom (P.program written c) u (getD (d .regs) (u .return) 0)
+    called-from : (y : Placed) → y ∈ P.program written c → d .counter ≡ origin (y .segment) + y .at → (u : Within) → y .point .within ≡ some u → CalledFrom (P.program written c) u (getD (d .regs) (u .return) 0)
     called-from y i a u k =
         let g = stand .segment in
         let f = stands 0 (sizeOf c + 2) w (laid-program written c) y i .segment in
@@ -148,6 +161,18 @@ module _
           calls = b .is ∙ ap₂ link r (sym (b .calls .body .at));
           of-it = b .calls .body .within ∙ ap some (b .same);
           holds = ap (λ (z : ℕ). reg d z % 2 ^ 24) (sym r) ∙ b .value;
+        }
+
+    pub sound : (b k q : ℕ) → ((k ≡ budgetUsed) × (q ≡ b)) ⊎ Allowed (v .x .instruction) k → Sound (P.program written c) (instructions c) l s₀ d s b k q
+    sound b k q h =
+        record {
+          number = stand .i;
+          at = at-instruction;
+          named = named-at;
+          fixed = fixed-kept;
+          stops = stops-at b k q h;
+          bases = bases-held;
+          called = called-from;
         }
 
 -- ── an accepted text ──
@@ -187,3 +212,11 @@ module _ (ts : List Token) (x : Statement) (object : List ℕ) (p : Program ts x
   ends regs sixteen k Q keeps q b =
       run-fine (text .bases) (text .layout) (sizeOf core) code (spaceOf gs) (loaded gs s) loaded-program Q keeps b (started regs k) (loaded gs s)
       (begins (text .tables .written) (text .bases) (text .layout) core (p .safe) (p .fitting) (p .few) (p .aligned) (p .known) (p .short) (p .is-object) s enough regs sixteen k) q
+
+  -- where it ended
+  pub sound-end : (Q : Cpu → Type 0) (b : ℕ) (r : Result) → Ends (make ts x .bases) code (spaceOf gs) (loaded gs s) Q b r
+      → Sound code (make ts x .instructions) (make ts x .layout) (loaded gs s) (r .cpu) (r .store) b (r .stop) (r .count)
+  unfolding make
+  sound-end Q b r u =
+      sound (text .tables .written) (text .bases) (text .layout) core (spaceOf gs) (loaded gs s) loaded-program (sizes-instructions core) (p .short) (r .cpu) (r .store) (u .inv)
+      b (r .stop) (r .count) (u .how)
