@@ -74,6 +74,10 @@ module _ (start room : ℕ) where
           omega (arith, length-take-le n′ literals′ (omega arith), ap length z)
       filled l (inr g) = omega (arith, h .full g, literals-more c (s .literals))
 
+-- nothing is laid at first
+pub holds-first : (room : ℕ) (image literals : List ℕ) → Holds room 0 0 image literals (laidOf 0 image [])
+holds-first room image literals = record { reached = refl; same = λ l. refl; full = λ e. omega arith }
+
 -- ── an event ──
 
 -- what is laid holds of a state from which the rest leads to the whole
@@ -113,12 +117,12 @@ module _ (start room : ℕ) (kinds values found goes means bases opens offsets m
       (tape : List ℕ) (i op t at n at′ n′ : ℕ) (image literals image′ literals′ : List ℕ) (m : Codes) (w w′ : Writing) (whole : Coding) → i < length tape
       → op ≡ getD tape i 0 % 64 → t ≡ getD tape i 0 / 64
       → m ≡ codesBy kinds values found goes means bases opens offsets marks op t w → w′ ≡ writingAfter values found means bases offsets op t w
-      → ((s : Laid) → Holds room at n image literals s → Holds room at′ n′ image′ literals′ (layAll start (listOf m) s))
+      → {given : ℕ} → given ≡ room → ((s : Laid) → Holds given at n image literals s → Holds given at′ n′ image′ literals′ (layAll start (listOf m) s))
       → Coded at n image literals w (drop i tape) whole → Coded at′ n′ image′ literals′ w′ (drop (i + 1) tape) whole
   unfolding codeEvent
-  tape-turn tape i op t at n at′ n′ image literals image′ literals′ m w w′ whole h eo et em ew laid l = record {
+  tape-turn tape i op t at n at′ n′ image literals image′ literals′ m w w′ whole h eo et em ew e laid l = record {
     state = layAll start (listOf m) (l .state);
-    holds = laid (l .state) (l .holds);
+    holds = (rw e at laid) (l .state) (l .holds);
     leads = rw (em, ew) (pass-turn step (codingOf (l .state) w) tape i op t h eo et (l .leads));
   }
 

@@ -106,7 +106,7 @@ module _ (l : Layout) (place : ℕ → ℕ) (right : (t : ℕ) → place t ≡ o
 
   laid-list : (is : List Instruction) (at : ℕ) (image seen : List ℕ) → AllPlaced is seen
       → layAll start (map (codeFor place) is) (laidOf at image seen) ≡ laidOf (at + sizes is) (sets image at (bytesIn (encodeAll l is))) (literalsFrom seen is)
-  unfolding encodeAll literalsFrom
+  unfolding encodeAll literalsFrom fold
   laid-list [] at image seen h = let e : at + 0 ≡ at = omega arith in laid-same at (at + 0) image image seen seen (sym e) refl refl
   laid-list (i ∷ is) at image seen h =
       let bs = bytesIn (encode l i) in
@@ -142,7 +142,7 @@ module _ (l : Layout) (place : ℕ → ℕ) (right : (t : ℕ) → place t ≡ o
       → along kinds values found goes means bases opens offsets marks noWriting tape ≡ map (codeFor place) (code [] [] c 0) → literalsFrom [] (instructions c) ≡ l .literals
       → codeAlong start kinds values found goes means bases opens offsets marks image tape
       ≡ laidOf (sizes (instructions c)) (sets image 0 (bytesIn (encodeAll l (instructions c)))) (l .literals)
-  unfolding codeAlong instructions codeFor
+  unfolding codeAlong instructions codeFor layCode fold
   laid-instructions kinds values found goes means bases opens offsets marks image tape c e q =
       let is = code [] [] c 0 in
       let s = laidOf 0 image [] in
