@@ -53,14 +53,15 @@ in-room n n′ room h stays b = by (either n room h)
 
 module _ (start room : ℕ) where
   pub holds-on :
-      (at n n′ : ℕ) (image literals image′ literals′ : List ℕ) (c : Code) (s : Laid) → n ≤ room → length literals′ ≡ room
+      (at n n′ : ℕ) (image literals image′ literals′ : List ℕ) (c : Code) (s : Laid) → length literals′ ≡ room
       → (n < room → laidBy (at + codeSize c) n′ image′ literals′ ≡ layCode start c (laidBy at n image literals)) → (n ≡ room → n′ ≡ n)
-      → Holds room at n image literals s → Holds room (at + codeSize c) n′ image′ literals′ (layCode start c s)
+      → n′ ≤ n + 1 → Holds room at n image literals s → Holds room (at + codeSize c) n′ image′ literals′ (layCode start c s)
   unfolding layCode
-  holds-on at n n′ image literals image′ literals′ c s b e step stays h = record {
+  holds-on at n n′ image literals image′ literals′ c s e step stays one h = record {
     reached = ap (λ (p : ℕ). p + codeSize c) (h .reached);
-    same = λ l. by l (either n room b);
-    full = λ l. filled l (either n room b);
+    inside = in-room n n′ room (h .inside) stays one;
+    same = λ l. by l (either n room (h .inside));
+    full = λ l. filled l (either n room (h .inside));
   }
     where
       by : n′ < room → (n < room) ⊎ (n ≡ room) → laidBy (at + codeSize c) n′ image′ literals′ ≡ layCode start c s
@@ -76,7 +77,7 @@ module _ (start room : ℕ) where
 
 -- nothing is laid at first
 pub holds-first : (room : ℕ) (image literals : List ℕ) → Holds room 0 0 image literals (laidOf 0 image [])
-holds-first room image literals = record { reached = refl; same = λ l. refl; full = λ e. omega arith }
+holds-first room image literals = record { reached = refl; inside = omega arith; same = λ l. refl; full = λ e. omega arith }
 
 -- ── an event ──
 
@@ -88,13 +89,13 @@ pub record Left (start room at n : ℕ) (image literals : List ℕ) (rest : List
 
 module _ (start room k : ℕ) (cs : List Code) where
   pub event-turn :
-      (at n z n′ : ℕ) (image literals image′ literals′ : List ℕ) (c : Code) (whole : Laid) → n ≤ room → length literals′ ≡ room → k < length cs → c ≡ getD cs k blank
+      (at n z n′ : ℕ) (image literals image′ literals′ : List ℕ) (c : Code) (whole : Laid) → length literals′ ≡ room → k < length cs → c ≡ getD cs k blank
       → z ≡ codeSize c
       → (n < room → laidBy (at + codeSize c) n′ image′ literals′ ≡ layCode start c (laidBy at n image literals)) → (n ≡ room → n′ ≡ n)
-      → Left start room at n image literals (drop k cs) whole → Left start room (at + z) n′ image′ literals′ (drop (k + 1) cs) whole
-  event-turn at n z n′ image literals image′ literals′ c whole b e h q ez step stays l = record {
+      → n′ ≤ n + 1 → Left start room at n image literals (drop k cs) whole → Left start room (at + z) n′ image′ literals′ (drop (k + 1) cs) whole
+  event-turn at n z n′ image literals image′ literals′ c whole e h q ez step stays one l = record {
     state = layCode start c (l .state);
-    holds = rw ez (holds-on start room at n n′ image literals image′ literals′ c (l .state) b e step stays (l .holds));
+    holds = rw ez (holds-on start room at n n′ image literals image′ literals′ c (l .state) e step stays one (l .holds));
     leads = rw q (fold-turn _ (l .state) cs k blank h (l .leads));
   }
 
@@ -128,13 +129,12 @@ module _ (start room : ℕ) (kinds values found goes means bases opens offsets m
 
   -- and the last instruction behind all
   pub tape-end :
-      (tape image₀ : List ℕ) (i at n n′ : ℕ) (image literals image′ literals′ : List ℕ) (w : Writing) (c : Code) → length tape ≤ i → n ≤ room → length literals′ ≡ room
-      → c ≡ stopCode
+      (tape image₀ : List ℕ) (i at n n′ : ℕ) (image literals image′ literals′ : List ℕ) (w : Writing) (c : Code) → length tape ≤ i → length literals′ ≡ room → c ≡ stopCode
       → (n < room → laidBy (at + codeSize c) n′ image′ literals′ ≡ layCode start c (laidBy at n image literals)) → (n ≡ room → n′ ≡ n)
-      → Coded at n image literals w (drop i tape) (pass step (codingOf (laidOf 0 image₀ []) noWriting) tape)
+      → n′ ≤ n + 1 → Coded at n image literals w (drop i tape) (pass step (codingOf (laidOf 0 image₀ []) noWriting) tape)
       → Holds room (at + 2) n′ image′ literals′ (codeAlong start kinds values found goes means bases opens offsets marks image₀ tape)
   unfolding codeAlong codeSize
-  tape-end tape image₀ i at n n′ image literals image′ literals′ w c h b e ec step′ stays l =
+  tape-end tape image₀ i at n n′ image literals image′ literals′ w c h e ec step′ stays one l =
       let q = pass-end step (codingOf (l .state) w) tape i h (l .leads) in
-      let g = holds-on start room at n n′ image literals image′ literals′ stopCode (l .state) b e (rw ec at step′) stays (l .holds) in
+      let g = holds-on start room at n n′ image literals image′ literals′ stopCode (l .state) e (rw ec at step′) stays one (l .holds) in
       subst (λ (x : Coding). Holds room (at + 2) n′ image′ literals′ (layCode start stopCode (x .laid))) q g

@@ -78,5 +78,6 @@ codeAlong start kinds values found goes means bases opens offsets marks image ta
 -- What is reached in a room for so many literals: the address always; all else while the room is not full; a full room says that there are as many literals.
 pub record Holds (room at n : ℕ) (image literals : List ℕ) (s : Laid) : Type 0 where
   pub reached : at ≡ s .at
+  pub inside : n ≤ room
   pub same : n < room → laidBy at n image literals ≡ s
   pub full : n ≡ room → room ≤ length (s .literals)

@@ -208,7 +208,14 @@ fn enter_in_room(literals: &mut [u64], count: usize, place: usize, v: u64) -> us
 }
 
 // Lays an instruction at p behind n literals; the number of literals then.
-fn lay_code(image: &mut [u8], literals: &mut [u64], start: u64, p: usize, n: usize, c: Code) -> usize
+fn lay_code(
+    image: &mut [u8],
+    literals: &mut [u64],
+    start: u64,
+    p: usize,
+    n: usize,
+    c: Code,
+) -> usize
     requires { ⌜ (n ≤ length (now literals)) × (length (now literals) ≤ 4294967296) × (start < 1099511627776) × (p < 4294967296) ⌝ }
     ensures { λ r. ⌜ (n < length (now (literals .entry)) → laidBy (p + codeSize c) r (now (image .exit)) (now (literals .exit)) ≡ layCode start c (laidBy p n (now (image .entry)) (now (literals .entry)))) × (n ≡ length (now (literals .entry)) → r ≡ n) × (r ≤ n + 1) ⌝ }
 {

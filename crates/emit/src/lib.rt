@@ -114,7 +114,12 @@ const CONDITION_KINDS: [u8; 7] = [
     token::kinds::OVERFLOW,
 ];
 
-const SHIFT_KINDS: [u8; 4] = [token::kinds::SHLL, token::kinds::SHRL, token::kinds::SHLA, token::kinds::SHRA];
+const SHIFT_KINDS: [u8; 4] = [
+    token::kinds::SHLL,
+    token::kinds::SHRL,
+    token::kinds::SHLA,
+    token::kinds::SHRA,
+];
 
 const LOAD: usize = 0;
 
@@ -669,11 +674,7 @@ fn declared(op: u32, t: usize, found: &[u32], means: &[u64], opens: &[u32], mark
         return Codes::One(branch(ALWAYS, get(marks, t + 1)));
     }
     if op == tape::END_PROCEDURE {
-        return Codes::One(Code::Two(
-            RETURN,
-            ALWAYS,
-            register(meaning(found, means, t + 2)),
-        ));
+        return Codes::One(Code::Two(RETURN, ALWAYS, register(meaning(found, means, t + 2))));
     }
     Codes::None
 }
@@ -705,7 +706,12 @@ fn limit(values: &[u64], marks: &[u32], aim: Use, t: usize, u: Use) -> Codes
     ensures { λ m. ⌜ m ≡ limitCodes (now (values .entry)) (now (marks .entry)) aim t u ⌝ }
 {
     let mask = exit_mask(key(values, before(t, 2)));
-    apply_then(COMPARE, held(aim), u, branch(mask, get(marks, before(t, 3))))
+    apply_then(
+        COMPARE,
+        held(aim),
+        u,
+        branch(mask, get(marks, before(t, 3))),
+    )
 }
 
 // "5A of the step; branch to the compare".

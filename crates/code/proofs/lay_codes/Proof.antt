@@ -65,15 +65,19 @@ loop-again c =
     let laid = c .before .before .before .before .before .lay-code in
     let z = c .code-size in
     let len : length (l .literals) ≡ length (a .literals .now) = l .inv .5 in
-    let one : laid .result ≤ l .n + 1 = laid .ensures .2 in
-    (
+    let one : laid .result ≤ l .n + 1 = laid .ensures .2 in (
       omega arith,
       omega (arith, l .inv .1, z .ensures .1),
       omega (arith, l .inv .2, one),
       in-room (l .n) (laid .result) (length (a .literals .now)) (l .inv .3) (λ g. laid .ensures .1 (g ∙ sym len)) one,
       laid .kept .0 ∙ l .inv .4,
       laid .kept .1 .0 ∙ len,
-      λ s h. event-turn (a .start) (length (a .literals .now)) (l .k) (listOf (a .m)) (l .p) (l .n) (z .result) (laid .result) (l .image) (l .literals) _ _ (c .before .before .before .before .before .before .before .before .nth .result) _ (l .inv .3) (laid .kept .1 .0 ∙ len) (omega (arith, c .before .before .before .before .before .before .before .before .before .before .before .count .ensures .0)) (c .before .before .before .before .before .before .before .before .nth .ensures) (z .ensures .0) (λ g. laid .ensures .0 (omega (arith, g, len))) (λ g. laid .ensures .1 (g ∙ sym len)) (l .inv .6 s h),
+      λ s h.
+          event-turn (a .start) (length (a .literals .now)) (l .k) (listOf (a .m)) (l .p) (l .n) (z .result) (laid .result) (l .image) (l .literals) _ _
+          (c .before .before .before .before .before .before .before .before .nth .result) _ (laid .kept .1 .0 ∙ len)
+          (omega (arith, c .before .before .before .before .before .before .before .before .before .before .before .count .ensures .0))
+          (c .before .before .before .before .before .before .before .before .nth .ensures) (z .ensures .0) (λ g. laid .ensures .0 (omega (arith, g, len)))
+          (λ g. laid .ensures .1 (g ∙ sym len)) one (l .inv .6 s h),
     )
 
 same-length : tie.Need-same-length Inv-loop μ-loop
@@ -87,8 +91,7 @@ returns c =
     let a = c .before .before .before .before .before .args in
     let l = c .before .loop in
     let t = c .loop-test .left in
-    let e = c .before .before .count .ensures in
-    (
+    let e = c .before .before .count .ensures in (
       λ s h. event-end (a .start) (length (a .literals .now)) (l .k) (listOf (a .m)) (l .p) (l .n) (l .image) (l .literals) _ (omega (arith, e .0)) (l .inv .6 s h),
       omega (arith, e .1, l .inv .2, l .inv .0),
       l .inv .3,

@@ -53,7 +53,8 @@ mark-after-requires : tie.Need-mark-after-requires Inv-loop μ-loop
 mark-after-requires c κs =
     let b = c .before .before .before .before .before .before .before .before .loop .inv .1 in
     let h = c .before .before .before .before .before .before .before .loop-test .taken in
-    let n = c .before .before .before .before .before .before .before .before .before .before .before .before .before .before .before .before .before .before .before .pre in
+    let n = c .before .before .before .before .before .before .before .before .before .before .before .before .before .before .before .before .before .before .before .pre
+    in
     (c .before .before .before .before .token .ensures .1, omega arith, omega (arith, c .before .size .ensures .1))
 
 writing-after-requires : tie.Need-writing-after-requires Inv-loop μ-loop
@@ -62,7 +63,8 @@ writing-after-requires c κs = c .before .before .before .before .before .before
 add-i : tie.Need-add-i Inv-loop μ-loop
 add-i c =
     let h = c .before .before .before .before .before .before .before .before .before .before .before .loop-test .taken in
-    let n = c .before .before .before .before .before .before .before .before .before .before .before .before .before .before .before .before .before .before .before .before .before .before .before .pre in
+    let n = c .before .before .before .before .before .before .before .before .before .before .before .before .before .before .before .before .before .before .before
+    .before .before .before .before .pre in
     omega arith
 
 loop-less : tie.Need-loop-less Inv-loop μ-loop
@@ -72,17 +74,19 @@ loop-less c =
 
 loop-again : tie.Need-loop-again Inv-loop μ-loop
 loop-again c =
-    let a = c .before .before .before .before .before .before .before .before .before .before .before .before .before .before .before .before .before .before .before .before .before .before .before .args in
+    let a = c .before .before .before .before .before .before .before .before .before .before .before .before .before .before .before .before .before .before .before
+    .before .before .before .before .args in
     let l = c .before .before .before .before .before .before .before .before .before .before .before .before .loop in
     let h = c .before .before .before .before .before .before .before .before .before .before .before .loop-test .taken in
     let op = c .before .before .before .before .before .before .before .before .before .op in
-    let t = c .before .before .before .before .before .before .before .before .token in
-    (
+    let t = c .before .before .before .before .before .before .before .before .token in (
       omega arith,
       omega (arith, l .inv .1, c .before .before .before .before .before .size .ensures .1),
       search needs,
-      rw (place-is (a .kinds .now) (a .values .now) (a .found .now) (a .goes .now) (a .means .now) (a .bases .now) (a .opens .now) (a .offsets .now) (l .marks) (op .result) (t .result) (l .p) (l .w) (c .before .before .before .before .before .before .codes-at .ensures) (c .before .before .before .before .before .size .ensures .0) (c .before .before .before .mark-after .ensures) (c .writing-after .ensures))
-      (pass-turn (placeEvent (a .kinds .now) (a .values .now) (a .found .now) (a .goes .now) (a .means .now) (a .bases .now) (a .opens .now) (a .offsets .now)) (placingOf (l .p) (l .w) (l .marks)) (a .tape .now) (l .i) (op .result) (t .result) h (op .ensures .0) (t .ensures .0) (l .inv .3)),
+      rw
+          (place-is (a .kinds .now) (a .values .now) (a .found .now) (a .goes .now) (a .means .now) (a .bases .now) (a .opens .now) (a .offsets .now) (l .marks) (op .result) (t .result) (l .p) (l .w) (c .before .before .before .before .before .before .codes-at .ensures) (c .before .before .before .before .before .size .ensures .0) (c .before .before .before .mark-after .ensures) (c .writing-after .ensures))
+          (pass-turn (placeEvent (a .kinds .now) (a .values .now) (a .found .now) (a .goes .now) (a .means .now) (a .bases .now) (a .opens .now) (a .offsets .now))
+          (placingOf (l .p) (l .w) (l .marks)) (a .tape .now) (l .i) (op .result) (t .result) h (op .ensures .0) (t .ensures .0) (l .inv .3)),
     )
 
 same-length : tie.Need-same-length Inv-loop μ-loop
@@ -92,7 +96,8 @@ returns : tie.Need-returns Inv-loop μ-loop
 returns c =
     let a = c .before .before .before .before .before .before .before .before .before .before .before .before .args in
     let l = c .before .loop in
-    let e = pass-end (placeEvent (a .kinds .now) (a .values .now) (a .found .now) (a .goes .now) (a .means .now) (a .bases .now) (a .opens .now) (a .offsets .now)) (placingOf (l .p) (l .w) (l .marks)) (a .tape .now) (l .i) (c .loop-test .left) (l .inv .3) in
+    let e = pass-end (placeEvent (a .kinds .now) (a .values .now) (a .found .now) (a .goes .now) (a .means .now) (a .bases .now) (a .opens .now) (a .offsets .now))
+    (placingOf (l .p) (l .w) (l .marks)) (a .tape .now) (l .i) (c .loop-test .left) (l .inv .3) in
     (ap (λ (s : Placing). s .at) e, ap (λ (s : Placing). s .marks) e)
 
 pub places-spec : {M : Type 1} → statement M

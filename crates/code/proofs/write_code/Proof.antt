@@ -9,13 +9,14 @@ use borrow.Author.Needs.{needs}
 use Rattle.tape.specs.Pass.{pass}
 use Rattle.code.specs.Coding.{laidOf, codingOf, codeEvent}
 use Rattle.code.specs.Places.{noWriting}
-use Rattle.code.proofs.Holding.{Coded, in-room, holds-first, tape-turn, tape-end}
+use Rattle.code.proofs.Holding.{Coded, holds-first, tape-turn, tape-end}
 use Rattle.code.proofs.write_code.Statement.{statement}
 use Rattle.code.proofs.write_code.Tie as tie
 
 abbrev Inv-loop : tie.InvT-loop
 Inv-loop tape kinds values found goes means bases opens offsets marks start image₀ literals₀ at₀ w₀ i₀ image literals at w i =
-    (i ≤ length tape) × (at .length ≤ 8 * i) × (at .literals ≤ 2 * i) × (at .literals ≤ length literals₀) × (length image ≡ length image₀) × (length literals ≡ length literals₀)
+    (i ≤ length tape) × (at .length ≤ 8 * i) × (at .literals ≤ 2 * i) × (at .literals ≤ length literals₀) × (length image ≡ length image₀) ×
+    (length literals ≡ length literals₀)
     × Coded start (length literals₀) kinds values found goes means bases opens offsets marks (at .length) (at .literals) image literals w (drop i tape)
     (pass (codeEvent start kinds values found goes means bases opens offsets marks) (codingOf (laidOf 0 image₀ []) noWriting) tape)
 
@@ -24,9 +25,13 @@ abbrev μ-loop : tie.MeasureT-loop
 
 loop-holds : tie.Need-loop-holds Inv-loop μ-loop
 loop-holds c =
-    let a = c .before .before .before .before .before .before .before .before .before .before .before .before .args in
-    (
-      search needs, search needs, search needs, search needs, refl, refl,
+    let a = c .before .before .before .before .before .before .before .before .before .before .before .before .args in (
+      search needs,
+      search needs,
+      search needs,
+      search needs,
+      refl,
+      refl,
       record { state = laidOf 0 (a .image .now) []; holds = holds-first (length (a .literals .now)) (a .image .now) (a .literals .now); leads = refl },
     )
 
@@ -49,7 +54,8 @@ lay-codes-requires : tie.Need-lay-codes-requires Inv-loop μ-loop
 lay-codes-requires c κs =
     let l = c .before .before .before .before .before .before .before .loop .inv in
     let h = c .before .before .before .before .before .before .loop-test .taken in
-    let n = c .before .before .before .before .before .before .before .before .before .before .before .before .before .before .before .before .before .before .before .before .pre in
+    let n = c .before .before .before .before .before .before .before .before .before .before .before .before .before .before .before .before .before .before .before
+    .before .pre in
     (omega (arith, l .3, l .5), omega (arith, n .1, l .5), n .2, omega (arith, l .1, n .0))
 
 writing-after-requires : tie.Need-writing-after-requires Inv-loop μ-loop
@@ -58,7 +64,8 @@ writing-after-requires c κs = c .before .before .before .before .before .before
 add-i : tie.Need-add-i Inv-loop μ-loop
 add-i c =
     let h = c .before .before .before .before .before .before .before .before .before .before .before .before .loop-test .taken in
-    let n = c .before .before .before .before .before .before .before .before .before .before .before .before .before .before .before .before .before .before .before .before .before .before .before .before .before .before .pre .0 in
+    let n = c .before .before .before .before .before .before .before .before .before .before .before .before .before .before .before .before .before .before .before
+    .before .before .before .before .before .before .before .pre .0 in
     omega arith
 
 loop-less : tie.Need-loop-less Inv-loop μ-loop
@@ -68,21 +75,24 @@ loop-less c =
 
 loop-again : tie.Need-loop-again Inv-loop μ-loop
 loop-again c =
-    let a = c .before .before .before .before .before .before .before .before .before .before .before .before .before .before .before .before .before .before .before .before .before .before .before .before .before .before .args in
+    let a = c .before .before .before .before .before .before .before .before .before .before .before .before .before .before .before .before .before .before .before
+    .before .before .before .before .before .before .before .args in
     let l = c .before .before .before .before .before .before .before .before .before .before .before .before .before .loop in
     let h = c .before .before .before .before .before .before .before .before .before .before .before .before .loop-test .taken in
     let op = c .before .before .before .before .before .before .before .before .before .before .op in
     let t = c .before .before .before .before .before .before .before .before .before .token in
     let laid = c .before .before .before .before .before .lay-codes in
-    let len : length (l .literals) ≡ length (a .literals .now) = l .inv .5 in
-    (
+    let len : length (l .literals) ≡ length (a .literals .now) = l .inv .5 in (
       omega arith,
       omega (arith, l .inv .1, laid .ensures .3),
       omega (arith, l .inv .2, laid .ensures .1),
       omega (arith, len, laid .ensures .2),
       laid .kept .0 ∙ l .inv .4,
       laid .kept .1 .0 ∙ len,
-      tape-turn (a .start) (length (a .literals .now)) (a .kinds .now) (a .values .now) (a .found .now) (a .goes .now) (a .means .now) (a .bases .now) (a .opens .now) (a .offsets .now) (a .marks .now) (a .tape .now) (l .i) (op .result) (t .result) _ _ _ _ _ _ _ _ (c .before .before .before .before .before .before .before .before .codes-at .result) (l .w) _ _ h (op .ensures .0) (t .ensures .0) (c .before .before .before .before .before .before .before .before .codes-at .ensures) (c .writing-after .ensures) len (laid .ensures .0) (l .inv .6),
+      tape-turn (a .start) (length (a .literals .now)) (a .kinds .now) (a .values .now) (a .found .now) (a .goes .now) (a .means .now) (a .bases .now) (a .opens .now)
+          (a .offsets .now) (a .marks .now) (a .tape .now) (l .i) (op .result) (t .result) _ _ _ _ _ _ _ _
+          (c .before .before .before .before .before .before .before .before .codes-at .result) (l .w) _ _ h (op .ensures .0) (t .ensures .0)
+          (c .before .before .before .before .before .before .before .before .codes-at .ensures) (c .writing-after .ensures) len (laid .ensures .0) (l .inv .6),
     )
 
 stop-requires : tie.Need-stop-requires Inv-loop μ-loop
@@ -97,7 +107,8 @@ lay-code-requires c κs =
 add-t37 : tie.Need-add-t37 Inv-loop μ-loop
 add-t37 c =
     let l = c .before .before .before .before .before .before .before .before .before .loop .inv in
-    let n = c .before .before .before .before .before .before .before .before .before .before .before .before .before .before .before .before .before .before .before .before .before .before .pre .0 in
+    let n = c .before .before .before .before .before .before .before .before .before .before .before .before .before .before .before .before .before .before .before
+    .before .before .before .pre .0 in
     omega (arith, l .1, l .0)
 
 same-length : tie.Need-same-length Inv-loop μ-loop
@@ -108,12 +119,16 @@ same-length-2 c = c .before .before .before .before .lay-code .kept .1 .0 ∙ c 
 
 returns : tie.Need-returns Inv-loop μ-loop
 returns c =
-    let a = c .before .before .before .before .before .before .before .before .before .before .before .before .before .before .before .before .before .before .before .before .before .before .args in
+    let a = c .before .before .before .before .before .before .before .before .before .before .before .before .before .before .before .before .before .before .before
+    .before .before .before .args in
     let l = c .before .before .before .before .before .before .before .before .before .loop in
     let laid = c .before .before .before .before .lay-code in
-    let len : length (l .literals) ≡ length (a .literals .now) = l .inv .5 in
-    (
-      tape-end (a .start) (length (a .literals .now)) (a .kinds .now) (a .values .now) (a .found .now) (a .goes .now) (a .means .now) (a .bases .now) (a .opens .now) (a .offsets .now) (a .marks .now) (a .tape .now) (a .image .now) (l .i) (l .at .length) (l .at .literals) (laid .result) (l .image) (l .literals) _ _ (l .w) (c .before .before .before .before .before .stop .result) (c .before .before .before .before .before .before .before .before .loop-test .left) (l .inv .3) (laid .kept .1 .0 ∙ len) (c .before .before .before .before .before .stop .ensures) (λ g. laid .ensures .0 (omega (arith, g, len))) (λ g. laid .ensures .1 (g ∙ sym len)) (l .inv .6),
+    let len : length (l .literals) ≡ length (a .literals .now) = l .inv .5 in (
+      tape-end (a .start) (length (a .literals .now)) (a .kinds .now) (a .values .now) (a .found .now) (a .goes .now) (a .means .now) (a .bases .now) (a .opens .now)
+          (a .offsets .now) (a .marks .now) (a .tape .now) (a .image .now) (l .i) (l .at .length) (l .at .literals) (laid .result) (l .image) (l .literals) _ _ (l .w)
+          (c .before .before .before .before .before .stop .result) (c .before .before .before .before .before .before .before .before .loop-test .left)
+          (laid .kept .1 .0 ∙ len) (c .before .before .before .before .before .stop .ensures) (λ g. laid .ensures .0 (omega (arith, g, len)))
+          (λ g. laid .ensures .1 (g ∙ sym len)) (laid .ensures .2) (l .inv .6),
       omega (arith, laid .ensures .2, l .inv .2, l .inv .0),
     )
 

@@ -21,7 +21,14 @@ branch-requires c κs = search needs
 
 returns : tie.Need-returns
 unfolding bareCodes
-returns c = rw (← (c .before .before .before .before .kind .ensures), ← (c .before .before .before .false-mask .ensures .0), ← (c .before .before .before2 .ensures), ← (c .before .get .ensures .0), ← (c .branch .ensures))
+returns c =
+    rw (
+      ← (c .before .before .before .before .kind .ensures),
+      ← (c .before .before .before .false-mask .ensures .0),
+      ← (c .before .before .before2 .ensures),
+      ← (c .before .get .ensures .0),
+      ← (c .branch .ensures),
+    )
 
 pub bare-spec : {M : Type 1} → statement M
 bare-spec =

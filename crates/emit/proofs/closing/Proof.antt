@@ -48,7 +48,17 @@ link-requires c κs = search needs
 
 returns-3 : tie.Need-returns-3
 unfolding closingCodes
-returns-3 c = rw (ne-eqb _ _ (c .before .before .before .before .before .before .before .if1 .left), ne-eqb _ _ (c .before .before .before .before .before .before .if2 .left), eq-eqb _ _ (c .before .before .before .before .before .if3 .taken), ← (c .before .before .before .before .meaning .ensures), ← (c .before .before .before .return-register .ensures), ← (c .before .before .get3 .ensures .0), ← (c .before .get4 .ensures .0), ← (c .link .ensures))
+returns-3 c =
+    rw (
+      ne-eqb _ _ (c .before .before .before .before .before .before .before .if1 .left),
+      ne-eqb _ _ (c .before .before .before .before .before .before .if2 .left),
+      eq-eqb _ _ (c .before .before .before .before .before .if3 .taken),
+      ← (c .before .before .before .before .meaning .ensures),
+      ← (c .before .before .before .return-register .ensures),
+      ← (c .before .before .get3 .ensures .0),
+      ← (c .before .get4 .ensures .0),
+      ← (c .link .ensures),
+    )
 
 get-requires-5 : tie.Need-get-requires-5
 get-requires-5 c κs = search needs
@@ -61,11 +71,21 @@ branch-requires-3 c κs = search needs
 
 returns-4 : tie.Need-returns-4
 unfolding closingCodes
-returns-4 c = rw (ne-eqb _ _ (c .before .before .before .before .before .before .if1 .left), ne-eqb _ _ (c .before .before .before .before .before .if2 .left), ne-eqb _ _ (c .before .before .before .before .if3 .left), eq-eqb _ _ (c .before .before .before .if4 .taken), ← (c .before .before .get5 .ensures .0), ← (c .before .get6 .ensures .0), ← (c .branch3 .ensures))
+returns-4 c =
+    rw (
+      ne-eqb _ _ (c .before .before .before .before .before .before .if1 .left),
+      ne-eqb _ _ (c .before .before .before .before .before .if2 .left),
+      ne-eqb _ _ (c .before .before .before .before .if3 .left),
+      eq-eqb _ _ (c .before .before .before .if4 .taken),
+      ← (c .before .before .get5 .ensures .0),
+      ← (c .before .get6 .ensures .0),
+      ← (c .branch3 .ensures),
+    )
 
 returns-5 : tie.Need-returns-5
 unfolding closingCodes
-returns-5 c = rw (ne-eqb _ _ (c .before .before .before .if1 .left), ne-eqb _ _ (c .before .before .if2 .left), ne-eqb _ _ (c .before .if3 .left), ne-eqb _ _ (c .if4 .left))
+returns-5 c =
+    rw (ne-eqb _ _ (c .before .before .before .if1 .left), ne-eqb _ _ (c .before .before .if2 .left), ne-eqb _ _ (c .before .if3 .left), ne-eqb _ _ (c .if4 .left))
 
 pub closing-spec : {M : Type 1} → statement M
 closing-spec =

@@ -24,7 +24,14 @@ first-requires c κs = search needs
 
 returns-3 : tie.Need-returns-3
 unfolding codesBy
-returns-3 c = rw (le-ltb _ _ (c .before .before .before .before .if1 .left), le-ltb _ _ (c .before .before .before .if2 .left), lt-ltb _ _ (c .before .before .if3 .taken), ← (c .before .operand .ensures)) (c .first .ensures)
+returns-3 c =
+    rw (
+      le-ltb _ _ (c .before .before .before .before .if1 .left),
+      le-ltb _ _ (c .before .before .before .if2 .left),
+      lt-ltb _ _ (c .before .before .if3 .taken),
+      ← (c .before .operand .ensures),
+    )
+    (c .first .ensures)
 
 operand-requires-2 : tie.Need-operand-requires-2
 operand-requires-2 c κs = search needs
@@ -40,7 +47,17 @@ next-requires c κs = search needs
 
 returns-4 : tie.Need-returns-4
 unfolding codesBy
-returns-4 c = rw (le-ltb _ _ (c .before .before .before .before .before .before .before .if1 .left), le-ltb _ _ (c .before .before .before .before .before .before .if2 .left), le-ltb _ _ (c .before .before .before .before .before .if3 .left), lt-ltb _ _ (c .before .before .before .before .if4 .taken), ← (c .before .before .before .operand2 .ensures), ← (c .before .before .before2 .ensures), ← (c .before .kind .ensures)) (c .next .ensures)
+returns-4 c =
+    rw (
+      le-ltb _ _ (c .before .before .before .before .before .before .before .if1 .left),
+      le-ltb _ _ (c .before .before .before .before .before .before .if2 .left),
+      le-ltb _ _ (c .before .before .before .before .before .if3 .left),
+      lt-ltb _ _ (c .before .before .before .before .if4 .taken),
+      ← (c .before .before .before .operand2 .ensures),
+      ← (c .before .before .before2 .ensures),
+      ← (c .before .kind .ensures),
+    )
+    (c .next .ensures)
 
 operand-requires-3 : tie.Need-operand-requires-3
 operand-requires-3 c κs = search needs
@@ -50,7 +67,16 @@ compared-requires c κs = search needs
 
 returns-5 : tie.Need-returns-5
 unfolding codesBy
-returns-5 c = rw (le-ltb _ _ (c .before .before .before .before .before .before .if1 .left), le-ltb _ _ (c .before .before .before .before .before .if2 .left), le-ltb _ _ (c .before .before .before .before .if3 .left), le-ltb _ _ (c .before .before .before .if4 .left), lt-ltb _ _ (c .before .before .if5 .taken), ← (c .before .operand3 .ensures)) (c .compared .ensures)
+returns-5 c =
+    rw (
+      le-ltb _ _ (c .before .before .before .before .before .before .if1 .left),
+      le-ltb _ _ (c .before .before .before .before .before .if2 .left),
+      le-ltb _ _ (c .before .before .before .before .if3 .left),
+      le-ltb _ _ (c .before .before .before .if4 .left),
+      lt-ltb _ _ (c .before .before .if5 .taken),
+      ← (c .before .operand3 .ensures),
+    )
+    (c .compared .ensures)
 
 operand-requires-4 : tie.Need-operand-requires-4
 operand-requires-4 c κs = search needs
@@ -60,28 +86,70 @@ limit-requires c κs = search needs
 
 returns-6 : tie.Need-returns-6
 unfolding codesBy
-returns-6 c = rw (le-ltb _ _ (c .before .before .before .before .before .before .before .if1 .left), le-ltb _ _ (c .before .before .before .before .before .before .if2 .left), le-ltb _ _ (c .before .before .before .before .before .if3 .left), le-ltb _ _ (c .before .before .before .before .if4 .left), le-ltb _ _ (c .before .before .before .if5 .left), lt-ltb _ _ (c .before .before .if6 .taken), ← (c .before .operand4 .ensures)) (c .limit .ensures)
+returns-6 c =
+    rw (
+      le-ltb _ _ (c .before .before .before .before .before .before .before .if1 .left),
+      le-ltb _ _ (c .before .before .before .before .before .before .if2 .left),
+      le-ltb _ _ (c .before .before .before .before .before .if3 .left),
+      le-ltb _ _ (c .before .before .before .before .if4 .left),
+      le-ltb _ _ (c .before .before .before .if5 .left),
+      lt-ltb _ _ (c .before .before .if6 .taken),
+      ← (c .before .operand4 .ensures),
+    )
+    (c .limit .ensures)
 
 bare-requires : tie.Need-bare-requires
 bare-requires c κs = search needs
 
 returns-7 : tie.Need-returns-7
 unfolding codesBy
-returns-7 c = rw (le-ltb _ _ (c .before .before .before .before .before .before .before .if1 .left), le-ltb _ _ (c .before .before .before .before .before .before .if2 .left), le-ltb _ _ (c .before .before .before .before .before .if3 .left), le-ltb _ _ (c .before .before .before .before .if4 .left), le-ltb _ _ (c .before .before .before .if5 .left), le-ltb _ _ (c .before .before .if6 .left), eq-eqb _ _ (c .before .if7 .taken)) (c .bare .ensures)
+returns-7 c =
+    rw (
+      le-ltb _ _ (c .before .before .before .before .before .before .before .if1 .left),
+      le-ltb _ _ (c .before .before .before .before .before .before .if2 .left),
+      le-ltb _ _ (c .before .before .before .before .before .if3 .left),
+      le-ltb _ _ (c .before .before .before .before .if4 .left),
+      le-ltb _ _ (c .before .before .before .if5 .left),
+      le-ltb _ _ (c .before .before .if6 .left),
+      eq-eqb _ _ (c .before .if7 .taken),
+    )
+    (c .bare .ensures)
 
 step-requires : tie.Need-step-requires
 step-requires c κs = search needs
 
 returns-8 : tie.Need-returns-8
 unfolding codesBy
-returns-8 c = rw (le-ltb _ _ (c .before .before .before .before .before .before .before .before .if1 .left), le-ltb _ _ (c .before .before .before .before .before .before .before .if2 .left), le-ltb _ _ (c .before .before .before .before .before .before .if3 .left), le-ltb _ _ (c .before .before .before .before .before .if4 .left), le-ltb _ _ (c .before .before .before .before .if5 .left), le-ltb _ _ (c .before .before .before .if6 .left), ne-eqb _ _ (c .before .before .if7 .left), eq-eqb _ _ (c .before .if8 .taken)) (c .step .ensures)
+returns-8 c =
+    rw (
+      le-ltb _ _ (c .before .before .before .before .before .before .before .before .if1 .left),
+      le-ltb _ _ (c .before .before .before .before .before .before .before .if2 .left),
+      le-ltb _ _ (c .before .before .before .before .before .before .if3 .left),
+      le-ltb _ _ (c .before .before .before .before .before .if4 .left),
+      le-ltb _ _ (c .before .before .before .before .if5 .left),
+      le-ltb _ _ (c .before .before .before .if6 .left),
+      ne-eqb _ _ (c .before .before .if7 .left),
+      eq-eqb _ _ (c .before .if8 .taken),
+    )
+    (c .step .ensures)
 
 closing-requires : tie.Need-closing-requires
 closing-requires c κs = search needs
 
 returns-9 : tie.Need-returns-9
 unfolding codesBy
-returns-9 c = rw (le-ltb _ _ (c .before .before .before .before .before .before .before .before .if1 .left), le-ltb _ _ (c .before .before .before .before .before .before .before .if2 .left), le-ltb _ _ (c .before .before .before .before .before .before .if3 .left), le-ltb _ _ (c .before .before .before .before .before .if4 .left), le-ltb _ _ (c .before .before .before .before .if5 .left), le-ltb _ _ (c .before .before .before .if6 .left), ne-eqb _ _ (c .before .before .if7 .left), ne-eqb _ _ (c .before .if8 .left)) (c .closing .ensures)
+returns-9 c =
+    rw (
+      le-ltb _ _ (c .before .before .before .before .before .before .before .before .if1 .left),
+      le-ltb _ _ (c .before .before .before .before .before .before .before .if2 .left),
+      le-ltb _ _ (c .before .before .before .before .before .before .if3 .left),
+      le-ltb _ _ (c .before .before .before .before .before .if4 .left),
+      le-ltb _ _ (c .before .before .before .before .if5 .left),
+      le-ltb _ _ (c .before .before .before .if6 .left),
+      ne-eqb _ _ (c .before .before .if7 .left),
+      ne-eqb _ _ (c .before .if8 .left),
+    )
+    (c .closing .ensures)
 
 pub codes-at-spec : {M : Type 1} → statement M
 codes-at-spec =

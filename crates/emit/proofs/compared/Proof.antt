@@ -36,7 +36,19 @@ apply-then-requires c κs = search needs
 
 returns : tie.Need-returns
 unfolding comparedCodes
-returns c = rw (← (c .before .before .before .before .before .before .before .before .before .before2 .ensures), ← (c .before .before .before .before .before .before .before .before .meaning .ensures), ← (c .before .before .before .before .before .before .before .register .ensures .0), ← (c .before .before .before .before .before .before .before3 .ensures), ← (c .before .before .before .before .before .kind .ensures), ← (c .before .before .before .before .false-mask .ensures .0), ← (c .before .before .before .before4 .ensures), ← (c .before .before .get .ensures .0), ← (c .before .branch .ensures)) (c .apply-then .ensures)
+returns c =
+    rw (
+      ← (c .before .before .before .before .before .before .before .before .before .before2 .ensures),
+      ← (c .before .before .before .before .before .before .before .before .meaning .ensures),
+      ← (c .before .before .before .before .before .before .before .register .ensures .0),
+      ← (c .before .before .before .before .before .before .before3 .ensures),
+      ← (c .before .before .before .before .before .kind .ensures),
+      ← (c .before .before .before .before .false-mask .ensures .0),
+      ← (c .before .before .before .before4 .ensures),
+      ← (c .before .before .get .ensures .0),
+      ← (c .before .branch .ensures),
+    )
+    (c .apply-then .ensures)
 
 pub compared-spec : {M : Type 1} → statement M
 compared-spec =

@@ -19,7 +19,14 @@ base-requires c κs = search needs
 
 returns : tie.Need-returns
 unfolding declaredCodes
-returns c = rw (eq-eqb _ _ (c .before .before .before .before .if1 .taken), ← (c .before .get .ensures .0), ← (c .before .before .before .meaning .ensures), ← (c .before .before .register .ensures .0), ← (c .base .ensures))
+returns c =
+    rw (
+      eq-eqb _ _ (c .before .before .before .before .if1 .taken),
+      ← (c .before .get .ensures .0),
+      ← (c .before .before .before .meaning .ensures),
+      ← (c .before .before .register .ensures .0),
+      ← (c .base .ensures),
+    )
 
 add-get : tie.Need-add-get
 add-get c = search needs
@@ -45,7 +52,14 @@ register-requires-2 c κs = search needs
 
 returns-3 : tie.Need-returns-3
 unfolding declaredCodes
-returns-3 c = rw (ne-eqb _ _ (c .before .before .before .before .if1 .left), ne-eqb _ _ (c .before .before .before .if2 .left), eq-eqb _ _ (c .before .before .if3 .taken), ← (c .before .meaning2 .ensures), ← (c .register2 .ensures .0))
+returns-3 c =
+    rw (
+      ne-eqb _ _ (c .before .before .before .before .if1 .left),
+      ne-eqb _ _ (c .before .before .before .if2 .left),
+      eq-eqb _ _ (c .before .before .if3 .taken),
+      ← (c .before .meaning2 .ensures),
+      ← (c .register2 .ensures .0),
+    )
 
 returns-4 : tie.Need-returns-4
 unfolding declaredCodes

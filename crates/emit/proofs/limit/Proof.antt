@@ -30,7 +30,17 @@ apply-then-requires c κs = search needs
 
 returns : tie.Need-returns
 unfolding limitCodes
-returns c = rw (← (c .before .before .before .before .before .before .before .before2 .ensures), ← (c .before .before .before .before .before .before .key .ensures), ← (c .before .before .before .before .before .exit-mask .ensures), ← (c .before .before .before .before .held .ensures), ← (c .before .before .before .before3 .ensures), ← (c .before .before .get .ensures .0), ← (c .before .branch .ensures)) (c .apply-then .ensures)
+returns c =
+    rw (
+      ← (c .before .before .before .before .before .before .before .before2 .ensures),
+      ← (c .before .before .before .before .before .before .key .ensures),
+      ← (c .before .before .before .before .before .exit-mask .ensures),
+      ← (c .before .before .before .before .held .ensures),
+      ← (c .before .before .before .before3 .ensures),
+      ← (c .before .before .get .ensures .0),
+      ← (c .before .branch .ensures),
+    )
+    (c .apply-then .ensures)
 
 pub limit-spec : {M : Type 1} → statement M
 limit-spec =

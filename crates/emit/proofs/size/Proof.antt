@@ -37,10 +37,20 @@ loop-less : tie.Need-loop-less Inv-loop μ-loop
 loop-less c = search needs
 
 loop-again : tie.Need-loop-again Inv-loop μ-loop
-loop-again c = (search needs, search needs, sizes-turn (listOf (c .before .before .before .before .before .args .m)) (c .before .before .before .loop .k) (c .before .before .before .loop .size) _ _ (omega (arith, c .before .before .before .before .count .ensures .0, c .before .before .loop-test .taken)) (c .before .nth .ensures) (c .code-size .ensures .0) (c .before .before .before .loop .inv .2))
+loop-again c = (
+  search needs,
+  search needs,
+  sizes-turn (listOf (c .before .before .before .before .before .args .m)) (c .before .before .before .loop .k) (c .before .before .before .loop .size) _ _
+      (omega (arith, c .before .before .before .before .count .ensures .0, c .before .before .loop-test .taken)) (c .before .nth .ensures) (c .code-size .ensures .0)
+      (c .before .before .before .loop .inv .2),
+)
 
 returns : tie.Need-returns Inv-loop μ-loop
-returns c = (sizes-end (listOf (c .before .before .before .args .m)) (c .before .loop .k) (c .before .loop .size) (omega (arith, c .before .before .count .ensures .0, c .loop-test .left)) (c .before .loop .inv .2), search needs)
+returns c = (
+  sizes-end (listOf (c .before .before .before .args .m)) (c .before .loop .k) (c .before .loop .size)
+      (omega (arith, c .before .before .count .ensures .0, c .loop-test .left)) (c .before .loop .inv .2),
+  search needs,
+)
 
 pub size-spec : {M : Type 1} → statement M
 size-spec =

@@ -24,7 +24,14 @@ apply-then-requires c κs = search needs
 
 returns : tie.Need-returns
 unfolding stepCodes
-returns c = rw (← (c .before .before .before .before .get .ensures .0), ← (c .before .before .before .key .ensures), ← (c .before .before .get2 .ensures .0), ← (c .before .branch .ensures)) (c .apply-then .ensures)
+returns c =
+    rw (
+      ← (c .before .before .before .before .get .ensures .0),
+      ← (c .before .before .before .key .ensures),
+      ← (c .before .before .get2 .ensures .0),
+      ← (c .before .branch .ensures),
+    )
+    (c .apply-then .ensures)
 
 pub step-spec : {M : Type 1} → statement M
 step-spec =

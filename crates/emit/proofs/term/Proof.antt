@@ -20,7 +20,13 @@ amount-requires c κs = search needs
 
 returns : tie.Need-returns
 unfolding termCodes
-returns c = rw (told (c .before .before .before .before .is-shift .ensures) (c .before .before .before .if1 .taken), ← (c .before .held .ensures), ← (c .amount .ensures), ← (c .before .before .shift-code .ensures .0))
+returns c =
+    rw (
+      told (c .before .before .before .before .is-shift .ensures) (c .before .before .before .if1 .taken),
+      ← (c .before .held .ensures),
+      ← (c .amount .ensures),
+      ← (c .before .before .shift-code .ensures .0),
+    )
 
 product-register-requires : tie.Need-product-register-requires
 product-register-requires c κs = search needs
@@ -30,7 +36,13 @@ applied-requires c κs = search needs
 
 returns-2 : tie.Need-returns-2
 unfolding termCodes
-returns-2 c = rw (told (c .before .before .before .before .is-shift .ensures) (c .before .before .before .if1 .left), eq-eqb _ _ (c .before .before .if2 .taken), ← (c .before .product-register .ensures)) (c .applied .ensures)
+returns-2 c =
+    rw (
+      told (c .before .before .before .before .is-shift .ensures) (c .before .before .before .if1 .left),
+      eq-eqb _ _ (c .before .before .if2 .taken),
+      ← (c .before .product-register .ensures),
+    )
+    (c .applied .ensures)
 
 row-of-requires : tie.Need-row-of-requires
 row-of-requires c κs = search needs
@@ -40,7 +52,13 @@ applied-requires-2 c κs = search needs
 
 returns-3 : tie.Need-returns-3
 unfolding termCodes
-returns-3 c = rw (told (c .before .before .before .before .is-shift .ensures) (c .before .before .before .if1 .left), ne-eqb _ _ (c .before .before .if2 .left), ← (c .before .row-of .ensures .0)) (c .applied2 .ensures)
+returns-3 c =
+    rw (
+      told (c .before .before .before .before .is-shift .ensures) (c .before .before .before .if1 .left),
+      ne-eqb _ _ (c .before .before .if2 .left),
+      ← (c .before .row-of .ensures .0),
+    )
+    (c .applied2 .ensures)
 
 pub term-spec : {M : Type 1} → statement M
 term-spec =
