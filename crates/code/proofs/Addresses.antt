@@ -9,6 +9,7 @@ use Rattle.base.specs.Lists.{All}
 use Rattle.grammar.specs.Tree.{registers, cells, base, Statement, assign, call, block, goto, null, ifThen, ifElse, while, for, Body, declare, procedure, items, Items, ended, label, item}
 use Rattle.grammar.specs.Derives.{isOperand, isStatement, isBody, isItems}
 use Rattle.tape.specs.Events as E
+use Rattle.tape.specs.Numbers.{formAt}
 use Rattle.tape.specs.Tape.{event, tapeDeclaration, tapeStatement, tapeBody, tapeItems}
 use Rattle.tape.specs.Pass.{pass}
 use Rattle.tape.proofs.Pass.{pass-event}
@@ -19,7 +20,7 @@ use Rattle.translator.specs.Core.{toRegister, compareWith, testOf, controlOf, c
 use Rattle.translator.specs.Code.{sizeOf}
 use Rattle.emit.specs.declared.Writing.{Writing}
 use Rattle.emit.specs.Codes.{listOf, codeSize, applyCode, isAbsent, applyThen}
-use Rattle.emit.specs.Events.{writingAfter, declaredCodes, stepCodes, closingCodes, codesBy}
+use Rattle.emit.specs.Events.{registerAt, goalAt, writtenAfter, stepCodes, otherCodes, codesOf, writingAfter, codesBy}
 use Rattle.code.specs.Places.{Placing, placingOf, markClosing, markAfter, placeEvent}
 use Rattle.emit.proofs.Operands.{Small}
 use Rattle.code.proofs.Declarations.{declaring, registers-out, cells-out}
@@ -72,7 +73,7 @@ module _ (f : Tables) (means bases offsets : List ℕ) where
 
   -- an event of n bytes that changes the addresses to what `marked` says by the address behind it
   on : (op t p n q : ℕ) (w : Writing) (ms : List ℕ) (marked : ℕ → List ℕ) (k : List ℕ)
-      → placeEvent (f .kinds) (f .values) (f .found) (f .goes) means bases (f .opens) offsets (op % 64) t (placingOf p w ms) ≡ placingOf (p + n) w (marked (p + n))
+      → placeEvent (f .kinds) (f .values) (f .found) (f .goes) means bases (f .opens) offsets (op % E.EVENTS) t (placingOf p w ms) ≡ placingOf (p + n) w (marked (p + n))
       → p + n ≡ q → at p w ms (event op t ∷ k) ≡ at q w (marked q) k
   on op t p n q w ms marked k e g =
       pass-event _ op t (placingOf p w ms) k
@@ -85,11 +86,11 @@ module _ (f : Tables) (means bases offsets : List ℕ) where
   -- ── declarations ──
 
   still : (p : ℕ) (w : Writing) (ms : List ℕ) (t : ℕ) (k : List ℕ) → All (λ (op : ℕ). at p w ms (event op t ∷ k) ≡ at p w ms k) declaring
-  unfolding placeEvent listOf codesBy declaredCodes writingAfter codeSize markAfter
+  unfolding placeEvent listOf formAt otherCodes codesOf codesBy writtenAfter writingAfter codeSize markAfter markClosing
   still p w ms t k =
       (by E.REGISTER refl, (by E.SINGLE-FULL refl, (by E.SINGLE-SHORT refl, (by E.ARRAY-FULL refl, (by E.ARRAY-SHORT refl, (by E.ITEM refl, (by E.VALUE refl, tt)))))))
     where
-      by : (op : ℕ) → placeEvent (f .kinds) (f .values) (f .found) (f .goes) means bases (f .opens) offsets (op % 64) t (placingOf p w ms) ≡ placingOf (p + 0) w ms
+      by : (op : ℕ) → placeEvent (f .kinds) (f .values) (f .found) (f .goes) means bases (f .opens) offsets (op % E.EVENTS) t (placingOf p w ms) ≡ placingOf (p + 0) w ms
           → at p w ms (event op t ∷ k) ≡ at p w ms k
       by op e = on op t p 0 p w ms (λ q. ms) k e (omega arith)
 
@@ -97,7 +98,7 @@ module _ (f : Tables) (means bases offsets : List ℕ) where
 
   module _ (table : f .means ≡ meaningsOf means bases) (small : Small f) where
     mutual
-      unfolding isStatement tapeStatement tapeDeclaration coreStatement sizeOf leaves marksOf placeEvent listOf codesBy declaredCodes closingCodes stepCodes applyThen isAbsent applyCode writingAfter codeSize markAfter markClosing
+      unfolding isStatement tapeStatement tapeDeclaration coreStatement sizeOf leaves marksOf placeEvent listOf formAt otherCodes stepCodes codesOf codesBy applyThen isAbsent applyCode writtenAfter writingAfter codeSize markAfter markClosing
 
       pub place-statement : (x : Statement) (i j : ℕ) → isStatement (f .kinds) x i j → (p : ℕ) (w : Writing) (ms k : List ℕ)
           → at p w ms (tapeStatement x k) ≡ at (p + sizeOf (coreStatement f x)) (leaves f means bases offsets x w) (marksOf f x p ms) k

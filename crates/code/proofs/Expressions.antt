@@ -5,15 +5,17 @@ use mathlib.Core.Bool.{true}
 use mathlib.Core.List.{List, _∷_}
 use Prim.Native.Nat.{ℕ, _+_, _-_, _/_, _%_}
 use native.Mathlib.Omega.{arith}
-use lib.Dec.{eqb, leb, ltb}
+use lib.Dec.{eqb}
 use lib.ListN.{getD, set}
-use borrow.Author.Tests.{eqb-true, ne-eqb, leb-true}
-use Rattle.base.proofs.Tests.{cases, by-test}
+use Rattle.base.specs.Lists.{member}
+use Rattle.base.proofs.Lists.{each}
+use Rattle.base.proofs.Tests.{by-test}
 use Rattle.grammar.specs.Tree.{Operand, Assignment, Condition}
 use Rattle.grammar.specs.Derives.{isOperand, isCondition, isAssignment}
 use Rattle.grammar.specs.Pinned.{headOf}
 use Rattle.grammar.proofs.Pinned.{pinned-operand}
 use Rattle.tape.specs.Events as E
+use Rattle.tape.specs.Numbers.{familyAt, formAt}
 use Rattle.tape.specs.Tape.{event, tapeOperand, tapeCondition, tapeAssignment}
 use Rattle.tape.specs.Pass.{pass}
 use Rattle.tape.proofs.Pass.{pass-event}
@@ -28,21 +30,14 @@ use Rattle.emit.specs.Codes.{codeSizes, heldIn}
 use Rattle.emit.specs.Along.{targetWriting, controlWriting}
 use Rattle.emit.proofs.Operands.{Small, shapeOf, by-shape, operand-tape, register-at}
 use Rattle.emit.proofs.Sizes.{sizes-append, coded-sizes, tested-size}
-use Rattle.emit.proofs.Walks.{unmarked, made, after, Walk, limit-makes, assignment-walked, control-walked, condition-walked}
+use Rattle.emit.proofs.Walks.{unmarking, made, after, Walk, limit-makes, assignment-walked, control-walked, condition-walked}
 use Rattle.code.specs.Places.{markLimit, markClosing, markAfter, Placing, placingOf, placeEvent}
 use Rattle.code.proofs.Placing.{place-is}
 
-unmarked-stays : (op t from to : ℕ) (aim : Use) (marks : List ℕ) → unmarked op ≡ true → marks ≡ markAfter op t from to aim marks
+unmarked-stays : (family t from to : ℕ) (aim : Use) (marks : List ℕ) → member family unmarking ≡ true → marks ≡ markAfter family t from to aim marks
 unfolding markAfter markClosing
-unmarked-stays op t from to aim marks q =
-    let bare : eqb op E.BARE ≡ true → marks ≡ markAfter op t from to aim marks = λ e. rw (eqb-true op E.BARE e) in
-    cases (leb E.TARGET op)
-    (λ a.
-    let l = leb-true E.TARGET op a in
-    cases (ltb op E.LIMIT)
-    (λ b. rw (ne-eqb op E.LABEL (λ e. omega arith), ne-eqb op E.PROCEDURE (λ e. omega arith), ne-eqb op E.END-PROCEDURE (λ e. omega arith), b))
-    (λ b. bare (rw (a, b) at q)))
-    (λ a. bare (rw a at q))
+unmarked-stays family t from to aim marks q =
+    each (λ (x : ℕ). marks ≡ markAfter x t from to aim marks) unmarking (refl, (refl, (refl, (refl, (refl, (refl, (refl, (refl, (refl, tt))))))))) family q
 
 low-register : (m : ℕ) → low (registerIn m) ≡ registerIn m
 unfolding registerIn numberIn
@@ -51,13 +46,13 @@ low-register m = by-test (λ (x : ℕ). low x ≡ x) (eqb (m % 8) 1) (low (m / 8
 -- two tokens behind its STEP's number v
 limit-marked :
     (l : Operand) (v p to r : ℕ) (aim : Use) (ms : List ℕ) → headOf l ≡ v + 2 → low (heldIn aim) ≡ r
-    → set (set ms v p) (v + 1) r ≡ markAfter ((E.LIMIT + shapeOf l) % 64) (headOf l) p to aim ms
-unfolding markAfter markLimit
+    → set (set ms v p) (v + 1) r ≡ markAfter (familyAt ((E.LIMIT + shapeOf l) % E.EVENTS)) (headOf l) p to aim ms
+unfolding formAt markAfter markLimit
 limit-marked l v p to r aim ms e s =
     let at : headOf l - 2 ≡ v = omega arith in
     let next : headOf l - 1 ≡ v + 1 = omega arith in
     let here : set (set ms v p) (v + 1) r ≡ markLimit (headOf l) p aim ms = rw (s, at, next) in
-    here ∙ by-shape (λ x. markLimit (headOf l) p aim ms ≡ markAfter ((E.LIMIT + x) % 64) (headOf l) p to aim ms) refl refl refl refl refl l
+    here ∙ by-shape (λ x. markLimit (headOf l) p aim ms ≡ markAfter (familyAt ((E.LIMIT + x) % E.EVENTS)) (headOf l) p to aim ms) refl refl refl refl refl l
 
 module _ (f : Tables) (means bases offsets : List ℕ) where
   abbrev pub place : (p : ℕ) → Writing → (marks tape : List ℕ) → Placing
@@ -66,12 +61,12 @@ module _ (f : Tables) (means bases offsets : List ℕ) where
   -- an event, by the size of what it makes, the assignment and the addresses after it
   pub event-placed :
       (op t p z : ℕ) (w : Writing) (ms : List ℕ) {w′ : Writing} {ms′ : List ℕ} (k : List ℕ)
-      → z ≡ codeSizes (made f means bases offsets ms (op % 64) t w) → ms′ ≡ markAfter (op % 64) t p (p + z) (w .aim) ms
-      → w′ ≡ after f means bases offsets ms (op % 64) t w → place p w ms (event op t ∷ k) ≡ place (p + z) w′ ms′ k
+      → z ≡ codeSizes (made f means bases offsets ms (op % E.EVENTS) t w) → ms′ ≡ markAfter (familyAt (op % E.EVENTS)) t p (p + z) (w .aim) ms
+      → w′ ≡ after f means bases offsets ms (op % E.EVENTS) t w → place p w ms (event op t ∷ k) ≡ place (p + z) w′ ms′ k
   event-placed op t p z w ms k ez ek ew =
       let step = placeEvent (f .kinds) (f .values) (f .found) (f .goes) means bases (f .opens) offsets in
       pass-event step op t (placingOf p w ms) k
-      ∙ sym (ap (λ (x : Placing). pass step x k) (place-is (f .kinds) (f .values) (f .found) (f .goes) means bases (f .opens) offsets ms (op % 64) t p w refl ez ek ew))
+      ∙ sym (ap (λ (x : Placing). pass step x k) (place-is (f .kinds) (f .values) (f .found) (f .goes) means bases (f .opens) offsets ms (op % E.EVENTS) t p w refl ez ek ew))
 
   placing : (ms : List ℕ) → Walk f means bases offsets ms ℕ Placing
   placing ms = record {
@@ -79,7 +74,7 @@ module _ (f : Tables) (means bases offsets : List ℕ) where
     run = λ p w k. place p w ms k;
     emit-none = λ p. omega arith;
     emit-both = λ a b p. omega (arith, sizes-append a b);
-    on = λ op t q p w k. event-placed op t p _ w ms k refl (unmarked-stays (op % 64) t p _ (w .aim) ms q) refl;
+    on = λ op t q p w k. event-placed op t p _ w ms k refl (unmarked-stays (familyAt (op % E.EVENTS)) t p _ (w .aim) ms q) refl;
   }
 
   module _ (table : f .means ≡ meaningsOf means bases) (small : Small f) where

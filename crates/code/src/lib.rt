@@ -15,17 +15,21 @@ use arrays::put_wide;
 use emit::Code;
 use emit::Codes;
 use emit::DATA_BASE;
+use emit::Named;
 use emit::Use;
 use emit::Writing;
 use emit::before;
 use emit::code_size;
-use emit::codes_at;
+use emit::codes_of;
 use emit::count;
+use emit::goal_at;
 use emit::held;
 use emit::nth;
+use emit::operand;
+use emit::register_at;
 use emit::size;
 use emit::stop;
-use emit::writing_after;
+use emit::written_after;
 
 // ── addresses ──
 
@@ -37,54 +41,56 @@ fn mark_limit(t: usize, from: usize, aim: Use, marks: &mut [u32])
     put(marks, before(t, 1), (held(aim) % 4294967296) as usize);
 }
 
-fn mark_closing(op: u32, t: usize, to: usize, marks: &mut [u32])
+fn mark_closing(family: u32, t: usize, to: usize, marks: &mut [u32])
     requires { ⌜ (t < 67108864) × (to < 4294967296) ⌝ }
-    ensures { λ _. ⌜ now (marks .exit) ≡ markClosing op t to (now (marks .entry)) ⌝ }
+    ensures { λ _. ⌜ now (marks .exit) ≡ markClosing family t to (now (marks .entry)) ⌝ }
 {
-    if op == tape::END_FOR {
+    if family == tape::END_FOR {
         put(marks, before(t, 1), to);
         return;
     }
-    if op == tape::END_ELSE {
+    if family == tape::END_ELSE {
         put(marks, t + 1, to);
         return;
     }
-    if op < tape::ELSE {
+    if family == tape::ELSE {
+        put(marks, t, to);
         return;
     }
-    if op < tape::CALL {
+    if family == tape::END_IF {
+        put(marks, t, to);
+        return;
+    }
+    if family == tape::END_WHILE {
         put(marks, t, to);
     }
 }
 
-fn mark_after(op: u32, t: usize, from: usize, to: usize, aim: Use, marks: &mut [u32])
+fn mark_after(family: u32, t: usize, from: usize, to: usize, aim: Use, marks: &mut [u32])
     requires { ⌜ (t < 67108864) × (from < 4294967296) × (to < 4294967296) ⌝ }
-    ensures { λ _. ⌜ now (marks .exit) ≡ markAfter op t from to aim (now (marks .entry)) ⌝ }
+    ensures { λ _. ⌜ now (marks .exit) ≡ markAfter family t from to aim (now (marks .entry)) ⌝ }
 {
-    if op == tape::LABEL {
+    if family == tape::LABEL {
         put(marks, t, from);
         return;
     }
-    if op == tape::PROCEDURE {
+    if family == tape::PROCEDURE {
         put(marks, t, to);
         return;
     }
-    if op == tape::END_PROCEDURE {
+    if family == tape::END_PROCEDURE {
         put(marks, t + 1, to);
         return;
     }
-    if op < tape::LIMIT {
-        return;
-    }
-    if op < tape::BARE {
+    if family == tape::LIMIT {
         mark_limit(t, from, aim, marks);
         return;
     }
-    if op == tape::WHILE {
+    if family == tape::WHILE {
         put(marks, t + 1, from);
         return;
     }
-    mark_closing(op, t, to, marks);
+    mark_closing(family, t, to, marks);
 }
 
 // Where branches go, by token; the length of the program but for its last instruction.
@@ -113,24 +119,24 @@ pub fn places(
         let e = tape[i];
         let op = tape::op(e);
         let t = tape::token(e);
-        let m = codes_at(
-            op,
-            t,
+        let family = tape::family(op);
+        let u = operand(values, found, means, bases, offsets, tape::form(op), t);
+        let register = register_at(found, means, family, t);
+        let goal = goal_at(found, goes, opens, family, t);
+        let m = codes_of(
             kinds,
             values,
-            found,
-            goes,
-            means,
-            bases,
-            opens,
-            offsets,
             marks,
+            family,
+            t,
             w,
+            u,
+            Named { register, goal },
         );
         let q = p + size(m);
         let aim = w.aim;
-        mark_after(op, t, p, q, aim, marks);
-        w = writing_after(op, t, values, found, means, bases, offsets, w);
+        mark_after(family, t, p, q, aim, marks);
+        w = written_after(family, w, u, register);
         p = q;
         i += 1;
     }
@@ -295,22 +301,22 @@ pub fn write_code(
         let e = tape[i];
         let op = tape::op(e);
         let t = tape::token(e);
-        let m = codes_at(
-            op,
-            t,
+        let family = tape::family(op);
+        let u = operand(values, found, means, bases, offsets, tape::form(op), t);
+        let register = register_at(found, means, family, t);
+        let goal = goal_at(found, goes, opens, family, t);
+        let m = codes_of(
             kinds,
             values,
-            found,
-            goes,
-            means,
-            bases,
-            opens,
-            offsets,
             marks,
+            family,
+            t,
             w,
+            u,
+            Named { register, goal },
         );
         at = lay_codes(image, literals, start, at, m);
-        w = writing_after(op, t, values, found, means, bases, offsets, w);
+        w = written_after(family, w, u, register);
         i += 1;
     }
     let p = at.length;

@@ -1,17 +1,18 @@
 -- A walk along a tape that takes in the instructions of each event: over an assignment and over a condition it takes in the definition's instructions with
 -- the places of cells. `along` is such a walk, and so is the pass of addresses, but where it sets an address. Assumes nothing.
 use mathlib.Core.Path.{_≡_, refl, sym, ap, ap₂, _∙_}
-use mathlib.Core.Bool.{Bool, true, _&&_, _||_}
+use mathlib.Core.Bool.{Bool, true}
 use mathlib.Core.List.{List, [], _∷_, _++_}
 use Prim.Native.Nat.{ℕ, _+_, _-_, _%_}
 use native.Mathlib.Omega.{arith}
-use lib.Dec.{eqb, leb, ltb}
 use lib.ListN.{getD}
+use Rattle.base.specs.Lists.{member}
 use Rattle.grammar.specs.Tree.{Designator, Operand, Sign, plain, abs, neg, negAbs, Term, Assignment, Condition, compared, bare}
 use Rattle.grammar.specs.Derives.{isOperand, isCondition, areTerms, isAssignment}
 use Rattle.grammar.specs.Pinned.{headOf}
 use Rattle.grammar.proofs.Pinned.{pinned-operand}
 use Rattle.tape.specs.Events as E
+use Rattle.tape.specs.Numbers.{familyAt, formAt}
 use Rattle.tape.specs.Tape.{event, shape, tapeDesignator, tapeOperand, tapeCondition, tapeSign, tapeEach, tapeTerm, tapeAssignment}
 use Rattle.kinds.specs.Meaning.{registerOf}
 use Rattle.kinds.specs.Tables.{Tables, kindAt, valueAt, meaningAt}
@@ -23,14 +24,17 @@ use Rattle.emit.specs.declared.Use.the-variants.{Absent, Held, Number, S
 use Rattle.emit.specs.declared.Code.{Code}
 use Rattle.emit.specs.declared.Writing.{Writing}
 use Rattle.emit.specs.Codes.{listOf, applyCode, isAbsent, applyCodes, applyThen, heldIn, firstCodes, nextCodes, branchCode}
-use Rattle.emit.specs.Events.{placeIn, useIn, writingAfter, comparedCodes, bareCodes, limitCodes, codesBy}
+use Rattle.emit.specs.Events.{placeIn, useIn, registerAt, goalAt, writtenAfter, comparedCodes, bareCodes, limitCodes, otherCodes, codesOf, writingAfter, codesBy}
 use Rattle.emit.specs.Along.{codeFor, signEvent, targetWriting, controlWriting}
 use Rattle.emit.proofs.Operands.{Small, shapeOf, by-form, by-shape, operand-tape, register-at, placed, used}
 use Rattle.emit.proofs.Written.{coded, tested, chainCodes, assignedCodes, apply-is, register-assigned, target-assigned}
 
--- an event that sets no address
+-- the events that set no address
+abbrev pub unmarking : List ℕ
+unmarking = E.TARGET ∷ E.CONTROL ∷ E.ABS ∷ E.NEG ∷ E.NEG-ABS ∷ E.FIRST ∷ E.TERM ∷ E.COMPARED ∷ E.BARE ∷ []
+
 abbrev pub unmarked : ℕ → Bool
-unmarked op = (leb E.TARGET op && ltb op E.LIMIT) || eqb op E.BARE
+unmarked op = member (familyAt op) unmarking
 
 -- an instruction of the code table, and another behind it
 then-list : (row r : ℕ) (u : Use) (c : Code) → listOf (applyThen row r u c) ≡ listOf (applyCodes row r u) ++ (c ∷ [])
@@ -56,16 +60,16 @@ module _ (f : Tables) (means bases offsets marks : List ℕ) where
     pub run : S → Writing → List ℕ → X
     pub emit-none : (s : S) → emit [] s ≡ s
     pub emit-both : (a b : List Code) (s : S) → emit (a ++ b) s ≡ emit b (emit a s)
-    pub on : (op t : ℕ) → unmarked (op % 64) ≡ true → (s : S) (w : Writing) (k : List ℕ)
-        → run s w (event op t ∷ k) ≡ run (emit (made (op % 64) t w) s) (after (op % 64) t w) k
+    pub on : (op t : ℕ) → unmarked (op % E.EVENTS) ≡ true → (s : S) (w : Writing) (k : List ℕ)
+        → run s w (event op t ∷ k) ≡ run (emit (made (op % E.EVENTS) t w) s) (after (op % E.EVENTS) t w) k
 
   -- ── what an event makes, and the assignment that is written after it ──
 
   abbrev pub Makes : (op t : ℕ) → Writing → List Code → Writing → Type 0
-  Makes op t w cs w′ = (made (op % 64) t w ≡ cs) × (after (op % 64) t w ≡ w′)
+  Makes op t w cs w′ = (made (op % E.EVENTS) t w ≡ cs) × (after (op % E.EVENTS) t w ≡ w′)
 
   abbrev Does : (op t : ℕ) → Writing → List Code → Writing → Type 0
-  Does op t w cs w′ = (unmarked (op % 64) ≡ true) × Makes op t w cs w′
+  Does op t w cs w′ = (unmarked (op % E.EVENTS) ≡ true) × Makes op t w cs w′
 
   -- with the shape n of its token's operand
   abbrev at : (n t : ℕ) → Use
@@ -76,18 +80,18 @@ module _ (f : Tables) (means bases offsets marks : List ℕ) where
   controlled d = Held (registerIn (packedAt (f .found) means (d .name)))
 
   target-does : (d : Designator) (w : Writing) → Does (E.TARGET + shape d) (d .name) w [] (writingOf (placed f means bases offsets d) 0)
-  unfolding listOf codesBy writingAfter
+  unfolding listOf formAt useIn otherCodes codesOf codesBy writtenAfter writingAfter
   target-does d w =
       by-form (λ n. Does (E.TARGET + n) (d .name) w [] (writingOf (placeIn (f .values) (f .found) means bases offsets n (d .name)) 0))
       (refl, (refl, refl)) (refl, (refl, refl)) (refl, (refl, refl)) (refl, (refl, refl)) d
 
   control-does : (d : Designator) (w : Writing) → Does (E.CONTROL + shape d) (d .name) w [] (writingOf (controlled d) 0)
-  unfolding listOf codesBy writingAfter
+  unfolding listOf formAt registerAt otherCodes codesOf codesBy writtenAfter writingAfter
   control-does d w =
       by-form (λ n. Does (E.CONTROL + n) (d .name) w [] (writingOf (controlled d) 0)) (refl, (refl, refl)) (refl, (refl, refl)) (refl, (refl, refl)) (refl, (refl, refl)) d
 
   first-does : (a : Operand) (w : Writing) → Does (E.FIRST + shapeOf a) (headOf a) w (listOf (firstCodes (w .aim) (w .sign) (used f means bases offsets a))) w
-  unfolding codesBy writingAfter
+  unfolding formAt codesOf codesBy writtenAfter writingAfter
   first-does a w =
       by-shape (λ n. Does (E.FIRST + n) (headOf a) w (listOf (firstCodes (w .aim) (w .sign) (at n (headOf a)))) w)
       (refl, (refl, refl)) (refl, (refl, refl)) (refl, (refl, refl)) (refl, (refl, refl)) (refl, (refl, refl)) a
@@ -96,7 +100,7 @@ module _ (f : Tables) (means bases offsets marks : List ℕ) where
   term-does :
       (o : ℕ) (a : Operand) (w : Writing) → headOf a - 1 ≡ o
       → Does (E.TERM + shapeOf a) (headOf a) w (listOf (nextCodes (w .aim) (kindAt f o) (used f means bases offsets a))) w
-  unfolding codesBy writingAfter
+  unfolding formAt codesOf codesBy writtenAfter writingAfter
   term-does o a w e =
       let p = by-shape (λ n. Does (E.TERM + n) (headOf a) w (listOf (nextCodes (w .aim) (kindAt f (headOf a - 1)) (at n (headOf a)))) w)
       (refl, (refl, refl)) (refl, (refl, refl)) (refl, (refl, refl)) (refl, (refl, refl)) (refl, (refl, refl)) a in
@@ -112,7 +116,7 @@ module _ (f : Tables) (means bases offsets marks : List ℕ) where
     compared-does :
         (n r to : ℕ) (a : Operand) (i j : ℕ) → isOperand (f .kinds) a i j → headOf a - 2 ≡ n → headOf a - 1 ≡ r → getD marks (headOf a - 3) 0 ≡ to → (w : Writing)
         → Does (E.COMPARED + shapeOf a) (headOf a) w (tested offsets (compareWith f (registerOf (meaningAt f n)) a) (falseMask (kindAt f r)) to) w
-    unfolding codesBy comparedCodes writingAfter
+    unfolding formAt registerAt comparedCodes codesOf codesBy writtenAfter writingAfter
     compared-does n r to a i j h en er et w =
         let p =
         by-shape
@@ -125,13 +129,13 @@ module _ (f : Tables) (means bases offsets marks : List ℕ) where
         (p .0, (p .1 .0 ∙ rw (en, er, et, register-at f means bases table n) (compare-is (registerOf (meaningAt f n)) (falseMask (kindAt f r)) to a i j h), p .1 .1))
 
     bare-does : (r to : ℕ) → getD marks (r - 1) 0 ≡ to → (w : Writing) → Does E.BARE r w (tested offsets [] (falseMask (kindAt f r)) to) w
-    unfolding listOf codesBy bareCodes writingAfter codeFor
+    unfolding listOf formAt bareCodes codesOf codesBy writtenAfter writingAfter codeFor
     bare-does r to e w = (refl, (rw e, refl))
 
     pub limit-makes :
         (v : ℕ) (l : Operand) (j : ℕ) → isOperand (f .kinds) l (v + 2) j → (w : Writing)
         → Makes (E.LIMIT + shapeOf l) (headOf l) w (tested offsets (compareWith f (heldIn (w .aim)) l) (exitMask (valueAt f v)) (getD marks (v - 1) 0)) w
-    unfolding codesBy limitCodes writingAfter
+    unfolding formAt limitCodes codesOf codesBy writtenAfter writingAfter
     limit-makes v l j h w =
         let p =
         by-shape
@@ -155,7 +159,7 @@ module _ (f : Tables) (means bases offsets marks : List ℕ) where
       quietly op t s w k {w′} p = via op t s w k p ∙ ap (λ (x : S). walk .run x w′ k) (walk .emit-none s)
 
       sign : (g : Sign) (u : Use) (s : S) (k : List ℕ) → walk .run s (writingOf u 0) (tapeSign g k) ≡ walk .run s (writingOf u (signEvent g)) k
-      unfolding tapeSign listOf codesBy writingAfter
+      unfolding tapeSign listOf formAt otherCodes codesOf codesBy writtenAfter writingAfter
       sign plain u s k = refl
       sign (abs t) u s k = quietly E.ABS t s (writingOf u 0) k (refl, (refl, refl))
       sign (neg t) u s k = quietly E.NEG t s (writingOf u 0) k (refl, (refl, refl))

@@ -9,7 +9,7 @@ ghost use Rattle.kinds.specs.Rules.{shifts};
 ghost use Rattle.translator.specs.Instructions.{opcode as opcodeOf, rowOf, shiftCode, falseMask};
 ghost use Rattle.translator.specs.Core.{exitMask};
 ghost use Rattle.emit.specs.Codes.{listOf, blank as blankCode, codeSize, codeSizes, columnOf, applyCode, isAbsent, applyCodes, applyThen, signCode, signedCodes, loadCodes, heldIn, amountIn, isLongUse, productRegister, termCodes, firstCodes, nextCodes, branchCode, linkCode, baseCode, returnCode, stopCode};
-ghost use Rattle.emit.specs.Events.{subscriptIn, indexIn, elementIn, placeBy, placeIn, useIn, writingAfter, returnIn, declaredCodes, comparedCodes, bareCodes, limitCodes, stepCodes, closingCodes, codesBy};
+ghost use Rattle.emit.specs.Events.{subscriptIn, indexIn, elementIn, placeBy, placeIn, useIn, returnIn, registerAt, goalAt, signing as signingOf, writtenAfter, comparedCodes, bareCodes, limitCodes, stepCodes, otherCodes, codesOf};
 use arrays::get;
 use arrays::key;
 use arrays::kind;
@@ -38,6 +38,12 @@ pub enum Codes {
     None,
     One(Code),
     Both(Code, Code),
+}
+
+// What an event names: a register, and where it leads: the segment of a base, the procedure of a call, the label of a GOTO.
+pub struct Named {
+    pub register: u64,
+    pub goal: usize,
 }
 
 // The assignment that is written: its target, and its sign's event, 0 for none.
@@ -516,32 +522,15 @@ fn element(bases: &[u64], offsets: &[u64], d: usize, m: u64, subscript: u64, ind
     )
 }
 
-fn place_by(
-    values: &[u64],
-    found: &[u32],
-    means: &[u64],
-    bases: &[u64],
-    offsets: &[u64],
-    d: usize,
-    m: u64,
-    shape: u32,
-    t: usize,
-) -> Use
-    requires { ⌜ t < 67108864 ⌝ }
-    ensures { λ r. ⌜ r ≡ placeBy (now (values .entry)) (now (found .entry)) (now (means .entry)) (now (bases .entry)) (now (offsets .entry)) d m shape t ⌝ }
+// What is declared at token d, by its packed meaning m.
+fn place_by(bases: &[u64], offsets: &[u64], d: usize, m: u64, subscript: u64, index: u64) -> Use
+    ensures { λ r. ⌜ r ≡ placeBy (now (bases .entry)) (now (offsets .entry)) d m subscript index ⌝ }
 {
     if m % 8 == tables::REGISTER {
         return Use::Held(number(m));
     }
     if tables::CELL <= m % 8 {
-        return element(
-            bases,
-            offsets,
-            d,
-            m,
-            subscript(values, shape, t),
-            index(found, means, shape, t),
-        );
+        return element(bases, offsets, d, m, subscript, index);
     }
     Use::Absent
 }
@@ -558,21 +547,20 @@ fn place(
     requires { ⌜ t < 67108864 ⌝ }
     ensures { λ r. ⌜ r ≡ placeIn (now (values .entry)) (now (found .entry)) (now (means .entry)) (now (bases .entry)) (now (offsets .entry)) shape t ⌝ }
 {
-    let d = get(found, t);
+    let s = subscript(values, shape, t);
+    let x = index(found, means, shape, t);
     place_by(
-        values,
-        found,
-        means,
         bases,
         offsets,
-        d,
-        key(means, d),
-        shape,
-        t,
+        get(found, t),
+        meaning(found, means, t),
+        s,
+        x,
     )
 }
 
-fn operand(
+// The operand or designator at token t, by its shape.
+pub fn operand(
     values: &[u64],
     found: &[u32],
     means: &[u64],
@@ -590,43 +578,7 @@ fn operand(
     place(values, found, means, bases, offsets, shape, t)
 }
 
-// ── events ──
-
-// The target of the assignment that is written, and its sign.
-pub fn writing_after(
-    op: u32,
-    t: usize,
-    values: &[u64],
-    found: &[u32],
-    means: &[u64],
-    bases: &[u64],
-    offsets: &[u64],
-    w: Writing,
-) -> Writing
-    requires { ⌜ t < 67108864 ⌝ }
-    ensures { λ r. ⌜ r ≡ writingAfter (now (values .entry)) (now (found .entry)) (now (means .entry)) (now (bases .entry)) (now (offsets .entry)) op t w ⌝ }
-{
-    if op < tape::TARGET {
-        return w;
-    }
-    if op < tape::CONTROL {
-        return Writing {
-            aim: place(values, found, means, bases, offsets, op - tape::TARGET, t),
-            sign: 0,
-        };
-    }
-    if op < tape::ABS {
-        return Writing {
-            aim: Use::Held(register(meaning(found, means, t))),
-            sign: 0,
-        };
-    }
-    if op < tape::FIRST {
-        let aim = w.aim;
-        return Writing { aim, sign: op };
-    }
-    w
-}
+// ── what an event names ──
 
 fn return_register(m: u64) -> u64
     ensures { λ r. ⌜ r ≡ returnIn m ⌝ }
@@ -636,6 +588,76 @@ fn return_register(m: u64) -> u64
     }
     0
 }
+
+pub fn before(t: usize, n: usize) -> usize
+    ensures { λ r. ⌜ r ≡ t - n ⌝ }
+{
+    if t < n { 0 } else { t - n }
+}
+
+pub fn register_at(found: &[u32], means: &[u64], family: u32, t: usize) -> u64
+    requires { ⌜ t < 67108864 ⌝ }
+    ensures { λ r. ⌜ r ≡ registerAt (now (found .entry)) (now (means .entry)) family t ⌝ }
+{
+    if family == tape::END_PROCEDURE {
+        return register(meaning(found, means, t + 2));
+    }
+    if family == tape::COMPARED {
+        return register(meaning(found, means, before(t, 2)));
+    }
+    if family == tape::CALL {
+        return return_register(meaning(found, means, t));
+    }
+    register(meaning(found, means, t))
+}
+
+pub fn goal_at(found: &[u32], goes: &[u32], opens: &[u32], family: u32, t: usize) -> usize
+    ensures { λ r. ⌜ (r ≡ goalAt (now (found .entry)) (now (goes .entry)) (now (opens .entry)) family t) × (r < 4294967296) ⌝ }
+{
+    if family == tape::BASE {
+        return get(opens, t);
+    }
+    if family == tape::CALL {
+        return get(found, t);
+    }
+    get(goes, t)
+}
+
+// ── the assignment that is written ──
+
+fn signing(sign: u32, w: Writing) -> Writing
+    ensures { λ r. ⌜ r ≡ signingOf sign w ⌝ }
+{
+    let aim = w.aim;
+    Writing { aim, sign }
+}
+
+// Its target and its sign, after an event with the operand u and the register r.
+pub fn written_after(family: u32, w: Writing, u: Use, r: u64) -> Writing
+    ensures { λ v. ⌜ v ≡ writtenAfter family w u r ⌝ }
+{
+    if family == tape::TARGET {
+        return Writing { aim: u, sign: 0 };
+    }
+    if family == tape::CONTROL {
+        return Writing {
+            aim: Use::Held(r),
+            sign: 0,
+        };
+    }
+    if family == tape::ABS {
+        return signing(family, w);
+    }
+    if family == tape::NEG {
+        return signing(family, w);
+    }
+    if family == tape::NEG_ABS {
+        return signing(family, w);
+    }
+    w
+}
+
+// ── the instructions of an event ──
 
 fn branch(mask: u64, to: usize) -> Code
     ensures { λ c. ⌜ c ≡ branchCode mask to ⌝ }
@@ -663,33 +685,10 @@ pub fn stop() -> Code
     Code::Two(STOP, 0, 0)
 }
 
-fn declared(op: u32, t: usize, found: &[u32], means: &[u64], opens: &[u32], marks: &[u32]) -> Codes
-    requires { ⌜ t < 67108864 ⌝ }
-    ensures { λ m. ⌜ m ≡ declaredCodes (now (found .entry)) (now (means .entry)) (now (opens .entry)) (now (marks .entry)) op t ⌝ }
-{
-    if op == tape::BASE {
-        return Codes::One(base(register(meaning(found, means, t)), get(opens, t)));
-    }
-    if op == tape::PROCEDURE {
-        return Codes::One(branch(ALWAYS, get(marks, t + 1)));
-    }
-    if op == tape::END_PROCEDURE {
-        return Codes::One(Code::Two(RETURN, ALWAYS, register(meaning(found, means, t + 2))));
-    }
-    Codes::None
-}
-
-pub fn before(t: usize, n: usize) -> usize
-    ensures { λ r. ⌜ r ≡ t - n ⌝ }
-{
-    if t < n { 0 } else { t - n }
-}
-
 // "IF and WHILE branch on false": a register and the operand u are compared.
-fn compared(kinds: &[u8], found: &[u32], means: &[u64], marks: &[u32], t: usize, u: Use) -> Codes
-    ensures { λ m. ⌜ m ≡ comparedCodes (now (kinds .entry)) (now (found .entry)) (now (means .entry)) (now (marks .entry)) t u ⌝ }
+fn compared(kinds: &[u8], marks: &[u32], r: u64, t: usize, u: Use) -> Codes
+    ensures { λ m. ⌜ m ≡ comparedCodes (now (kinds .entry)) (now (marks .entry)) r t u ⌝ }
 {
-    let r = register(meaning(found, means, before(t, 2)));
     let mask = false_mask(kind(kinds, before(t, 1)));
     apply_then(COMPARE, r, u, branch(mask, get(marks, before(t, 3))))
 }
@@ -728,72 +727,69 @@ fn step(values: &[u64], marks: &[u32], t: usize) -> Codes
     )
 }
 
-fn closing(op: u32, t: usize, found: &[u32], goes: &[u32], means: &[u64], marks: &[u32]) -> Codes
-    requires { ⌜ t < 67108864 ⌝ }
-    ensures { λ m. ⌜ m ≡ closingCodes (now (found .entry)) (now (goes .entry)) (now (means .entry)) (now (marks .entry)) op t ⌝ }
+// Declarations, ends of statements, calls and GOTOs.
+fn others(marks: &[u32], family: u32, t: usize, n: Named) -> Codes
+    requires { ⌜ (t < 67108864) × (n .goal < 4294967296) ⌝ }
+    ensures { λ m. ⌜ m ≡ otherCodes (now (marks .entry)) family t n ⌝ }
 {
-    if op == tape::ELSE {
+    let r = n.register;
+    let goal = n.goal;
+    if family == tape::BASE {
+        return Codes::One(base(r, goal));
+    }
+    if family == tape::PROCEDURE {
         return Codes::One(branch(ALWAYS, get(marks, t + 1)));
     }
-    if op == tape::END_WHILE {
+    if family == tape::END_PROCEDURE {
+        return Codes::One(Code::Two(RETURN, ALWAYS, r));
+    }
+    if family == tape::ELSE {
         return Codes::One(branch(ALWAYS, get(marks, t + 1)));
     }
-    if op == tape::CALL {
-        let r = return_register(meaning(found, means, t));
-        return Codes::One(link(r, get(marks, get(found, t))));
+    if family == tape::END_WHILE {
+        return Codes::One(branch(ALWAYS, get(marks, t + 1)));
     }
-    if op == tape::GOTO {
-        return Codes::One(branch(ALWAYS, get(marks, get(goes, t))));
+    if family == tape::CALL {
+        return Codes::One(link(r, get(marks, goal)));
+    }
+    if family == tape::GOTO {
+        return Codes::One(branch(ALWAYS, get(marks, goal)));
     }
     Codes::None
 }
 
-// The instructions of an event.
-pub fn codes_at(
-    op: u32,
-    t: usize,
+// The instructions of an event, by its operand u and what it names.
+pub fn codes_of(
     kinds: &[u8],
     values: &[u64],
-    found: &[u32],
-    goes: &[u32],
-    means: &[u64],
-    bases: &[u64],
-    opens: &[u32],
-    offsets: &[u64],
     marks: &[u32],
+    family: u32,
+    t: usize,
     w: Writing,
+    u: Use,
+    n: Named,
 ) -> Codes
-    requires { ⌜ t < 67108864 ⌝ }
-    ensures { λ m. ⌜ m ≡ codesBy (now (kinds .entry)) (now (values .entry)) (now (found .entry)) (now (goes .entry)) (now (means .entry)) (now (bases .entry)) (now (opens .entry)) (now (offsets .entry)) (now (marks .entry)) op t w ⌝ }
+    requires { ⌜ (t < 67108864) × (n .goal < 4294967296) ⌝ }
+    ensures { λ m. ⌜ m ≡ codesOf (now (kinds .entry)) (now (values .entry)) (now (marks .entry)) family t w u n ⌝ }
 {
-    if op < tape::TARGET {
-        return declared(op, t, found, means, opens, marks);
-    }
-    if op < tape::FIRST {
-        return Codes::None;
-    }
     let aim = w.aim;
-    if op < tape::TERM {
-        let u = operand(values, found, means, bases, offsets, op - tape::FIRST, t);
+    if family == tape::FIRST {
         return first(aim, w.sign, u);
     }
-    if op < tape::COMPARED {
-        let u = operand(values, found, means, bases, offsets, op - tape::TERM, t);
+    if family == tape::TERM {
         return next(aim, kind(kinds, before(t, 1)), u);
     }
-    if op < tape::LIMIT {
-        let u = operand(values, found, means, bases, offsets, op - tape::COMPARED, t);
-        return compared(kinds, found, means, marks, t, u);
+    if family == tape::COMPARED {
+        return compared(kinds, marks, n.register, t, u);
     }
-    if op < tape::BARE {
-        let u = operand(values, found, means, bases, offsets, op - tape::LIMIT, t);
+    if family == tape::LIMIT {
         return limit(values, marks, aim, t, u);
     }
-    if op == tape::BARE {
+    if family == tape::BARE {
         return bare(kinds, marks, t);
     }
-    if op == tape::END_FOR {
+    if family == tape::END_FOR {
         return step(values, marks, t);
     }
-    closing(op, t, found, goes, means, marks)
+    others(marks, family, t, n)
 }

@@ -7,23 +7,14 @@ use Rattle.emit.proofs.compared.Tie as tie
 before-requires : tie.Need-before-requires
 before-requires c κs = search needs
 
-meaning-requires : tie.Need-meaning-requires
-meaning-requires c κs = search needs
-
-register-requires : tie.Need-register-requires
-register-requires c κs = search needs
-
-before-requires-2 : tie.Need-before-requires-2
-before-requires-2 c κs = search needs
-
 kind-requires : tie.Need-kind-requires
 kind-requires c κs = search needs
 
 false-mask-requires : tie.Need-false-mask-requires
 false-mask-requires c κs = search needs
 
-before-requires-3 : tie.Need-before-requires-3
-before-requires-3 c κs = search needs
+before-requires-2 : tie.Need-before-requires-2
+before-requires-2 c κs = search needs
 
 get-requires : tie.Need-get-requires
 get-requires c κs = search needs
@@ -38,30 +29,14 @@ returns : tie.Need-returns
 unfolding comparedCodes
 returns c =
     rw (
-      ← (c .before .before .before .before .before .before .before .before .before .before2 .ensures),
-      ← (c .before .before .before .before .before .before .before .before .meaning .ensures),
-      ← (c .before .before .before .before .before .before .before .register .ensures .0),
-      ← (c .before .before .before .before .before .before .before3 .ensures),
+      ← (c .before .before .before .before .before .before .before2 .ensures),
       ← (c .before .before .before .before .before .kind .ensures),
       ← (c .before .before .before .before .false-mask .ensures .0),
-      ← (c .before .before .before .before4 .ensures),
+      ← (c .before .before .before .before3 .ensures),
       ← (c .before .before .get .ensures .0),
       ← (c .before .branch .ensures),
     )
     (c .apply-then .ensures)
 
 pub compared-spec : {M : Type 1} → statement M
-compared-spec =
-    tie.close
-    (tie.spec
-    before-requires
-    meaning-requires
-    register-requires
-    before-requires-2
-    kind-requires
-    false-mask-requires
-    before-requires-3
-    get-requires
-    branch-requires
-    apply-then-requires
-    returns)
+compared-spec = tie.close (tie.spec before-requires kind-requires false-mask-requires before-requires-2 get-requires branch-requires apply-then-requires returns)
