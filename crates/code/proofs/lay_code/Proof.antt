@@ -43,7 +43,9 @@ same-length c = search needs
 returns : tie.Need-returns
 returns c =
     let a = c .before .before .before .before .before .before .before .before .before .args in (
-      λ h. lay-two (a .start) (a .p) (a .image .now) (take (a .n) (a .literals .now)) (a .c) _ _ _ (c .before .before .before .before .before .c .given .1) (c .before .before .lay-two .ensures),
+      λ h.
+          lay-two (a .start) (a .p) (a .image .now) (take (a .n) (a .literals .now)) (a .c) _ _ _ (c .before .before .before .before .before .c .given .1)
+          (c .before .before .lay-two .ensures),
       λ e. refl,
       omega arith,
     )
@@ -54,7 +56,9 @@ same-length-2 c = search needs
 returns-2 : tie.Need-returns-2
 returns-2 c =
     let a = c .before .before .before .before .before .before .before .before .before .args in (
-      λ h. lay-four (a .start) (a .p) (a .image .now) (take (a .n) (a .literals .now)) (a .c) _ _ _ _ _ (c .before .before .before .before .before .c2 .given .1) (c .before .before .lay-four .ensures),
+      λ h.
+          lay-four (a .start) (a .p) (a .image .now) (take (a .n) (a .literals .now)) (a .c) _ _ _ _ _ (c .before .before .before .before .before .c2 .given .1)
+          (c .before .before .lay-four .ensures),
       λ e. refl,
       omega arith,
     )
@@ -70,7 +74,10 @@ returns-3 c =
     let a = c .before .before .before .before .before .before .before .before .before .before .before .before .before .before .before .args in
     let e = c .before .before .enter-in-room .ensures in
     let q = c .before .before .before .before .before .before .lay-four2 .ensures in (
-      λ h. lay-literal (a .start) (a .p) (a .image .now) (take (a .n) (a .literals .now)) (a .c) _ _ _ (c .before .before .before .before .before .before .before .before .find .result) (c .before .before .before .before .before .before .before .before .before .before .before .c3 .given .1)
+      λ h.
+          lay-literal (a .start) (a .p) (a .image .now) (take (a .n) (a .literals .now)) (a .c) _ _ _
+          (c .before .before .before .before .before .before .before .before .find .result)
+          (c .before .before .before .before .before .before .before .before .before .before .before .c3 .given .1)
           (e .0 h .0) (e .0 h .1) q,
       e .1,
       e .2,

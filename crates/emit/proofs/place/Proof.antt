@@ -23,8 +23,8 @@ returns : tie.Need-returns
 unfolding placeIn
 returns c =
     rw (
-      ← (c .before .before .get .ensures .0),
       ← (c .before .meaning .ensures),
+      ← (c .before .before .get .ensures .0),
       ← (c .before .before .before .before .subscript .ensures),
       ← (c .before .before .before .index .ensures),
     )
