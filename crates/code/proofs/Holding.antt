@@ -15,6 +15,7 @@ use Rattle.base.specs.Lists.{member}
 use Rattle.base.specs.Walk.{fold}
 use Rattle.base.proofs.Tests.{cases}
 use Rattle.base.proofs.Walk.{fold-turn, fold-end}
+use Rattle.tape.specs.Events as E
 use Rattle.tape.specs.Pass.{pass}
 use Rattle.tape.proofs.Pass.{pass-turn, pass-end}
 use Rattle.translator.specs.Instructions.{literal}
@@ -116,7 +117,7 @@ module _ (start room : ℕ) (kinds values found goes means bases opens offsets m
 
   pub tape-turn :
       (tape : List ℕ) (i op t at n at′ n′ : ℕ) (image literals image′ literals′ : List ℕ) (m : Codes) (w w′ : Writing) (whole : Coding) → i < length tape
-      → op ≡ getD tape i 0 % 64 → t ≡ getD tape i 0 / 64
+      → op ≡ getD tape i 0 % E.EVENTS → t ≡ getD tape i 0 / E.EVENTS
       → m ≡ codesBy kinds values found goes means bases opens offsets marks op t w → w′ ≡ writingAfter values found means bases offsets op t w
       → {given : ℕ} → given ≡ room → ((s : Laid) → Holds given at n image literals s → Holds given at′ n′ image′ literals′ (layAll start (listOf m) s))
       → Coded at n image literals w (drop i tape) whole → Coded at′ n′ image′ literals′ w′ (drop (i + 1) tape) whole

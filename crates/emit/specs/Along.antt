@@ -19,8 +19,8 @@ use Rattle.emit.specs.Events.{placeIn, writingAfter, codesBy}
 unfoldable pub along : (kinds values found goes means bases opens offsets marks : List ℕ) → Writing → List ℕ → List Code
 along kinds values found goes means bases opens offsets marks w [] = []
 along kinds values found goes means bases opens offsets marks w (e ∷ es) =
-    listOf (codesBy kinds values found goes means bases opens offsets marks (e % 64) (e / 64) w)
-    ++ along kinds values found goes means bases opens offsets marks (writingAfter values found means bases offsets (e % 64) (e / 64) w) es
+    listOf (codesBy kinds values found goes means bases opens offsets marks (e % E.EVENTS) (e / E.EVENTS) w)
+    ++ along kinds values found goes means bases opens offsets marks (writingAfter values found means bases offsets (e % E.EVENTS) (e / E.EVENTS) w) es
 
 -- ── the definition's instructions, with the places of cells ──
 

@@ -2,6 +2,7 @@
 ghost use mathlib.Core.Path.{_≡_};
 ghost use mathlib.Core.List.{[], _∷_};
 ghost use Prim.Native.Nat.{_+_, _-_, _*_, _≤_, _<_};
+ghost use Rattle.tape.specs.Events.{TOKEN-LIMIT};
 ghost use lib.ListN.{length, getD};
 ghost use Rattle.base.specs.Lists.{member};
 ghost use Rattle.base.specs.Runs.{indexOf};
@@ -483,7 +484,7 @@ pub fn size(m: Codes) -> usize
 // ── operands ──
 
 fn subscript(values: &[u64], shape: u32, t: usize) -> u64
-    requires { ⌜ t < 67108864 ⌝ }
+    requires { ⌜ t < TOKEN-LIMIT ⌝ }
     ensures { λ r. ⌜ r ≡ subscriptIn (now (values .entry)) shape t ⌝ }
 {
     if shape % 2 == 1 {
@@ -493,7 +494,7 @@ fn subscript(values: &[u64], shape: u32, t: usize) -> u64
 }
 
 fn index(found: &[u32], means: &[u64], shape: u32, t: usize) -> u64
-    requires { ⌜ t < 67108864 ⌝ }
+    requires { ⌜ t < TOKEN-LIMIT ⌝ }
     ensures { λ r. ⌜ r ≡ indexIn (now (found .entry)) (now (means .entry)) shape t ⌝ }
 {
     if shape == 2 {
@@ -527,7 +528,7 @@ fn place_by(
     shape: u32,
     t: usize,
 ) -> Use
-    requires { ⌜ t < 67108864 ⌝ }
+    requires { ⌜ t < TOKEN-LIMIT ⌝ }
     ensures { λ r. ⌜ r ≡ placeBy (now (values .entry)) (now (found .entry)) (now (means .entry)) (now (bases .entry)) (now (offsets .entry)) d m shape t ⌝ }
 {
     if m % 8 == tables::REGISTER {
@@ -555,7 +556,7 @@ fn place(
     shape: u32,
     t: usize,
 ) -> Use
-    requires { ⌜ t < 67108864 ⌝ }
+    requires { ⌜ t < TOKEN-LIMIT ⌝ }
     ensures { λ r. ⌜ r ≡ placeIn (now (values .entry)) (now (found .entry)) (now (means .entry)) (now (bases .entry)) (now (offsets .entry)) shape t ⌝ }
 {
     let d = get(found, t);
@@ -581,7 +582,7 @@ fn operand(
     shape: u32,
     t: usize,
 ) -> Use
-    requires { ⌜ t < 67108864 ⌝ }
+    requires { ⌜ t < TOKEN-LIMIT ⌝ }
     ensures { λ r. ⌜ r ≡ useIn (now (values .entry)) (now (found .entry)) (now (means .entry)) (now (bases .entry)) (now (offsets .entry)) shape t ⌝ }
 {
     if shape == 4 {
@@ -603,7 +604,7 @@ pub fn writing_after(
     offsets: &[u64],
     w: Writing,
 ) -> Writing
-    requires { ⌜ t < 67108864 ⌝ }
+    requires { ⌜ t < TOKEN-LIMIT ⌝ }
     ensures { λ r. ⌜ r ≡ writingAfter (now (values .entry)) (now (found .entry)) (now (means .entry)) (now (bases .entry)) (now (offsets .entry)) op t w ⌝ }
 {
     if op < tape::TARGET {
@@ -664,7 +665,7 @@ pub fn stop() -> Code
 }
 
 fn declared(op: u32, t: usize, found: &[u32], means: &[u64], opens: &[u32], marks: &[u32]) -> Codes
-    requires { ⌜ t < 67108864 ⌝ }
+    requires { ⌜ t < TOKEN-LIMIT ⌝ }
     ensures { λ m. ⌜ m ≡ declaredCodes (now (found .entry)) (now (means .entry)) (now (opens .entry)) (now (marks .entry)) op t ⌝ }
 {
     if op == tape::BASE {
@@ -716,7 +717,7 @@ fn limit(values: &[u64], marks: &[u32], aim: Use, t: usize, u: Use) -> Codes
 
 // "5A of the step; branch to the compare".
 fn step(values: &[u64], marks: &[u32], t: usize) -> Codes
-    requires { ⌜ t < 67108864 ⌝ }
+    requires { ⌜ t < TOKEN-LIMIT ⌝ }
     ensures { λ m. ⌜ m ≡ stepCodes (now (values .entry)) (now (marks .entry)) t ⌝ }
 {
     let r = get(marks, t + 1) as u64;
@@ -729,7 +730,7 @@ fn step(values: &[u64], marks: &[u32], t: usize) -> Codes
 }
 
 fn closing(op: u32, t: usize, found: &[u32], goes: &[u32], means: &[u64], marks: &[u32]) -> Codes
-    requires { ⌜ t < 67108864 ⌝ }
+    requires { ⌜ t < TOKEN-LIMIT ⌝ }
     ensures { λ m. ⌜ m ≡ closingCodes (now (found .entry)) (now (goes .entry)) (now (means .entry)) (now (marks .entry)) op t ⌝ }
 {
     if op == tape::ELSE {
@@ -763,7 +764,7 @@ pub fn codes_at(
     marks: &[u32],
     w: Writing,
 ) -> Codes
-    requires { ⌜ t < 67108864 ⌝ }
+    requires { ⌜ t < TOKEN-LIMIT ⌝ }
     ensures { λ m. ⌜ m ≡ codesBy (now (kinds .entry)) (now (values .entry)) (now (found .entry)) (now (goes .entry)) (now (means .entry)) (now (bases .entry)) (now (opens .entry)) (now (offsets .entry)) (now (marks .entry)) op t w ⌝ }
 {
     if op < tape::TARGET {

@@ -1,5 +1,12 @@
--- The events of a tape, as numbers. To those of designators (TARGET, CONTROL) and operands (FIRST, TERM, COMPARED, LIMIT) their shape is added.
+-- The events of a tape, as numbers below EVENTS. To those of designators (TARGET, CONTROL) and operands (FIRST, TERM, COMPARED, LIMIT) their shape is added.
 use Prim.Native.Nat.{ℕ}
+
+abbrev pub EVENTS : ℕ
+EVENTS = 128
+
+-- the number of a token is below this, since an event on the tape has 32 bits
+abbrev pub TOKEN-LIMIT : ℕ
+TOKEN-LIMIT = 33554432
 
 abbrev pub BLOCK : ℕ
 BLOCK = 0

@@ -58,7 +58,7 @@ mark-after-requires c κs =
     (c .before .before .before .before .token .ensures .1, omega arith, omega (arith, c .before .size .ensures .1))
 
 writing-after-requires : tie.Need-writing-after-requires Inv-loop μ-loop
-writing-after-requires c κs = c .before .before .before .before .before .before .before .token .ensures .1
+writing-after-requires c κs = omega (arith, c .before .before .before .before .before .before .before .token .ensures .1)
 
 add-i : tie.Need-add-i Inv-loop μ-loop
 add-i c =
