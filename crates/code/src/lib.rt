@@ -1,6 +1,7 @@
 // Document 01, "Code": where branches go, then the program's bytes and the literals that it needs, each in one loop along the tape.
 ghost use mathlib.Core.Path.{_≡_};
 ghost use Prim.Native.Nat.{ℕ, _+_, _-_, _*_, _%_, _≤_, _<_};
+ghost use Rattle.tape.specs.Events.{TOKEN-LIMIT};
 ghost use lib.ListN.{length, take, set};
 ghost use lib.Seq.{sets};
 ghost use Rattle.base.specs.Runs.{indexOf};
@@ -42,7 +43,7 @@ fn mark_limit(t: usize, from: usize, aim: Use, marks: &mut [u32])
 }
 
 fn mark_closing(family: u32, t: usize, to: usize, marks: &mut [u32])
-    requires { ⌜ (t < 67108864) × (to < 4294967296) ⌝ }
+    requires { ⌜ (t < TOKEN-LIMIT) × (to < 4294967296) ⌝ }
     ensures { λ _. ⌜ now (marks .exit) ≡ markClosing family t to (now (marks .entry)) ⌝ }
 {
     if family == tape::END_FOR {
@@ -67,7 +68,7 @@ fn mark_closing(family: u32, t: usize, to: usize, marks: &mut [u32])
 }
 
 fn mark_after(family: u32, t: usize, from: usize, to: usize, aim: Use, marks: &mut [u32])
-    requires { ⌜ (t < 67108864) × (from < 4294967296) × (to < 4294967296) ⌝ }
+    requires { ⌜ (t < TOKEN-LIMIT) × (from < 4294967296) × (to < 4294967296) ⌝ }
     ensures { λ _. ⌜ now (marks .exit) ≡ markAfter family t from to aim (now (marks .entry)) ⌝ }
 {
     if family == tape::LABEL {

@@ -2,6 +2,7 @@
 ghost use mathlib.Core.Path.{_≡_};
 ghost use mathlib.Core.List.{[], _∷_};
 ghost use Prim.Native.Nat.{_+_, _-_, _*_, _≤_, _<_};
+ghost use Rattle.tape.specs.Events.{TOKEN-LIMIT};
 ghost use lib.ListN.{length, getD};
 ghost use Rattle.base.specs.Lists.{member};
 ghost use Rattle.base.specs.Runs.{indexOf};
@@ -489,7 +490,7 @@ pub fn size(m: Codes) -> usize
 // ── operands ──
 
 fn subscript(values: &[u64], shape: u32, t: usize) -> u64
-    requires { ⌜ t < 67108864 ⌝ }
+    requires { ⌜ t < TOKEN-LIMIT ⌝ }
     ensures { λ r. ⌜ r ≡ subscriptIn (now (values .entry)) shape t ⌝ }
 {
     if shape % 2 == 1 {
@@ -499,7 +500,7 @@ fn subscript(values: &[u64], shape: u32, t: usize) -> u64
 }
 
 fn index(found: &[u32], means: &[u64], shape: u32, t: usize) -> u64
-    requires { ⌜ t < 67108864 ⌝ }
+    requires { ⌜ t < TOKEN-LIMIT ⌝ }
     ensures { λ r. ⌜ r ≡ indexIn (now (found .entry)) (now (means .entry)) shape t ⌝ }
 {
     if shape == 2 {
@@ -544,7 +545,7 @@ fn place(
     shape: u32,
     t: usize,
 ) -> Use
-    requires { ⌜ t < 67108864 ⌝ }
+    requires { ⌜ t < TOKEN-LIMIT ⌝ }
     ensures { λ r. ⌜ r ≡ placeIn (now (values .entry)) (now (found .entry)) (now (means .entry)) (now (bases .entry)) (now (offsets .entry)) shape t ⌝ }
 {
     let s = subscript(values, shape, t);
@@ -569,7 +570,7 @@ pub fn operand(
     shape: u32,
     t: usize,
 ) -> Use
-    requires { ⌜ t < 67108864 ⌝ }
+    requires { ⌜ t < TOKEN-LIMIT ⌝ }
     ensures { λ r. ⌜ r ≡ useIn (now (values .entry)) (now (found .entry)) (now (means .entry)) (now (bases .entry)) (now (offsets .entry)) shape t ⌝ }
 {
     if shape == 4 {
@@ -596,7 +597,7 @@ pub fn before(t: usize, n: usize) -> usize
 }
 
 pub fn register_at(found: &[u32], means: &[u64], family: u32, t: usize) -> u64
-    requires { ⌜ t < 67108864 ⌝ }
+    requires { ⌜ t < TOKEN-LIMIT ⌝ }
     ensures { λ r. ⌜ r ≡ registerAt (now (found .entry)) (now (means .entry)) family t ⌝ }
 {
     if family == tape::END_PROCEDURE {
@@ -715,7 +716,7 @@ fn limit(values: &[u64], marks: &[u32], aim: Use, t: usize, u: Use) -> Codes
 
 // "5A of the step; branch to the compare".
 fn step(values: &[u64], marks: &[u32], t: usize) -> Codes
-    requires { ⌜ t < 67108864 ⌝ }
+    requires { ⌜ t < TOKEN-LIMIT ⌝ }
     ensures { λ m. ⌜ m ≡ stepCodes (now (values .entry)) (now (marks .entry)) t ⌝ }
 {
     let r = get(marks, t + 1) as u64;
@@ -729,7 +730,7 @@ fn step(values: &[u64], marks: &[u32], t: usize) -> Codes
 
 // Declarations, ends of statements, calls and GOTOs.
 fn others(marks: &[u32], family: u32, t: usize, n: Named) -> Codes
-    requires { ⌜ (t < 67108864) × (n .goal < 4294967296) ⌝ }
+    requires { ⌜ (t < TOKEN-LIMIT) × (n .goal < 4294967296) ⌝ }
     ensures { λ m. ⌜ m ≡ otherCodes (now (marks .entry)) family t n ⌝ }
 {
     let r = n.register;
@@ -769,7 +770,7 @@ pub fn codes_of(
     u: Use,
     n: Named,
 ) -> Codes
-    requires { ⌜ (t < 67108864) × (n .goal < 4294967296) ⌝ }
+    requires { ⌜ (t < TOKEN-LIMIT) × (n .goal < 4294967296) ⌝ }
     ensures { λ m. ⌜ m ≡ codesOf (now (kinds .entry)) (now (values .entry)) (now (marks .entry)) family t w u n ⌝ }
 {
     let aim = w.aim;

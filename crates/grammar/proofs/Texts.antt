@@ -1,15 +1,18 @@
--- The events of every program are a text: the one induction over the tree, from the rules of `Derives`.
-use mathlib.Core.Path.{_≡_, refl, ap, sym, _∙_}
-use mathlib.Core.List.{List, [], _∷_}
+-- The events of every program are a text (`program-text`): the one induction over the tree, from the rules of `Derives`. What a pass sets in a table at an event's own
+-- tokens stays to the end of a text (`settles`).
+use mathlib.Core.Path.{_≡_, refl, ap, sym, subst, _∙_}
+use mathlib.Core.List.{List, [], _∷_, _++_}
 use mathlib.Core.Option.{Option, none, some}
-use Prim.Native.Nat.{ℕ, _+_, _≤_}
+use Prim.Native.Nat.{ℕ, _+_, _≤_, _<_}
 use native.Mathlib.Omega.{arith}
+use lib.ListN.{length, getD}
 use Rattle.token.specs.Kinds as K
 use Rattle.grammar.specs.Tree.{Designator, Operand, number, place, Sign, plain, abs, neg, negAbs, Term, Assignment, Condition, compared, bare, Width, Register, Item, Declaration, registers, cells, base, Statement, assign, call, block, goto, null, ifThen, ifElse, while, for, Body, declare, procedure, items, Items, ended, label, item}
 use Rattle.grammar.specs.Derives.{Part, isDesignator, isOperand, isCondition, isSign, areTerms, isAssignment, areNumbers, isItem, isRegister, areMore, areSome, isType, isDeclaration, isStatement, isBody, isItems, isProgram}
-use Rattle.grammar.specs.Events.{Edge, opened, closed, entered, left, Route, labelled, sent, Entry, named, celled, itemed, valued, based, Phrase, aimed, driven, signed, given, joined, tested, limited, called, Mark, Event, edge, route, entry, phrase, mark, each, eventsValue, eventsItem, eventsRegister, eventsDeclaration, eventsSign, eventsTerm, eventsChain, labelsOnto, labelsIn, eventsStatement, eventsBody, eventsItems, eventsOf}
-use Rattle.grammar.specs.Places.{Block, Frame, within, body, Place, after, Along}
+use Rattle.grammar.specs.Events.{Edge, opened, closed, entered, left, Route, labelled, sent, Entry, named, celled, itemed, valued, based, Phrase, aimed, driven, signed, given, joined, tested, limited, called, Mark, Event, edge, route, entry, phrase, mark, each, eventsValue, eventsItem, eventsRegister, eventsDeclaration, eventsSign, eventsTerm, eventsChain, labelsOnto, labelsOf, eventsStatement, eventsBody, eventsItems, eventsOf}
+use Rattle.grammar.specs.Places.{Block, Frame, within, body, Place, after, afterAll, along, Along}
 use Rattle.grammar.specs.Texts.{InBlock, Fits, isEntry, isEvent, Stands, Text}
+use Rattle.grammar.proofs.Places.{Appends}
 use Rattle.grammar.proofs.Kept.{Kept, keep-designator, keep-operand, keep-condition, keep-sign, keep-register, keep-type}
 
 module _ (kinds : List ℕ) (j : ℕ) where
@@ -19,7 +22,7 @@ module _ (kinds : List ℕ) (j : ℕ) where
 
   sooner : (es : List Event) (p : Place) (i i′ : ℕ) → i′ ≤ i → Text kinds es p i j → Text kinds es p i′ j
   unfolding Text
-  sooner [] p i i′ l (e, h) = (e, omega arith)
+  sooner [] p i i′ l h = omega arith
   sooner (e ∷ es) p i i′ l (s, h) = (record { fits = s .fits; from = s .from; to = s .to; later = (let g = s .later in omega arith); rises = s .rises; is = s .is }, h)
 
   module _ (e : Event) (p : Place) (k : List Event) where
@@ -121,7 +124,7 @@ module _ (kinds : List ℕ) (j : ℕ) where
     statement (assign a) p k i m h t = assignment (aimed (a .target)) a p k i m (λ u v q. q) h t
     statement (call n) p k i m (e, y, h) t = put (phrase (called n)) p k i m tt (e, y, h) (omega arith) t
     statement (block n b) p k i m (e, y, h) t =
-        put (edge (opened n (labelsIn b []))) p _ i (i + 1) tt (e, y, refl) (omega arith)
+        put (edge (opened n (labelsOf b []))) p _ i (i + 1) tt (e, y, refl) (omega arith)
         (bodied b _ p _ _ m refl h (λ b′ u w. put (edge (closed n)) _ k m m (u, w) refl (omega arith) t))
     statement (goto n l) p k i m (e, y, (u, v, h)) t = put (route (sent n l)) p k i m tt (e, y, (u, v, h)) (omega arith) t
     statement null p k i m (y, h) t = sooner k _ _ _ (omega arith) t
@@ -137,9 +140,9 @@ module _ (kinds : List ℕ) (j : ℕ) where
         (assignment (driven (a .target)) a p _ (i + 1) v (λ u v q. q) h
         (put (phrase (limited (a .target) s l)) p _ v w tt (z, (q, r, (o, hl))) (omega arith) (sooner _ _ _ _ (omega arith) (statement x p _ (w + 1) m hs (marked _ p k m t)))))
 
-    bodied : (x : Body) (b : Block) (p : Place) (k : List Event) (i m : ℕ) → labelsIn x (b .set) ≡ b .labels → isBody kinds x i m → Ended k b p m → Text kinds (eventsBody x k) (within b ∷ p) i j
+    bodied : (x : Body) (b : Block) (p : Place) (k : List Event) (i m : ℕ) → labelsOf x (b .set) ≡ b .labels → isBody kinds x i m → Ended k b p m → Text kinds (eventsBody x k) (within b ∷ p) i j
     bodied (declare d x) b p k i m e (n, h, (z, hs)) f =
-        declaration d b p _ i n h (λ b′ u v w. sooner _ _ _ _ (omega arith) (bodied x b′ p k (n + 1) m (ap (λ (l : List ℕ). labelsIn x l) w ∙ (e ∙ sym v)) hs (λ b″ u′ s. f b″ (u′ ∙ u) s)))
+        declaration d b p _ i n h (λ b′ u v w. sooner _ _ _ _ (omega arith) (bodied x b′ p k (n + 1) m (ap (λ (l : List ℕ). labelsOf x l) w ∙ (e ∙ sym v)) hs (λ b″ u′ s. f b″ (u′ ∙ u) s)))
     bodied (procedure n r x y) b p k i m e (v, (a, (q, z, (o, (u, w, (c, (d, h)))))), (s, hs)) f =
         put (edge (entered n r)) _ _ i (i + 1 + 1 + 1 + 1 + 1 + 1) tt (a, (q, z, (o, (u, w, (c, (d, refl)))))) (omega arith)
         (statement x _ _ _ v h (put (edge (left n)) _ _ v v refl refl (omega arith) (sooner _ _ _ _ (omega arith) (bodied y _ p k (v + 1) m e hs f))))
@@ -152,9 +155,13 @@ module _ (kinds : List ℕ) (j : ℕ) where
 
 -- ── programs ──
 
+pub statement-text : (kinds : List ℕ) (x : Statement) (i j : ℕ) → isStatement kinds x i j → Text kinds (eventsOf x) [] i j
+unfolding Text
+statement-text kinds x i j h = statement kinds j x [] [] i j h (omega arith)
+
 pub program-text : (kinds : List ℕ) (x : Statement) (i j : ℕ) → isProgram kinds x i j → Text kinds (eventsOf x) [] i j
 unfolding isProgram Text
-program-text kinds x i j (m, (e, h), (a, q)) = statement kinds j x [] [] i m h (refl, omega arith)
+program-text kinds x i j (m, (e, h), (a, q)) = statement kinds j x [] [] i m h (omega arith)
 
 -- each event of a text stands where it does
 pub text-stands : (kinds : List ℕ) (es : List Event) (p : Place) (i j : ℕ) → Text kinds es p i j → Along (λ e p. Stands kinds e p 0) es p
@@ -164,5 +171,47 @@ text-stands kinds (e ∷ es) p i j (s, h) = (record { fits = s .fits; from = s .
 
 pub text-rises : (kinds : List ℕ) (es : List Event) (p : Place) (i j : ℕ) → Text kinds es p i j → i ≤ j
 unfolding Text
-text-rises kinds [] p i j (e, h) = h
+text-rises kinds [] p i j h = h
 text-rises kinds (e ∷ es) p i j (s, h) = (let l = s .later in let r = s .rises in let t = text-rises kinds es (after e p) (s .to) j h in omega arith)
+
+-- ── parts of a text ──
+
+text-append : (kinds : List ℕ) (es k : List Event) (p : Place) (i j : ℕ) → Text kinds (es ++ k) p i j → (m : ℕ) × Text kinds es p i m × Text kinds k (afterAll es p) m j
+unfolding Text afterAll
+text-append kinds [] k p i j h = (i, omega arith, h)
+text-append kinds (e ∷ es) k p i j (s, h) = let (m, a, b) = text-append kinds es k (after e p) (s .to) j h in (m, (s, a), b)
+
+-- of what comes first, and of what follows it
+pub text-parts : (kinds : List ℕ) (out : List Event → List Event) → Appends out → (k : List Event) (p : Place) (i j : ℕ) → Text kinds (out k) p i j
+    → (m : ℕ) × Text kinds (out []) p i m × Text kinds k (afterAll (out []) p) m j
+text-parts kinds out a k p i j h = text-append kinds (out []) k p i j (subst (λ (es : List Event). Text kinds es p i j) (a [] k) h)
+
+-- ── tables by token ──
+
+-- A pass that keeps a table and sets in it at each event only what stands at the event's own tokens: what it sets stays to the end of the text (`settles`).
+module _ {S : Type 0} (kinds : List ℕ) (f : Event → Place → S → S) (table : S → List ℕ)
+    (size : (e : Event) (p : Place) (s : S) → length (table (f e p s)) ≡ length (table s))
+    (keeps : (e : Event) (p : Place) (s : S) (i : ℕ) → Stands kinds e p i → (u : ℕ) → u < i → getD (table (f e p s)) u 0 ≡ getD (table s) u 0) where
+  pub size-along : (es : List Event) (p : Place) (s : S) → length (table (along f es p s)) ≡ length (table s)
+  unfolding along
+  size-along [] p s = refl
+  size-along (e ∷ es) p s = size-along es (after e p) (f e p s) ∙ size e p s
+
+  pub stays-along : (es : List Event) (p : Place) (i j : ℕ) → Text kinds es p i j → (s : S) (u : ℕ) → u < i → getD (table (along f es p s)) u 0 ≡ getD (table s) u 0
+  unfolding Text along
+  stays-along [] p i j h s u l = refl
+  stays-along (e ∷ es) p i j (x, h) s u l = stays-along es (after e p) (x .to) j h (f e p s) u (omega arith) ∙ keeps e p s i x u l
+
+  -- so what each event tells of a table that is the same before its end, the finished table has
+  pub settles :
+      (P : List ℕ → Event → Place → Type 0)
+      → ((e : Event) (p : Place) (s : S) (final : List ℕ) (i : ℕ) (x : Stands kinds e p i) → x .to ≤ length (table s)
+      → ((u : ℕ) → u < x .to → getD final u 0 ≡ getD (table (f e p s)) u 0) → P final e p)
+      → (es : List Event) (p : Place) (i j : ℕ) → Text kinds es p i j → (s : S) → j ≤ length (table s) → Along (P (table (along f es p s))) es p
+  unfolding Text along Along
+  settles P one [] p i j h s w = tt
+  settles P one (e ∷ es) p i j (x, h) s w =
+      let up = text-rises kinds es (after e p) (x .to) j h in (
+        one e p s (table (along f es (after e p) (f e p s))) i x (omega arith) (stays-along es (after e p) (x .to) j h (f e p s)),
+        settles P one es (after e p) (x .to) j h (f e p s) (omega (arith, size e p s)),
+      )

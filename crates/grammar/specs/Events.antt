@@ -165,16 +165,16 @@ labelsOnto (label l is) earlier = labelsOnto is (l ∷ earlier)
 labelsOnto (item x is) earlier = labelsOnto is earlier
 
 -- all labels of a block, which its statements know from its start
-abbrev pub labelsIn : Body → List ℕ → List ℕ
-labelsIn (declare d b) earlier = labelsIn b earlier
-labelsIn (procedure n r x b) earlier = labelsIn b earlier
-labelsIn (items is) earlier = labelsOnto is earlier
+abbrev pub labelsOf : Body → List ℕ → List ℕ
+labelsOf (declare d b) earlier = labelsOf b earlier
+labelsOf (procedure n r x b) earlier = labelsOf b earlier
+labelsOf (items is) earlier = labelsOnto is earlier
 
 unfoldable mutual
   pub eventsStatement : Statement → List Event → List Event
   eventsStatement (assign a) k = phrase (aimed (a .target)) ∷ eventsChain a k
   eventsStatement (call n) k = phrase (called n) ∷ k
-  eventsStatement (block t b) k = edge (opened t (labelsIn b [])) ∷ eventsBody b (edge (closed t) ∷ k)
+  eventsStatement (block t b) k = edge (opened t (labelsOf b [])) ∷ eventsBody b (edge (closed t) ∷ k)
   eventsStatement (goto t n) k = route (sent t n) ∷ k
   eventsStatement null k = k
   eventsStatement (ifThen t c x) k = phrase (tested t c) ∷ eventsStatement x (mark (endedIf t) ∷ k)

@@ -1,4 +1,4 @@
--- Events that are a text: each stands at its place, and at tokens after those of the one before, which are exactly its own. All that a pass needs to know of the
+-- Events that are a text from token i up to j: each stands at its place, and at tokens after those of the one before, which are exactly its own. All that a pass needs to know of the
 -- grammar; every program's events are one (proofs/Texts).
 use mathlib.Core.Path.{_≡_}
 use mathlib.Core.List.{List, [], _∷_}
@@ -94,5 +94,5 @@ module _ (kinds : List ℕ) where
     pub is : isEvent e from to
 
   unfoldable pub Text : List Event → Place → Part
-  Text [] p i j = (p ≡ []) × (i ≤ j)
+  Text [] p i j = i ≤ j
   Text (e ∷ es) p i j = (s : Stands e p i) × Text es (after e p) (s .to) j

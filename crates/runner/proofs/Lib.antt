@@ -1,3 +1,7 @@
-pub mod Loads
-pub mod Spaces
 pub mod Cases
+pub mod Forms
+pub mod Loads
+pub mod Refusals
+pub mod Spaces
+pub mod Stopping
+pub mod Theorems

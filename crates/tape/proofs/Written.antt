@@ -8,7 +8,7 @@ use Rattle.grammar.specs.Tree.{Designator, Operand, number, place, Sign, plain,
 use Rattle.grammar.specs.Pinned.{headOf}
 use Rattle.grammar.specs.Events.{Phrase, tested, Event, phrase, mark, endedIf, otherwise, endedElse, endedWhile, each, eventsValue, eventsItem, eventsRegister, eventsDeclaration, eventsSign, eventsTerm, eventsChain, eventsStatement, eventsBody, eventsItems, eventsOf}
 use Rattle.grammar.specs.Places.{Place, after, afterAll, along, Along}
-use Rattle.grammar.specs.Contexts.{Context, contextAfter, Suits, Coherent}
+use Rattle.grammar.specs.Contexts.{Context, contextAfter, Complete, Suits, Coherent}
 use Rattle.tape.specs.Events as E
 use Rattle.tape.specs.Tape.{event, shape, tapeDesignator, tapeOperand, tapeCondition, tapeSign, tapeEach, tapeTerm, tapeAssignment, tapeValue, tapeItem, tapeRegister, cellsEvent, tapeDeclaration, tapeStatement, tapeBody, tapeItems}
 use Rattle.tape.specs.Pass.{pass}
@@ -102,7 +102,8 @@ tree-tape x = sym (same-statement x [])
 
 -- ── a pass goes along the events ──
 
-pass-first : {M : Type 0} (step : ℕ → ℕ → M → M) (e : Event) (m : M) (es : List Event) → pass step m (tapeOf (e ∷ es)) ≡ pass step (step (opOf e) (tokenOf e) m) (tapeOf es)
+-- at its first event
+pub pass-first : {M : Type 0} (step : ℕ → ℕ → M → M) (e : Event) (m : M) (es : List Event) → pass step m (tapeOf (e ∷ es)) ≡ pass step (step (opOf e) (tokenOf e) m) (tapeOf es)
 pass-first step e m es =
     let h : opOf e % E.EVENTS ≡ opOf e = omega (arith, op-fits e) in
     pass-event step (opOf e) (tokenOf e) m (tapeOf es) ∙ ap (λ (n : ℕ). pass step (step n (tokenOf e) m) (tapeOf es)) h
@@ -120,9 +121,9 @@ module _ {S M : Type 0} (step : ℕ → ℕ → M → M) (f : Event → Place �
 -- the same, where the pass keeps what stands open
 module _ {S M : Type 0} (step : ℕ → ℕ → M → M) (f : Event → Place → S → S) (R : Place → Context → S → M → Type 0) (Good : Event → Place → Type 0)
     (turn : (e : Event) (p : Place) (c : Context) (s : S) (m : M) → Good e p → Suits e c → R p c s m → R (after e p) (contextAfter e c) (f e p s) (step (opOf e) (tokenOf e) m)) where
-  pub follows-in : (es : List Event) (p : Place) (c : Context) (s : S) (m : M) → Along Good es p → Coherent es c → R p c s m → (c′ : Context) × R (afterAll es p) c′ (along f es p s) (pass step m (tapeOf es))
+  pub follows-in : (es : List Event) (p : Place) (c : Context) (s : S) (m : M) → Along Good es p → Coherent es c → R p c s m → (c′ : Context) × Complete c′ × R (afterAll es p) c′ (along f es p s) (pass step m (tapeOf es))
   unfolding Along afterAll along Coherent
-  follows-in [] p c s m g h r = (c, subst (λ (x : M). R p c s x) (sym (pass-none step m)) r)
+  follows-in [] p c s m g h r = (c, h, subst (λ (x : M). R p c s x) (sym (pass-none step m)) r)
   follows-in (e ∷ es) p c s m (g, gs) (h, hs) r =
-      subst (λ (x : M). (c′ : Context) × R (afterAll es (after e p)) c′ (along f es (after e p) (f e p s)) x) (sym (pass-first step e m es))
+      subst (λ (x : M). (c′ : Context) × Complete c′ × R (afterAll es (after e p)) c′ (along f es (after e p) (f e p s)) x) (sym (pass-first step e m es))
       (follows-in es (after e p) (contextAfter e c) (f e p s) (step (opOf e) (tokenOf e) m) gs hs (turn e p c s m g h r))

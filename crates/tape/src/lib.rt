@@ -1,8 +1,9 @@
 // The events of a tape, as specs/Events.antt numbers them. To those of designators and operands their shape is added.
 ghost use mathlib.Core.Path.{_≡_};
 ghost use Prim.Native.Nat.{_/_, _%_, _<_, _≤_};
-ghost use Rattle.tape.specs.Events.{EVENTS};
+ghost use Rattle.tape.specs.Events.{EVENTS, TOKEN-LIMIT};
 ghost use Rattle.tape.specs.Numbers.{layerAt, formAt, familyAt};
+ghost use Rattle.tape.specs.Names.{declaring, shapeAt};
 
 pub const BLOCK: u32 = 0;
 
@@ -67,7 +68,7 @@ pub const CALL: u32 = 51;
 pub const GOTO: u32 = 52;
 
 // How many numbers of events a tape has room for.
-pub const EVENTS: u32 = 64;
+pub const EVENTS: u32 = 128;
 
 // The layers of events.
 pub const EDGE: u32 = 0;
@@ -89,7 +90,7 @@ pub fn op(event: u32) -> u32
 
 // The token that it stands for.
 pub fn token(event: u32) -> usize
-    ensures { λ r. ⌜ (r ≡ event / EVENTS) × (r < 67108864) ⌝ }
+    ensures { λ r. ⌜ (r ≡ event / EVENTS) × (r < TOKEN-LIMIT) ⌝ }
 {
     (event / EVENTS) as usize
 }
@@ -152,4 +153,36 @@ pub fn family(op: u32) -> u32
     ensures { λ r. ⌜ r ≡ familyAt op ⌝ }
 {
     op - form(op)
+}
+
+// Whether it declares the name at its token.
+pub fn declares(op: u32) -> bool
+    ensures { λ r. ⌜ r ≡ declaring op ⌝ }
+{
+    (op == REGISTER) | ((op == ITEM) | (op == PROCEDURE))
+}
+
+// How the name at its token is used: alone, with a subscript, with an index, with both; 4 where no name stands there or it uses none.
+pub fn shape(op: u32) -> u32
+    ensures { λ r. ⌜ r ≡ shapeAt op ⌝ }
+{
+    if op == BASE {
+        return 0;
+    }
+    if op == CALL {
+        return 0;
+    }
+    if op < TARGET {
+        return 4;
+    }
+    if op < ABS {
+        return (op - TARGET) % 4;
+    }
+    if op < FIRST {
+        return 4;
+    }
+    if op < BARE {
+        return (op - FIRST) % 5;
+    }
+    4
 }

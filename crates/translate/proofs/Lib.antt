@@ -5,3 +5,4 @@ pub mod Judging
 pub mod Delivering
 pub mod Making
 pub mod Groups
+pub mod Theorems

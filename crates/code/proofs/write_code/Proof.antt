@@ -1,0 +1,187 @@
+-- `write_code` is the pass, and the last instruction. The invariant: what is laid holds of a state from which the rest of the tape leads to the whole; an event takes
+-- eight bytes and two literals at most. Assumes nothing.
+use Prim.Native.Nat.{_+_, _-_, _*_, _≤_}
+use mathlib.Core.List.{[]}
+use mathlib.Core.Path.{_≡_, refl, sym, _∙_}
+use native.Mathlib.Omega.{arith}
+use lib.ListN.{length, drop}
+use borrow.Author.Needs.{needs}
+use Rattle.tape.specs.Pass.{pass}
+use Rattle.emit.proofs.Knowing.{codes-known, written-known}
+use Rattle.code.specs.Coding.{laidOf, codingOf, codeEvent}
+use Rattle.code.specs.Places.{noWriting}
+use Rattle.code.proofs.Holding.{Coded, holds-first, tape-turn, tape-end}
+use Rattle.code.proofs.write_code.Statement.{statement}
+use Rattle.code.proofs.write_code.Tie as tie
+
+abbrev Inv-loop : tie.InvT-loop
+Inv-loop tape kinds values found goes means bases opens offsets marks start image₀ literals₀ at₀ w₀ i₀ image literals at w i =
+    (i ≤ length tape) × (at .length ≤ 8 * i) × (at .literals ≤ 2 * i) × (at .literals ≤ length literals₀) × (length image ≡ length image₀) ×
+    (length literals ≡ length literals₀)
+    × Coded start (length literals₀) kinds values found goes means bases opens offsets marks (at .length) (at .literals) image literals w (drop i tape)
+    (pass (codeEvent start kinds values found goes means bases opens offsets marks) (codingOf (laidOf 0 image₀ []) noWriting) tape)
+
+abbrev μ-loop : tie.MeasureT-loop
+μ-loop tape kinds values found goes means bases opens offsets marks start image₀ literals₀ at₀ w₀ i₀ image literals at w i = length tape - i
+
+loop-holds : tie.Need-loop-holds Inv-loop μ-loop
+loop-holds c =
+    let a = c .before .before .before .before .before .before .before .before .before .before .before .before .args in (
+      search needs,
+      search needs,
+      search needs,
+      search needs,
+      refl,
+      refl,
+      record { state = laidOf 0 (a .image .now) []; holds = holds-first (length (a .literals .now)) (a .image .now) (a .literals .now); leads = refl },
+    )
+
+mul-e : tie.Need-mul-e Inv-loop μ-loop
+mul-e c = search needs
+
+shared-slice-read-e : tie.Need-shared-slice-read-e Inv-loop μ-loop
+shared-slice-read-e c = search needs
+
+op-requires : tie.Need-op-requires Inv-loop μ-loop
+op-requires c κs = search needs
+
+token-requires : tie.Need-token-requires Inv-loop μ-loop
+token-requires c κs = search needs
+
+family-requires : tie.Need-family-requires Inv-loop μ-loop
+family-requires c κs = search needs
+
+form-requires : tie.Need-form-requires Inv-loop μ-loop
+form-requires c κs = search needs
+
+operand-requires : tie.Need-operand-requires Inv-loop μ-loop
+operand-requires c κs = c .before .before .token .ensures .1
+
+register-at-requires : tie.Need-register-at-requires Inv-loop μ-loop
+register-at-requires c κs = c .before .before .before .token .ensures .1
+
+goal-at-requires : tie.Need-goal-at-requires Inv-loop μ-loop
+goal-at-requires c κs = search needs
+
+codes-of-requires : tie.Need-codes-of-requires Inv-loop μ-loop
+codes-of-requires c κs = (c .before .before .before .before .before .token .ensures .1, c .goal-at .ensures .1)
+
+lay-codes-requires : tie.Need-lay-codes-requires Inv-loop μ-loop
+lay-codes-requires c κs =
+    let l = c .before .before .before .before .before .before .before .before .before .before .before .before .loop .inv in
+    let h = c .before .before .before .before .before .before .before .before .before .before .before .loop-test .taken in
+    let n = c .before .before .before .before .before .before .before .before .before .before .before .before .before .before .before .before .before .before .before
+    .before .before .before .before .before .before .pre in
+    (omega (arith, l .3, l .5), omega (arith, n .1, l .5), n .2, omega (arith, l .1, n .0))
+
+written-after-requires : tie.Need-written-after-requires Inv-loop μ-loop
+written-after-requires c κs = search needs
+
+add-i : tie.Need-add-i Inv-loop μ-loop
+add-i c =
+    let h = c .before .before .before .before .before .before .before .before .before .before .before .before .before .before .before .before .before .loop-test .taken in
+    let n = c .before .before .before .before .before .before .before .before .before .before .before .before .before .before .before .before .before .before .before
+    .before .before .before .before .before .before .before .before .before .before .before .before .pre .0 in
+    omega arith
+
+loop-less : tie.Need-loop-less Inv-loop μ-loop
+loop-less c =
+    let h = c .before .before .before .before .before .before .before .before .before .before .before .before .before .before .before .before .before .loop-test .taken in
+    omega arith
+
+loop-again : tie.Need-loop-again Inv-loop μ-loop
+loop-again c =
+    let a = c .before .before .before .before .before .before .before .before .before .before .before .before .before .before .before .before .before .before .before
+    .before .before .before .before .before .before .before .before .before .before .before .before .args in
+    let l = c .before .before .before .before .before .before .before .before .before .before .before .before .before .before .before .before .before .before .loop in
+    let h = c .before .before .before .before .before .before .before .before .before .before .before .before .before .before .before .before .before .loop-test .taken in
+    let op = c .before .before .before .before .before .before .before .before .before .before .before .before .before .before .before .op in
+    let t = c .before .before .before .before .before .before .before .before .before .before .before .before .before .before .token in
+    let f = c .before .before .before .before .before .before .before .before .before .before .before .before .before .family .ensures in
+    let s = c .before .before .before .before .before .before .before .before .before .before .before .before .form .ensures .0 in
+    let u = c .before .before .before .before .before .before .before .before .before .before .before .operand .ensures in
+    let r = c .before .before .before .before .before .before .before .before .before .before .register-at .ensures in
+    let codes = codes-known (a .kinds .now) (a .values .now) (a .found .now) (a .goes .now) (a .means .now) (a .bases .now) (a .opens .now) (a .offsets .now)
+    (a .marks .now) (op .result) (t .result) (l .w) f s u r (c .before .before .before .before .before .before .before .before .before .goal-at .ensures .0)
+    (c .before .before .before .before .before .before .before .before .codes-of .ensures) in
+    let written = written-known (a .kinds .now) (a .values .now) (a .found .now) (a .goes .now) (a .means .now) (a .bases .now) (a .opens .now) (a .offsets .now)
+    (a .marks .now) (op .result) (t .result) (l .w) f s u r (c .written-after .ensures) in
+    let laid = c .before .before .before .before .before .lay-codes in
+    let len : length (l .literals) ≡ length (a .literals .now) = l .inv .5 in (
+      omega arith,
+      omega (arith, l .inv .1, laid .ensures .3),
+      omega (arith, l .inv .2, laid .ensures .1),
+      omega (arith, len, laid .ensures .2),
+      laid .kept .0 ∙ l .inv .4,
+      laid .kept .1 .0 ∙ len,
+      tape-turn (a .start) (length (a .literals .now)) (a .kinds .now) (a .values .now) (a .found .now) (a .goes .now) (a .means .now) (a .bases .now) (a .opens .now)
+          (a .offsets .now) (a .marks .now) (a .tape .now) (l .i) (op .result) (t .result) _ _ _ _ _ _ _ _
+          (c .before .before .before .before .before .before .before .before .codes-of .result) (l .w) _ _ h (op .ensures .0) (t .ensures .0) codes written len
+          (laid .ensures .0) (l .inv .6),
+    )
+
+stop-requires : tie.Need-stop-requires Inv-loop μ-loop
+stop-requires c κs = search needs
+
+lay-code-requires : tie.Need-lay-code-requires Inv-loop μ-loop
+lay-code-requires c κs =
+    let l = c .before .before .before .before .loop .inv in
+    let n = c .before .before .before .before .before .before .before .before .before .before .before .before .before .before .before .before .before .pre in
+    (omega (arith, l .3, l .5), omega (arith, n .1, l .5), n .2, omega (arith, l .1, l .0, n .0))
+
+add-t37 : tie.Need-add-t37 Inv-loop μ-loop
+add-t37 c =
+    let l = c .before .before .before .before .before .before .before .before .before .loop .inv in
+    let n = c .before .before .before .before .before .before .before .before .before .before .before .before .before .before .before .before .before .before .before
+    .before .before .before .pre .0 in
+    omega (arith, l .1, l .0)
+
+same-length : tie.Need-same-length Inv-loop μ-loop
+same-length c = c .before .before .before .before .lay-code .kept .0 ∙ c .before .before .before .before .before .before .before .before .before .loop .inv .4
+
+same-length-2 : tie.Need-same-length-2 Inv-loop μ-loop
+same-length-2 c = c .before .before .before .before .lay-code .kept .1 .0 ∙ c .before .before .before .before .before .before .before .before .before .loop .inv .5
+
+returns : tie.Need-returns Inv-loop μ-loop
+returns c =
+    let a = c .before .before .before .before .before .before .before .before .before .before .before .before .before .before .before .before .before .before .before
+    .before .before .before .args in
+    let l = c .before .before .before .before .before .before .before .before .before .loop in
+    let laid = c .before .before .before .before .lay-code in
+    let len : length (l .literals) ≡ length (a .literals .now) = l .inv .5 in (
+      tape-end (a .start) (length (a .literals .now)) (a .kinds .now) (a .values .now) (a .found .now) (a .goes .now) (a .means .now) (a .bases .now) (a .opens .now)
+          (a .offsets .now) (a .marks .now) (a .tape .now) (a .image .now) (l .i) (l .at .length) (l .at .literals) (laid .result) (l .image) (l .literals) _ _ (l .w)
+          (c .before .before .before .before .before .stop .result) (c .before .before .before .before .before .before .before .before .loop-test .left)
+          (laid .kept .1 .0 ∙ len) (c .before .before .before .before .before .stop .ensures) (λ g. laid .ensures .0 (omega (arith, g, len)))
+          (λ g. laid .ensures .1 (g ∙ sym len)) (laid .ensures .2) (l .inv .6),
+      omega (arith, laid .ensures .2, l .inv .2, l .inv .0),
+    )
+
+pub write-code-spec : {M : Type 1} → statement M
+write-code-spec =
+    tie.close
+    (tie.spec
+    Inv-loop
+    μ-loop
+    loop-holds
+    mul-e
+    shared-slice-read-e
+    op-requires
+    token-requires
+    family-requires
+    form-requires
+    operand-requires
+    register-at-requires
+    goal-at-requires
+    codes-of-requires
+    lay-codes-requires
+    written-after-requires
+    add-i
+    loop-less
+    loop-again
+    stop-requires
+    lay-code-requires
+    add-t37
+    same-length
+    same-length-2
+    returns)
