@@ -106,9 +106,9 @@ module _ (start room k : ℕ) (cs : List Code) where
 
 -- ── a tape ──
 
-module _ (start room : ℕ) (kinds values found goes means bases opens offsets marks : List ℕ) where
+module _ (start room : ℕ) (kinds values found goes means under opens offsets marks : List ℕ) where
   abbrev step : ℕ → ℕ → Coding → Coding
-  step = codeEvent start kinds values found goes means bases opens offsets marks
+  step = codeEvent start kinds values found goes means under opens offsets marks
 
   pub record Coded (at n : ℕ) (image literals : List ℕ) (w : Writing) (rest : List ℕ) (whole : Coding) : Type 0 where
     pub state : Laid
@@ -118,7 +118,7 @@ module _ (start room : ℕ) (kinds values found goes means bases opens offsets m
   pub tape-turn :
       (tape : List ℕ) (i op t at n at′ n′ : ℕ) (image literals image′ literals′ : List ℕ) (m : Codes) (w w′ : Writing) (whole : Coding) → i < length tape
       → op ≡ getD tape i 0 % E.EVENTS → t ≡ getD tape i 0 / E.EVENTS
-      → m ≡ codesBy kinds values found goes means bases opens offsets marks op t w → w′ ≡ writingAfter values found means bases offsets op t w
+      → m ≡ codesBy kinds values found goes means under opens offsets marks op t w → w′ ≡ writingAfter values found means under offsets op t w
       → {given : ℕ} → given ≡ room → ((s : Laid) → Holds given at n image literals s → Holds given at′ n′ image′ literals′ (layAll start (listOf m) s))
       → Coded at n image literals w (drop i tape) whole → Coded at′ n′ image′ literals′ w′ (drop (i + 1) tape) whole
   unfolding codeEvent
@@ -133,7 +133,7 @@ module _ (start room : ℕ) (kinds values found goes means bases opens offsets m
       (tape image₀ : List ℕ) (i at n n′ : ℕ) (image literals image′ literals′ : List ℕ) (w : Writing) (c : Code) → length tape ≤ i → length literals′ ≡ room → c ≡ stopCode
       → (n < room → laidBy (at + codeSize c) n′ image′ literals′ ≡ layCode start c (laidBy at n image literals)) → (n ≡ room → n′ ≡ n)
       → n′ ≤ n + 1 → Coded at n image literals w (drop i tape) (pass step (codingOf (laidOf 0 image₀ []) noWriting) tape)
-      → Holds room (at + 2) n′ image′ literals′ (codeAlong start kinds values found goes means bases opens offsets marks image₀ tape)
+      → Holds room (at + 2) n′ image′ literals′ (codeAlong start kinds values found goes means under opens offsets marks image₀ tape)
   unfolding codeAlong codeSize
   tape-end tape image₀ i at n n′ image literals image′ literals′ w c h e ec step′ stays one l =
       let q = pass-end step (codingOf (l .state) w) tape i h (l .leads) in

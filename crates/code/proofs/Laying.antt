@@ -37,18 +37,18 @@ module _ (start : ℕ) where
   lay-append : (cs ds : List Code) (s : Laid) → layAll start (cs ++ ds) s ≡ layAll start ds (layAll start cs s)
   lay-append cs ds s = fold-append _ s cs ds
 
-  module _ (kinds values found goes means bases opens offsets marks : List ℕ) where
+  module _ (kinds values found goes means under opens offsets marks : List ℕ) where
     abbrev step : ℕ → ℕ → Coding → Coding
-    step = codeEvent start kinds values found goes means bases opens offsets marks
+    step = codeEvent start kinds values found goes means under opens offsets marks
 
     pub laid-along : (tape : List ℕ) (s : Laid) (w : Writing)
-        → pass step (codingOf s w) tape .laid ≡ layAll start (along kinds values found goes means bases opens offsets marks w tape) s
+        → pass step (codingOf s w) tape .laid ≡ layAll start (along kinds values found goes means under opens offsets marks w tape) s
     unfolding pass fold onEvent along codeEvent
     laid-along [] s w = refl
     laid-along (e ∷ es) s w =
-        let cs = listOf (codesBy kinds values found goes means bases opens offsets marks (e % E.EVENTS) (e / E.EVENTS) w) in
-        let v = writingAfter values found means bases offsets (e % E.EVENTS) (e / E.EVENTS) w in
-        laid-along es (layAll start cs s) v ∙ sym (lay-append cs (along kinds values found goes means bases opens offsets marks v es) s)
+        let cs = listOf (codesBy kinds values found goes means under opens offsets marks (e % E.EVENTS) (e / E.EVENTS) w) in
+        let v = writingAfter values found means under offsets (e % E.EVENTS) (e / E.EVENTS) w in
+        laid-along es (layAll start cs s) v ∙ sym (lay-append cs (along kinds values found goes means under opens offsets marks v es) s)
 
 -- ── the definition's instructions ──
 
@@ -139,15 +139,15 @@ module _ (l : Layout) (place : ℕ → ℕ) (right : (t : ℕ) → place t ≡ o
   map-end (j ∷ is) i = ap (λ (cs : List Code). codeFor place j ∷ cs) (map-end is i)
 
   -- the whole text: the code pass on a tape along which the definition's instructions stand lays their bytes, and their literals are the layout's
-  pub laid-instructions : (kinds values found goes means bases opens offsets marks image tape : List ℕ) (c : Core)
-      → along kinds values found goes means bases opens offsets marks noWriting tape ≡ map (codeFor place) (code [] [] c 0) → literalsFrom [] (instructions c) ≡ l .literals
-      → codeAlong start kinds values found goes means bases opens offsets marks image tape
+  pub laid-instructions : (kinds values found goes means under opens offsets marks image tape : List ℕ) (c : Core)
+      → along kinds values found goes means under opens offsets marks noWriting tape ≡ map (codeFor place) (code [] [] c 0) → literalsFrom [] (instructions c) ≡ l .literals
+      → codeAlong start kinds values found goes means under opens offsets marks image tape
       ≡ laidOf (sizes (instructions c)) (sets image 0 (bytesIn (encodeAll l (instructions c)))) (l .literals)
   unfolding codeAlong instructions codeFor layCode fold
-  laid-instructions kinds values found goes means bases opens offsets marks image tape c e q =
+  laid-instructions kinds values found goes means under opens offsets marks image tape c e q =
       let is = code [] [] c 0 in
       let s = laidOf 0 image [] in
-      ap (layCode start (codeFor place stop)) (laid-along start kinds values found goes means bases opens offsets marks tape s noWriting ∙ ap (λ (cs : List Code). layAll start cs s) e)
+      ap (layCode start (codeFor place stop)) (laid-along start kinds values found goes means under opens offsets marks tape s noWriting ∙ ap (λ (cs : List Code). layAll start cs s) e)
       ∙ (sym (lay-append start (map (codeFor place) is) (codeFor place stop ∷ []) s)
       ∙ (ap (λ (cs : List Code). layAll start cs s) (sym (map-end is stop))
       ∙ (laid-list (is ++ (stop ∷ [])) 0 image [] (placed-all (is ++ (stop ∷ [])) [] q) ∙ laid-same _ _ _ _ _ _ (omega arith) refl q)))

@@ -10,9 +10,9 @@ use Rattle.emit.specs.Events.{writingAfter, codesBy}
 use Rattle.code.specs.Places.{markAfter, placingOf, placeEvent}
 
 pub place-is :
-    (kinds values found goes means bases opens offsets marks : List ℕ) (op t p : ℕ) (w : Writing) {marks′ : List ℕ} {w′ : Writing} {m : Codes} {z : ℕ}
-    → m ≡ codesBy kinds values found goes means bases opens offsets marks op t w → z ≡ codeSizes (listOf m) → marks′ ≡ markAfter (familyAt op) t p (p + z) (w .aim) marks
-    → w′ ≡ writingAfter values found means bases offsets op t w
-    → placingOf (p + z) w′ marks′ ≡ placeEvent kinds values found goes means bases opens offsets op t (placingOf p w marks)
+    (kinds values found goes means under opens offsets marks : List ℕ) (op t p : ℕ) (w : Writing) {marks′ : List ℕ} {w′ : Writing} {m : Codes} {z : ℕ}
+    → m ≡ codesBy kinds values found goes means under opens offsets marks op t w → z ≡ codeSizes (listOf m) → marks′ ≡ markAfter (familyAt op) t p (p + z) (w .aim) marks
+    → w′ ≡ writingAfter values found means under offsets op t w
+    → placingOf (p + z) w′ marks′ ≡ placeEvent kinds values found goes means under opens offsets op t (placingOf p w marks)
 unfolding placeEvent
-place-is kinds values found goes means bases opens offsets marks op t p w em ez ek ew = rw (ek, ew, ez, em)
+place-is kinds values found goes means under opens offsets marks op t p w em ez ek ew = rw (ek, ew, ez, em)

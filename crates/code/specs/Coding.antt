@@ -64,16 +64,16 @@ pub record Coding : Type 0 where
 abbrev pub codingOf : Laid → Writing → Coding
 codingOf l w = record { laid = l; writing = w }
 
-unfoldable pub codeEvent : (start : ℕ) (kinds values found goes means bases opens offsets marks : List ℕ) (op t : ℕ) → Coding → Coding
-codeEvent start kinds values found goes means bases opens offsets marks op t s = record {
-  laid = layAll start (listOf (codesBy kinds values found goes means bases opens offsets marks op t (s .writing))) (s .laid);
-  writing = writingAfter values found means bases offsets op t (s .writing);
+unfoldable pub codeEvent : (start : ℕ) (kinds values found goes means under opens offsets marks : List ℕ) (op t : ℕ) → Coding → Coding
+codeEvent start kinds values found goes means under opens offsets marks op t s = record {
+  laid = layAll start (listOf (codesBy kinds values found goes means under opens offsets marks op t (s .writing))) (s .laid);
+  writing = writingAfter values found means under offsets op t (s .writing);
 }
 
 -- along a whole tape, over the image as it was lent; "The last instruction is `0A 00`."
-unfoldable pub codeAlong : (start : ℕ) (kinds values found goes means bases opens offsets marks : List ℕ) (image tape : List ℕ) → Laid
-codeAlong start kinds values found goes means bases opens offsets marks image tape =
-    layCode start stopCode (pass (codeEvent start kinds values found goes means bases opens offsets marks) (codingOf (laidOf 0 image []) noWriting) tape .laid)
+unfoldable pub codeAlong : (start : ℕ) (kinds values found goes means under opens offsets marks : List ℕ) (image tape : List ℕ) → Laid
+codeAlong start kinds values found goes means under opens offsets marks image tape =
+    layCode start stopCode (pass (codeEvent start kinds values found goes means under opens offsets marks) (codingOf (laidOf 0 image []) noWriting) tape .laid)
 
 -- What is reached in a room for so many literals: the address always; all else while the room is not full; a full room says that there are as many literals.
 pub record Holds (room at n : ℕ) (image literals : List ℕ) (s : Laid) : Type 0 where

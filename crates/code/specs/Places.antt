@@ -46,14 +46,14 @@ pub record Placing : Type 0 where
 abbrev pub placingOf : ℕ → Writing → List ℕ → Placing
 placingOf at w marks = record { at = at; writing = w; marks = marks }
 
-module _ (kinds values found goes means bases opens offsets : List ℕ) where
+module _ (kinds values found goes means under opens offsets : List ℕ) where
   abbrev pub behind : (op t : ℕ) → Placing → ℕ
-  behind op t s = s .at + codeSizes (listOf (codesBy kinds values found goes means bases opens offsets (s .marks) op t (s .writing)))
+  behind op t s = s .at + codeSizes (listOf (codesBy kinds values found goes means under opens offsets (s .marks) op t (s .writing)))
 
   unfoldable pub placeEvent : (op t : ℕ) → Placing → Placing
   placeEvent op t s = record {
     at = behind op t s;
-    writing = writingAfter values found means bases offsets op t (s .writing);
+    writing = writingAfter values found means under offsets op t (s .writing);
     marks = markAfter (familyAt op) t (s .at) (behind op t s) (s .writing .aim) (s .marks);
   }
 
@@ -62,6 +62,6 @@ abbrev pub noWriting : Writing
 noWriting = record { aim = Absent; sign = 0 }
 
 -- along a whole tape, over the marks as they were lent
-unfoldable pub placesAlong : (kinds values found goes means bases opens offsets : List ℕ) (marks tape : List ℕ) → Placing
-placesAlong kinds values found goes means bases opens offsets marks tape =
-    pass (placeEvent kinds values found goes means bases opens offsets) (placingOf 0 noWriting marks) tape
+unfoldable pub placesAlong : (kinds values found goes means under opens offsets : List ℕ) (marks tape : List ℕ) → Placing
+placesAlong kinds values found goes means under opens offsets marks tape =
+    pass (placeEvent kinds values found goes means under opens offsets) (placingOf 0 noWriting marks) tape

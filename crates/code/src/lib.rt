@@ -102,13 +102,13 @@ pub fn places(
     found: &[u32],
     goes: &[u32],
     means: &[u64],
-    bases: &[u64],
+    under: &[u64],
     opens: &[u32],
     offsets: &[u64],
     marks: &mut [u32],
 ) -> usize
     requires { ⌜ length (now tape) ≤ 67108864 ⌝ }
-    ensures { λ r. ⌜ (r ≡ placesAlong (now (kinds .entry)) (now (values .entry)) (now (found .entry)) (now (goes .entry)) (now (means .entry)) (now (bases .entry)) (now (opens .entry)) (now (offsets .entry)) (now (marks .entry)) (now (tape .entry)) .at) × (now (marks .exit) ≡ placesAlong (now (kinds .entry)) (now (values .entry)) (now (found .entry)) (now (goes .entry)) (now (means .entry)) (now (bases .entry)) (now (opens .entry)) (now (offsets .entry)) (now (marks .entry)) (now (tape .entry)) .marks) ⌝ }
+    ensures { λ r. ⌜ (r ≡ placesAlong (now (kinds .entry)) (now (values .entry)) (now (found .entry)) (now (goes .entry)) (now (means .entry)) (now (under .entry)) (now (opens .entry)) (now (offsets .entry)) (now (marks .entry)) (now (tape .entry)) .at) × (now (marks .exit) ≡ placesAlong (now (kinds .entry)) (now (values .entry)) (now (found .entry)) (now (goes .entry)) (now (means .entry)) (now (under .entry)) (now (opens .entry)) (now (offsets .entry)) (now (marks .entry)) (now (tape .entry)) .marks) ⌝ }
 {
     let mut p: usize = 0;
     let mut w = Writing {
@@ -121,7 +121,7 @@ pub fn places(
         let op = tape::op(e);
         let t = tape::token(e);
         let family = tape::family(op);
-        let u = operand(values, found, means, bases, offsets, tape::form(op), t);
+        let u = operand(values, found, means, under, offsets, tape::form(op), t);
         let register = register_at(found, means, family, t);
         let goal = goal_at(found, goes, opens, family, t);
         let m = codes_of(
@@ -278,7 +278,7 @@ pub fn write_code(
     found: &[u32],
     goes: &[u32],
     means: &[u64],
-    bases: &[u64],
+    under: &[u64],
     opens: &[u32],
     offsets: &[u64],
     marks: &[u32],
@@ -287,7 +287,7 @@ pub fn write_code(
     literals: &mut [u64],
 ) -> Reached
     requires { ⌜ (length (now tape) ≤ 67108864) × (length (now literals) ≤ 4294967296) × (start < 1099511627776) ⌝ }
-    ensures { λ r. ⌜ Holds (length (now (literals .entry))) (r .length) (r .literals) (now (image .exit)) (now (literals .exit)) (codeAlong start (now (kinds .entry)) (now (values .entry)) (now (found .entry)) (now (goes .entry)) (now (means .entry)) (now (bases .entry)) (now (opens .entry)) (now (offsets .entry)) (now (marks .entry)) (now (image .entry)) (now (tape .entry))) × (r .literals ≤ 2 * length (now (tape .entry)) + 1) ⌝ }
+    ensures { λ r. ⌜ Holds (length (now (literals .entry))) (r .length) (r .literals) (now (image .exit)) (now (literals .exit)) (codeAlong start (now (kinds .entry)) (now (values .entry)) (now (found .entry)) (now (goes .entry)) (now (means .entry)) (now (under .entry)) (now (opens .entry)) (now (offsets .entry)) (now (marks .entry)) (now (image .entry)) (now (tape .entry))) × (r .literals ≤ 2 * length (now (tape .entry)) + 1) ⌝ }
 {
     let mut at = Reached {
         length: 0,
@@ -303,7 +303,7 @@ pub fn write_code(
         let op = tape::op(e);
         let t = tape::token(e);
         let family = tape::family(op);
-        let u = operand(values, found, means, bases, offsets, tape::form(op), t);
+        let u = operand(values, found, means, under, offsets, tape::form(op), t);
         let register = register_at(found, means, family, t);
         let goal = goal_at(found, goes, opens, family, t);
         let m = codes_of(

@@ -27,10 +27,10 @@ idle =
     E.BLOCK ∷ E.END-BLOCK ∷ E.REGISTER ∷ E.SINGLE-FULL ∷ E.SINGLE-SHORT ∷ E.ARRAY-FULL ∷ E.ARRAY-SHORT ∷ E.ITEM ∷ E.VALUE ∷ E.LABEL ∷ E.WHILE ∷ E.END-ELSE
     ∷ E.END-IF ∷ []
 
-module _ (f : Tables) (means bases offsets marks : List ℕ) where
+module _ (f : Tables) (means under offsets marks : List ℕ) where
   -- the definition's instructions, and the assignment that is written stays
   abbrev pub Adds : (op t : ℕ) → Writing → List Instruction → Type 0
-  Adds op t w is = Makes f means bases offsets marks op t w (coded offsets is) w
+  Adds op t w is = Makes f means under offsets marks op t w (coded offsets is) w
 
   pub idle-adds : (op : ℕ) → member op idle ≡ true → (t : ℕ) (w : Writing) → Adds op t w []
   unfolding listOf formAt registerAt goalAt otherCodes codesOf codesBy writtenAfter writingAfter
@@ -61,16 +61,16 @@ module _ (f : Tables) (means bases offsets marks : List ℕ) where
   unfolding listOf codeFor formAt registerAt goalAt otherCodes codesOf codesBy writtenAfter writingAfter
   goto-adds n w = (refl, refl)
 
-  module _ (table : f .means ≡ meaningsOf means bases) where
+  module _ (table : f .means ≡ meaningsOf means under) where
     pub base-adds : (n : ℕ) (w : Writing) → Adds E.BASE n w (rx (opcode loadRow 1) (registerOf (meaningAt f n)) (entry (getD (f .opens) n 0)) ∷ [])
     unfolding listOf codeFor formAt registerAt goalAt otherCodes codesOf codesBy writtenAfter writingAfter
-    base-adds n w = (ap (λ (r : ℕ). baseCode r (getD (f .opens) n 0) ∷ []) (register-at f means bases table n), refl)
+    base-adds n w = (ap (λ (r : ℕ). baseCode r (getD (f .opens) n 0) ∷ []) (register-at f means under table n), refl)
 
     -- the return register stands two tokens behind the procedure's name
     pub end-procedure-adds : (n : ℕ) (w : Writing) → Adds E.END-PROCEDURE n w (rr returnOp always (registerOf (meaningAt f (n + 2))) ∷ [])
     unfolding listOf codeFor formAt registerAt goalAt otherCodes codesOf codesBy writtenAfter writingAfter
-    end-procedure-adds n w = (ap (λ (r : ℕ). returnCode r ∷ []) (register-at f means bases table (n + 2)), refl)
+    end-procedure-adds n w = (ap (λ (r : ℕ). returnCode r ∷ []) (register-at f means under table (n + 2)), refl)
 
     pub call-adds : (n : ℕ) (w : Writing) → Adds E.CALL n w (link (returnOf (meaningAt f n)) (getD marks (getD (f .found) n 0) 0) ∷ [])
     unfolding listOf codeFor formAt registerAt goalAt otherCodes codesOf codesBy writtenAfter writingAfter
-    call-adds n w = (ap (λ (r : ℕ). linkCode r (getD marks (getD (f .found) n 0) 0) ∷ []) (return-at f means bases table n), refl)
+    call-adds n w = (ap (λ (r : ℕ). linkCode r (getD marks (getD (f .found) n 0) 0) ∷ []) (return-at f means under table n), refl)

@@ -47,12 +47,12 @@ then-list row r (Stored short x b d) c = refl
 abbrev writingOf : Use → ℕ → Writing
 writingOf aim sign = record { aim = aim; sign = sign }
 
-module _ (f : Tables) (means bases offsets marks : List ℕ) where
+module _ (f : Tables) (means under offsets marks : List ℕ) where
   abbrev pub made : (op t : ℕ) → Writing → List Code
-  made op t w = listOf (codesBy (f .kinds) (f .values) (f .found) (f .goes) means bases (f .opens) offsets marks op t w)
+  made op t w = listOf (codesBy (f .kinds) (f .values) (f .found) (f .goes) means under (f .opens) offsets marks op t w)
 
   abbrev pub after : (op t : ℕ) → Writing → Writing
-  after op t w = writingAfter (f .values) (f .found) means bases offsets op t w
+  after op t w = writingAfter (f .values) (f .found) means under offsets op t w
 
   -- emit takes instructions into a state; run goes on from a state and the assignment that is written
   pub record Walk (S X : Type 0) : Type 0 where
@@ -73,16 +73,16 @@ module _ (f : Tables) (means bases offsets marks : List ℕ) where
 
   -- with the shape n of its token's operand
   abbrev at : (n t : ℕ) → Use
-  at n t = useIn (f .values) (f .found) means bases offsets n t
+  at n t = useIn (f .values) (f .found) means under offsets n t
 
   -- the register that a FOR's target names
   abbrev controlled : Designator → Use
   controlled d = Held (registerIn (packedAt (f .found) means (d .name)))
 
-  target-does : (d : Designator) (w : Writing) → Does (E.TARGET + shape d) (d .name) w [] (writingOf (placed f means bases offsets d) 0)
+  target-does : (d : Designator) (w : Writing) → Does (E.TARGET + shape d) (d .name) w [] (writingOf (placed f means under offsets d) 0)
   unfolding listOf formAt useIn otherCodes codesOf codesBy writtenAfter writingAfter
   target-does d w =
-      by-form (λ n. Does (E.TARGET + n) (d .name) w [] (writingOf (placeIn (f .values) (f .found) means bases offsets n (d .name)) 0))
+      by-form (λ n. Does (E.TARGET + n) (d .name) w [] (writingOf (placeIn (f .values) (f .found) means under offsets n (d .name)) 0))
       (refl, (refl, refl)) (refl, (refl, refl)) (refl, (refl, refl)) (refl, (refl, refl)) d
 
   control-does : (d : Designator) (w : Writing) → Does (E.CONTROL + shape d) (d .name) w [] (writingOf (controlled d) 0)
@@ -90,7 +90,7 @@ module _ (f : Tables) (means bases offsets marks : List ℕ) where
   control-does d w =
       by-form (λ n. Does (E.CONTROL + n) (d .name) w [] (writingOf (controlled d) 0)) (refl, (refl, refl)) (refl, (refl, refl)) (refl, (refl, refl)) (refl, (refl, refl)) d
 
-  first-does : (a : Operand) (w : Writing) → Does (E.FIRST + shapeOf a) (headOf a) w (listOf (firstCodes (w .aim) (w .sign) (used f means bases offsets a))) w
+  first-does : (a : Operand) (w : Writing) → Does (E.FIRST + shapeOf a) (headOf a) w (listOf (firstCodes (w .aim) (w .sign) (used f means under offsets a))) w
   unfolding formAt codesOf codesBy writtenAfter writingAfter
   first-does a w =
       by-shape (λ n. Does (E.FIRST + n) (headOf a) w (listOf (firstCodes (w .aim) (w .sign) (at n (headOf a)))) w)
@@ -99,19 +99,19 @@ module _ (f : Tables) (means bases offsets marks : List ℕ) where
   -- the operator's kind stands before the operand
   term-does :
       (o : ℕ) (a : Operand) (w : Writing) → headOf a - 1 ≡ o
-      → Does (E.TERM + shapeOf a) (headOf a) w (listOf (nextCodes (w .aim) (kindAt f o) (used f means bases offsets a))) w
+      → Does (E.TERM + shapeOf a) (headOf a) w (listOf (nextCodes (w .aim) (kindAt f o) (used f means under offsets a))) w
   unfolding formAt codesOf codesBy writtenAfter writingAfter
   term-does o a w e =
       let p = by-shape (λ n. Does (E.TERM + n) (headOf a) w (listOf (nextCodes (w .aim) (kindAt f (headOf a - 1)) (at n (headOf a)))) w)
       (refl, (refl, refl)) (refl, (refl, refl)) (refl, (refl, refl)) (refl, (refl, refl)) (refl, (refl, refl)) a in
-      (p .0, (p .1 .0 ∙ ap (λ (x : ℕ). listOf (nextCodes (w .aim) (kindAt f x) (used f means bases offsets a))) e, p .1 .1))
+      (p .0, (p .1 .0 ∙ ap (λ (x : ℕ). listOf (nextCodes (w .aim) (kindAt f x) (used f means under offsets a))) e, p .1 .1))
 
-  module _ (table : f .means ≡ meaningsOf means bases) (small : Small f) where
+  module _ (table : f .means ≡ meaningsOf means under) (small : Small f) where
     compare-is :
         (r mask to : ℕ) (a : Operand) (i j : ℕ) → isOperand (f .kinds) a i j
-        → listOf (applyThen compareRow r (used f means bases offsets a) (branchCode mask to)) ≡ tested offsets (compareWith f r a) mask to
+        → listOf (applyThen compareRow r (used f means under offsets a) (branchCode mask to)) ≡ tested offsets (compareWith f r a) mask to
     unfolding codeFor compareWith
-    compare-is r mask to a i j h = then-list compareRow r (used f means bases offsets a) (branchCode mask to) ∙ ap (λ (x : List Code). x ++ (branchCode mask to ∷ [])) (apply-is f means bases offsets table small a i j h compareRow r)
+    compare-is r mask to a i j h = then-list compareRow r (used f means under offsets a) (branchCode mask to) ∙ ap (λ (x : List Code). x ++ (branchCode mask to ∷ [])) (apply-is f means under offsets table small a i j h compareRow r)
 
     compared-does :
         (n r to : ℕ) (a : Operand) (i j : ℕ) → isOperand (f .kinds) a i j → headOf a - 2 ≡ n → headOf a - 1 ≡ r → getD marks (headOf a - 3) 0 ≡ to → (w : Writing)
@@ -126,7 +126,7 @@ module _ (f : Tables) (means bases offsets marks : List ℕ) where
         (branchCode (falseMask (kindAt f (headOf a - 1))) (getD marks (headOf a - 3) 0))))
         w)
         (refl, (refl, refl)) (refl, (refl, refl)) (refl, (refl, refl)) (refl, (refl, refl)) (refl, (refl, refl)) a in
-        (p .0, (p .1 .0 ∙ rw (en, er, et, register-at f means bases table n) (compare-is (registerOf (meaningAt f n)) (falseMask (kindAt f r)) to a i j h), p .1 .1))
+        (p .0, (p .1 .0 ∙ rw (en, er, et, register-at f means under table n) (compare-is (registerOf (meaningAt f n)) (falseMask (kindAt f r)) to a i j h), p .1 .1))
 
     bare-does : (r to : ℕ) → getD marks (r - 1) 0 ≡ to → (w : Writing) → Does E.BARE r w (tested offsets [] (falseMask (kindAt f r)) to) w
     unfolding listOf formAt bareCodes codesOf codesBy writtenAfter writingAfter codeFor
@@ -170,7 +170,7 @@ module _ (f : Tables) (means bases offsets marks : List ℕ) where
       operand op a s w k p = ap (walk .run s w) (operand-tape op a k) ∙ via (op + shapeOf a) (headOf a) s w k p
 
       chain : (ts : List Term) (i j : ℕ) → areTerms (f .kinds) ts i j → (s : S) (w : Writing) (k : List ℕ)
-          → walk .run s w (tapeEach tapeTerm ts k) ≡ walk .run (walk .emit (chainCodes f means bases offsets (w .aim) ts) s) w k
+          → walk .run s w (tapeEach tapeTerm ts k) ≡ walk .run (walk .emit (chainCodes f means under offsets (w .aim) ts) s) w k
       unfolding areTerms tapeEach chainCodes
       chain [] i j h s w k = sym (ap (λ (x : S). walk .run x w k) (walk .emit-none s))
       chain (t ∷ ts) i j (e, q, (m, h, hs)) s w k =
@@ -183,7 +183,7 @@ module _ (f : Tables) (means bases offsets marks : List ℕ) where
           (op : ℕ) (aimed : Designator → Use) → ((d : Designator) (w : Writing) → Does (op + shape d) (d .name) w [] (writingOf (aimed d) 0))
           → (a : Assignment) (i j : ℕ) → isAssignment (f .kinds) a i j → (s : S) (w : Writing) (k : List ℕ)
           → walk .run s w (tapeAssignment op a k)
-          ≡ walk .run (walk .emit (assignedCodes f means bases offsets (aimed (a .target)) a) s) (writingOf (aimed (a .target)) (signEvent (a .sign))) k
+          ≡ walk .run (walk .emit (assignedCodes f means under offsets (aimed (a .target)) a) s) (writingOf (aimed (a .target)) (signEvent (a .sign))) k
       unfolding isAssignment tapeAssignment tapeDesignator assignedCodes
       assignment op aimed does a i j (m, h, (b, (n, hs, (p, ho, ht)))) s w k =
           let w′ = writingOf (aimed (a .target)) (signEvent (a .sign)) in
@@ -195,12 +195,12 @@ module _ (f : Tables) (means bases offsets marks : List ℕ) where
       pub assignment-walked :
           (a : Assignment) (i j : ℕ) → isAssignment (f .kinds) a i j → (s : S) (w : Writing) (k : List ℕ)
           → walk .run s w (tapeAssignment E.TARGET a k)
-          ≡ walk .run (walk .emit (coded offsets (assignmentOf f a)) s) (targetWriting (f .values) (f .found) means bases offsets a) k
+          ≡ walk .run (walk .emit (coded offsets (assignmentOf f a)) s) (targetWriting (f .values) (f .found) means under offsets a) k
       unfolding targetWriting
       assignment-walked a i j h s w k =
-          assignment E.TARGET (placed f means bases offsets) target-does a i j h s w k
-          ∙ ap (λ (cs : List Code). walk .run (walk .emit cs s) (targetWriting (f .values) (f .found) means bases offsets a) k)
-          (target-assigned f means bases offsets table small a i j h)
+          assignment E.TARGET (placed f means under offsets) target-does a i j h s w k
+          ∙ ap (λ (cs : List Code). walk .run (walk .emit cs s) (targetWriting (f .values) (f .found) means under offsets a) k)
+          (target-assigned f means under offsets table small a i j h)
 
       pub control-walked :
           (a : Assignment) (i j : ℕ) → isAssignment (f .kinds) a i j → (s : S) (w : Writing) (k : List ℕ)
@@ -211,7 +211,7 @@ module _ (f : Tables) (means bases offsets marks : List ℕ) where
           let r = registerIn (packedAt (f .found) means (a .target .name)) in
           assignment E.CONTROL controlled control-does a i j h s w k
           ∙ ap (λ (cs : List Code). walk .run (walk .emit cs s) (controlWriting (f .found) means a) k)
-          (register-assigned f means bases offsets table small r a i j h ∙ ap (λ (x : ℕ). coded offsets (toRegister f x a)) (register-at f means bases table (a .target .name)))
+          (register-assigned f means under offsets table small r a i j h ∙ ap (λ (x : ℕ). coded offsets (toRegister f x a)) (register-at f means under table (a .target .name)))
 
       -- IF or WHILE stands before it
       pub condition-walked :

@@ -38,37 +38,37 @@ column-is full = refl
 column-is short = refl
 
 -- the first operand and those behind their operators, for a target
-module _ (f : Tables) (means bases offsets : List ℕ) where
+module _ (f : Tables) (means under offsets : List ℕ) where
   unfoldable pub chainCodes : Use → List Term → List Code
   chainCodes aim [] = []
-  chainCodes aim (t ∷ ts) = listOf (nextCodes aim (kindAt f (t .operator)) (used f means bases offsets (t .operand))) ++ chainCodes aim ts
+  chainCodes aim (t ∷ ts) = listOf (nextCodes aim (kindAt f (t .operator)) (used f means under offsets (t .operand))) ++ chainCodes aim ts
 
   unfoldable pub assignedCodes : Use → Assignment → List Code
-  assignedCodes aim a = listOf (firstCodes aim (signEvent (a .sign)) (used f means bases offsets (a .first))) ++ chainCodes aim (a .rest)
+  assignedCodes aim a = listOf (firstCodes aim (signEvent (a .sign)) (used f means under offsets (a .first))) ++ chainCodes aim (a .rest)
 
   -- a target that is no register takes no chain
   no-chain : (aim : Use) → ((kind : ℕ) (u : Use) → nextCodes aim kind u ≡ None) → (ts : List Term) → chainCodes aim ts ≡ []
   unfolding chainCodes listOf
   no-chain aim e [] = refl
-  no-chain aim e (t ∷ ts) = rw (e (kindAt f (t .operator)) (used f means bases offsets (t .operand))) (no-chain aim e ts)
+  no-chain aim e (t ∷ ts) = rw (e (kindAt f (t .operator)) (used f means under offsets (t .operand))) (no-chain aim e ts)
 
-module _ (f : Tables) (means bases offsets : List ℕ) (table : f .means ≡ meaningsOf means bases) (small : Small f) where
+module _ (f : Tables) (means under offsets : List ℕ) (table : f .means ≡ meaningsOf means under) (small : Small f) where
   -- ── an operand ──
 
   module _ (a : Operand) (i j : ℕ) (h : isOperand (f .kinds) a i j) where
     abbrev its : Use
-    its = used f means bases offsets a
+    its = used f means under offsets a
 
     pub apply-is : (row r : ℕ) → listOf (applyCodes row r its) ≡ coded offsets (apply row r (useOf f a))
     unfolding listOf applyCodes isAbsent applyCode codeFor
     apply-is row r =
-        by-use f means bases table offsets small (λ s n l u v. listOf (applyCodes row r v) ≡ coded offsets (apply row r u)) refl (λ s. refl) (λ v. refl)
+        by-use f means under table offsets small (λ s n l u v. listOf (applyCodes row r v) ≡ coded offsets (apply row r u)) refl (λ s. refl) (λ v. refl)
         (λ c o x. rw (column-is (c .width))) a i j h
 
     signed-is : (op r : ℕ) → listOf (signedCodes op r its) ≡ coded offsets (signed op r (useOf f a))
     unfolding listOf signedCodes applyThen isAbsent applyCode codeFor
     signed-is op r =
-        by-use f means bases table offsets small (λ s n l u v. listOf (signedCodes op r v) ≡ coded offsets (signed op r u)) refl (λ s. refl) (λ v. refl)
+        by-use f means under table offsets small (λ s n l u v. listOf (signedCodes op r v) ≡ coded offsets (signed op r u)) refl (λ s. refl) (λ v. refl)
         (λ c o x. rw (column-is (c .width))) a i j h
 
     load-is : (g : Sign) (r : ℕ) → listOf (loadCodes (signEvent g) r its) ≡ coded offsets (load g r (useOf f a))
@@ -80,12 +80,12 @@ module _ (f : Tables) (means bases offsets : List ℕ) (table : f .means ≡ mea
 
     source-is : heldIn its ≡ sourceOf f a
     unfolding heldIn
-    source-is = by-use f means bases table offsets small (λ s n l u v. heldIn v ≡ s) refl (λ r. refl) (λ v. refl) (λ c o x. refl) a i j h
+    source-is = by-use f means under table offsets small (λ s n l u v. heldIn v ≡ s) refl (λ r. refl) (λ v. refl) (λ c o x. refl) a i j h
 
     shift-is : (op r : ℕ) → Four op r 0 (heldIn its) (amountIn its) ∷ [] ≡ coded offsets (shiftBy f op r a)
     unfolding heldIn amountIn codeFor shiftBy
     shift-is op r =
-        by-use f means bases table offsets small (λ s n l u v. Four op r 0 (heldIn v) (amountIn v) ∷ [] ≡ coded offsets (shift op r s n ∷ [])) refl (λ s. refl)
+        by-use f means under table offsets small (λ s n l u v. Four op r 0 (heldIn v) (amountIn v) ∷ [] ≡ coded offsets (shift op r s n ∷ [])) refl (λ s. refl)
         (λ v. refl) (λ c o x. refl) a i j h
         ∙ ap (coded offsets) (by-operand a)
       where
@@ -96,7 +96,7 @@ module _ (f : Tables) (means bases offsets : List ℕ) (table : f .means ≡ mea
     product-is : (r : ℕ) → listOf (applyCodes timesRow (productRegister r its) its) ≡ coded offsets (apply timesRow (productTarget f r a) (useOf f a))
     unfolding listOf applyCodes isAbsent applyCode productRegister isLongUse codeFor
     product-is r =
-        by-use f means bases table offsets small
+        by-use f means under table offsets small
         (λ s n l u v. listOf (applyCodes timesRow (productRegister r v) v) ≡ coded offsets (apply timesRow (if l then (r - 1) else r) u)) refl (λ s. refl) (λ v. refl)
         (λ c o x. by-width (c .width) x (c .base .register) (offsetAt offsets (c .name) + o)) a i j h
       where
@@ -116,7 +116,7 @@ module _ (f : Tables) (means bases offsets : List ℕ) (table : f .means ≡ mea
 
   -- ── assignments ──
 
-  chain-is : (r : ℕ) (ts : List Term) (i j : ℕ) → areTerms (f .kinds) ts i j → chainCodes f means bases offsets (Held r) ts ≡ coded offsets (chainOf f r ts)
+  chain-is : (r : ℕ) (ts : List Term) (i j : ℕ) → areTerms (f .kinds) ts i j → chainCodes f means under offsets (Held r) ts ≡ coded offsets (chainOf f r ts)
   unfolding areTerms chainCodes chainOf nextCodes
   chain-is r [] i j h = refl
   chain-is r (t ∷ ts) i j (e, q, (m, h, hs)) =
@@ -124,7 +124,7 @@ module _ (f : Tables) (means bases offsets : List ℕ) (table : f .means ≡ mea
       ∙ sym (map-append (codeFor (offsetAt offsets)) (termOf f r t) (chainOf f r ts))
 
   pub register-assigned :
-      (r : ℕ) (a : Assignment) (i j : ℕ) → isAssignment (f .kinds) a i j → assignedCodes f means bases offsets (Held r) a ≡ coded offsets (toRegister f r a)
+      (r : ℕ) (a : Assignment) (i j : ℕ) → isAssignment (f .kinds) a i j → assignedCodes f means under offsets (Held r) a ≡ coded offsets (toRegister f r a)
   unfolding isAssignment assignedCodes toRegister firstCodes
   register-assigned r a i j (m, h, (b, (n, hs, (p, ho, ht)))) =
       ap₂ (λ (x y : List Code). x ++ y) (load-is (a .first) n p ho (a .sign) r) (chain-is r (a .rest) p j ht)
@@ -132,14 +132,14 @@ module _ (f : Tables) (means bases offsets : List ℕ) (table : f .means ≡ mea
 
   pub target-assigned :
       (a : Assignment) (i j : ℕ) → isAssignment (f .kinds) a i j
-      → assignedCodes f means bases offsets (placed f means bases offsets (a .target)) a ≡ coded offsets (assignmentOf f a)
+      → assignedCodes f means under offsets (placed f means under offsets (a .target)) a ≡ coded offsets (assignmentOf f a)
   unfolding isAssignment assignedCodes assignmentOf firstCodes nextCodes listOf applyCodes isAbsent applyCode codeFor
   target-assigned a i j (m, h, (b, (n, hs, (p, ho, ht)))) =
-      by-place f means bases table offsets small (λ x u v. assignedCodes f means bases offsets v a ≡ coded offsets (assigned x u))
-      (no-chain f means bases offsets Absent (λ k u. refl) (a .rest))
-      (λ r. no-chain f means bases offsets Absent (λ k u. refl) (a .rest))
+      by-place f means under table offsets small (λ x u v. assignedCodes f means under offsets v a ≡ coded offsets (assigned x u))
+      (no-chain f means under offsets Absent (λ k u. refl) (a .rest))
+      (λ r. no-chain f means under offsets Absent (λ k u. refl) (a .rest))
       (λ r. register-assigned r a i j (m, h, (b, (n, hs, (p, ho, ht)))))
-      (λ c o x. rw (no-chain f means bases offsets (stands offsets c o x) (λ k u. refl) (a .rest), source-is (a .first) n p ho, column-is (c .width)))
+      (λ c o x. rw (no-chain f means under offsets (stands offsets c o x) (λ k u. refl) (a .rest), source-is (a .first) n p ho, column-is (c .width)))
       (a .target) i m h
       ∙ ap (coded offsets) (by-meaning (meaningAt f (a .target .name)))
     where

@@ -16,11 +16,11 @@ use Rattle.emit.specs.Codes.{listOf, branchCode, linkCode, stopCode}
 use Rattle.emit.specs.Events.{placeIn, writingAfter, codesBy}
 
 -- along a tape, with the assignment that is written
-unfoldable pub along : (kinds values found goes means bases opens offsets marks : List ℕ) → Writing → List ℕ → List Code
-along kinds values found goes means bases opens offsets marks w [] = []
-along kinds values found goes means bases opens offsets marks w (e ∷ es) =
-    listOf (codesBy kinds values found goes means bases opens offsets marks (e % E.EVENTS) (e / E.EVENTS) w)
-    ++ along kinds values found goes means bases opens offsets marks (writingAfter values found means bases offsets (e % E.EVENTS) (e / E.EVENTS) w) es
+unfoldable pub along : (kinds values found goes means under opens offsets marks : List ℕ) → Writing → List ℕ → List Code
+along kinds values found goes means under opens offsets marks w [] = []
+along kinds values found goes means under opens offsets marks w (e ∷ es) =
+    listOf (codesBy kinds values found goes means under opens offsets marks (e % E.EVENTS) (e / E.EVENTS) w)
+    ++ along kinds values found goes means under opens offsets marks (writingAfter values found means under offsets (e % E.EVENTS) (e / E.EVENTS) w) es
 
 -- ── the definition's instructions, with the places of cells ──
 
@@ -46,9 +46,9 @@ signEvent (abs t) = E.ABS
 signEvent (neg t) = E.NEG
 signEvent (negAbs t) = E.NEG-ABS
 
-unfoldable pub targetWriting : (values found means bases offsets : List ℕ) → Assignment → Writing
-targetWriting values found means bases offsets a =
-    record { aim = placeIn values found means bases offsets (shape (a .target)) (a .target .name); sign = signEvent (a .sign) }
+unfoldable pub targetWriting : (values found means under offsets : List ℕ) → Assignment → Writing
+targetWriting values found means under offsets a =
+    record { aim = placeIn values found means under offsets (shape (a .target)) (a .target .name); sign = signEvent (a .sign) }
 
 unfoldable pub controlWriting : (found means : List ℕ) → Assignment → Writing
 controlWriting found means a = record { aim = Held (registerIn (packedAt found means (a .target .name))); sign = signEvent (a .sign) }

@@ -33,19 +33,19 @@ indexIn found means shape t =
     0
 
 -- an element of the cell that is declared at token d, with the packed meaning m
-unfoldable pub elementIn : (bases offsets : List ℕ) (d m subscript index : ℕ) → Use
-elementIn bases offsets d m subscript index = Stored (eqb (m % 2) 1) index (getD bases d 0 / 4294967296) (low (getD offsets d 0) + low subscript)
+unfoldable pub elementIn : (under offsets : List ℕ) (d m subscript index : ℕ) → Use
+elementIn under offsets d m subscript index = Stored (eqb (m % 2) 1) index (getD under d 0 / 4294967296) (low (getD offsets d 0) + low subscript)
 
 -- what is declared at token d, by its packed meaning m
-unfoldable pub placeBy : (bases offsets : List ℕ) (d m subscript index : ℕ) → Use
-placeBy bases offsets d m subscript index =
+unfoldable pub placeBy : (under offsets : List ℕ) (d m subscript index : ℕ) → Use
+placeBy under offsets d m subscript index =
     if eqb (m % 8) 1 then Held (numberIn m) else
-    if leb 4 (m % 8) then elementIn bases offsets d m subscript index else
+    if leb 4 (m % 8) then elementIn under offsets d m subscript index else
     Absent
 
-module _ (values found means bases offsets : List ℕ) where
+module _ (values found means under offsets : List ℕ) where
   unfoldable pub placeIn : (shape t : ℕ) → Use
-  placeIn shape t = placeBy bases offsets (getD found t 0) (packedAt found means t) (subscriptIn values shape t) (indexIn found means shape t)
+  placeIn shape t = placeBy under offsets (getD found t 0) (packedAt found means t) (subscriptIn values shape t) (indexIn found means shape t)
 
   -- a number has shape 4
   unfoldable pub useIn : (shape t : ℕ) → Use
@@ -127,11 +127,11 @@ codesOf kinds values marks family t w u n =
 
 -- ── by the lists ──
 
-unfoldable pub writingAfter : (values found means bases offsets : List ℕ) (op t : ℕ) → Writing → Writing
-writingAfter values found means bases offsets op t w =
-    writtenAfter (familyAt op) w (useIn values found means bases offsets (formAt op) t) (registerAt found means (familyAt op) t)
+unfoldable pub writingAfter : (values found means under offsets : List ℕ) (op t : ℕ) → Writing → Writing
+writingAfter values found means under offsets op t w =
+    writtenAfter (familyAt op) w (useIn values found means under offsets (formAt op) t) (registerAt found means (familyAt op) t)
 
-unfoldable pub codesBy : (kinds values found goes means bases opens offsets marks : List ℕ) (op t : ℕ) → Writing → Codes
-codesBy kinds values found goes means bases opens offsets marks op t w =
-    codesOf kinds values marks (familyAt op) t w (useIn values found means bases offsets (formAt op) t)
+unfoldable pub codesBy : (kinds values found goes means under opens offsets marks : List ℕ) (op t : ℕ) → Writing → Codes
+codesBy kinds values found goes means under opens offsets marks op t w =
+    codesOf kinds values marks (familyAt op) t w (useIn values found means under offsets (formAt op) t)
     (record { register = registerAt found means (familyAt op) t; goal = goalAt found goes opens (familyAt op) t })

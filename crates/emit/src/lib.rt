@@ -512,26 +512,26 @@ fn index(found: &[u32], means: &[u64], shape: u32, t: usize) -> u64
     0
 }
 
-fn element(bases: &[u64], offsets: &[u64], d: usize, m: u64, subscript: u64, index: u64) -> Use
-    ensures { λ r. ⌜ r ≡ elementIn (now (bases .entry)) (now (offsets .entry)) d m subscript index ⌝ }
+fn element(under: &[u64], offsets: &[u64], d: usize, m: u64, subscript: u64, index: u64) -> Use
+    ensures { λ r. ⌜ r ≡ elementIn (now (under .entry)) (now (offsets .entry)) d m subscript index ⌝ }
 {
     Use::Stored(
         m % 2 == 1,
         index,
-        key(bases, d) / 4294967296,
+        key(under, d) / 4294967296,
         key(offsets, d) % 4294967296 + subscript % 4294967296,
     )
 }
 
 // What is declared at token d, by its packed meaning m.
-fn place_by(bases: &[u64], offsets: &[u64], d: usize, m: u64, subscript: u64, index: u64) -> Use
-    ensures { λ r. ⌜ r ≡ placeBy (now (bases .entry)) (now (offsets .entry)) d m subscript index ⌝ }
+fn place_by(under: &[u64], offsets: &[u64], d: usize, m: u64, subscript: u64, index: u64) -> Use
+    ensures { λ r. ⌜ r ≡ placeBy (now (under .entry)) (now (offsets .entry)) d m subscript index ⌝ }
 {
     if m % 8 == tables::REGISTER {
         return Use::Held(number(m));
     }
     if tables::CELL <= m % 8 {
-        return element(bases, offsets, d, m, subscript, index);
+        return element(under, offsets, d, m, subscript, index);
     }
     Use::Absent
 }
@@ -540,18 +540,18 @@ fn place(
     values: &[u64],
     found: &[u32],
     means: &[u64],
-    bases: &[u64],
+    under: &[u64],
     offsets: &[u64],
     shape: u32,
     t: usize,
 ) -> Use
     requires { ⌜ t < TOKEN-LIMIT ⌝ }
-    ensures { λ r. ⌜ r ≡ placeIn (now (values .entry)) (now (found .entry)) (now (means .entry)) (now (bases .entry)) (now (offsets .entry)) shape t ⌝ }
+    ensures { λ r. ⌜ r ≡ placeIn (now (values .entry)) (now (found .entry)) (now (means .entry)) (now (under .entry)) (now (offsets .entry)) shape t ⌝ }
 {
     let s = subscript(values, shape, t);
     let x = index(found, means, shape, t);
     place_by(
-        bases,
+        under,
         offsets,
         get(found, t),
         meaning(found, means, t),
@@ -565,18 +565,18 @@ pub fn operand(
     values: &[u64],
     found: &[u32],
     means: &[u64],
-    bases: &[u64],
+    under: &[u64],
     offsets: &[u64],
     shape: u32,
     t: usize,
 ) -> Use
     requires { ⌜ t < TOKEN-LIMIT ⌝ }
-    ensures { λ r. ⌜ r ≡ useIn (now (values .entry)) (now (found .entry)) (now (means .entry)) (now (bases .entry)) (now (offsets .entry)) shape t ⌝ }
+    ensures { λ r. ⌜ r ≡ useIn (now (values .entry)) (now (found .entry)) (now (means .entry)) (now (under .entry)) (now (offsets .entry)) shape t ⌝ }
 {
     if shape == 4 {
         return Use::Number(key(values, t));
     }
-    place(values, found, means, bases, offsets, shape, t)
+    place(values, found, means, under, offsets, shape, t)
 }
 
 // ── what an event names ──

@@ -13,13 +13,13 @@ use Rattle.code.proofs.places.Statement.{statement}
 use Rattle.code.proofs.places.Tie as tie
 
 abbrev Inv-loop : tie.InvT-loop
-Inv-loop tape kinds values found goes means bases opens offsets marks₀ p₀ w₀ i₀ marks p w i =
+Inv-loop tape kinds values found goes means under opens offsets marks₀ p₀ w₀ i₀ marks p w i =
     (i ≤ length tape) × (p ≤ 8 * i) × (length marks ≡ length marks₀)
-    × (pass (placeEvent kinds values found goes means bases opens offsets) (placingOf p w marks) (drop i tape)
-    ≡ placesAlong kinds values found goes means bases opens offsets marks₀ tape)
+    × (pass (placeEvent kinds values found goes means under opens offsets) (placingOf p w marks) (drop i tape)
+    ≡ placesAlong kinds values found goes means under opens offsets marks₀ tape)
 
 abbrev μ-loop : tie.MeasureT-loop
-μ-loop tape kinds values found goes means bases opens offsets marks₀ p₀ w₀ i₀ marks p w i = length tape - i
+μ-loop tape kinds values found goes means under opens offsets marks₀ p₀ w₀ i₀ marks p w i = length tape - i
 
 loop-holds : tie.Need-loop-holds Inv-loop μ-loop
 unfolding placesAlong
@@ -101,17 +101,17 @@ loop-again c =
     let s = c .before .before .before .before .before .before .before .before .before .before .before .form .ensures .0 in
     let u = c .before .before .before .before .before .before .before .before .before .before .operand .ensures in
     let r = c .before .before .before .before .before .before .before .before .before .register-at .ensures in
-    let codes = codes-known (a .kinds .now) (a .values .now) (a .found .now) (a .goes .now) (a .means .now) (a .bases .now) (a .opens .now) (a .offsets .now) (l .marks)
+    let codes = codes-known (a .kinds .now) (a .values .now) (a .found .now) (a .goes .now) (a .means .now) (a .under .now) (a .opens .now) (a .offsets .now) (l .marks)
     (op .result) (t .result) (l .w) f s u r (c .before .before .before .before .before .before .before .before .goal-at .ensures .0)
     (c .before .before .before .before .before .before .codes-of .ensures) in
-    let written = written-known (a .kinds .now) (a .values .now) (a .found .now) (a .goes .now) (a .means .now) (a .bases .now) (a .opens .now) (a .offsets .now)
+    let written = written-known (a .kinds .now) (a .values .now) (a .found .now) (a .goes .now) (a .means .now) (a .under .now) (a .opens .now) (a .offsets .now)
     (l .marks) (op .result) (t .result) (l .w) f s u r (c .written-after .ensures) in (
       omega arith,
       omega (arith, l .inv .1, c .before .before .before .before .before .size .ensures .1),
       search needs,
       rw
-          (place-is (a .kinds .now) (a .values .now) (a .found .now) (a .goes .now) (a .means .now) (a .bases .now) (a .opens .now) (a .offsets .now) (l .marks) (op .result) (t .result) (l .p) (l .w) codes (c .before .before .before .before .before .size .ensures .0) (rw f at (c .before .before .before .mark-after .ensures)) written)
-          (pass-turn (placeEvent (a .kinds .now) (a .values .now) (a .found .now) (a .goes .now) (a .means .now) (a .bases .now) (a .opens .now) (a .offsets .now)) (placingOf (l .p) (l .w) (l .marks)) (a .tape .now) (l .i) (op .result) (t .result) h (op .ensures .0) (t .ensures .0) (l .inv .3)),
+          (place-is (a .kinds .now) (a .values .now) (a .found .now) (a .goes .now) (a .means .now) (a .under .now) (a .opens .now) (a .offsets .now) (l .marks) (op .result) (t .result) (l .p) (l .w) codes (c .before .before .before .before .before .size .ensures .0) (rw f at (c .before .before .before .mark-after .ensures)) written)
+          (pass-turn (placeEvent (a .kinds .now) (a .values .now) (a .found .now) (a .goes .now) (a .means .now) (a .under .now) (a .opens .now) (a .offsets .now)) (placingOf (l .p) (l .w) (l .marks)) (a .tape .now) (l .i) (op .result) (t .result) h (op .ensures .0) (t .ensures .0) (l .inv .3)),
     )
 
 same-length : tie.Need-same-length Inv-loop μ-loop
@@ -121,7 +121,7 @@ returns : tie.Need-returns Inv-loop μ-loop
 returns c =
     let a = c .before .before .before .before .before .before .before .before .before .before .before .before .args in
     let l = c .before .loop in
-    let e = pass-end (placeEvent (a .kinds .now) (a .values .now) (a .found .now) (a .goes .now) (a .means .now) (a .bases .now) (a .opens .now) (a .offsets .now))
+    let e = pass-end (placeEvent (a .kinds .now) (a .values .now) (a .found .now) (a .goes .now) (a .means .now) (a .under .now) (a .opens .now) (a .offsets .now))
     (placingOf (l .p) (l .w) (l .marks)) (a .tape .now) (l .i) (c .loop-test .left) (l .inv .3) in
     (ap (λ (s : Placing). s .at) e, ap (λ (s : Placing). s .marks) e)
 

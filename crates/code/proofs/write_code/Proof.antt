@@ -15,14 +15,14 @@ use Rattle.code.proofs.write_code.Statement.{statement}
 use Rattle.code.proofs.write_code.Tie as tie
 
 abbrev Inv-loop : tie.InvT-loop
-Inv-loop tape kinds values found goes means bases opens offsets marks start image₀ literals₀ at₀ w₀ i₀ image literals at w i =
+Inv-loop tape kinds values found goes means under opens offsets marks start image₀ literals₀ at₀ w₀ i₀ image literals at w i =
     (i ≤ length tape) × (at .length ≤ 8 * i) × (at .literals ≤ 2 * i) × (at .literals ≤ length literals₀) × (length image ≡ length image₀) ×
     (length literals ≡ length literals₀)
-    × Coded start (length literals₀) kinds values found goes means bases opens offsets marks (at .length) (at .literals) image literals w (drop i tape)
-    (pass (codeEvent start kinds values found goes means bases opens offsets marks) (codingOf (laidOf 0 image₀ []) noWriting) tape)
+    × Coded start (length literals₀) kinds values found goes means under opens offsets marks (at .length) (at .literals) image literals w (drop i tape)
+    (pass (codeEvent start kinds values found goes means under opens offsets marks) (codingOf (laidOf 0 image₀ []) noWriting) tape)
 
 abbrev μ-loop : tie.MeasureT-loop
-μ-loop tape kinds values found goes means bases opens offsets marks start image₀ literals₀ at₀ w₀ i₀ image literals at w i = length tape - i
+μ-loop tape kinds values found goes means under opens offsets marks start image₀ literals₀ at₀ w₀ i₀ image literals at w i = length tape - i
 
 loop-holds : tie.Need-loop-holds Inv-loop μ-loop
 loop-holds c =
@@ -101,10 +101,10 @@ loop-again c =
     let s = c .before .before .before .before .before .before .before .before .before .before .before .before .form .ensures .0 in
     let u = c .before .before .before .before .before .before .before .before .before .before .before .operand .ensures in
     let r = c .before .before .before .before .before .before .before .before .before .before .register-at .ensures in
-    let codes = codes-known (a .kinds .now) (a .values .now) (a .found .now) (a .goes .now) (a .means .now) (a .bases .now) (a .opens .now) (a .offsets .now)
+    let codes = codes-known (a .kinds .now) (a .values .now) (a .found .now) (a .goes .now) (a .means .now) (a .under .now) (a .opens .now) (a .offsets .now)
     (a .marks .now) (op .result) (t .result) (l .w) f s u r (c .before .before .before .before .before .before .before .before .before .goal-at .ensures .0)
     (c .before .before .before .before .before .before .before .before .codes-of .ensures) in
-    let written = written-known (a .kinds .now) (a .values .now) (a .found .now) (a .goes .now) (a .means .now) (a .bases .now) (a .opens .now) (a .offsets .now)
+    let written = written-known (a .kinds .now) (a .values .now) (a .found .now) (a .goes .now) (a .means .now) (a .under .now) (a .opens .now) (a .offsets .now)
     (a .marks .now) (op .result) (t .result) (l .w) f s u r (c .written-after .ensures) in
     let laid = c .before .before .before .before .before .lay-codes in
     let len : length (l .literals) ≡ length (a .literals .now) = l .inv .5 in (
@@ -114,7 +114,7 @@ loop-again c =
       omega (arith, len, laid .ensures .2),
       laid .kept .0 ∙ l .inv .4,
       laid .kept .1 .0 ∙ len,
-      tape-turn (a .start) (length (a .literals .now)) (a .kinds .now) (a .values .now) (a .found .now) (a .goes .now) (a .means .now) (a .bases .now) (a .opens .now)
+      tape-turn (a .start) (length (a .literals .now)) (a .kinds .now) (a .values .now) (a .found .now) (a .goes .now) (a .means .now) (a .under .now) (a .opens .now)
           (a .offsets .now) (a .marks .now) (a .tape .now) (l .i) (op .result) (t .result) _ _ _ _ _ _ _ _
           (c .before .before .before .before .before .before .before .before .codes-of .result) (l .w) _ _ h (op .ensures .0) (t .ensures .0) codes written len
           (laid .ensures .0) (l .inv .6),
@@ -149,7 +149,7 @@ returns c =
     let l = c .before .before .before .before .before .before .before .before .before .loop in
     let laid = c .before .before .before .before .lay-code in
     let len : length (l .literals) ≡ length (a .literals .now) = l .inv .5 in (
-      tape-end (a .start) (length (a .literals .now)) (a .kinds .now) (a .values .now) (a .found .now) (a .goes .now) (a .means .now) (a .bases .now) (a .opens .now)
+      tape-end (a .start) (length (a .literals .now)) (a .kinds .now) (a .values .now) (a .found .now) (a .goes .now) (a .means .now) (a .under .now) (a .opens .now)
           (a .offsets .now) (a .marks .now) (a .tape .now) (a .image .now) (l .i) (l .at .length) (l .at .literals) (laid .result) (l .image) (l .literals) _ _ (l .w)
           (c .before .before .before .before .before .stop .result) (c .before .before .before .before .before .before .before .before .loop-test .left)
           (laid .kept .1 .0 ∙ len) (c .before .before .before .before .before .stop .ensures) (λ g. laid .ensures .0 (omega (arith, g, len)))
