@@ -322,8 +322,9 @@ pub fn write_code(
     }
     let p = at.length;
     let n = lay_code(image, literals, start, p, at.literals, stop());
+    let end = p + 2;
     Reached {
-        length: p + 2,
+        length: end,
         literals: n,
     }
 }

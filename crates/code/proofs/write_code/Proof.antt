@@ -129,8 +129,8 @@ lay-code-requires c κs =
     let n = c .before .before .before .before .before .before .before .before .before .before .before .before .before .before .before .before .before .pre in
     (omega (arith, l .3, l .5), omega (arith, n .1, l .5), n .2, omega (arith, l .1, l .0, n .0))
 
-add-t37 : tie.Need-add-t37 Inv-loop μ-loop
-add-t37 c =
+add-end : tie.Need-add-end Inv-loop μ-loop
+add-end c =
     let l = c .before .before .before .before .before .before .before .before .before .loop .inv in
     let n = c .before .before .before .before .before .before .before .before .before .before .before .before .before .before .before .before .before .before .before
     .before .before .before .pre .0 in
@@ -181,7 +181,7 @@ write-code-spec =
     loop-again
     stop-requires
     lay-code-requires
-    add-t37
+    add-end
     same-length
     same-length-2
     returns)
