@@ -18,8 +18,8 @@ use Rattle.translator.specs.Instructions.{sizes}
 use Rattle.translator.specs.Core.{toRegister, compareWith, testOf, controlOf, coreStatement, coreBody, coreItems}
 use Rattle.translator.specs.Code.{sizeOf}
 use Rattle.emit.specs.declared.Writing.{Writing}
-use Rattle.emit.specs.Codes.{codeSize}
-use Rattle.emit.specs.Events.{writingAfter, declaredCode, stepCode, closingCode, madeBy}
+use Rattle.emit.specs.Codes.{listOf, codeSize, applyCode, isAbsent, applyThen}
+use Rattle.emit.specs.Events.{writingAfter, declaredCodes, stepCodes, closingCodes, codesBy}
 use Rattle.code.specs.Places.{Placing, placingOf, markClosing, markAfter, placeEvent}
 use Rattle.emit.proofs.Operands.{Small}
 use Rattle.code.proofs.Declarations.{declaring, registers-out, cells-out}
@@ -85,7 +85,7 @@ module _ (f : Tables) (means bases offsets : List ℕ) where
   -- ── declarations ──
 
   still : (p : ℕ) (w : Writing) (ms : List ℕ) (t : ℕ) (k : List ℕ) → All (λ (op : ℕ). at p w ms (event op t ∷ k) ≡ at p w ms k) declaring
-  unfolding placeEvent madeBy declaredCode writingAfter codeSize markAfter
+  unfolding placeEvent listOf codesBy declaredCodes writingAfter codeSize markAfter
   still p w ms t k =
       (by E.REGISTER refl, (by E.SINGLE-FULL refl, (by E.SINGLE-SHORT refl, (by E.ARRAY-FULL refl, (by E.ARRAY-SHORT refl, (by E.ITEM refl, (by E.VALUE refl, tt)))))))
     where
@@ -97,7 +97,7 @@ module _ (f : Tables) (means bases offsets : List ℕ) where
 
   module _ (table : f .means ≡ meaningsOf means bases) (small : Small f) where
     mutual
-      unfolding isStatement tapeStatement tapeDeclaration coreStatement sizeOf leaves marksOf placeEvent madeBy declaredCode closingCode stepCode writingAfter codeSize markAfter markClosing
+      unfolding isStatement tapeStatement tapeDeclaration coreStatement sizeOf leaves marksOf placeEvent listOf codesBy declaredCodes closingCodes stepCodes applyThen isAbsent applyCode writingAfter codeSize markAfter markClosing
 
       pub place-statement : (x : Statement) (i j : ℕ) → isStatement (f .kinds) x i j → (p : ℕ) (w : Writing) (ms k : List ℕ)
           → at p w ms (tapeStatement x k) ≡ at (p + sizeOf (coreStatement f x)) (leaves f means bases offsets x w) (marksOf f x p ms) k

@@ -24,10 +24,10 @@ use Rattle.translator.specs.Instructions.{sizes}
 use Rattle.translator.specs.Core.{exitMask, toRegister, assignmentOf, compareWith, testOf, maskOf, controlOf}
 use Rattle.emit.specs.declared.Use.{Use}
 use Rattle.emit.specs.declared.Writing.{Writing}
-use Rattle.emit.specs.Codes.{heldIn, madeSize}
+use Rattle.emit.specs.Codes.{codeSizes, heldIn}
 use Rattle.emit.specs.Along.{targetWriting, controlWriting}
 use Rattle.emit.proofs.Operands.{Small, shapeOf, by-shape, operand-tape, register-at}
-use Rattle.emit.proofs.Sizes.{codeSizes, sizes-append, made-sizes, coded-sizes, tested-size}
+use Rattle.emit.proofs.Sizes.{sizes-append, coded-sizes, tested-size}
 use Rattle.emit.proofs.Walks.{unmarked, made, after, Walk, limit-makes, assignment-walked, control-walked, condition-walked}
 use Rattle.code.specs.Places.{markLimit, markClosing, markAfter, Placing, placingOf, placeEvent}
 use Rattle.code.proofs.Placing.{place-is}
@@ -66,7 +66,7 @@ module _ (f : Tables) (means bases offsets : List ℕ) where
   -- an event, by the size of what it makes, the assignment and the addresses after it
   pub event-placed :
       (op t p z : ℕ) (w : Writing) (ms : List ℕ) {w′ : Writing} {ms′ : List ℕ} (k : List ℕ)
-      → z ≡ madeSize (made f means bases offsets ms (op % E.EVENTS) t w) → ms′ ≡ markAfter (op % E.EVENTS) t p (p + z) (w .aim) ms
+      → z ≡ codeSizes (made f means bases offsets ms (op % E.EVENTS) t w) → ms′ ≡ markAfter (op % E.EVENTS) t p (p + z) (w .aim) ms
       → w′ ≡ after f means bases offsets ms (op % E.EVENTS) t w → place p w ms (event op t ∷ k) ≡ place (p + z) w′ ms′ k
   event-placed op t p z w ms k ez ek ew =
       let step = placeEvent (f .kinds) (f .values) (f .found) (f .goes) means bases (f .opens) offsets in
@@ -79,7 +79,7 @@ module _ (f : Tables) (means bases offsets : List ℕ) where
     run = λ p w k. place p w ms k;
     emit-none = λ p. omega arith;
     emit-both = λ a b p. omega (arith, sizes-append a b);
-    on = λ op t q p w k. event-placed op t p _ w ms k (made-sizes _) (unmarked-stays (op % E.EVENTS) t p _ (w .aim) ms q) refl;
+    on = λ op t q p w k. event-placed op t p _ w ms k refl (unmarked-stays (op % E.EVENTS) t p _ (w .aim) ms q) refl;
   }
 
   module _ (table : f .means ≡ meaningsOf means bases) (small : Small f) where
@@ -120,5 +120,5 @@ module _ (f : Tables) (means bases offsets : List ℕ) where
         let s : low (heldIn (w .aim)) ≡ controlOf f a = ap low q ∙ (low-register (packedAt (f .found) means n) ∙ register-at f means bases table n) in
         ap (place p w ms) (operand-tape E.LIMIT l k)
         ∙ event-placed (E.LIMIT + shapeOf l) (headOf l) p (sizes (compareWith f (controlOf f a) l) + 4) w ms k
-        (sym (sym (made-sizes _) ∙ (ap codeSizes m ∙ (tested-size offsets (compareWith f (heldIn (w .aim)) l) (exitMask (valueAt f v)) (getD ms (v - 1) 0) ∙ ap (λ (x : ℕ). sizes (compareWith f x l) + 4) r))))
+        (sym (ap codeSizes m ∙ (tested-size offsets (compareWith f (heldIn (w .aim)) l) (exitMask (valueAt f v)) (getD ms (v - 1) 0) ∙ ap (λ (x : ℕ). sizes (compareWith f x l) + 4) r)))
         (limit-marked l v p _ (controlOf f a) (w .aim) ms (pinned-operand (f .kinds) l (v + 2) j h .0) s) (sym u)

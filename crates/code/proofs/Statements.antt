@@ -13,7 +13,7 @@ use Rattle.tape.specs.Tape.{event, tapeCondition, tapeDeclaration, tapeStatemen
 use Rattle.tables.specs.Packed.{meaningsOf}
 use Rattle.kinds.specs.Meaning.{registerOf}
 use Rattle.kinds.specs.Tables.{Tables, valueAt, meaningAt}
-use Rattle.translator.specs.Instructions.{Instruction, rr, rx, branch, link, entry, literal, sizes, opcode, loadRow, addRow, always}
+use Rattle.translator.specs.Instructions.{Instruction, rr, rx, branch, link, entry, literal, sizes, opcode, loadRow, addRow, returnOp, always}
 use Rattle.translator.specs.Core.{returnOf, toRegister, compareWith, testOf, maskOf, controlOf, coreStatement, coreBody, coreItems}
 use Rattle.translator.specs.Code.{Mark, sizeOf, own, markAt, code}
 use Rattle.emit.specs.declared.Code.{Code}
@@ -206,7 +206,7 @@ module _ (f : Tables) (means bases offsets marks : List ℕ) where
           let w′ = leaves f means bases offsets x w in
           then-made (by-address (λ (q : ℕ). branch always q ∷ []) (g .0) (event-made E.PROCEDURE n w _ _ (procedure-adds f means bases offsets marks n w)))
           (then-made (statement-made x _ _ (h .1 .1 .2 .1 .2 .1 .1) [] _ _ (g .1) w _)
-          (then-made (by-address (λ (q : ℕ). rr 0x07 15 (registerOf (meaningAt f q)) ∷ []) e (event-made E.END-PROCEDURE n w′ _ _ (end-procedure-adds f means bases offsets marks table n w′)))
+          (then-made (by-address (λ (q : ℕ). rr returnOp always (registerOf (meaningAt f q)) ∷ []) e (event-made E.END-PROCEDURE n w′ _ _ (end-procedure-adds f means bases offsets marks table n w′)))
           (body-made b _ _ (h .2 .1) ls _ _ (g .2) w′ k)))
       body-made (items is) i j h ls ps p g w k = items-made is i j h _ ps p g w k
 

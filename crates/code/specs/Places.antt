@@ -11,8 +11,8 @@ use Rattle.tape.specs.Pass.{pass}
 use Rattle.emit.specs.declared.Use.{Use}
 use Rattle.emit.specs.declared.Use.the-variants.{Absent}
 use Rattle.emit.specs.declared.Writing.{Writing}
-use Rattle.emit.specs.Codes.{heldIn, madeSize}
-use Rattle.emit.specs.Events.{writingAfter, madeBy}
+use Rattle.emit.specs.Codes.{listOf, codeSizes, heldIn}
+use Rattle.emit.specs.Events.{writingAfter, codesBy}
 
 -- a FOR's compare, and its control register
 unfoldable pub markLimit : (t from : ℕ) → Use → List ℕ → List ℕ
@@ -47,7 +47,7 @@ placingOf at w marks = record { at = at; writing = w; marks = marks }
 
 module _ (kinds values found goes means bases opens offsets : List ℕ) where
   abbrev pub behind : (op t : ℕ) → Placing → ℕ
-  behind op t s = s .at + madeSize (madeBy kinds values found goes means bases opens offsets (s .marks) op t (s .writing))
+  behind op t s = s .at + codeSizes (listOf (codesBy kinds values found goes means bases opens offsets (s .marks) op t (s .writing)))
 
   unfoldable pub placeEvent : (op t : ℕ) → Placing → Placing
   placeEvent op t s = record {

@@ -1,35 +1,34 @@
 // Document 01, "Code": where branches go, then the program's bytes and the literals that it needs, each in one loop along the tape.
 ghost use mathlib.Core.Path.{_≡_};
 ghost use Prim.Native.Nat.{ℕ, _+_, _-_, _*_, _%_, _≤_, _<_};
+ghost use Rattle.tape.specs.Events.{TOKEN-LIMIT};
 ghost use lib.ListN.{length, take, set};
 ghost use lib.Seq.{sets};
 ghost use Rattle.base.specs.Runs.{indexOf};
 ghost use Rattle.translator.specs.Instructions.{literal};
 ghost use Rattle.translator.specs.Layout.{needs};
 ghost use Rattle.translator.specs.Bytes.{twoBytes, fourBytes};
-ghost use Rattle.emit.specs.Codes.{codeSize, madeSize};
+ghost use Rattle.emit.specs.Codes.{listOf, codeSize};
 ghost use Rattle.code.specs.Places.{markLimit, markClosing, markAfter, placesAlong};
-ghost use Rattle.code.specs.Coding.{bytesIn, laidOf, layCode, layMade, codeAlong};
-use arrays::key;
+ghost use Rattle.code.specs.Coding.{bytesIn, Laid, laidBy, layCode, layAll, codeAlong, Holds};
 use arrays::put;
 use arrays::put_wide;
 use emit::Code;
-use emit::Made;
+use emit::Codes;
+use emit::DATA_BASE;
 use emit::Use;
 use emit::Writing;
+use emit::before;
 use emit::code_size;
+use emit::codes_at;
+use emit::count;
 use emit::held;
-use emit::made_size;
-use emit::make;
+use emit::nth;
+use emit::size;
+use emit::stop;
 use emit::writing_after;
 
 // ── addresses ──
-
-fn before(t: usize, n: usize) -> usize
-    ensures { λ r. ⌜ r ≡ t - n ⌝ }
-{
-    if t < n { 0 } else { t - n }
-}
 
 fn mark_limit(t: usize, from: usize, aim: Use, marks: &mut [u32])
     requires { ⌜ from < 4294967296 ⌝ }
@@ -40,7 +39,7 @@ fn mark_limit(t: usize, from: usize, aim: Use, marks: &mut [u32])
 }
 
 fn mark_closing(op: u32, t: usize, to: usize, marks: &mut [u32])
-    requires { ⌜ (t < 67108864) × (to < 4294967296) ⌝ }
+    requires { ⌜ (t < TOKEN-LIMIT) × (to < 4294967296) ⌝ }
     ensures { λ _. ⌜ now (marks .exit) ≡ markClosing op t to (now (marks .entry)) ⌝ }
 {
     if op == tape::END_FOR {
@@ -60,7 +59,7 @@ fn mark_closing(op: u32, t: usize, to: usize, marks: &mut [u32])
 }
 
 fn mark_after(op: u32, t: usize, from: usize, to: usize, aim: Use, marks: &mut [u32])
-    requires { ⌜ (t < 67108864) × (from < 4294967296) × (to < 4294967296) ⌝ }
+    requires { ⌜ (t < TOKEN-LIMIT) × (from < 4294967296) × (to < 4294967296) ⌝ }
     ensures { λ _. ⌜ now (marks .exit) ≡ markAfter op t from to aim (now (marks .entry)) ⌝ }
 {
     if op == tape::LABEL {
@@ -115,7 +114,7 @@ pub fn places(
         let e = tape[i];
         let op = tape::op(e);
         let t = tape::token(e);
-        let m = make(
+        let m = codes_at(
             op,
             t,
             kinds,
@@ -129,7 +128,7 @@ pub fn places(
             marks,
             w,
         );
-        let q = p + made_size(m);
+        let q = p + size(m);
         let aim = w.aim;
         mark_after(op, t, p, q, aim, marks);
         w = writing_after(op, t, values, found, means, bases, offsets, w);
@@ -198,58 +197,71 @@ fn enter(literals: &mut [u64], count: usize, place: usize, v: u64) -> usize
     count
 }
 
-// Lays an instruction; the number of literals then.
+// The same, as long as there is room.
+fn enter_in_room(literals: &mut [u64], count: usize, place: usize, v: u64) -> usize
+    requires { ⌜ (count ≤ length (now literals)) × (place ≡ indexOf v (take count (now literals))) × (place ≤ count) ⌝ }
+    ensures { λ r. ⌜ (count < length (now (literals .entry)) → (take r (now (literals .exit)) ≡ needs (literal v) (take count (now (literals .entry)))) × (place ≡ indexOf v (take r (now (literals .exit))))) × (count ≡ length (now (literals .entry)) → r ≡ count) × (r ≤ count + 1) ⌝ }
+{
+    if count < literals.len() {
+        return enter(literals, count, place, v);
+    }
+    count
+}
+
+// Lays an instruction at p behind n literals; the number of literals then.
 fn lay_code(
     image: &mut [u8],
     literals: &mut [u64],
-    count: usize,
     start: u64,
-    at: usize,
+    p: usize,
+    n: usize,
     c: Code,
 ) -> usize
-    requires { ⌜ (count < length (now literals)) × (length (now literals) ≤ 4294967296) × (start < 1099511627776) × (at < 4294967296) ⌝ }
-    ensures { λ r. ⌜ ((next : ℕ) → next ≡ at + codeSize c → laidOf next (now (image .exit)) (take r (now (literals .exit))) ≡ layCode start c (laidOf at (now (image .entry)) (take count (now (literals .entry))))) × (r ≤ count + 1) ⌝ }
+    requires { ⌜ (n ≤ length (now literals)) × (length (now literals) ≤ 4294967296) × (start < 1099511627776) × (p < 4294967296) ⌝ }
+    ensures { λ r. ⌜ (n < length (now (literals .entry)) → laidBy (p + codeSize c) r (now (image .exit)) (now (literals .exit)) ≡ layCode start c (laidBy p n (now (image .entry)) (now (literals .entry)))) × (n ≡ length (now (literals .entry)) → r ≡ n) × (r ≤ n + 1) ⌝ }
 {
     match c {
-        Code::Nothing => count,
         Code::Two(op, r, s) => {
-            lay_two(image, at, op, r, s);
-            count
+            lay_two(image, p, op, r, s);
+            n
         }
         Code::Four(op, r, x, b, d) => {
-            lay_four(image, at, op, r, x, b, d);
-            count
+            lay_four(image, p, op, r, x, b, d);
+            n
         }
         Code::Literal(op, r, v) => {
-            let place = find(literals, count, v);
-            lay_four(image, at, op, r, 0, 14, start + 4 * place as u64);
-            enter(literals, count, place, v)
+            let place = find(literals, n, v);
+            lay_four(image, p, op, r, 0, DATA_BASE, start + 4 * place as u64);
+            enter_in_room(literals, n, place, v)
         }
     }
 }
 
-// Lays the instructions of an event; the number of literals then.
-fn lay_made(
-    image: &mut [u8],
-    literals: &mut [u64],
-    count: usize,
-    start: u64,
-    at: usize,
-    m: Made,
-) -> usize
-    requires { ⌜ (count + 1 < length (now literals)) × (length (now literals) ≤ 4294967296) × (start < 1099511627776) × (at + 4 < 4294967296) ⌝ }
-    ensures { λ r. ⌜ ((next : ℕ) → next ≡ at + madeSize m → laidOf next (now (image .exit)) (take r (now (literals .exit))) ≡ layMade start m (laidOf at (now (image .entry)) (take count (now (literals .entry))))) × (r ≤ count + 2) ⌝ }
-{
-    let a = m.first;
-    let b = m.second;
-    let n = lay_code(image, literals, count, start, at, a);
-    lay_code(image, literals, n, start, at + code_size(a), b)
-}
-
-// The program's length, and the number of its literals.
-pub struct Ended {
+// How far a program goes, and how many literals it has, up to the room for them.
+pub struct Reached {
     pub length: usize,
     pub literals: usize,
+}
+
+// Lays the instructions of an event, one behind the other.
+fn lay_codes(image: &mut [u8], literals: &mut [u64], start: u64, from: Reached, m: Codes) -> Reached
+    requires { ⌜ (from .literals ≤ length (now literals)) × (length (now literals) ≤ 4294967296) × (start < 1099511627776) × (from .length + 8 < 4294967296) ⌝ }
+    ensures { λ r. ⌜ ((s : Laid) → Holds (length (now (literals .entry))) (from .length) (from .literals) (now (image .entry)) (now (literals .entry)) s → Holds (length (now (literals .entry))) (r .length) (r .literals) (now (image .exit)) (now (literals .exit)) (layAll start (listOf m) s)) × (r .literals ≤ from .literals + 2) × (r .literals ≤ length (now (literals .entry))) × (r .length ≤ from .length + 8) ⌝ }
+{
+    let last = count(m);
+    let mut p: usize = from.length;
+    let mut n: usize = from.literals;
+    let mut k: usize = 0;
+    while k < last {
+        let c = nth(m, k);
+        n = lay_code(image, literals, start, p, n, c);
+        p += code_size(c);
+        k += 1;
+    }
+    Reached {
+        length: p,
+        literals: n,
+    }
 }
 
 // The program's bytes in its image, and the literals that it needs.
@@ -267,12 +279,14 @@ pub fn write_code(
     start: u64,
     image: &mut [u8],
     literals: &mut [u64],
-) -> Ended
-    requires { ⌜ (length (now tape) ≤ 67108864) × (2 * length (now tape) + 2 ≤ length (now literals)) × (length (now literals) ≤ 4294967296) × (start < 1099511627776) ⌝ }
-    ensures { λ r. ⌜ laidOf (r .length) (now (image .exit)) (take (r .literals) (now (literals .exit))) ≡ codeAlong start (now (kinds .entry)) (now (values .entry)) (now (found .entry)) (now (goes .entry)) (now (means .entry)) (now (bases .entry)) (now (opens .entry)) (now (offsets .entry)) (now (marks .entry)) (now (image .entry)) (now (tape .entry)) ⌝ }
+) -> Reached
+    requires { ⌜ (length (now tape) ≤ 67108864) × (length (now literals) ≤ 4294967296) × (start < 1099511627776) ⌝ }
+    ensures { λ r. ⌜ Holds (length (now (literals .entry))) (r .length) (r .literals) (now (image .exit)) (now (literals .exit)) (codeAlong start (now (kinds .entry)) (now (values .entry)) (now (found .entry)) (now (goes .entry)) (now (means .entry)) (now (bases .entry)) (now (opens .entry)) (now (offsets .entry)) (now (marks .entry)) (now (image .entry)) (now (tape .entry))) × (r .literals ≤ 2 * length (now (tape .entry)) + 1) ⌝ }
 {
-    let mut p: usize = 0;
-    let mut count: usize = 0;
+    let mut at = Reached {
+        length: 0,
+        literals: 0,
+    };
     let mut w = Writing {
         aim: Use::Absent,
         sign: 0,
@@ -282,7 +296,7 @@ pub fn write_code(
         let e = tape[i];
         let op = tape::op(e);
         let t = tape::token(e);
-        let m = make(
+        let m = codes_at(
             op,
             t,
             kinds,
@@ -296,13 +310,13 @@ pub fn write_code(
             marks,
             w,
         );
-        count = lay_made(image, literals, count, start, p, m);
-        p += made_size(m);
+        at = lay_codes(image, literals, start, at, m);
         w = writing_after(op, t, values, found, means, bases, offsets, w);
         i += 1;
     }
-    let n = lay_code(image, literals, count, start, p, Code::Two(0x0a, 0, 0));
-    Ended {
+    let p = at.length;
+    let n = lay_code(image, literals, start, p, at.literals, stop());
+    Reached {
         length: p + 2,
         literals: n,
     }

@@ -1,5 +1,6 @@
 -- Laws of the instructions of events, and of trees.
 pub mod Tables
+pub mod Lists
 pub mod Operands
 pub mod Written
 pub mod Sizes

@@ -18,7 +18,7 @@ use Rattle.translator.specs.Core.{exitMask, toRegister, assignmentOf, compareWi
 use Rattle.emit.specs.declared.Code.{Code}
 use Rattle.emit.specs.declared.Writing.{Writing}
 use Rattle.emit.specs.Codes.{heldIn}
-use Rattle.emit.specs.Along.{codesOf, along, codeFor, targetWriting, controlWriting}
+use Rattle.emit.specs.Along.{along, codeFor, targetWriting, controlWriting}
 use Rattle.emit.proofs.Operands.{Small, offsetAt, shapeOf, operand-tape, register-at}
 use Rattle.emit.proofs.Written.{coded}
 use Rattle.emit.proofs.Walks.{made, after, Makes, Walk, limit-makes, assignment-walked, control-walked, condition-walked}
@@ -29,7 +29,7 @@ module _ (f : Tables) (means bases offsets marks : List ℕ) where
 
   pub along-event :
       (op t : ℕ) (w : Writing) (k : List ℕ)
-      → go w (event op t ∷ k) ≡ codesOf (made f means bases offsets marks (op % E.EVENTS) t w) ++ go (after f means bases offsets marks (op % E.EVENTS) t w) k
+      → go w (event op t ∷ k) ≡ made f means bases offsets marks (op % E.EVENTS) t w ++ go (after f means bases offsets marks (op % E.EVENTS) t w) k
   unfolding along
   along-event op t w k = rw (event-op op t, event-token op t)
 

@@ -19,26 +19,33 @@ use Rattle.tables.specs.Packed.{meaningsOf, registerIn, packedAt}
 use Rattle.translator.specs.Instructions.{compareRow, falseMask}
 use Rattle.translator.specs.Core.{exitMask, toRegister, assignmentOf, compareWith, testOf, maskOf, controlOf}
 use Rattle.emit.specs.declared.Use.{Use}
-use Rattle.emit.specs.declared.Use.the-variants.{Held}
+use Rattle.emit.specs.declared.Use.the-variants.{Absent, Held, Number, Stored}
 use Rattle.emit.specs.declared.Code.{Code}
-use Rattle.emit.specs.declared.Made.{Made}
 use Rattle.emit.specs.declared.Writing.{Writing}
-use Rattle.emit.specs.Codes.{applyCode, oneCode, twoCodes, heldIn, firstCode, nextCode, branchCode}
-use Rattle.emit.specs.Events.{placeIn, useIn, writingAfter, assignedCode, comparedCode, limitCode, madeBy}
-use Rattle.emit.specs.Along.{codesIn, codesOf, codeFor, signEvent, targetWriting, controlWriting}
+use Rattle.emit.specs.Codes.{listOf, applyCode, isAbsent, applyCodes, applyThen, heldIn, firstCodes, nextCodes, branchCode}
+use Rattle.emit.specs.Events.{placeIn, useIn, writingAfter, comparedCodes, bareCodes, limitCodes, codesBy}
+use Rattle.emit.specs.Along.{codeFor, signEvent, targetWriting, controlWriting}
 use Rattle.emit.proofs.Operands.{Small, shapeOf, by-form, by-shape, operand-tape, register-at, placed, used}
-use Rattle.emit.proofs.Written.{coded, tested, one-code, chainCodes, assignedCodes, apply-is, register-assigned, target-assigned}
+use Rattle.emit.proofs.Written.{coded, tested, chainCodes, assignedCodes, apply-is, register-assigned, target-assigned}
 
 -- an event that sets no address
 abbrev pub unmarked : ℕ → Bool
 unmarked op = (leb E.TARGET op && ltb op E.LIMIT) || eqb op E.BARE
 
+-- an instruction of the code table, and another behind it
+then-list : (row r : ℕ) (u : Use) (c : Code) → listOf (applyThen row r u c) ≡ listOf (applyCodes row r u) ++ (c ∷ [])
+unfolding listOf applyCodes applyThen isAbsent
+then-list row r Absent c = refl
+then-list row r (Held s) c = refl
+then-list row r (Number v) c = refl
+then-list row r (Stored short x b d) c = refl
+
 abbrev writingOf : Use → ℕ → Writing
 writingOf aim sign = record { aim = aim; sign = sign }
 
 module _ (f : Tables) (means bases offsets marks : List ℕ) where
-  abbrev pub made : (op t : ℕ) → Writing → Made
-  made op t w = madeBy (f .kinds) (f .values) (f .found) (f .goes) means bases (f .opens) offsets marks op t w
+  abbrev pub made : (op t : ℕ) → Writing → List Code
+  made op t w = listOf (codesBy (f .kinds) (f .values) (f .found) (f .goes) means bases (f .opens) offsets marks op t w)
 
   abbrev pub after : (op t : ℕ) → Writing → Writing
   after op t w = writingAfter (f .values) (f .found) means bases offsets op t w
@@ -50,12 +57,12 @@ module _ (f : Tables) (means bases offsets marks : List ℕ) where
     pub emit-none : (s : S) → emit [] s ≡ s
     pub emit-both : (a b : List Code) (s : S) → emit (a ++ b) s ≡ emit b (emit a s)
     pub on : (op t : ℕ) → unmarked (op % E.EVENTS) ≡ true → (s : S) (w : Writing) (k : List ℕ)
-        → run s w (event op t ∷ k) ≡ run (emit (codesOf (made (op % E.EVENTS) t w)) s) (after (op % E.EVENTS) t w) k
+        → run s w (event op t ∷ k) ≡ run (emit (made (op % E.EVENTS) t w) s) (after (op % E.EVENTS) t w) k
 
   -- ── what an event makes, and the assignment that is written after it ──
 
   abbrev pub Makes : (op t : ℕ) → Writing → List Code → Writing → Type 0
-  Makes op t w cs w′ = (codesOf (made (op % E.EVENTS) t w) ≡ cs) × (after (op % E.EVENTS) t w ≡ w′)
+  Makes op t w cs w′ = (made (op % E.EVENTS) t w ≡ cs) × (after (op % E.EVENTS) t w ≡ w′)
 
   abbrev Does : (op t : ℕ) → Writing → List Code → Writing → Type 0
   Does op t w cs w′ = (unmarked (op % E.EVENTS) ≡ true) × Makes op t w cs w′
@@ -69,67 +76,67 @@ module _ (f : Tables) (means bases offsets marks : List ℕ) where
   controlled d = Held (registerIn (packedAt (f .found) means (d .name)))
 
   target-does : (d : Designator) (w : Writing) → Does (E.TARGET + shape d) (d .name) w [] (writingOf (placed f means bases offsets d) 0)
-  unfolding codesOf madeBy writingAfter
+  unfolding listOf codesBy writingAfter
   target-does d w =
       by-form (λ n. Does (E.TARGET + n) (d .name) w [] (writingOf (placeIn (f .values) (f .found) means bases offsets n (d .name)) 0))
       (refl, (refl, refl)) (refl, (refl, refl)) (refl, (refl, refl)) (refl, (refl, refl)) d
 
   control-does : (d : Designator) (w : Writing) → Does (E.CONTROL + shape d) (d .name) w [] (writingOf (controlled d) 0)
-  unfolding codesOf madeBy writingAfter
+  unfolding listOf codesBy writingAfter
   control-does d w =
       by-form (λ n. Does (E.CONTROL + n) (d .name) w [] (writingOf (controlled d) 0)) (refl, (refl, refl)) (refl, (refl, refl)) (refl, (refl, refl)) (refl, (refl, refl)) d
 
-  first-does : (a : Operand) (w : Writing) → Does (E.FIRST + shapeOf a) (headOf a) w (codesOf (firstCode (w .aim) (w .sign) (used f means bases offsets a))) w
-  unfolding madeBy assignedCode writingAfter
+  first-does : (a : Operand) (w : Writing) → Does (E.FIRST + shapeOf a) (headOf a) w (listOf (firstCodes (w .aim) (w .sign) (used f means bases offsets a))) w
+  unfolding codesBy writingAfter
   first-does a w =
-      by-shape (λ n. Does (E.FIRST + n) (headOf a) w (codesOf (firstCode (w .aim) (w .sign) (at n (headOf a)))) w)
+      by-shape (λ n. Does (E.FIRST + n) (headOf a) w (listOf (firstCodes (w .aim) (w .sign) (at n (headOf a)))) w)
       (refl, (refl, refl)) (refl, (refl, refl)) (refl, (refl, refl)) (refl, (refl, refl)) (refl, (refl, refl)) a
 
   -- the operator's kind stands before the operand
   term-does :
       (o : ℕ) (a : Operand) (w : Writing) → headOf a - 1 ≡ o
-      → Does (E.TERM + shapeOf a) (headOf a) w (codesIn (nextCode (w .aim) (kindAt f o) (used f means bases offsets a))) w
-  unfolding madeBy assignedCode writingAfter
+      → Does (E.TERM + shapeOf a) (headOf a) w (listOf (nextCodes (w .aim) (kindAt f o) (used f means bases offsets a))) w
+  unfolding codesBy writingAfter
   term-does o a w e =
-      let p = by-shape (λ n. Does (E.TERM + n) (headOf a) w (codesOf (oneCode (nextCode (w .aim) (kindAt f (headOf a - 1)) (at n (headOf a))))) w)
+      let p = by-shape (λ n. Does (E.TERM + n) (headOf a) w (listOf (nextCodes (w .aim) (kindAt f (headOf a - 1)) (at n (headOf a)))) w)
       (refl, (refl, refl)) (refl, (refl, refl)) (refl, (refl, refl)) (refl, (refl, refl)) (refl, (refl, refl)) a in
-      (p .0, (p .1 .0 ∙ (one-code _ ∙ ap (λ (x : ℕ). codesIn (nextCode (w .aim) (kindAt f x) (used f means bases offsets a))) e), p .1 .1))
+      (p .0, (p .1 .0 ∙ ap (λ (x : ℕ). listOf (nextCodes (w .aim) (kindAt f x) (used f means bases offsets a))) e, p .1 .1))
 
   module _ (table : f .means ≡ meaningsOf means bases) (small : Small f) where
     compare-is :
         (r mask to : ℕ) (a : Operand) (i j : ℕ) → isOperand (f .kinds) a i j
-        → codesOf (twoCodes (applyCode compareRow r (used f means bases offsets a)) (branchCode mask to)) ≡ tested offsets (compareWith f r a) mask to
-    unfolding codesOf codeFor compareWith
-    compare-is r mask to a i j h = ap (λ (x : List Code). x ++ (branchCode mask to ∷ [])) (apply-is f means bases offsets table small a i j h compareRow r)
+        → listOf (applyThen compareRow r (used f means bases offsets a) (branchCode mask to)) ≡ tested offsets (compareWith f r a) mask to
+    unfolding codeFor compareWith
+    compare-is r mask to a i j h = then-list compareRow r (used f means bases offsets a) (branchCode mask to) ∙ ap (λ (x : List Code). x ++ (branchCode mask to ∷ [])) (apply-is f means bases offsets table small a i j h compareRow r)
 
     compared-does :
         (n r to : ℕ) (a : Operand) (i j : ℕ) → isOperand (f .kinds) a i j → headOf a - 2 ≡ n → headOf a - 1 ≡ r → getD marks (headOf a - 3) 0 ≡ to → (w : Writing)
         → Does (E.COMPARED + shapeOf a) (headOf a) w (tested offsets (compareWith f (registerOf (meaningAt f n)) a) (falseMask (kindAt f r)) to) w
-    unfolding madeBy comparedCode writingAfter
+    unfolding codesBy comparedCodes writingAfter
     compared-does n r to a i j h en er et w =
         let p =
         by-shape
         (λ x. Does (E.COMPARED + x) (headOf a) w
-        (codesOf
-        (twoCodes (applyCode compareRow (registerIn (packedAt (f .found) means (headOf a - 2))) (at x (headOf a)))
+        (listOf
+        (applyThen compareRow (registerIn (packedAt (f .found) means (headOf a - 2))) (at x (headOf a))
         (branchCode (falseMask (kindAt f (headOf a - 1))) (getD marks (headOf a - 3) 0))))
         w)
         (refl, (refl, refl)) (refl, (refl, refl)) (refl, (refl, refl)) (refl, (refl, refl)) (refl, (refl, refl)) a in
         (p .0, (p .1 .0 ∙ rw (en, er, et, register-at f means bases table n) (compare-is (registerOf (meaningAt f n)) (falseMask (kindAt f r)) to a i j h), p .1 .1))
 
     bare-does : (r to : ℕ) → getD marks (r - 1) 0 ≡ to → (w : Writing) → Does E.BARE r w (tested offsets [] (falseMask (kindAt f r)) to) w
-    unfolding codesOf madeBy writingAfter codeFor
+    unfolding listOf codesBy bareCodes writingAfter codeFor
     bare-does r to e w = (refl, (rw e, refl))
 
     pub limit-makes :
         (v : ℕ) (l : Operand) (j : ℕ) → isOperand (f .kinds) l (v + 2) j → (w : Writing)
         → Makes (E.LIMIT + shapeOf l) (headOf l) w (tested offsets (compareWith f (heldIn (w .aim)) l) (exitMask (valueAt f v)) (getD marks (v - 1) 0)) w
-    unfolding madeBy limitCode writingAfter
+    unfolding codesBy limitCodes writingAfter
     limit-makes v l j h w =
         let p =
         by-shape
         (λ x. Makes (E.LIMIT + x) (headOf l) w
-        (codesOf (twoCodes (applyCode compareRow (heldIn (w .aim)) (at x (headOf l))) (branchCode (exitMask (valueAt f (headOf l - 2))) (getD marks (headOf l - 3) 0))))
+        (listOf (applyThen compareRow (heldIn (w .aim)) (at x (headOf l)) (branchCode (exitMask (valueAt f (headOf l - 2))) (getD marks (headOf l - 3) 0))))
         w)
         (refl, refl) (refl, refl) (refl, refl) (refl, refl) (refl, refl) l in
         let e = pinned-operand (f .kinds) l (v + 2) j h .0 in
@@ -148,7 +155,7 @@ module _ (f : Tables) (means bases offsets marks : List ℕ) where
       quietly op t s w k {w′} p = via op t s w k p ∙ ap (λ (x : S). walk .run x w′ k) (walk .emit-none s)
 
       sign : (g : Sign) (u : Use) (s : S) (k : List ℕ) → walk .run s (writingOf u 0) (tapeSign g k) ≡ walk .run s (writingOf u (signEvent g)) k
-      unfolding tapeSign codesOf madeBy writingAfter
+      unfolding tapeSign listOf codesBy writingAfter
       sign plain u s k = refl
       sign (abs t) u s k = quietly E.ABS t s (writingOf u 0) k (refl, (refl, refl))
       sign (neg t) u s k = quietly E.NEG t s (writingOf u 0) k (refl, (refl, refl))

@@ -8,15 +8,14 @@ use lib.ListN.{getD}
 use Rattle.base.specs.Choose.{if_then_else_}
 use Rattle.tape.specs.Events as E
 use Rattle.tables.specs.Packed.{low, numberIn, registerIn, packedAt}
-use Rattle.translator.specs.Instructions.{opcode, addRow, compareRow, falseMask, always}
+use Rattle.translator.specs.Instructions.{addRow, compareRow, falseMask, always}
 use Rattle.translator.specs.Core.{exitMask}
 use Rattle.emit.specs.declared.Use.{Use}
 use Rattle.emit.specs.declared.Use.the-variants.{Absent, Held, Number, Stored}
-use Rattle.emit.specs.declared.Code.{Code}
-use Rattle.emit.specs.declared.Code.the-variants.{Nothing, Literal}
-use Rattle.emit.specs.declared.Made.{Made}
+use Rattle.emit.specs.declared.Codes.{Codes}
+use Rattle.emit.specs.declared.Codes.the-variants.{None, One}
 use Rattle.emit.specs.declared.Writing.{Writing}
-use Rattle.emit.specs.Codes.{applyCode, oneCode, twoCodes, heldIn, firstCode, nextCode, branchCode, linkCode, baseCode, returnCode}
+use Rattle.emit.specs.Codes.{applyThen, heldIn, firstCodes, nextCodes, branchCode, linkCode, baseCode, returnCode}
 
 -- ── operands ──
 
@@ -67,50 +66,45 @@ unfoldable pub returnIn : ℕ → ℕ
 returnIn m = if eqb (m % 8) 2 then numberIn m else 0
 
 -- declarations
-unfoldable pub declaredCode : (found means opens marks : List ℕ) (op t : ℕ) → Code
-declaredCode found means opens marks op t =
-    if eqb op E.BASE then baseCode (registerIn (packedAt found means t)) (getD opens t 0) else
-    if eqb op E.PROCEDURE then branchCode always (getD marks (t + 1) 0) else
-    if eqb op E.END-PROCEDURE then returnCode (registerIn (packedAt found means (t + 2))) else
-    Nothing
+unfoldable pub declaredCodes : (found means opens marks : List ℕ) (op t : ℕ) → Codes
+declaredCodes found means opens marks op t =
+    if eqb op E.BASE then One (baseCode (registerIn (packedAt found means t)) (getD opens t 0)) else
+    if eqb op E.PROCEDURE then One (branchCode always (getD marks (t + 1) 0)) else
+    if eqb op E.END-PROCEDURE then One (returnCode (registerIn (packedAt found means (t + 2)))) else
+    None
 
-module _ (kinds values found means bases offsets : List ℕ) where
-  -- an assignment's operands: the first, and those behind their operators
-  unfoldable pub assignedCode : (op t : ℕ) → Writing → Made
-  assignedCode op t w =
-      if ltb op E.TERM then firstCode (w .aim) (w .sign) (useIn values found means bases offsets (op - E.FIRST) t) else
-      oneCode (nextCode (w .aim) (getD kinds (t - 1) 0) (useIn values found means bases offsets (op - E.TERM) t))
+-- "IF and WHILE branch on false"
+unfoldable pub comparedCodes : (kinds found means marks : List ℕ) (t : ℕ) → Use → Codes
+comparedCodes kinds found means marks t u =
+    applyThen compareRow (registerIn (packedAt found means (t - 2))) u (branchCode (falseMask (getD kinds (t - 1) 0)) (getD marks (t - 3) 0))
 
-  -- "IF and WHILE branch on false"
-  unfoldable pub comparedCode : (marks : List ℕ) (shape t : ℕ) → Made
-  comparedCode marks shape t =
-      twoCodes (applyCode compareRow (registerIn (packedAt found means (t - 2))) (useIn values found means bases offsets shape t))
-      (branchCode (falseMask (getD kinds (t - 1) 0)) (getD marks (t - 3) 0))
+unfoldable pub bareCodes : (kinds marks : List ℕ) (t : ℕ) → Codes
+bareCodes kinds marks t = One (branchCode (falseMask (getD kinds t 0)) (getD marks (t - 1) 0))
 
 -- "compare with limit; exit branch"
-unfoldable pub limitCode : (values found means bases offsets marks : List ℕ) (aim : Use) (shape t : ℕ) → Made
-limitCode values found means bases offsets marks aim shape t =
-    twoCodes (applyCode compareRow (heldIn aim) (useIn values found means bases offsets shape t)) (branchCode (exitMask (getD values (t - 2) 0)) (getD marks (t - 3) 0))
+unfoldable pub limitCodes : (values marks : List ℕ) (aim : Use) (t : ℕ) → Use → Codes
+limitCodes values marks aim t u = applyThen compareRow (heldIn aim) u (branchCode (exitMask (getD values (t - 2) 0)) (getD marks (t - 3) 0))
 
 -- "5A of the step; branch to the compare"
-unfoldable pub stepCode : (values marks : List ℕ) (t : ℕ) → Made
-stepCode values marks t = twoCodes (Literal (opcode addRow 1) (getD marks (t + 1) 0) (getD values t 0)) (branchCode always (getD marks t 0))
+unfoldable pub stepCodes : (values marks : List ℕ) (t : ℕ) → Codes
+stepCodes values marks t = applyThen addRow (getD marks (t + 1) 0) (Number (getD values t 0)) (branchCode always (getD marks t 0))
 
-unfoldable pub closingCode : (found goes means marks : List ℕ) (op t : ℕ) → Code
-closingCode found goes means marks op t =
-    if eqb op E.ELSE then branchCode always (getD marks (t + 1) 0) else
-    if eqb op E.END-WHILE then branchCode always (getD marks (t + 1) 0) else
-    if eqb op E.CALL then linkCode (returnIn (packedAt found means t)) (getD marks (getD found t 0) 0) else
-    if eqb op E.GOTO then branchCode always (getD marks (getD goes t 0) 0) else
-    Nothing
+unfoldable pub closingCodes : (found goes means marks : List ℕ) (op t : ℕ) → Codes
+closingCodes found goes means marks op t =
+    if eqb op E.ELSE then One (branchCode always (getD marks (t + 1) 0)) else
+    if eqb op E.END-WHILE then One (branchCode always (getD marks (t + 1) 0)) else
+    if eqb op E.CALL then One (linkCode (returnIn (packedAt found means t)) (getD marks (getD found t 0) 0)) else
+    if eqb op E.GOTO then One (branchCode always (getD marks (getD goes t 0) 0)) else
+    None
 
-unfoldable pub madeBy : (kinds values found goes means bases opens offsets marks : List ℕ) (op t : ℕ) → Writing → Made
-madeBy kinds values found goes means bases opens offsets marks op t w =
-    if ltb op E.TARGET then oneCode (declaredCode found means opens marks op t) else
-    if ltb op E.FIRST then oneCode Nothing else
-    if ltb op E.COMPARED then assignedCode kinds values found means bases offsets op t w else
-    if ltb op E.LIMIT then comparedCode kinds values found means bases offsets marks (op - E.COMPARED) t else
-    if ltb op E.BARE then limitCode values found means bases offsets marks (w .aim) (op - E.LIMIT) t else
-    if eqb op E.BARE then oneCode (branchCode (falseMask (getD kinds t 0)) (getD marks (t - 1) 0)) else
-    if eqb op E.END-FOR then stepCode values marks t else
-    oneCode (closingCode found goes means marks op t)
+unfoldable pub codesBy : (kinds values found goes means bases opens offsets marks : List ℕ) (op t : ℕ) → Writing → Codes
+codesBy kinds values found goes means bases opens offsets marks op t w =
+    if ltb op E.TARGET then declaredCodes found means opens marks op t else
+    if ltb op E.FIRST then None else
+    if ltb op E.TERM then firstCodes (w .aim) (w .sign) (useIn values found means bases offsets (op - E.FIRST) t) else
+    if ltb op E.COMPARED then nextCodes (w .aim) (getD kinds (t - 1) 0) (useIn values found means bases offsets (op - E.TERM) t) else
+    if ltb op E.LIMIT then comparedCodes kinds found means marks t (useIn values found means bases offsets (op - E.COMPARED) t) else
+    if ltb op E.BARE then limitCodes values marks (w .aim) t (useIn values found means bases offsets (op - E.LIMIT) t) else
+    if eqb op E.BARE then bareCodes kinds marks t else
+    if eqb op E.END-FOR then stepCodes values marks t else
+    closingCodes found goes means marks op t

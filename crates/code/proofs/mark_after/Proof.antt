@@ -23,7 +23,8 @@ same-length-2 c = search needs
 
 returns-2 : tie.Need-returns-2
 unfolding markAfter
-returns-2 c = rw (ne-eqb _ _ (c .before .before .before .before .before .if1 .left), eq-eqb _ _ (c .before .before .before .before .if2 .taken)) (c .before .before .put2 .ensures)
+returns-2 c =
+    rw (ne-eqb _ _ (c .before .before .before .before .before .if1 .left), eq-eqb _ _ (c .before .before .before .before .if2 .taken)) (c .before .before .put2 .ensures)
 
 add-put : tie.Need-add-put
 add-put c = search needs
@@ -36,11 +37,18 @@ same-length-3 c = search needs
 
 returns-3 : tie.Need-returns-3
 unfolding markAfter
-returns-3 c = rw (ne-eqb _ _ (c .before .before .before .before .before .before .if1 .left), ne-eqb _ _ (c .before .before .before .before .before .if2 .left), eq-eqb _ _ (c .before .before .before .before .if3 .taken)) (c .before .before .put3 .ensures)
+returns-3 c =
+    rw (
+      ne-eqb _ _ (c .before .before .before .before .before .before .if1 .left),
+      ne-eqb _ _ (c .before .before .before .before .before .if2 .left),
+      eq-eqb _ _ (c .before .before .before .before .if3 .taken),
+    )
+    (c .before .before .put3 .ensures)
 
 returns-4 : tie.Need-returns-4
 unfolding markAfter
-returns-4 c = rw (ne-eqb _ _ (c .before .before .before .if1 .left), ne-eqb _ _ (c .before .before .if2 .left), ne-eqb _ _ (c .before .if3 .left), lt-ltb _ _ (c .if4 .taken))
+returns-4 c =
+    rw (ne-eqb _ _ (c .before .before .before .if1 .left), ne-eqb _ _ (c .before .before .if2 .left), ne-eqb _ _ (c .before .if3 .left), lt-ltb _ _ (c .if4 .taken))
 
 mark-limit-requires : tie.Need-mark-limit-requires
 mark-limit-requires c κs = search needs
@@ -50,7 +58,15 @@ same-length-4 c = search needs
 
 returns-5 : tie.Need-returns-5
 unfolding markAfter
-returns-5 c = rw (ne-eqb _ _ (c .before .before .before .before .before .before .before .before .if1 .left), ne-eqb _ _ (c .before .before .before .before .before .before .before .if2 .left), ne-eqb _ _ (c .before .before .before .before .before .before .if3 .left), le-ltb _ _ (c .before .before .before .before .before .if4 .left), lt-ltb _ _ (c .before .before .before .before .if5 .taken)) (c .before .before .mark-limit .ensures)
+returns-5 c =
+    rw (
+      ne-eqb _ _ (c .before .before .before .before .before .before .before .before .if1 .left),
+      ne-eqb _ _ (c .before .before .before .before .before .before .before .if2 .left),
+      ne-eqb _ _ (c .before .before .before .before .before .before .if3 .left),
+      le-ltb _ _ (c .before .before .before .before .before .if4 .left),
+      lt-ltb _ _ (c .before .before .before .before .if5 .taken),
+    )
+    (c .before .before .mark-limit .ensures)
 
 add-put-2 : tie.Need-add-put-2
 add-put-2 c = search needs
@@ -63,7 +79,16 @@ same-length-5 c = search needs
 
 returns-6 : tie.Need-returns-6
 unfolding markAfter
-returns-6 c = rw (ne-eqb _ _ (c .before .before .before .before .before .before .before .before .before .if1 .left), ne-eqb _ _ (c .before .before .before .before .before .before .before .before .if2 .left), ne-eqb _ _ (c .before .before .before .before .before .before .before .if3 .left), le-ltb _ _ (c .before .before .before .before .before .before .if4 .left), le-ltb _ _ (c .before .before .before .before .before .if5 .left), eq-eqb _ _ (c .before .before .before .before .if6 .taken)) (c .before .before .put4 .ensures)
+returns-6 c =
+    rw (
+      ne-eqb _ _ (c .before .before .before .before .before .before .before .before .before .if1 .left),
+      ne-eqb _ _ (c .before .before .before .before .before .before .before .before .if2 .left),
+      ne-eqb _ _ (c .before .before .before .before .before .before .before .if3 .left),
+      le-ltb _ _ (c .before .before .before .before .before .before .if4 .left),
+      le-ltb _ _ (c .before .before .before .before .before .if5 .left),
+      eq-eqb _ _ (c .before .before .before .before .if6 .taken),
+    )
+    (c .before .before .put4 .ensures)
 
 mark-closing-requires : tie.Need-mark-closing-requires
 mark-closing-requires c κs = search needs
@@ -73,7 +98,16 @@ same-length-6 c = search needs
 
 returns-7 : tie.Need-returns-7
 unfolding markAfter
-returns-7 c = rw (ne-eqb _ _ (c .before .before .before .before .before .before .before .before .before .if1 .left), ne-eqb _ _ (c .before .before .before .before .before .before .before .before .if2 .left), ne-eqb _ _ (c .before .before .before .before .before .before .before .if3 .left), le-ltb _ _ (c .before .before .before .before .before .before .if4 .left), le-ltb _ _ (c .before .before .before .before .before .if5 .left), ne-eqb _ _ (c .before .before .before .before .if6 .left)) (c .before .before .mark-closing .ensures)
+returns-7 c =
+    rw (
+      ne-eqb _ _ (c .before .before .before .before .before .before .before .before .before .if1 .left),
+      ne-eqb _ _ (c .before .before .before .before .before .before .before .before .if2 .left),
+      ne-eqb _ _ (c .before .before .before .before .before .before .before .if3 .left),
+      le-ltb _ _ (c .before .before .before .before .before .before .if4 .left),
+      le-ltb _ _ (c .before .before .before .before .before .if5 .left),
+      ne-eqb _ _ (c .before .before .before .before .if6 .left),
+    )
+    (c .before .before .mark-closing .ensures)
 
 pub mark-after-spec : {M : Type 1} → statement M
 mark-after-spec =

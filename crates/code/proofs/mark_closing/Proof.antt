@@ -29,7 +29,8 @@ same-length-2 c = search needs
 
 returns-2 : tie.Need-returns-2
 unfolding markClosing
-returns-2 c = rw (ne-eqb _ _ (c .before .before .before .before .before .if1 .left), eq-eqb _ _ (c .before .before .before .before .if2 .taken)) (c .before .before .put2 .ensures)
+returns-2 c =
+    rw (ne-eqb _ _ (c .before .before .before .before .before .if1 .left), eq-eqb _ _ (c .before .before .before .before .if2 .taken)) (c .before .before .put2 .ensures)
 
 returns-3 : tie.Need-returns-3
 unfolding markClosing
@@ -43,11 +44,19 @@ same-length-3 c = search needs
 
 returns-4 : tie.Need-returns-4
 unfolding markClosing
-returns-4 c = rw (ne-eqb _ _ (c .before .before .before .before .before .before .before .if1 .left), ne-eqb _ _ (c .before .before .before .before .before .before .if2 .left), le-ltb _ _ (c .before .before .before .before .before .if3 .left), lt-ltb _ _ (c .before .before .before .before .if4 .taken)) (c .before .before .put3 .ensures)
+returns-4 c =
+    rw (
+      ne-eqb _ _ (c .before .before .before .before .before .before .before .if1 .left),
+      ne-eqb _ _ (c .before .before .before .before .before .before .if2 .left),
+      le-ltb _ _ (c .before .before .before .before .before .if3 .left),
+      lt-ltb _ _ (c .before .before .before .before .if4 .taken),
+    )
+    (c .before .before .put3 .ensures)
 
 returns-5 : tie.Need-returns-5
 unfolding markClosing
-returns-5 c = rw (ne-eqb _ _ (c .before .before .before .if1 .left), ne-eqb _ _ (c .before .before .if2 .left), le-ltb _ _ (c .before .if3 .left), le-ltb _ _ (c .if4 .left))
+returns-5 c =
+    rw (ne-eqb _ _ (c .before .before .before .if1 .left), ne-eqb _ _ (c .before .before .if2 .left), le-ltb _ _ (c .before .if3 .left), le-ltb _ _ (c .if4 .left))
 
 pub mark-closing-spec : {M : Type 1} → statement M
 mark-closing-spec =

@@ -23,7 +23,14 @@ element-requires c κs = search needs
 
 returns-2 : tie.Need-returns-2
 unfolding placeBy
-returns-2 c = rw (ne-eqb _ _ (c .before .before .before .before .if1 .left), le-leb _ _ (c .before .before .before .if2 .taken), ← (c .before .before .subscript .ensures), ← (c .before .index .ensures)) (c .element .ensures)
+returns-2 c =
+    rw (
+      ne-eqb _ _ (c .before .before .before .before .if1 .left),
+      le-leb _ _ (c .before .before .before .if2 .taken),
+      ← (c .before .before .subscript .ensures),
+      ← (c .before .index .ensures),
+    )
+    (c .element .ensures)
 
 returns-3 : tie.Need-returns-3
 unfolding placeBy

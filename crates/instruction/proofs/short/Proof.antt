@@ -2,8 +2,8 @@
 use mathlib.Core.Path.{_∙_}
 use borrow.Author.Needs.{needs}
 use borrow.Author.Tests.{ne-eqb}
-use Rattle.machine.proofs.short.Statement.{statement}
-use Rattle.machine.proofs.short.Tie as tie
+use Rattle.instruction.proofs.short.Statement.{statement}
+use Rattle.instruction.proofs.short.Tie as tie
 
 cast-r : tie.Need-cast-r
 cast-r c = search needs

@@ -2,9 +2,9 @@
 use mathlib.Core.Path.{_∙_}
 use borrow.Author.Needs.{needs}
 use borrow.Author.Tests.{ne-eqb}
 use Rattle.machine.proofs.Operands.{kept}
-use Rattle.machine.proofs.long.Statement.{statement}
-use Rattle.machine.proofs.long.Tie as tie
+use Rattle.instruction.proofs.long.Statement.{statement}
+use Rattle.instruction.proofs.long.Tie as tie
 
 cast-r : tie.Need-cast-r
 cast-r c = search needs

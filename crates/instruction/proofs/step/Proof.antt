@@ -1,10 +1,10 @@
 -- `step` makes the definition's tests of the counter in its order, then calls `short` or `long`. Assumes nothing.
 use borrow.Author.Needs.{needs}
 use borrow.Author.Tests.{lt-ltb, le-ltb, le-leb, lt-leb, eq-eqb, ne-eqb}
 use Rattle.machine.proofs.Operands.{kept}
 use Rattle.machine.specs.Step.{step}
-use Rattle.machine.proofs.step.Statement.{statement}
-use Rattle.machine.proofs.step.Tie as tie
+use Rattle.instruction.proofs.step.Statement.{statement}
+use Rattle.instruction.proofs.step.Tie as tie
 
 halt-requires : tie.Need-halt-requires
 halt-requires c κs = search needs

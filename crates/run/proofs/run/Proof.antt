@@ -3,12 +3,12 @@ use Prim.Native.Nat.{_-_, _≤_}
 use mathlib.Core.Path.{_≡_}
 use lib.ListN.{length}
 use borrow.Author.Needs.{needs}
 use Rattle.machine.proofs.Runs.{run-on, run-stop, run-out, run-start}
 use Rattle.machine.specs.Run.{counted, run}
 use Rattle.machine.specs.Space.{spaceBy}
 use Rattle.machine.specs.Step.{cpu}
-use Rattle.machine.proofs.run.Statement.{statement}
-use Rattle.machine.proofs.run.Tie as tie
+use Rattle.run.proofs.run.Statement.{statement}
+use Rattle.run.proofs.run.Tie as tie
 
 abbrev Inv-loop : tie.InvT-loop
 Inv-loop program end from to first start budget s₀ regs₀ code₀ at₀ count₀ s regs code at count =
