@@ -19,7 +19,7 @@ use Rattle.tables.proofs.Meanings.{by-sort, register-is}
 use Rattle.rules.specs.Parts.{subscriptAt, indexAt, designatorAt, operandAt, termAt}
 use Rattle.rules.specs.Shows.{Names}
 use Rattle.rules.proofs.Sorts.{as-register, as-cell, baseAt, meant-at}
-use Rattle.judge.specs.Along.{aimOf, controlOf, registerTarget, aimBy, controlBy, signRule, firstRules, chainRule}
+use Rattle.judge.specs.Along.{aimOf, registerTarget, aimBy, controlBy, signRule, firstRules, chainRule}
 
 -- ── what a target means ──
 
@@ -35,12 +35,6 @@ module _ (m : ℕ) where
 
   pub aimed-nowhere : (m % 8 ≡ 1 → ⊥) → m % 8 < 4 → (n : ℕ) (b : Based) → 0 ≡ aimOf (unpacked n m b)
   aimed-nowhere h g n b = by-sort (λ x. 0 ≡ aimOf x) n m b (λ e. absurd (h (eqb-true _ _ e))) (λ e f. refl) (λ e f l. absurd (past g (leb-true _ _ l))) (λ e f l. refl)
-
-  pub controls-register : (k : ℕ) → m % 8 ≡ 1 → k ≡ numberIn m → (n : ℕ) (b : Based) → k + 2 ≡ controlOf (unpacked n m b)
-  controls-register k h e n b = rw (as-register n m b h, ← e) (add-two k)
-
-  pub controls-nothing : (m % 8 ≡ 1 → ⊥) → (n : ℕ) (b : Based) → 0 ≡ controlOf (unpacked n m b)
-  controls-nothing h n b = by-sort (λ x. 0 ≡ controlOf x) n m b (λ e. absurd (h (eqb-true _ _ e))) (λ e f. refl) (λ e f l. refl) (λ e f l. refl)
 
 module _ {f : Tables} {found means : List ℕ} (s : Names f found means) (t m : ℕ) (e : m ≡ packedAt found means t) where
   pub told : (g : Meaning → ℕ) (x : ℕ) → ((n : ℕ) (b : Based) → x ≡ g (unpacked n m b)) → x ≡ g (meaningAt f t)

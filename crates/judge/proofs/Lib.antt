@@ -2,4 +2,5 @@
 pub mod Moves
 pub mod Answers
 pub mod Along
+pub mod Parts
 pub mod Trees

@@ -1,408 +1,368 @@
--- On the tape of a program the rules that are judged are the definition's of its tree: a line for each way to make a tree. What stands at a fixed distance
--- from an event's token does so by the grammar.
+-- On the tape of a program the rules that are judged are the definition's, event by event. What stands at a fixed distance from an event's token does so by the
+-- grammar; the values of a cell, which the definition judges with it, are judged as they come.
 use mathlib.Core.Path.{_≡_, refl, ap, ap₂, sym, _∙_}
-use mathlib.Core.List.{List, [], _∷_}
-use mathlib.Core.Bool.{Bool, true, false, _&&_, _||_}
+use mathlib.Core.List.{List, [], _∷_, _++_, map}
+use mathlib.Core.Bool.{Bool, true, false, _&&_}
 use mathlib.Core.Option.{Option, none, some}
-use Prim.Native.Nat.{ℕ, zero, suc, _+_, _-_, _%_}
+use Prim.Native.Nat.{ℕ, zero, suc, _+_, _-_}
 use native.Mathlib.Omega.{arith}
 use lib.Dec.{eqb, leb}
-use lib.ListN.{getD, drop}
-use borrow.Author.Tests.{ne-eqb}
+use lib.ListN.{length, drop}
+use borrow.Author.Tests.{ne-eqb, eq-eqb}
 use Rattle.base.specs.Choose.{choose, if_then_else_}
-use Rattle.base.specs.Lists.{All}
-use Rattle.grammar.specs.Tree.{Designator, Operand, number, place, Sign, plain, abs, neg, negAbs, Term, Assignment, Condition, compared, bare, Register, Item, Declaration, registers, cells, base, Statement, assign, call, block, goto, null, ifThen, ifElse, while, for, Body, declare, procedure, items, Items, ended, label, item, Width, full, short}
+use Rattle.grammar.specs.Tree.{Designator, Operand, number, place, Sign, plain, abs, neg, negAbs, Term, Condition, compared, bare, Item, Statement, Width, full, short}
 use Rattle.grammar.specs.Pinned.{headOf}
-use Rattle.grammar.proofs.Pinned.{pinned-operand}
-use Rattle.grammar.specs.Derives.{isShape, isDesignator, isOperand, isCondition, areTerms, isAssignment, isRegister, areMore, areSome, isDeclaration, isStatement, isBody, isItems, isProgram}
+use Rattle.grammar.proofs.Pinned.{pinned-designator, pinned-operand}
+use Rattle.grammar.specs.Derives.{isDesignator, isOperand, isCondition, isRegister, isProgram}
+use Rattle.grammar.specs.Events.{Edge, opened, closed, entered, left, Route, labelled, sent, Entry, named, celled, itemed, valued, based, Phrase, aimed, driven, signed, given, joined, tested, limited, called, Mark, looped, otherwise, endedIf, endedElse, endedWhile, endedFor, Event, edge, route, entry, phrase, mark, eventsOf}
+use Rattle.grammar.specs.Places.{Block, within, body, Place, after, along}
+use Rattle.grammar.specs.Contexts.{Context, nowhere, aiming, declaring, contextAfter, Complete, Aims, Shown, entrySuits, phraseSuits, Suits}
+use Rattle.grammar.proofs.Contexts.{program-coherent}
+use Rattle.grammar.specs.Texts.{InBlock, EdgeFits, RouteFits, isEvent, Stands}
+use Rattle.grammar.proofs.Texts.{program-text, text-stands}
 use Rattle.tape.specs.Events as E
-use Rattle.tape.specs.Tape.{event, shapeBy, tapeDesignator, tapeOperand, tapeCondition, tapeSign, tapeEach, tapeTerm, tapeAssignment, tapeValue, tapeItem, tapeRegister, cellsEvent, tapeDeclaration, tapeStatement, tapeBody, tapeItems}
+use Rattle.tape.specs.Tape.{tapeStatement, shape}
 use Rattle.tape.specs.Pass.{pass}
-use Rattle.tape.proofs.Pass.{pass-none, pass-event}
+use Rattle.tape.specs.Written.{operandShape, signCode, conditionCode, opOf, tokenOf}
+use Rattle.tape.proofs.Numbers.{by-shape, by-operand}
+use Rattle.tape.proofs.Written.{tree-tape, follows-in}
 use Rattle.names.specs.declared.Broken.{Broken}
 use Rattle.names.specs.Broken.{unbroken, rule, broken, _⊕_}
 use Rattle.names.proofs.Joins.{join-right, join-assoc}
 use Rattle.kinds.specs.Meaning.{Meaning, nothing, register, cell, routine, registerOf}
+use Rattle.kinds.specs.Meanings.{countOf}
 use Rattle.kinds.specs.Tables.{Tables, valueAt, meaningAt}
 use Rattle.kinds.specs.Rules as R
-use Rattle.kinds.specs.Kinds.{kindStatement, kindBody, kindItems}
-use Rattle.rules.specs.Parts.{subscriptAt, indexAt, designatorAt, operandAt, termAt}
+use Rattle.kinds.specs.Rules.{bareName, protected}
+use Rattle.kinds.specs.Kinds.{keptIn, rulesAt, ruleEvent, rulesOf}
+use Rattle.kinds.proofs.Elements.{range-is, from-zero}
+use Rattle.kinds.proofs.Unbroken.{rules-onto}
+use Rattle.rules.specs.Parts.{designatorAt, operandAt, termAt}
 use Rattle.judge.specs.declared.Cells.{Cells}
-use Rattle.judge.specs.Along.{Held, enterBlock, leaveBlock, keepBase, keepReturn, leaveProcedure, heldAfter, cellsOf, cellsAfter, widthOf, valueRule, aimOf, controlOf, targetAfter, aimBy, controlBy, signRule, firstRules, chainRule, declarationRule, assignmentRule, statementRule, eventRule, Judging, judgeEvent, beginning}
+use Rattle.judge.specs.Along.{Held, heldAfter, cellsOf, cellsAfter, widthOf, valueRule, aimOf, targetAfter, aimBy, controlBy, signRule, firstRules, chainRule, declarationRule, assignmentRule, statementRule, eventRule, Judging, judgeEvent, beginning}
+use Rattle.judge.proofs.Parts.{designator-at, operand-at}
 
-module _ (kinds : List ℕ) (f : Tables) where
-  abbrev at : Held → Cells → ℕ → Broken → Judging
-  at h c g b = record { held = h; cells = c; target = g; broken = b }
+-- ── the protected registers at a place ──
 
-  abbrev run : Judging → List ℕ → Judging
-  run j k = pass (judgeEvent f) j k
+-- how many bases the innermost block has so far, and the blocks around it
+abbrev countIn : Place → ℕ
+countIn [] = 0
+countIn (within b ∷ p) = length (b .bases)
+countIn (body n r ∷ p) = countIn p
 
-  via : (op t : ℕ) (j j′ : Judging) (k : List ℕ) → judgeEvent f (op % 64) t j ≡ j′ → run j (event op t ∷ k) ≡ run j′ k
-  via op t j j′ k e = pass-event (judgeEvent f) op t j k ∙ ap (λ (x : Judging). run x k) e
+abbrev countsIn : Place → List ℕ
+countsIn [] = []
+countsIn (within b ∷ p) = countIn p ∷ countsIn p
+countsIn (body n r ∷ p) = countsIn p
 
-  -- ── designators and operands ──
+abbrev isShort : Width → Bool
+isShort full = false
+isShort short = true
 
-  -- an event of a designator, by its shape, is judged by r of it, and leaves the target g′
-  abbrev Judged : ℕ → Held → Cells → ℕ → ℕ → (Designator → Broken) → Type 0
-  Judged op h c g g′ r =
-      (t : ℕ) (b : Broken)
-      → (judgeEvent f ((op + 0) % 64) t (at h c g b) ≡ at h c g′ (b ⊕ r (designatorAt 0 t)))
-      × (judgeEvent f ((op + 1) % 64) t (at h c g b) ≡ at h c g′ (b ⊕ r (designatorAt 1 t)))
-      × (judgeEvent f ((op + 2) % 64) t (at h c g b) ≡ at h c g′ (b ⊕ r (designatorAt 2 t)))
-      × (judgeEvent f ((op + 3) % 64) t (at h c g b) ≡ at h c g′ (b ⊕ r (designatorAt 3 t)))
+width-is : (w : Width) → widthOf (isShort w) ≡ w
+width-is full = refl
+width-is short = refl
 
-  module _ (op : ℕ) (h : Held) (c : Cells) (g g′ : ℕ) (b : Broken) (k : List ℕ) (i j : ℕ) where
-    shaped :
-        (r : Designator → Broken) (n : ℕ) (subscript index : Option ℕ)
-        → (judgeEvent f ((op + 0) % 64) n (at h c g b) ≡ at h c g′ (b ⊕ r (designatorAt 0 n)))
-        × (judgeEvent f ((op + 1) % 64) n (at h c g b) ≡ at h c g′ (b ⊕ r (designatorAt 1 n)))
-        × (judgeEvent f ((op + 2) % 64) n (at h c g b) ≡ at h c g′ (b ⊕ r (designatorAt 2 n)))
-        × (judgeEvent f ((op + 3) % 64) n (at h c g b) ≡ at h c g′ (b ⊕ r (designatorAt 3 n)))
-        → isShape kinds n subscript index i j
-        → run (at h c g b) (event (op + shapeBy subscript index) n ∷ k) ≡ run (at h c g′ (b ⊕ r (record { name = n; subscript = subscript; index = index }))) k
-    unfolding subscriptAt indexAt
-    shaped r n none none u q = via (op + 0) n _ _ k (u .0)
-    shaped r n (some v) none u q = let e : v ≡ n + 2 = omega (arith, q .0, q .2 .1 .0) in rw e (via (op + 1) n _ _ k (u .1))
-    shaped r n none (some x) u q = let e : x ≡ n + 2 = omega (arith, q .0, q .2 .1 .0) in rw e (via (op + 2) n _ _ k (u .2))
-    shaped r n (some v) (some x) u q =
-        let e : v ≡ n + 2 = omega (arith, q .0, q .2 .1 .0) in
-        let o : x ≡ n + 5 = omega (arith, q .0, q .2 .1 .2 .1 .1 .0) in
-        rw (e, o) (via (op + 3) n _ _ k (u .3))
+module _ (f : Tables) where
+  abbrev heldIn : Place → Held
+  heldIn p = record { kept = keptIn f p; count = countIn p; counts = countsIn p }
 
-    designated : (r : Designator → Broken) → Judged op h c g g′ r → (d : Designator) → isDesignator kinds d i j → run (at h c g b) (tapeDesignator op d k) ≡ run (at h c g′ (b ⊕ r d)) k
-    unfolding isDesignator tapeDesignator
-    designated r u d q = shaped r (d .name) (d .subscript) (d .index) (u (d .name) b) q
+  -- the bases of a block are dropped at its end
+  bases-dropped : (g : ℕ → ℕ) (ns k : List ℕ) → drop (length ns) (map g ns ++ k) ≡ k
+  bases-dropped g [] k = refl
+  bases-dropped g (n ∷ ns) k = bases-dropped g ns k
 
-    operand :
-        (r : Operand → Broken) → Judged op h c g g′ (λ d. r (place d)) → ((t : ℕ) → judgeEvent f ((op + 4) % 64) t (at h c g b) ≡ at h c g′ (b ⊕ r (number t)))
-        → (a : Operand) → isOperand kinds a i j → run (at h c g b) (tapeOperand op a k) ≡ run (at h c g′ (b ⊕ r a)) k
-    unfolding isOperand tapeOperand
-    operand r u v (number t) q = via (op + 4) t _ _ k (v t)
-    operand r u v (place d) q = designated (λ x. r (place x)) u d q
+  -- ── the loop's state, by what stands open ──
 
-  -- ── the events of assignments and conditions ──
+  abbrev at : Place → Bool → (n room target : ℕ) → Broken → Judging
+  at p s n room g b = record { held = heldIn p; cells = cellsOf s n room; target = g; broken = b }
 
-  module _ (h : Held) (c : Cells) (g : ℕ) (b : Broken) (k : List ℕ) (i j : ℕ) where
-    target : (d : Designator) → isDesignator kinds d i j → run (at h c g b) (tapeDesignator E.TARGET d k) ≡ run (at h c (aimOf (meaningAt f (d .name))) (b ⊕ aimBy f (h .kept) d (meaningAt f (d .name)))) k
-    unfolding judgeEvent heldAfter cellsAfter targetAfter eventRule assignmentRule tapeDesignator isDesignator
-    target d q =
-        shaped E.TARGET h c g (aimOf (meaningAt f (d .name))) b k i j (λ x. aimBy f (h .kept) x (meaningAt f (d .name))) (d .name) (d .subscript) (d .index) (refl, refl, refl, refl) q
+  -- what the definition has judged already: the values that are still to come
+  abbrev pending : Context → ℕ → Broken
+  pending nowhere room = unbroken
+  pending (aiming d) room = unbroken
+  pending (declaring n w ts) room = R.valueRules f w room ts
 
-    control : (d : Designator) → isDesignator kinds d i j → run (at h c g b) (tapeDesignator E.CONTROL d k) ≡ run (at h c (controlOf (meaningAt f (d .name))) (b ⊕ controlBy (h .kept) d (meaningAt f (d .name)))) k
-    unfolding judgeEvent heldAfter cellsAfter targetAfter eventRule assignmentRule tapeDesignator isDesignator
-    control d q =
-        shaped E.CONTROL h c g (controlOf (meaningAt f (d .name))) b k i j (λ x. controlBy (h .kept) x (meaningAt f (d .name))) (d .name) (d .subscript) (d .index) (refl, refl, refl, refl) q
+  abbrev Opens : Context → Bool → (n target : ℕ) → Type 0
+  Opens nowhere s n g = Unit {0}
+  Opens (aiming d) s n g = g ≡ aimOf (meaningAt f (d .name))
+  Opens (declaring c w ts) s n g = (s ≡ isShort w) × (n ≡ countOf (f .values) c)
 
-    initial : (a : Operand) → isOperand kinds a i j → run (at h c g b) (tapeOperand E.FIRST a k) ≡ run (at h c g (b ⊕ firstRules f g a)) k
-    unfolding judgeEvent heldAfter cellsAfter targetAfter eventRule assignmentRule operandAt
-    initial a q = operand E.FIRST h c g g b k i j (λ x. firstRules f g x) (λ t b. (refl, refl, refl, refl)) (λ t. refl) a q
+  pub record At (p : Place) (c : Context) (b : Broken) (j : Judging) : Type 0 where
+    short : Bool
+    elements : ℕ
+    room : ℕ
+    target : ℕ
+    judged : Broken
+    is : j ≡ at p short elements room target judged
+    opens : Opens c short elements target
+    all : b ≡ judged ⊕ pending c room
 
-    limit : (a : Operand) → isOperand kinds a i j → run (at h c g b) (tapeOperand E.LIMIT a k) ≡ run (at h c g (b ⊕ R.operandRules f a)) k
-    unfolding judgeEvent heldAfter cellsAfter targetAfter eventRule statementRule operandAt
-    limit a q = operand E.LIMIT h c g g b k i j (λ x. R.operandRules f x) (λ t b. (refl, refl, refl, refl)) (λ t. refl) a q
+  complete : (c : Context) (room : ℕ) (b x : Broken) → Complete c → b ≡ x ⊕ pending c room → b ≡ x
+  unfolding R.valueRules
+  complete nowhere room b x d e = e ∙ join-right x
+  complete (aiming d) room b x h e = e ∙ join-right x
+  complete (declaring n w ts) room b x d e = e ∙ (ap (λ (l : List ℕ). x ⊕ R.valueRules f w room l) d ∙ join-right x)
 
-    comparison : (a : Operand) → isOperand kinds a i j → run (at h c g b) (tapeOperand E.COMPARED a k) ≡ run (at h c g (b ⊕ (R.registerRule f (headOf a - 2) ⊕ R.operandRules f a))) k
-    unfolding judgeEvent heldAfter cellsAfter targetAfter eventRule statementRule operandAt
-    comparison a q = operand E.COMPARED h c g g b k i j (λ x. R.registerRule f (headOf x - 2) ⊕ R.operandRules f x) (λ t b. (refl, refl, refl, refl)) (λ t. refl) a q
+  abbrev step : ℕ → ℕ → Judging → Judging
+  step op t j = judgeEvent f op t j
 
-  module _ (h : Held) (c : Cells) (b : Broken) (k : List ℕ) (i j : ℕ) where
-    unaimed : (a : Operand) → isOperand kinds a i j → run (at h c 0 b) (tapeOperand E.TERM a k) ≡ run (at h c 0 (b ⊕ unbroken)) k
-    unfolding judgeEvent heldAfter cellsAfter targetAfter eventRule assignmentRule chainRule
-    unaimed a q = operand E.TERM h c 0 0 b k i j (λ x. unbroken) (λ t b. (refl, refl, refl, refl)) (λ t. refl) a q
-
-    to-cell : (a : Operand) → isOperand kinds a i j → run (at h c 1 b) (tapeOperand E.TERM a k) ≡ run (at h c 1 (b ⊕ broken 8 (headOf a - 1))) k
-    unfolding judgeEvent heldAfter cellsAfter targetAfter eventRule assignmentRule chainRule
-    to-cell a q = operand E.TERM h c 1 1 b k i j (λ x. broken 8 (headOf x - 1)) (λ t b. (refl, refl, refl, refl)) (λ t. refl) a q
-
-    to-register :
-        (r : ℕ) (a : Operand) → isOperand kinds a i j
-        → run (at h c (suc (suc r)) b) (tapeOperand E.TERM a k) ≡ run (at h c (suc (suc r)) (b ⊕ R.termRules f (h .kept) r (record { operator = headOf a - 1; operand = a }))) k
-    unfolding judgeEvent heldAfter cellsAfter targetAfter eventRule assignmentRule chainRule operandAt
-    to-register r a q =
-        operand E.TERM h c (suc (suc r)) (suc (suc r)) b k i j (λ x. R.termRules f (h .kept) r (record { operator = headOf x - 1; operand = x })) (λ t b. (refl, refl, refl, refl)) (λ t. refl) a q
-
-  operator-at : (o : ℕ) (a : Operand) (i j : ℕ) → o ≡ i → isOperand kinds a (i + 1) j → headOf a - 1 ≡ o
-  operator-at o a i j e h = omega (arith, pinned-operand kinds a (i + 1) j h .0)
-
-  -- ── assignments ──
-
-  -- the rules of a sign and of a chain, by the target
-  abbrev signBy : ℕ → Sign → Broken
-  signBy zero g = unbroken
-  signBy (suc zero) g = R.noSign g
-  signBy (suc (suc r)) g = unbroken
-
-  abbrev chainBy : ℕ → List ℕ → List Term → Broken
-  chainBy zero kept ts = unbroken
-  chainBy (suc zero) kept ts = R.noChain ts
-  chainBy (suc (suc r)) kept ts = R.chainRules f kept r ts
-
-  sign : (g : ℕ) (s : Sign) (h : Held) (c : Cells) (b : Broken) (k : List ℕ) → run (at h c g b) (tapeSign s k) ≡ run (at h c g (b ⊕ signBy g s)) k
-  unfolding judgeEvent heldAfter cellsAfter targetAfter eventRule assignmentRule signRule tapeSign
-  sign zero plain h c b k = rw (join-right b)
-  sign zero (abs t) h c b k = via E.ABS t _ _ k refl
-  sign zero (neg t) h c b k = via E.NEG t _ _ k refl
-  sign zero (negAbs t) h c b k = via E.NEG-ABS t _ _ k refl
-  sign (suc zero) plain h c b k = rw (join-right b)
-  sign (suc zero) (abs t) h c b k = via E.ABS t _ _ k refl
-  sign (suc zero) (neg t) h c b k = via E.NEG t _ _ k refl
-  sign (suc zero) (negAbs t) h c b k = via E.NEG-ABS t _ _ k refl
-  sign (suc (suc r)) plain h c b k = rw (join-right b)
-  sign (suc (suc r)) (abs t) h c b k = via E.ABS t _ _ k refl
-  sign (suc (suc r)) (neg t) h c b k = via E.NEG t _ _ k refl
-  sign (suc (suc r)) (negAbs t) h c b k = via E.NEG-ABS t _ _ k refl
-
-  chain :
-      (g : ℕ) (ts : List Term) (i j : ℕ) → areTerms kinds ts i j → (h : Held) (c : Cells) (b : Broken) (k : List ℕ)
-      → run (at h c g b) (tapeEach tapeTerm ts k) ≡ run (at h c g (b ⊕ chainBy g (h .kept) ts)) k
-  unfolding areTerms tapeEach R.chainRules
-  chain zero [] i j q h c b k = rw (join-right b)
-  chain zero (t ∷ ts) i j q h c b k =
-      unaimed h c b _ _ _ (t .operand) (q .2 .1) ∙ (chain zero ts _ _ (q .2 .2) h c (b ⊕ unbroken) k ∙ rw (join-right (b ⊕ unbroken)))
-  chain (suc zero) [] i j q h c b k = rw (join-right b)
-  chain (suc zero) (t ∷ ts) i j q h c b k =
-      to-cell h c b _ _ _ (t .operand) (q .2 .1)
-      ∙ (chain (suc zero) ts _ _ (q .2 .2) h c _ k
-      ∙ ap (λ (x : Broken). run (at h c 1 x) k) (join-assoc b _ (R.noChain ts) ∙ ap (λ (o : ℕ). b ⊕ (broken 8 o ⊕ R.noChain ts)) (operator-at _ (t .operand) _ _ (q .0) (q .2 .1))))
-  chain (suc (suc r)) [] i j q h c b k = rw (join-right b)
-  chain (suc (suc r)) (t ∷ ts) i j q h c b k =
-      to-register h c b _ _ _ r (t .operand) (q .2 .1)
-      ∙ (chain (suc (suc r)) ts _ _ (q .2 .2) h c _ k
-      ∙ ap (λ (x : Broken). run (at h c (suc (suc r)) x) k)
-      (join-assoc b _ (R.chainRules f (h .kept) r ts)
-      ∙ ap (λ (o : ℕ). b ⊕ (R.termRules f (h .kept) r (record { operator = o; operand = t .operand }) ⊕ R.chainRules f (h .kept) r ts)) (operator-at _ (t .operand) _ _ (q .0) (q .2 .1))))
-
-  -- the rest of an assignment, after its target
-  abbrev restBy : ℕ → List ℕ → Assignment → Broken → Broken
-  restBy g kept a b = ((b ⊕ signBy g (a .sign)) ⊕ firstRules f g (a .first)) ⊕ chainBy g kept (a .rest)
-
-  rest :
-      (g : ℕ) (a : Assignment) (i m j : ℕ) → isOperand kinds (a .first) i m → areTerms kinds (a .rest) m j → (h : Held) (c : Cells) (b : Broken) (k : List ℕ)
-      → run (at h c g b) (tapeSign (a .sign) (tapeOperand E.FIRST (a .first) (tapeEach tapeTerm (a .rest) k))) ≡ run (at h c g (restBy g (h .kept) a b)) k
-  rest g a i m j p q h c b k = sign g (a .sign) h c b _ ∙ (initial h c g _ _ i m (a .first) p ∙ chain g (a .rest) m j q h c _ k)
-
-  -- the whole is the definition's, by what the target means
-  unjudged : (kept : List ℕ) (a : Assignment) (b x : Broken) → restBy 0 kept a (b ⊕ x) ≡ b ⊕ x
-  unfolding firstRules
-  unjudged kept a b x = join-right _ ∙ (join-right _ ∙ join-right _)
-
-  whole-register : (kept : List ℕ) (r : ℕ) (a : Assignment) (b p q : Broken) → restBy (suc (suc r)) kept a (b ⊕ (p ⊕ q)) ≡ b ⊕ (p ⊕ (q ⊕ (R.operandRules f (a .first) ⊕ R.chainRules f kept r (a .rest))))
-  unfolding firstRules
-  whole-register kept r a b p q =
-      rw (join-right (b ⊕ (p ⊕ q)), join-assoc (b ⊕ (p ⊕ q)) (R.operandRules f (a .first)) (R.chainRules f kept r (a .rest)))
-      (join-assoc b (p ⊕ q) _ ∙ ap (λ (x : Broken). b ⊕ x) (join-assoc p q _))
-
-  whole-cell : (kept : List ℕ) (a : Assignment) (b p : Broken) → restBy 1 kept a (b ⊕ p) ≡ b ⊕ (p ⊕ (R.noSign (a .sign) ⊕ (R.onlyRegister f (a .first) ⊕ R.noChain (a .rest))))
-  unfolding firstRules
-  whole-cell kept a b p =
-      join-assoc ((b ⊕ p) ⊕ R.noSign (a .sign)) (R.onlyRegister f (a .first)) (R.noChain (a .rest)) ∙ (join-assoc (b ⊕ p) (R.noSign (a .sign)) _ ∙ join-assoc b p _)
-
-  aims : (m : Meaning) (kept : List ℕ) (a : Assignment) (b : Broken) → meaningAt f (a .target .name) ≡ m → restBy (aimOf m) kept a (b ⊕ aimBy f kept (a .target) m) ≡ b ⊕ R.assignBy f m kept a
-  unfolding R.toRegister R.toCell R.placeRules
-  aims nothing kept a b e = unjudged kept a b _
-  aims (register r) kept a b e = whole-register kept r a b _ _
-  aims (cell c) kept a b e = whole-cell kept a b (R.placeBy f (cell c) (a .target)) ∙ ap (λ (x : Broken). b ⊕ (x ⊕ (R.noSign (a .sign) ⊕ (R.onlyRegister f (a .first) ⊕ R.noChain (a .rest))))) (sym (ap (λ (y : Meaning). R.placeBy f y (a .target)) e))
-  aims (routine r) kept a b e = unjudged kept a b _
-
-  controls : (m : Meaning) (kept : List ℕ) (a : Assignment) (b : Broken) → restBy (controlOf m) kept a (b ⊕ controlBy kept (a .target) m) ≡ b ⊕ R.controlBy f m kept a
-  unfolding R.toRegister
-  controls nothing kept a b = unjudged kept a b _
-  controls (register r) kept a b = whole-register kept r a b _ _
-  controls (cell c) kept a b = unjudged kept a b _
-  controls (routine r) kept a b = unjudged kept a b _
-
-  assigned :
-      (a : Assignment) (i j : ℕ) → isAssignment kinds a i j → (h : Held) (c : Cells) (g : ℕ) (b : Broken) (k : List ℕ)
-      → run (at h c g b) (tapeAssignment E.TARGET a k) ≡ run (at h c (aimOf (meaningAt f (a .target .name))) (b ⊕ R.assignmentRules f (h .kept) a)) k
-  unfolding isAssignment tapeAssignment R.assignmentRules
-  assigned a i j q h c g b k =
-      target h c g b _ _ _ (a .target) (q .1)
-      ∙ (rest _ a _ _ _ (q .2 .1 .2 .1) (q .2 .1 .2 .2) h c _ k ∙ ap (λ (x : Broken). run (at h c (aimOf (meaningAt f (a .target .name))) x) k) (aims (meaningAt f (a .target .name)) (h .kept) a b refl))
-
-  controlled :
-      (a : Assignment) (i j : ℕ) → isAssignment kinds a i j → (h : Held) (c : Cells) (g : ℕ) (b : Broken) (k : List ℕ)
-      → run (at h c g b) (tapeAssignment E.CONTROL a k) ≡ run (at h c (controlOf (meaningAt f (a .target .name))) (b ⊕ R.controlRules f (h .kept) a)) k
-  unfolding isAssignment tapeAssignment R.controlRules
-  controlled a i j q h c g b k =
-      control h c g b _ _ _ (a .target) (q .1)
-      ∙ (rest _ a _ _ _ (q .2 .1 .2 .1) (q .2 .1 .2 .2) h c _ k ∙ ap (λ (x : Broken). run (at h c (controlOf (meaningAt f (a .target .name))) x) k) (controls (meaningAt f (a .target .name)) (h .kept) a b))
-
-  -- ── what leads from one place to another, whatever stands open of the last declaration and assignment; g: what it makes of the broken rules ──
-
-  record Leads (out : List ℕ → List ℕ) (h h′ : Held) (g : Broken → Broken) : Type 0 where
-    leads : (c : Cells) (a : ℕ) → (c′ : Cells) × (a′ : ℕ) × ((b : Broken) (k : List ℕ) → run (at h c a b) (out k) ≡ run (at h′ c′ a′ (g b)) k)
-
-  infixr 25 _then_
-  _then_ : {out next : List ℕ → List ℕ} {h h′ h″ : Held} {g g′ : Broken → Broken} → Leads out h h′ g → Leads next h′ h″ g′ → Leads (λ k. out (next k)) h h″ (λ b. g′ (g b))
-  _then_ {next = next} {g = g} p q = record {
-    leads = λ c a. let x = p .leads c a in let y = q .leads (x .0) (x .1) in (y .0, y .1, λ b k. x .2 b (next k) ∙ y .2 (g b) k);
+  -- an event that is judged by its rules, and after which no value is to come
+  judged : (e : Event) (p : Place) (c : Context) (b : Broken) (s : Bool) (n room g : ℕ) (x : Broken) (s′ : Bool) (n′ room′ g′ : ℕ) → b ≡ x → Opens (contextAfter e c) s′ n′ g′
+      → ((y : Broken) → y ⊕ pending (contextAfter e c) room′ ≡ y) → step (opOf e) (tokenOf e) (at p s n room g x) ≡ at (after e p) s′ n′ room′ g′ (x ⊕ rulesAt f e p)
+      → At (after e p) (contextAfter e c) (ruleEvent f e p b) (step (opOf e) (tokenOf e) (at p s n room g x))
+  unfolding ruleEvent
+  judged e p c b s n room g x s′ n′ room′ g′ h o w k = record {
+    short = s′;
+    elements = n′;
+    room = room′;
+    target = g′;
+    judged = x ⊕ rulesAt f e p;
+    is = k;
+    opens = o;
+    all = ap (λ (y : Broken). y ⊕ rulesAt f e p) h ∙ sym (w (x ⊕ rulesAt f e p));
   }
 
-  -- another way to say what it makes of them
-  by : {out : List ℕ → List ℕ} {h h′ : Held} {g : Broken → Broken} (g′ : Broken → Broken) → ((b : Broken) → g b ≡ g′ b) → Leads out h h′ g → Leads out h h′ g′
-  by {h′ = h′} g′ e p = record { leads = λ c a. let x = p .leads c a in (x .0, x .1, λ b k. x .2 b k ∙ ap (λ (y : Broken). run (at h′ (x .0) (x .1) y) k) (e b)) }
+  module _ (kinds : List ℕ) where
+    -- ── edges, routes and marks ──
 
-  -- cells and target stay as they are
-  same : (out : List ℕ → List ℕ) (h h′ : Held) (g : Broken → Broken) → ((c : Cells) (a : ℕ) (b : Broken) (k : List ℕ) → run (at h c a b) (out k) ≡ run (at h′ c a (g b)) k) → Leads out h h′ g
-  same out h h′ g e = record { leads = λ c a. (c, a, e c a) }
+    turn-edge : (x : Edge) (p : Place) (s : Bool) (n room g : ℕ) (y : Broken) → EdgeFits x p → (i j : ℕ) → isEvent kinds (edge x) i j
+        → step (opOf (edge x)) (tokenOf (edge x)) (at p s n room g y) ≡ at (after (edge x) p) s n room g (y ⊕ rulesAt f (edge x) p)
+    unfolding judgeEvent heldAfter cellsAfter targetAfter eventRule declarationRule
+    turn-edge (opened t ls) p s n room g y u i j h = refl
+    turn-edge (closed t) (within b ∷ p) s n room g y u i j h = rw (bases-dropped (λ (m : ℕ). registerOf (meaningAt f m)) (b .bases) (keptIn f p))
+    turn-edge (entered m r) (within b ∷ p) s n room g y u i j h = let e : r ≡ m + 2 = omega (arith, h .1 .0, h .1 .2 .1 .0) in rw e
+    turn-edge (left m) (body k r ∷ p) s n room g y u i j h = refl
 
-  on : (op t : ℕ) (h h′ : Held) (x : Broken) → ((c : Cells) (a : ℕ) (b : Broken) → judgeEvent f (op % 64) t (at h c a b) ≡ at h′ c a (b ⊕ x)) → Leads (λ k. event op t ∷ k) h h′ (λ b. b ⊕ x)
-  on op t h h′ x e = same (λ k. event op t ∷ k) h h′ (λ b. b ⊕ x) (λ c a b k. via op t _ _ k (e c a b))
+    turn-route : (x : Route) (p : Place) (s : Bool) (n room g : ℕ) (y : Broken) → RouteFits x p
+        → step (opOf (route x)) (tokenOf (route x)) (at p s n room g y) ≡ at (after (route x) p) s n room g (y ⊕ rulesAt f (route x) p)
+    unfolding judgeEvent heldAfter cellsAfter targetAfter eventRule declarationRule statementRule
+    turn-route (labelled l) (within b ∷ p) s n room g y u = refl
+    turn-route (sent t m) p s n room g y u = refl
 
-  quiet : (op t : ℕ) (h h′ : Held) → ((c : Cells) (a : ℕ) (b : Broken) → judgeEvent f (op % 64) t (at h c a b) ≡ at h′ c a (b ⊕ unbroken)) → Leads (λ k. event op t ∷ k) h h′ (λ b. b)
-  quiet op t h h′ e = by (λ b. b) join-right (on op t h h′ unbroken e)
+    turn-mark : (x : Mark) (p : Place) (s : Bool) (n room g : ℕ) (y : Broken) → step (opOf (mark x)) (tokenOf (mark x)) (at p s n room g y) ≡ at p s n room g (y ⊕ unbroken)
+    unfolding judgeEvent heldAfter cellsAfter targetAfter eventRule statementRule
+    turn-mark (looped t) p s n room g y = refl
+    turn-mark (otherwise t) p s n room g y = refl
+    turn-mark (endedIf t) p s n room g y = refl
+    turn-mark (endedElse t) p s n room g y = refl
+    turn-mark (endedWhile t) p s n room g y = refl
+    turn-mark (endedFor v) p s n room g y = refl
 
-  stays : (h : Held) (g : Broken → Broken) → ((b : Broken) → b ≡ g b) → Leads (λ k. k) h h g
-  stays h g e = same (λ k. k) h h g (λ c a b k. ap (λ (x : Broken). run (at h c a x) k) (e b))
+    -- ── entries ──
 
-  -- ── declarations ──
+    -- a cell, whose values are still to come
+    turn-item : (m : Option ℕ) (w : Width) (y : Item) (c : Context) (k : Block) (p : Place) (b : Broken) (s : Bool) (n room g : ℕ) (x : Broken) → entrySuits (itemed m w y) c → Opens c s n g → b ≡ x ⊕ pending c room
+        → At (after (entry (itemed m w y)) (within k ∷ p)) (declaring m w (y .numbers)) (ruleEvent f (entry (itemed m w y)) (within k ∷ p) b) (step E.ITEM (y .name) (at (within k ∷ p) s n room g x))
+    unfolding judgeEvent heldAfter cellsAfter targetAfter eventRule declarationRule ruleEvent
+    turn-item m w y (declaring m′ w′ ts) k p b s n room g x q o e =
+        let u = complete (declaring m′ w′ ts) room b x (q .2) e in
+        let v = o .1 ∙ ap (countOf (f .values)) (q .0) in
+        record {
+          short = s;
+          elements = n;
+          room = n;
+          target = g;
+          judged = x ⊕ unbroken;
+          is = refl;
+          opens = (o .0 ∙ ap isShort (q .1), v);
+          all = ap₂ (λ (z : Broken) (l : ℕ). z ⊕ R.valueRules f w l (y .numbers)) (u ∙ sym (join-right x)) (sym v);
+        }
 
-  numbered : (r : Register) (i j : ℕ) → isRegister kinds r i j → r .number ≡ r .name + 2
-  unfolding isRegister
-  numbered r i j q = omega (arith, q .0, q .2 .1 .0)
+    value-judged : (w : Width) (s : Bool) (n room t : ℕ) (ts : List ℕ) (x : Broken) → s ≡ isShort w
+        → x ⊕ R.valueRules f w room (t ∷ ts) ≡ (x ⊕ valueRule (cellsOf s n room) (valueAt f t) t) ⊕ R.valueRules f w (room - 1) ts
+    unfolding R.valueRules valueRule
+    value-judged w s n zero t ts x e = sym (join-assoc x (broken 11 t) (R.valueRules f w zero ts))
+    value-judged w s n (suc room) t ts x e =
+        let u : suc room - 1 ≡ room = omega arith in
+        let v : widthOf s ≡ w = ap widthOf e ∙ width-is w in
+        rw (u, ne-eqb (suc room) 0 (λ q. omega arith), v) (sym (join-assoc x (rule (R.fitsWidth w (valueAt f t)) 11 t) (R.valueRules f w room ts)))
 
-  numbered-more : (rs : List Register) (i j : ℕ) → areMore kinds (isRegister kinds) rs i j → All (λ r. r .number ≡ r .name + 2) rs
-  unfolding areMore
-  numbered-more [] i j q = tt
-  numbered-more (r ∷ rs) i j q = (numbered r _ _ (q .1 .1), numbered-more rs _ _ (q .1 .2))
+    turn-value : (t : ℕ) (c : Context) (k : Block) (p : Place) (b : Broken) (s : Bool) (n room g : ℕ) (x : Broken) → entrySuits (valued t) c → Opens c s n g → b ≡ x ⊕ pending c room
+        → At (after (entry (valued t)) (within k ∷ p)) (contextAfter (entry (valued t)) c) (ruleEvent f (entry (valued t)) (within k ∷ p) b) (step E.VALUE t (at (within k ∷ p) s n room g x))
+    unfolding judgeEvent heldAfter cellsAfter targetAfter eventRule declarationRule ruleEvent
+    turn-value t (declaring m w (v ∷ ts)) k p b s n room g x q o e = record {
+      short = s;
+      elements = n;
+      room = room - 1;
+      target = g;
+      judged = x ⊕ valueRule (cellsOf s n room) (valueAt f t) t;
+      is = refl;
+      opens = o;
+      all = join-right b ∙ (e ∙ (ap (λ (u : ℕ). x ⊕ R.valueRules f w room (u ∷ ts)) q ∙ value-judged w s n room t ts x (o .0)));
+    }
 
-  numbered-some : (rs : List Register) (i j : ℕ) → areSome kinds (isRegister kinds) rs i j → All (λ r. r .number ≡ r .name + 2) rs
-  unfolding areSome
-  numbered-some [] i j q = tt
-  numbered-some (r ∷ rs) i j q = (numbered r _ _ (q .1), numbered-more rs _ _ (q .2))
+    turn-entry : (d : Entry) (p : Place) (c : Context) (b : Broken) (s : Bool) (n room g : ℕ) (x : Broken) → InBlock p → (i j : ℕ) → isEvent kinds (entry d) i j → entrySuits d c → Opens c s n g
+        → b ≡ x ⊕ pending c room → At (after (entry d) p) (contextAfter (entry d) c) (ruleEvent f (entry d) p b) (step (opOf (entry d)) (tokenOf (entry d)) (at p s n room g x))
+    unfolding judgeEvent heldAfter cellsAfter targetAfter eventRule declarationRule isRegister R.valueRules
+    turn-entry (named r) (within k ∷ p) c b s n room g x u i j h q o e =
+        let l : r .number ≡ r .name + 2 = omega (arith, h .0, h .2 .1 .0) in
+        judged (entry (named r)) (within k ∷ p) c b s n room g x s n room g (complete c room b x q e) tt join-right (rw (l, from-zero 15 (valueAt f (r .name + 2)) (omega arith)))
+    turn-entry (celled none full) (within k ∷ p) c b s n room g x u i j h q o e =
+        judged (entry (celled none full)) (within k ∷ p) c b s n room g x false 1 room g (complete c room b x q e) (refl, refl) join-right refl
+    turn-entry (celled none short) (within k ∷ p) c b s n room g x u i j h q o e =
+        judged (entry (celled none short)) (within k ∷ p) c b s n room g x true 1 room g (complete c room b x q e) (refl, refl) join-right refl
+    turn-entry (celled (some t) full) (within k ∷ p) c b s n room g x u i j h q o e =
+        judged (entry (celled (some t) full)) (within k ∷ p) c b s n room g x false (valueAt f t) room g (complete c room b x q e) (refl, refl) join-right (rw (range-is 1 2048 (valueAt f t) (omega arith)))
+    turn-entry (celled (some t) short) (within k ∷ p) c b s n room g x u i j h q o e =
+        judged (entry (celled (some t) short)) (within k ∷ p) c b s n room g x true (valueAt f t) room g (complete c room b x q e) (refl, refl) join-right (rw (range-is 1 2048 (valueAt f t) (omega arith)))
+    turn-entry (itemed m w y) (within k ∷ p) c b s n room g x u i j h q o e = turn-item m w y c k p b s n room g x q o e
+    turn-entry (valued t) (within k ∷ p) c b s n room g x u i j h q o e = turn-value t c k p b s n room g x q o e
+    turn-entry (based t) (within k ∷ p) c b s n room g x u i j h q o e =
+        judged (entry (based t)) (within k ∷ p) c b s n room g x s n room g (complete c room b x q e) tt join-right refl
 
-  listed : (rs : List Register) → All (λ r. r .number ≡ r .name + 2) rs → (h : Held) → Leads (tapeEach tapeRegister rs) h h (λ b. b ⊕ R.registersRules f rs)
-  unfolding tapeEach R.registersRules judgeEvent heldAfter cellsAfter targetAfter eventRule declarationRule
-  listed [] q h = stays h (λ b. b ⊕ unbroken) (λ b. sym (join-right b))
-  listed (r ∷ rs) q h =
-      by (λ b. b ⊕ (rule (leb (valueAt f (r .number)) 15) 9 (r .number) ⊕ R.registersRules f rs)) (λ b. join-assoc b _ _)
-      (on E.REGISTER (r .name) h h (rule (leb (valueAt f (r .number)) 15) 9 (r .number)) (λ c a b. rw (q .0)) then listed rs (q .1) h)
+    -- ── phrases ──
 
-  -- the values of a cell, for which there is room
-  left : ℕ → List ℕ → ℕ
-  left room [] = room
-  left zero (t ∷ ts) = left zero ts
-  left (suc room) (t ∷ ts) = left room ts
+    -- the loop judges a target by what it means, as the definition does
+    aim-same : (d : Designator) (kept : List ℕ) (m : Meaning) → aimBy f kept d m ≡ R.placeBy f m d ⊕ R.targetBy f m kept (d .name)
+    aim-same d kept nothing = sym (join-right _)
+    aim-same d kept (register r) = refl
+    aim-same d kept (cell c) = sym (join-right _)
+    aim-same d kept (routine r) = sym (join-right _)
 
-  given :
-      (ts : List ℕ) (h : Held) (s : Bool) (n room a : ℕ) (b : Broken) (k : List ℕ)
-      → run (at h (cellsOf s n room) a b) (tapeEach tapeValue ts k) ≡ run (at h (cellsOf s n (left room ts)) a (b ⊕ R.valueRules f (widthOf s) room ts)) k
-  unfolding left tapeEach R.valueRules judgeEvent heldAfter cellsAfter targetAfter eventRule declarationRule valueRule
-  given [] h s n room a b k = rw (join-right b)
-  given (t ∷ ts) h s n zero a b k =
-      via E.VALUE t _ (at h (cellsOf s n zero) a (b ⊕ broken 11 t)) _ refl ∙ (given ts h s n zero a _ k ∙ rw (join-assoc b (broken 11 t) (R.valueRules f (widthOf s) zero ts)))
-  given (t ∷ ts) h s n (suc room) a b k =
-      let e : suc room - 1 ≡ room = omega arith in
-      via E.VALUE t _ (at h (cellsOf s n room) a (b ⊕ rule (R.fitsWidth (widthOf s) (valueAt f t)) 11 t)) _ (rw (e, ne-eqb (suc room) 0 (λ q. omega arith)))
-      ∙ (given ts h s n room a _ k ∙ rw (join-assoc b (rule (R.fitsWidth (widthOf s) (valueAt f t)) 11 t) (R.valueRules f (widthOf s) room ts)))
+    control-same : (d : Designator) (kept : List ℕ) (m : Meaning) → controlBy kept d m ≡ rule (R.isRegister m && bareName d) 8 (d .name) ⊕ R.targetBy f m kept (d .name)
+    unfolding rule
+    control-same d kept nothing = sym (join-right _)
+    control-same d kept (register r) = refl
+    control-same d kept (cell c) = sym (join-right _)
+    control-same d kept (routine r) = sym (join-right _)
 
-  -- room in the last of some cells
-  last : ℕ → ℕ → List Item → ℕ
-  last n room [] = room
-  last n room (i ∷ is) = last n (left n (i .numbers)) is
+    first-same : (m : Meaning) (a : Operand) → firstRules f (aimOf m) a ≡ R.firstBy f m a
+    unfolding firstRules
+    first-same nothing a = refl
+    first-same (register r) a = refl
+    first-same (cell c) a = refl
+    first-same (routine r) a = refl
 
-  itemized :
-      (is : List Item) (h : Held) (s : Bool) (n room a : ℕ) (b : Broken) (k : List ℕ)
-      → run (at h (cellsOf s n room) a b) (tapeEach tapeItem is k) ≡ run (at h (cellsOf s n (last n room is)) a (b ⊕ R.itemRules f (widthOf s) n is)) k
-  unfolding last tapeEach tapeItem R.itemRules judgeEvent heldAfter cellsAfter targetAfter eventRule declarationRule
-  itemized [] h s n room a b k = rw (join-right b)
-  itemized (i ∷ is) h s n room a b k =
-      via E.ITEM (i .name) _ (at h (cellsOf s n n) a b) _ (rw (join-right b))
-      ∙ (given (i .numbers) h s n n a b _ ∙ (itemized is h s n (left n (i .numbers)) a _ k ∙ rw (join-assoc b (R.valueRules f (widthOf s) n (i .numbers)) (R.itemRules f (widthOf s) n is))))
+    chain-same : (m : Meaning) (kept : List ℕ) (k u : ℕ) (t : Term) → u - 1 ≡ t .operator → operandAt k u ≡ t .operand → chainRule f kept (aimOf m) k u ≡ R.termBy f m kept t
+    unfolding chainRule
+    chain-same nothing kept k u t e o = refl
+    chain-same (register r) kept k u t e o = ap₂ (λ (x : ℕ) (a : Operand). R.termRules f kept r (record { operator = x; operand = a })) e o
+    chain-same (cell c) kept k u t e o = ap (λ (x : ℕ). broken 8 x) e
+    chain-same (routine r) kept k u t e o = refl
 
-  celled : (count : Option ℕ) (w : Width) (is : List Item) (h : Held) → Leads (tapeDeclaration (cells count w is)) h h (λ b. b ⊕ R.cellsRules f count w is)
-  unfolding tapeDeclaration R.cellsRules judgeEvent heldAfter cellsAfter targetAfter eventRule declarationRule
-  celled none full is h = record { leads = λ c a. (cellsOf false 1 (last 1 (c .room) is), a, λ b k. via E.SINGLE-FULL 0 _ (at h (cellsOf false 1 (c .room)) a b) _ (rw (join-right b)) ∙ itemized is h false 1 (c .room) a b k) }
-  celled none short is h = record { leads = λ c a. (cellsOf true 1 (last 1 (c .room) is), a, λ b k. via E.SINGLE-SHORT 0 _ (at h (cellsOf true 1 (c .room)) a b) _ (rw (join-right b)) ∙ itemized is h true 1 (c .room) a b k) }
-  celled (some t) full is h = record {
-    leads = λ c a. (
-      cellsOf false (valueAt f t) (last (valueAt f t) (c .room) is),
-      a,
-      λ b k. via E.ARRAY-FULL t _ (at h (cellsOf false (valueAt f t) (c .room)) a (b ⊕ rule (leb 1 (valueAt f t) && leb (valueAt f t) 2048) 11 t)) _ refl ∙ (itemized is h false (valueAt f t) (c .room) a _ k ∙ rw join-assoc),
-    );
-  }
-  celled (some t) short is h = record {
-    leads = λ c a. (
-      cellsOf true (valueAt f t) (last (valueAt f t) (c .room) is),
-      a,
-      λ b k. via E.ARRAY-SHORT t _ (at h (cellsOf true (valueAt f t) (c .room)) a (b ⊕ rule (leb 1 (valueAt f t) && leb (valueAt f t) 2048) 11 t)) _ refl ∙ (itemized is h true (valueAt f t) (c .room) a _ k ∙ rw join-assoc),
-    );
-  }
+    sign-same : (m : Meaning) (t : ℕ) (y : Sign) → R.noSign y ≡ broken 8 t → signRule (aimOf m) t ≡ R.signBy m y
+    unfolding signRule
+    sign-same nothing t y e = refl
+    sign-same (register r) t y e = refl
+    sign-same (cell c) t y e = sym e
+    sign-same (routine r) t y e = refl
 
-  -- ── statements ──
+    module _ (p : Place) (s : Bool) (n room g : ℕ) (x : Broken) where
+      abbrev here : Judging
+      here = at p s n room g x
 
-  tested : (c : Condition) (i j : ℕ) → isCondition kinds c i j → (h : Held) → Leads (tapeCondition c) h h (λ b. b ⊕ R.conditionRules f c)
-  unfolding isCondition tapeCondition R.conditionRules judgeEvent heldAfter cellsAfter targetAfter eventRule statementRule
-  tested (compared n r x) i j q h =
-      let e : headOf x - 2 ≡ n = omega (arith, q .0, pinned-operand kinds x _ _ (q .2 .2) .0) in
-      same (tapeOperand E.COMPARED x) h h _ (λ c a b k. comparison h c a b k _ _ x (q .2 .2) ∙ rw e)
-  tested (bare r) i j q h = on E.BARE r h h unbroken (λ c a b. refl)
+      abbrev judgedBy : ℕ → Broken → Judging
+      judgedBy g y = at p s n room g (x ⊕ y)
 
-  controlling : (s : Assignment) (i j : ℕ) → isAssignment kinds s i j → (h : Held) → Leads (tapeAssignment E.CONTROL s) h h (λ b. b ⊕ R.controlRules f (h .kept) s)
-  controlling s i j q h = record { leads = λ c a. (c, controlOf (meaningAt f (s .target .name)), λ b k. controlled s i j q h c a b k) }
+      aimed-is : (d : Designator) (i j : ℕ) → isDesignator kinds d i j → step (E.TARGET + shape d) (d .name) here ≡ judgedBy (aimOf (meaningAt f (d .name))) (R.targetRules f (keptIn f p) d)
+      unfolding judgeEvent heldAfter cellsAfter targetAfter eventRule assignmentRule R.targetRules R.placeRules
+      aimed-is d i j h =
+          let m = meaningAt f (d .name) in
+          by-shape (λ k. step (E.TARGET + k) (d .name) here ≡ judgedBy (aimOf m) (aimBy f (keptIn f p) (designatorAt k (d .name)) m)) refl refl refl refl (d .subscript) (d .index)
+          ∙ ap (judgedBy (aimOf m)) (ap (λ (y : Designator). aimBy f (keptIn f p) y m) (designator-at d (pinned-designator kinds d i j h .1)) ∙ aim-same d (keptIn f p) m)
 
-  two : (b x y : Broken) → (b ⊕ x) ⊕ y ≡ b ⊕ (x ⊕ y)
-  two b x y = join-assoc b x y
+      driven-is : (d : Designator) (i j : ℕ) → isDesignator kinds d i j → step (E.CONTROL + shape d) (d .name) here ≡ judgedBy (aimOf (meaningAt f (d .name))) (R.controlRules f (keptIn f p) d)
+      unfolding judgeEvent heldAfter cellsAfter targetAfter eventRule assignmentRule R.controlRules R.onlyRegister
+      driven-is d i j h =
+          let m = meaningAt f (d .name) in
+          by-shape (λ k. step (E.CONTROL + k) (d .name) here ≡ judgedBy (aimOf m) (controlBy (keptIn f p) (designatorAt k (d .name)) m)) refl refl refl refl (d .subscript) (d .index)
+          ∙ ap (judgedBy (aimOf m)) (ap (λ (y : Designator). controlBy (keptIn f p) y m) (designator-at d (pinned-designator kinds d i j h .1)) ∙ control-same d (keptIn f p) m)
 
-  three : (b x y z : Broken) → ((b ⊕ x) ⊕ y) ⊕ z ≡ b ⊕ (x ⊕ (y ⊕ z))
-  three b x y z = join-assoc (b ⊕ x) y z ∙ join-assoc b x (y ⊕ z)
+      signed-is : (m : Meaning) (y : Sign) → Shown y → g ≡ aimOf m → step (signCode y .family + signCode y .form) (signCode y .token) here ≡ judgedBy g (R.signBy m y)
+      unfolding judgeEvent heldAfter cellsAfter targetAfter eventRule assignmentRule
+      signed-is m (abs t) q e = ap (judgedBy g) (ap (λ (z : ℕ). signRule z t) e ∙ sign-same m t (abs t) refl)
+      signed-is m (neg t) q e = ap (judgedBy g) (ap (λ (z : ℕ). signRule z t) e ∙ sign-same m t (neg t) refl)
+      signed-is m (negAbs t) q e = ap (judgedBy g) (ap (λ (z : ℕ). signRule z t) e ∙ sign-same m t (negAbs t) refl)
 
-  mutual
-    unfolding judgeEvent heldAfter cellsAfter targetAfter eventRule declarationRule statementRule isStatement isDeclaration tapeStatement tapeDeclaration kindStatement R.declarationRules
+      given-is : (m : Meaning) (a : Operand) (i j : ℕ) → isOperand kinds a i j → g ≡ aimOf m → step (E.FIRST + operandShape a) (headOf a) here ≡ judgedBy g (R.firstBy f m a)
+      unfolding judgeEvent heldAfter cellsAfter targetAfter eventRule assignmentRule
+      given-is m a i j h e =
+          by-operand (λ k. step (E.FIRST + k) (headOf a) here ≡ judgedBy g (firstRules f g (operandAt k (headOf a)))) refl refl refl refl refl a
+          ∙ ap (judgedBy g) (ap₂ (λ (z : ℕ) (y : Operand). firstRules f z y) e (operand-at a (pinned-operand kinds a i j h .1)) ∙ first-same m a)
 
-    statement : (x : Statement) (i j : ℕ) → isStatement kinds x i j → (h : Held) → Leads (tapeStatement x) h h (λ b. b ⊕ kindStatement f x (h .kept))
-    statement (assign s) i j q h = record { leads = λ c a. (c, aimOf (meaningAt f (s .target .name)), λ b k. assigned s i j q h c a b k) }
-    statement (call n) i j q h = on E.CALL n h h (R.callRules f (h .kept) n) (λ c a b. refl)
-    statement (block t x) i j q h = quiet E.BLOCK t h (enterBlock h) (λ c a b. refl) then body x _ _ (q .2) t (enterBlock h)
-    statement (goto t n) i j q h = on E.GOTO n h h unbroken (λ c a b. refl)
-    statement null i j q h = stays h (λ b. b ⊕ unbroken) (λ b. sym (join-right b))
-    statement (ifThen t c x) i j q h =
-        by (λ b. b ⊕ (R.conditionRules f c ⊕ kindStatement f x (h .kept))) (λ b. two b _ _)
-        (tested c _ _ (q .2 .1) h then (statement x _ _ (q .2 .2 .1) h then quiet E.END-IF t h h (λ c a b. refl)))
-    statement (ifElse t c x e y) i j q h =
-        by (λ b. b ⊕ (R.conditionRules f c ⊕ (kindStatement f x (h .kept) ⊕ kindStatement f y (h .kept)))) (λ b. three b _ _ _)
-        (tested c _ _ (q .2 .1) h
-        then (statement x _ _ (q .2 .2 .1 .1 .1) h then (quiet E.ELSE t h h (λ c a b. refl) then (statement y _ _ (q .2 .2 .1 .2 .2) h then quiet E.END-ELSE t h h (λ c a b. refl)))))
-    statement (while t c x) i j q h =
-        by (λ b. b ⊕ (R.conditionRules f c ⊕ kindStatement f x (h .kept))) (λ b. two b _ _)
-        (quiet E.WHILE t h h (λ c a b. refl) then (tested c _ _ (q .2 .1) h then (statement x _ _ (q .2 .2 .1) h then quiet E.END-WHILE t h h (λ c a b. refl))))
-    statement (for t s v l x) i j q h =
-        by (λ b. b ⊕ (R.controlRules f (h .kept) s ⊕ (R.operandRules f l ⊕ kindStatement f x (h .kept)))) (λ b. three b _ _ _)
-        (controlling s _ _ (q .2 .1) h
-        then (same (tapeOperand E.LIMIT l) h h (λ b. b ⊕ R.operandRules f l) (λ c a b k. limit h c a b k _ _ l (q .2 .2 .1 .2 .1 .1))
-        then (statement x _ _ (q .2 .2 .1 .2 .1 .2 .1) h then quiet E.END-FOR v h h (λ c a b. refl))))
+      joined-is : (m : Meaning) (t : Term) (i j : ℕ) → t .operator ≡ i → isOperand kinds (t .operand) (i + 1) j → g ≡ aimOf m
+          → step (E.TERM + operandShape (t .operand)) (headOf (t .operand)) here ≡ judgedBy g (R.termBy f m (keptIn f p) t)
+      unfolding judgeEvent heldAfter cellsAfter targetAfter eventRule assignmentRule
+      joined-is m t i j o h e =
+          let a = t .operand in
+          let q = pinned-operand kinds a (i + 1) j h in
+          by-operand (λ k. step (E.TERM + k) (headOf a) here ≡ judgedBy g (chainRule f (keptIn f p) g k (headOf a))) refl refl refl refl refl a
+          ∙ ap (judgedBy g)
+          (ap (λ (z : ℕ). chainRule f (keptIn f p) z (operandShape a) (headOf a)) e ∙ chain-same m (keptIn f p) (operandShape a) (headOf a) t (omega (arith, q .0)) (operand-at a (q .1)))
 
-    -- with the event that closes the block
-    body : (x : Body) (i j : ℕ) → isBody kinds x i j → (t : ℕ) (h : Held) → Leads (λ k. tapeBody x (event E.END-BLOCK t ∷ k)) h (leaveBlock h) (λ b. b ⊕ kindBody f x (h .kept))
-    body (declare (registers rs) x) i j q t h =
-        by (λ b. b ⊕ (R.registersRules f rs ⊕ kindBody f x (h .kept))) (λ b. two b _ _) (listed rs (numbered-some rs _ _ (q .1 .1 .1)) h then body x _ _ (q .2 .1) t h)
-    body (declare (cells count w is) x) i j q t h =
-        by (λ b. b ⊕ (R.cellsRules f count w is ⊕ kindBody f x (h .kept))) (λ b. two b _ _) (celled count w is h then body x _ _ (q .2 .1) t h)
-    body (declare (base n) x) i j q t h =
-        by (λ b. b ⊕ (R.baseRules f (h .kept) n ⊕ kindBody f x (registerOf (meaningAt f n) ∷ h .kept))) (λ b. two b _ _)
-        (on E.BASE n h (keepBase (registerOf (meaningAt f n)) h) (R.baseRules f (h .kept) n) (λ c a b. refl) then body x _ _ (q .2 .1) t (keepBase (registerOf (meaningAt f n)) h))
-    body (procedure n r x y) i j q t h =
-        let e : r ≡ n + 2 = omega (arith, q .1 .1 .0, q .1 .1 .2 .1 .0) in
-        rw e
-        (by (λ b. b ⊕ (R.registerRule f (n + 2) ⊕ (R.zeroRule f (n + 2) ⊕ (kindStatement f x (registerOf (meaningAt f (n + 2)) ∷ h .kept) ⊕ kindBody f y (h .kept)))))
-        (λ b. three b _ _ _ ∙ ap (λ (z : Broken). b ⊕ z) (join-assoc (R.registerRule f (n + 2)) (R.zeroRule f (n + 2)) _))
-        (on E.PROCEDURE n h (keepReturn (registerOf (meaningAt f (n + 2))) h) (R.registerRule f (n + 2) ⊕ R.zeroRule f (n + 2)) (λ c a b. refl)
-        then (statement x _ _ (q .1 .1 .2 .1 .2 .1 .1) (keepReturn (registerOf (meaningAt f (n + 2))) h)
-        then (quiet E.END-PROCEDURE n (keepReturn (registerOf (meaningAt f (n + 2))) h) h (λ c a b. refl) then body y _ _ (q .2 .1) t h))))
-    body (items is) i j q t h = listing is _ _ q h then quiet E.END-BLOCK t h (leaveBlock h) (λ c a b. refl)
+      operand-is : (a : Operand) (i j : ℕ) → isOperand kinds a i j → step (E.LIMIT + operandShape a) (headOf a) here ≡ judgedBy g (R.operandRules f a)
+      unfolding judgeEvent heldAfter cellsAfter targetAfter eventRule statementRule
+      operand-is a i j h =
+          by-operand (λ k. step (E.LIMIT + k) (headOf a) here ≡ judgedBy g (R.operandRules f (operandAt k (headOf a)))) refl refl refl refl refl a
+          ∙ ap (λ (y : Operand). judgedBy g (R.operandRules f y)) (operand-at a (pinned-operand kinds a i j h .1))
 
-    listing : (is : Items) (i j : ℕ) → isItems kinds is i j → (h : Held) → Leads (tapeItems is) h h (λ b. b ⊕ kindItems f is (h .kept))
-    listing ended i j q h = stays h (λ b. b ⊕ unbroken) (λ b. sym (join-right b))
-    listing (label n is) i j q h = quiet E.LABEL n h h (λ c a b. refl) then listing is _ _ (q .2 .1) h
-    listing (item x is) i j q h =
-        by (λ b. b ⊕ (kindStatement f x (h .kept) ⊕ kindItems f is (h .kept))) (λ b. two b _ _) (statement x _ _ (q .1) h then listing is _ _ (q .2 .1) h)
+      tested-is : (c : Condition) (i j : ℕ) → isCondition kinds c i j → step (conditionCode c .family + conditionCode c .form) (conditionCode c .token) here ≡ judgedBy g (R.conditionRules f c)
+      unfolding judgeEvent heldAfter cellsAfter targetAfter eventRule statementRule isCondition R.conditionRules
+      tested-is (compared m r a) i j h =
+          let q = pinned-operand kinds a _ _ (h .2 .2) in
+          let e : headOf a - 2 ≡ m = omega (arith, h .0, q .0) in
+          by-operand (λ k. step (E.COMPARED + k) (headOf a) here ≡ judgedBy g (R.registerRule f (headOf a - 2) ⊕ R.operandRules f (operandAt k (headOf a)))) refl refl refl refl refl a
+          ∙ ap₂ (λ (u : ℕ) (y : Operand). judgedBy g (R.registerRule f u ⊕ R.operandRules f y)) e (operand-at a (q .1))
+      tested-is (bare r) i j h = refl
+
+    call-step : (p : Place) (s : Bool) (n room g : ℕ) (x : Broken) (t : ℕ) → step E.CALL t (at p s n room g x) ≡ at p s n room g (x ⊕ R.callRules f (keptIn f p) t)
+    unfolding judgeEvent heldAfter cellsAfter targetAfter eventRule statementRule
+    call-step p s n room g x t = refl
+
+    turn-signed : (d : Designator) (y : Sign) (p : Place) (c : Context) (b : Broken) (s : Bool) (n room g : ℕ) (x : Broken) → Aims d c → Shown y → Opens c s n g → b ≡ x ⊕ pending c room
+        → At p c (ruleEvent f (phrase (signed d y)) p b) (step (opOf (phrase (signed d y))) (tokenOf (phrase (signed d y))) (at p s n room g x))
+    turn-signed d y p (aiming z) b s n room g x q w o e =
+        judged (phrase (signed d y)) p (aiming z) b s n room g x s n room g (complete (aiming z) room b x tt e) o join-right
+        (signed-is p s n room g x (meaningAt f (d .name)) y w (o ∙ ap (λ (v : Designator). aimOf (meaningAt f (v .name))) q))
+
+    turn-phrase : (y : Phrase) (p : Place) (c : Context) (b : Broken) (s : Bool) (n room g : ℕ) (x : Broken) (i j : ℕ) → isEvent kinds (phrase y) i j → phraseSuits y c → Opens c s n g
+        → b ≡ x ⊕ pending c room → At p (contextAfter (phrase y) c) (ruleEvent f (phrase y) p b) (step (opOf (phrase y)) (tokenOf (phrase y)) (at p s n room g x))
+    turn-phrase (aimed d) p c b s n room g x i j h q o e =
+        judged (phrase (aimed d)) p c b s n room g x s n room (aimOf (meaningAt f (d .name))) (complete c room b x q e) refl join-right (aimed-is p s n room g x d i j h)
+    turn-phrase (driven d) p c b s n room g x i j h q o e =
+        judged (phrase (driven d)) p c b s n room g x s n room (aimOf (meaningAt f (d .name))) (complete c room b x q e) refl join-right (driven-is p s n room g x d i j h)
+    turn-phrase (signed d y) p c b s n room g x i j h q o e = turn-signed d y p c b s n room g x (q .0) (q .1) o e
+    turn-phrase (given d a) p (aiming z) b s n room g x i j h q o e =
+        judged (phrase (given d a)) p (aiming z) b s n room g x s n room g (complete (aiming z) room b x tt e) o join-right
+        (given-is p s n room g x (meaningAt f (d .name)) a i j h (o ∙ ap (λ (v : Designator). aimOf (meaningAt f (v .name))) q))
+    turn-phrase (joined d t) p (aiming z) b s n room g x i j h q o e =
+        judged (phrase (joined d t)) p (aiming z) b s n room g x s n room g (complete (aiming z) room b x tt e) o join-right
+        (joined-is p s n room g x (meaningAt f (d .name)) t i j (h .0) (h .2) (o ∙ ap (λ (v : Designator). aimOf (meaningAt f (v .name))) q))
+    turn-phrase (tested t y) p c b s n room g x i j h q o e =
+        judged (phrase (tested t y)) p c b s n room g x s n room g (complete c room b x q e) tt join-right (tested-is p s n room g x y _ _ (h .1))
+    turn-phrase (limited d v a) p (aiming z) b s n room g x i j h q o e =
+        judged (phrase (limited d v a)) p (aiming z) b s n room g x s n room g (complete (aiming z) room b x tt e) tt join-right (operand-is p s n room g x a _ _ (h .1 .2 .1))
+    turn-phrase (called t) p c b s n room g x i j h q o e =
+        judged (phrase (called t)) p c b s n room g x s n room g (complete c room b x q e) tt join-right (call-step p s n room g x t)
+
+    -- ── along the tape ──
+
+    turn : (e : Event) (p : Place) (c : Context) (b : Broken) (j : Judging) → Stands kinds e p 0 → Suits e c → At p c b j → At (after e p) (contextAfter e c) (ruleEvent f e p b) (step (opOf e) (tokenOf e) j)
+    turn e p c b j z q a = rw (a .is) (go e z q)
+      where
+        go : (e : Event) → Stands kinds e p 0 → Suits e c
+            → At (after e p) (contextAfter e c) (ruleEvent f e p b) (step (opOf e) (tokenOf e) (at p (a .short) (a .elements) (a .room) (a .target) (a .judged)))
+        go (edge y) z q =
+            judged (edge y) p c b (a .short) (a .elements) (a .room) (a .target) (a .judged) (a .short) (a .elements) (a .room) (a .target) (complete c (a .room) b (a .judged) q (a .all)) tt join-right
+            (turn-edge y p (a .short) (a .elements) (a .room) (a .target) (a .judged) (z .fits) _ _ (z .is))
+        go (route y) z q =
+            judged (route y) p c b (a .short) (a .elements) (a .room) (a .target) (a .judged) (a .short) (a .elements) (a .room) (a .target) (complete c (a .room) b (a .judged) q (a .all)) tt join-right
+            (turn-route y p (a .short) (a .elements) (a .room) (a .target) (a .judged) (z .fits))
+        go (entry y) z q = turn-entry y p c b (a .short) (a .elements) (a .room) (a .target) (a .judged) (z .fits) _ _ (z .is) q (a .opens) (a .all)
+        go (phrase y) z q = turn-phrase y p c b (a .short) (a .elements) (a .room) (a .target) (a .judged) _ _ (z .is) q (a .opens) (a .all)
+        go (mark y) z q =
+            judged (mark y) p c b (a .short) (a .elements) (a .room) (a .target) (a .judged) (a .short) (a .elements) (a .room) (a .target) (complete c (a .room) b (a .judged) q (a .all)) tt join-right
+            (turn-mark y p (a .short) (a .elements) (a .room) (a .target) (a .judged))
 
 -- ── programs ──
 
 pub judged-program :
     (kinds : List ℕ) (f : Tables) (x : Statement) (i j : ℕ) → isProgram kinds x i j → (b : Broken)
-    → pass (judgeEvent f) (beginning b) (tapeStatement x []) .broken ≡ b ⊕ kindStatement f x R.protected
-unfolding isProgram
+    → pass (judgeEvent f) (beginning b) (tapeStatement x []) .broken ≡ b ⊕ rulesOf f x
 judged-program kinds f x i j q b =
-    let p = statement kinds f x _ _ (q .1 .1) (beginning b .held) .leads (beginning b .cells) 0 in
-    ap (λ (y : Judging). y .broken) (p .2 b [] ∙ pass-none (judgeEvent f) _)
+    let (c, k, a) = follows-in (judgeEvent f) (ruleEvent f) (At f) (λ e p. Stands kinds e p 0) (turn f kinds) (eventsOf x) [] nowhere b (beginning b)
+    (text-stands kinds _ _ _ _ (program-text kinds x i j q)) (program-coherent x)
+    (record { short = false; elements = 0; room = 0; target = 0; judged = b; is = refl; opens = tt; all = sym (join-right b) }) in
+    ap (λ (l : List ℕ). pass (judgeEvent f) (beginning b) l .broken) (tree-tape x)
+    ∙ (ap (λ (y : Judging). y .broken) (a .is) ∙ (sym (complete f c (a .room) _ (a .judged) k (a .all)) ∙ rules-onto f (eventsOf x) [] b))

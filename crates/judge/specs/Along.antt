@@ -84,18 +84,10 @@ aimOf (register r) = suc (suc r)
 aimOf (cell c) = 1
 aimOf (routine r) = 0
 
--- "the FOR target" is a register
-abbrev pub controlOf : Meaning → ℕ
-controlOf nothing = 0
-controlOf (register r) = suc (suc r)
-controlOf (cell c) = 0
-controlOf (routine r) = 0
-
 unfoldable pub targetAfter : Tables → (op t target : ℕ) → ℕ
 targetAfter f op t target =
     if ltb op E.TARGET then target else
-    if ltb op E.CONTROL then aimOf (meaningAt f t) else
-    if ltb op E.ABS then controlOf (meaningAt f t) else
+    if ltb op E.ABS then aimOf (meaningAt f t) else
     target
 
 abbrev pub registerTarget : List ℕ → Designator → ℕ → Broken
@@ -107,6 +99,7 @@ aimBy f kept d (register r) = registerTarget kept d r
 aimBy f kept d (cell c) = placeBy f (cell c) d
 aimBy f kept d (routine r) = broken 8 (d .name)
 
+-- "the FOR target" is a register
 abbrev pub controlBy : List ℕ → Designator → Meaning → Broken
 controlBy kept d nothing = broken 8 (d .name)
 controlBy kept d (register r) = registerTarget kept d r

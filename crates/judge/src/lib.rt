@@ -13,7 +13,7 @@ ghost use Rattle.tables.specs.Packed.{numberIn, unpacked};
 ghost use Rattle.tables.specs.Stacks.{stackOf};
 ghost use Rattle.rules.specs.Parts.{designatorAt, operandAt};
 ghost use Rattle.rules.specs.Shows.{Names, Values, Kinds, Opens, Written, Shown};
-ghost use Rattle.judge.specs.Along.{enterBlock, leaveBlock, keepBase, keepReturn, leaveProcedure, heldAfter, cellsAfter, valueRule, aimOf, controlOf, targetAfter, registerTarget, aimBy, controlBy, signRule, firstRules, chainRule, declarationRule, assignmentRule, statementRule, eventRule, judgeEvent, beginning, heldOf, Moved};
+ghost use Rattle.judge.specs.Along.{enterBlock, leaveBlock, keepBase, keepReturn, leaveProcedure, heldAfter, cellsAfter, valueRule, aimOf, targetAfter, registerTarget, aimBy, controlBy, signRule, firstRules, chainRule, declarationRule, assignmentRule, statementRule, eventRule, judgeEvent, beginning, heldOf, Moved};
 use arrays::key;
 use arrays::kind;
 use arrays::put_wide;
@@ -225,26 +225,14 @@ fn aim_of(m: u64) -> usize
     0
 }
 
-fn control_of(m: u64) -> usize
-    ensures { λ r. ⌜ ((n : ℕ) (b : Based) → r ≡ controlOf (unpacked n m b)) ⌝ }
-{
-    if m % 8 == tables::REGISTER {
-        return number(m) as usize + 2;
-    }
-    0
-}
-
 fn target_after(op: u32, t: usize, found: &[u32], means: &[u64], target: usize) -> usize
     ensures { λ r. ⌜ ((f : Tables) → Names f (now (found .entry)) (now (means .entry)) → r ≡ targetAfter f op t target) ⌝ }
 {
     if op < tape::TARGET {
         return target;
     }
-    if op < tape::CONTROL {
-        return aim_of(meaning(found, means, t));
-    }
     if op < tape::ABS {
-        return control_of(meaning(found, means, t));
+        return aim_of(meaning(found, means, t));
     }
     target
 }

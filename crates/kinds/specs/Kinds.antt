@@ -1,34 +1,59 @@
--- Document 01, "Names, cells, protected registers": refusals 8 to 12 over the whole text. A structural function on the tree by the tables that stand when the
+-- Document 01, "Names, cells, protected registers": refusals 8 to 12 over the whole text. Said of each event, where it stands, by the tables that stand when the
 -- whole text has been read: what follows a broken rule has some meaning, and only later places can change by it.
-use mathlib.Core.List.{List, [], _∷_}
+use mathlib.Core.List.{List, [], _∷_, _++_, map}
 use Prim.Native.Nat.{ℕ}
-use Rattle.grammar.specs.Tree.{Declaration, registers, cells, base, Statement, assign, call, block, goto, null, ifThen, ifElse, while, for, Body, declare, procedure, items, Items, ended, label, item}
+use Rattle.grammar.specs.Tree.{Statement}
+use Rattle.grammar.specs.Events.{Edge, opened, closed, entered, left, Entry, named, celled, itemed, valued, based, Phrase, aimed, driven, signed, given, joined, tested, limited, called, Event, edge, route, entry, phrase, mark, eventsOf}
+use Rattle.grammar.specs.Places.{within, body, Place, along}
 use Rattle.names.specs.declared.Broken.{Broken}
-use Rattle.names.specs.Broken.{unbroken, _⊕_}
+use Rattle.names.specs.Broken.{unbroken, rule, _⊕_}
 use Rattle.kinds.specs.Meaning.{registerOf}
-use Rattle.kinds.specs.Tables.{Tables, meaningAt}
-use Rattle.kinds.specs.Rules.{registerRule, zeroRule, operandRules, assignmentRules, controlRules, conditionRules, callRules, declarationRules, keptAfter}
+use Rattle.kinds.specs.Meanings.{countOf}
+use Rattle.kinds.specs.Tables.{Tables, valueAt, meaningAt}
+use Rattle.kinds.specs.Rules.{protected, inRange, registerRule, zeroRule, operandRules, targetRules, controlRules, signBy, firstBy, termBy, conditionRules, callRules, countRule, valueRules, baseRules}
 
--- kept: the protected registers, the innermost first
 module _ (f : Tables) where
-  unfoldable mutual
-    pub kindStatement : Statement → List ℕ → Broken
-    kindStatement (assign a) kept = assignmentRules f kept a
-    kindStatement (call n) kept = callRules f kept n
-    kindStatement (block t x) kept = kindBody x kept
-    kindStatement (goto t n) kept = unbroken
-    kindStatement null kept = unbroken
-    kindStatement (ifThen t c x) kept = conditionRules f c ⊕ kindStatement x kept
-    kindStatement (ifElse t c x e y) kept = conditionRules f c ⊕ kindStatement x kept ⊕ kindStatement y kept
-    kindStatement (while t c x) kept = conditionRules f c ⊕ kindStatement x kept
-    kindStatement (for t a v l x) kept = controlRules f kept a ⊕ operandRules f l ⊕ kindStatement x kept
+  -- "Protected at a point: 15, 14, the bases of enclosing blocks declared so far, the return registers of enclosing procedures."
+  abbrev pub keptIn : Place → List ℕ
+  keptIn [] = protected
+  keptIn (within b ∷ p) = map (λ (n : ℕ). registerOf (meaningAt f n)) (b .bases) ++ keptIn p
+  keptIn (body n r ∷ p) = registerOf (meaningAt f r) ∷ keptIn p
 
-    pub kindBody : Body → List ℕ → Broken
-    kindBody (declare d x) kept = declarationRules f kept d ⊕ kindBody x (keptAfter f d kept)
-    kindBody (procedure n r x y) kept = registerRule f r ⊕ zeroRule f r ⊕ kindStatement x (registerOf (meaningAt f r) ∷ kept) ⊕ kindBody y kept
-    kindBody (items is) kept = kindItems is kept
+  -- a return register
+  abbrev pub edgeRules : Edge → Broken
+  edgeRules (opened t ls) = unbroken
+  edgeRules (closed t) = unbroken
+  edgeRules (entered n r) = registerRule f r ⊕ zeroRule f r
+  edgeRules (left n) = unbroken
 
-    pub kindItems : Items → List ℕ → Broken
-    kindItems ended kept = unbroken
-    kindItems (label l is) kept = kindItems is kept
-    kindItems (item x is) kept = kindStatement x kept ⊕ kindItems is kept
+  -- "9: register not 0 to 15"; a value is judged with its cell, which has the count and the width
+  abbrev pub entryRules : Entry → Place → Broken
+  entryRules (named r) p = rule (inRange 0 15 (valueAt f (r .number))) 9 (r .number)
+  entryRules (celled c w) p = countRule f c
+  entryRules (itemed c w i) p = valueRules f w (countOf (f .values) c) (i .numbers)
+  entryRules (valued t) p = unbroken
+  entryRules (based n) p = baseRules f (keptIn p) n
+
+  abbrev pub phraseRules : Phrase → Place → Broken
+  phraseRules (aimed d) p = targetRules f (keptIn p) d
+  phraseRules (driven d) p = controlRules f (keptIn p) d
+  phraseRules (signed d g) p = signBy (meaningAt f (d .name)) g
+  phraseRules (given d a) p = firstBy f (meaningAt f (d .name)) a
+  phraseRules (joined d t) p = termBy f (meaningAt f (d .name)) (keptIn p) t
+  phraseRules (tested t c) p = conditionRules f c
+  phraseRules (limited d v a) p = operandRules f a
+  phraseRules (called n) p = callRules f (keptIn p) n
+
+  -- the rules of an event at its place
+  abbrev pub rulesAt : Event → Place → Broken
+  rulesAt (edge x) p = edgeRules x
+  rulesAt (route r) p = unbroken
+  rulesAt (entry d) p = entryRules d p
+  rulesAt (phrase x) p = phraseRules x p
+  rulesAt (mark m) p = unbroken
+
+  unfoldable pub ruleEvent : Event → Place → Broken → Broken
+  ruleEvent e p s = s ⊕ rulesAt e p
+
+  abbrev pub rulesOf : Statement → Broken
+  rulesOf x = along ruleEvent (eventsOf x) [] unbroken

@@ -1,6 +1,5 @@
 pub mod Registers
 pub mod Meaning
-pub mod Writes
 pub mod Meanings
 pub mod Tables
 pub mod Rules

@@ -1,10 +1,11 @@
 -- Document 01, "Names, cells, protected registers": what a declared name means. Meanings are held by the token that declares the name, and never taken back.
 use mathlib.Core.List.{List}
-use mathlib.Core.Bool.{Bool, true, false}
-use mathlib.Core.Option.{Option, none, some}
+use mathlib.Core.Bool.{Bool, true, false, _&&_}
 use Prim.Native.Nat.{ℕ}
+use lib.Dec.{eqb}
 use lib.ListN.{getD}
-use Rattle.grammar.specs.Tree.{Designator, Operand, number, place, Width, full, short}
+use Rattle.token.specs.Kinds as K
+use Rattle.grammar.specs.Tree.{Designator, Operand, number, place, Term, Width, full, short}
 
 -- "Cells take the next multiple of their size (4, or 2 for short)."
 abbrev pub elementSize : Width → ℕ
@@ -55,3 +56,6 @@ isLong (routine r) = false
 abbrev pub longOperand : List ℕ → List Meaning → Operand → Bool
 longOperand found means (number t) = true
 longOperand found means (place d) = isLong (meaningOf found means (d .name))
+
+abbrev pub isProduct : (kinds found : List ℕ) → List Meaning → Term → Bool
+isProduct kinds found means t = eqb (getD kinds (t .operator) 0) K.TIMES && longOperand found means (t .operand)

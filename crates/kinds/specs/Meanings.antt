@@ -1,15 +1,17 @@
--- Document 01, "Names, cells, protected registers": what the declarations of a text give, and which registers each procedure's text writes. A structural
--- function on the tree, in the order of the text; the rules are judged afterwards, by these tables.
+-- Document 01, "Names, cells, protected registers": what the declarations of a text give, and which registers each procedure's text writes. Said of
+-- each event of the text, where it stands, in the order of the text; the rules are judged afterwards, by these tables.
 use mathlib.Core.List.{List, [], _∷_, _++_, map}
 use mathlib.Core.Bool.{Bool, true, false}
 use mathlib.Core.Option.{Option, none, some}
-use Prim.Native.Nat.{ℕ, zero, suc, _+_}
+use Prim.Native.Nat.{ℕ, suc, _+_, _-_}
 use lib.ListN.{getD, set, replicate}
+use Rattle.base.specs.Choose.{if_then_else_}
 use Rattle.names.specs.Search.{firstToken}
-use Rattle.grammar.specs.Tree.{Register, Item, Width, Assignment, Statement, assign, call, block, goto, null, ifThen, ifElse, while, for, Body, declare, procedure, items, Items, ended, label, item, registers, cells, base}
+use Rattle.grammar.specs.Tree.{Item, Width, Statement}
+use Rattle.grammar.specs.Events.{Edge, opened, closed, entered, left, Entry, named, celled, itemed, valued, based, Phrase, aimed, driven, signed, given, joined, tested, limited, called, Event, edge, route, entry, phrase, mark, eventsOf}
+use Rattle.grammar.specs.Places.{within, body, Place, outward, along}
 use Rattle.kinds.specs.Registers.{Registers, sixteen, noRegisters, addRegister, union}
-use Rattle.kinds.specs.Meaning.{Meaning, nothing, register, cell, routine, Based, Cell, meaningOf, registerOf}
-use Rattle.kinds.specs.Writes.{assignmentWrites}
+use Rattle.kinds.specs.Meaning.{Meaning, nothing, register, cell, routine, Based, Cell, meaningOf, registerOf, isProduct}
 
 -- a cell with its initial values
 pub record Filled : Type 0 where
@@ -25,8 +27,20 @@ pub record Meant : Type 0 where
   pub cells : List Filled
   pub bases : ℕ
 
+-- what the name at token t means so far
+abbrev pub meaningIn : List ℕ → Meant → ℕ → Meaning
+meaningIn found s t = meaningOf found (s .means) t
+
 abbrev pub mean : ℕ → Meaning → Meant → Meant
 mean t m s = record { means = set (s .means) t m; opens = s .opens; written = s .written; cells = s .cells; bases = s .bases }
+
+-- ── what is written ──
+
+-- the token of the innermost procedure, 0 outside all
+abbrev pub ownIn : Place → ℕ
+ownIn [] = 0
+ownIn (within b ∷ p) = ownIn p
+ownIn (body n r ∷ p) = n
 
 -- the text of the procedure `own` writes these registers too
 abbrev pub growWritten : ℕ → (Registers → Registers) → Meant → Meant
@@ -34,10 +48,6 @@ growWritten own f s = record { means = s .means; opens = s .opens; written = set
 
 unfoldable pub write : ℕ → ℕ → Meant → Meant
 write own r s = growWritten own (addRegister r) s
-
-unfoldable pub writeAll : ℕ → List ℕ → Meant → Meant
-writeAll own [] s = s
-writeAll own (r ∷ rs) s = writeAll own rs (write own r s)
 
 -- all that the text of the procedure p writes
 unfoldable pub writeText : ℕ → ℕ → Meant → Meant
@@ -50,24 +60,33 @@ callWrites (register r) own p s = s
 callWrites (cell c) own p s = s
 callWrites (routine r) own p s = writeText own p (write own r s)
 
+-- a target that is a register r writes register g r
+unfoldable pub targetWrites : Meaning → (ℕ → ℕ) → ℕ → Meant → Meant
+targetWrites nothing g own s = s
+targetWrites (register r) g own s = write own (g r) s
+targetWrites (cell c) g own s = s
+targetWrites (routine r) g own s = s
+
 -- ── declarations ──
 
 -- "Segment 0 is the program, 1 the data of base 14, 2 and 3 those of base declarations in text order."
 unfoldable pub openBase : ℕ → ℕ → ℕ → Meant → Meant
 openBase own r n s = write own r (record { means = s .means; opens = set (s .opens) n (2 + s .bases); written = s .written; cells = s .cells; bases = suc (s .bases) })
 
-unfoldable pub addCell : Cell → List ℕ → Meant → Meant
-addCell c vs s = record {
-  means = set (s .means) (c .name) (cell c);
-  opens = s .opens;
-  written = s .written;
-  cells = record { cell = c; values = vs } ∷ s .cells;
-  bases = s .bases;
-}
+-- "Data base is 14 until a base declaration", and its segment is 1
+abbrev pub dataBase : Based
+dataBase = record { register = 14; segment = 1 }
 
-unfoldable pub meanRegisters : List ℕ → List Register → Meant → Meant
-meanRegisters values [] s = s
-meanRegisters values (r ∷ rs) s = meanRegisters values rs (mean (r .name) (register (getD values (r .number) 0)) s)
+-- "… which holds for the cells after it in that block and its inner blocks": the newest base of a block, or else the one around it
+module _ (found : List ℕ) (s : Meant) where
+  abbrev pub newest : List ℕ → Based → Based
+  newest [] outer = outer
+  newest (n ∷ ns) outer = record { register = registerOf (meaningIn found s n); segment = getD (s .opens) n 0 }
+
+  abbrev pub baseIn : Place → Based
+  baseIn [] = dataBase
+  baseIn (within b ∷ p) = newest (b .bases) (baseIn p)
+  baseIn (body n r ∷ p) = baseIn p
 
 -- a cell declared without ARRAY is one element
 abbrev pub countOf : List ℕ → Option ℕ → ℕ
@@ -81,47 +100,52 @@ isArray (some t) = true
 abbrev pub cellOf : List ℕ → Option ℕ → Width → Based → Item → Cell
 cellOf values count w b i = record { name = i .name; base = b; width = w; elements = countOf values count; array = isArray count }
 
-unfoldable pub meanCells : List ℕ → Option ℕ → Width → Based → List Item → Meant → Meant
-meanCells values count w b [] s = s
-meanCells values count w b (i ∷ is) s = meanCells values count w b is (addCell (cellOf values count w b i) (map (λ (t : ℕ). getD values t 0) (i .numbers)) s)
+unfoldable pub addCell : Cell → List ℕ → Meant → Meant
+addCell c vs s = record {
+  means = set (s .means) (c .name) (cell c);
+  opens = s .opens;
+  written = s .written;
+  cells = record { cell = c; values = vs } ∷ s .cells;
+  bases = s .bases;
+}
 
--- ── the whole text ──
-
--- what the name at token t means so far
-abbrev pub meaningIn : List ℕ → Meant → ℕ → Meaning
-meaningIn found s t = meaningOf found (s .means) t
+-- ── event by event ──
 
 module _ (kinds values found : List ℕ) where
-  -- own: the token of the innermost procedure, 0 outside all; b: the data base in force
-  unfoldable mutual
-    pub meanStatement : Statement → ℕ → Based → Meant → Meant
-    meanStatement (assign a) own b s = writeAll own (assignmentWrites kinds found (s .means) a) s
-    meanStatement (call n) own b s = callWrites (meaningIn found s n) own (getD found n 0) s
-    meanStatement (block t x) own b s = meanBody x own b s
-    meanStatement (goto t n) own b s = s
-    meanStatement null own b s = s
-    meanStatement (ifThen t c x) own b s = meanStatement x own b s
-    meanStatement (ifElse t c x e y) own b s = meanStatement y own b (meanStatement x own b s)
-    meanStatement (while t c x) own b s = meanStatement x own b s
-    meanStatement (for t a v l x) own b s = meanStatement x own b (writeAll own (assignmentWrites kinds found (s .means) a) s)
+  -- a procedure's name is known in its own body; what its text writes, the text around it writes
+  abbrev pub meanEdge : Edge → Place → Meant → Meant
+  meanEdge (opened t ls) p s = s
+  meanEdge (closed t) p s = s
+  meanEdge (entered n r) p s = mean n (routine (registerOf (meaningIn found s r))) s
+  meanEdge (left n) p s = writeText (ownIn (outward p)) n s
 
-    -- "a base declaration … holds for the cells after it in that block and its inner blocks."
-    pub meanBody : Body → ℕ → Based → Meant → Meant
-    meanBody (declare (registers rs) x) own b s = meanBody x own b (meanRegisters values rs s)
-    meanBody (declare (cells c w is) x) own b s = meanBody x own b (meanCells values c w b is s)
-    meanBody (declare (base n) x) own b s =
-        meanBody x own (record { register = registerOf (meaningIn found s n); segment = 2 + s .bases }) (openBase own (registerOf (meaningIn found s n)) n s)
-    meanBody (procedure n r x y) own b s = meanBody y own b (writeText own n (meanStatement x n b (mean n (routine (registerOf (meaningIn found s r))) s)))
-    meanBody (items is) own b s = meanItems is own b s
+  abbrev pub meanEntry : Entry → Place → Meant → Meant
+  meanEntry (named r) p s = mean (r .name) (register (getD values (r .number) 0)) s
+  meanEntry (celled c w) p s = s
+  meanEntry (itemed c w i) p s = addCell (cellOf values c w (baseIn found s p) i) (map (λ (t : ℕ). getD values t 0) (i .numbers)) s
+  meanEntry (valued t) p s = s
+  meanEntry (based n) p s = openBase (ownIn p) (registerOf (meaningIn found s n)) n s
 
-    pub meanItems : Items → ℕ → Based → Meant → Meant
-    meanItems ended own b s = s
-    meanItems (label l is) own b s = meanItems is own b s
-    meanItems (item x is) own b s = meanItems is own b (meanStatement x own b s)
+  -- a product "also writes the register below"
+  abbrev pub meanPhrase : Phrase → Place → Meant → Meant
+  meanPhrase (aimed d) p s = targetWrites (meaningIn found s (d .name)) (λ r. r) (ownIn p) s
+  meanPhrase (driven d) p s = targetWrites (meaningIn found s (d .name)) (λ r. r) (ownIn p) s
+  meanPhrase (signed d g) p s = s
+  meanPhrase (given d a) p s = s
+  meanPhrase (joined d t) p s = if isProduct kinds found (s .means) t then targetWrites (meaningIn found s (d .name)) (λ r. r - 1) (ownIn p) s else s
+  meanPhrase (tested t c) p s = s
+  meanPhrase (limited d v a) p s = s
+  meanPhrase (called n) p s = callWrites (meaningIn found s n) (ownIn p) (getD found n 0) s
 
--- "Data base is 14 until a base declaration", and its segment is 1
-abbrev pub dataBase : Based
-dataBase = record { register = 14; segment = 1 }
+  unfoldable pub meanEvent : Event → Place → Meant → Meant
+  meanEvent (edge x) p s = meanEdge x p s
+  meanEvent (route r) p s = s
+  meanEvent (entry d) p s = meanEntry d p s
+  meanEvent (phrase f) p s = meanPhrase f p s
+  meanEvent (mark m) p s = s
+
+  abbrev pub meanProgram : Statement → Meant → Meant
+  meanProgram x s = along meanEvent (eventsOf x) [] s
 
 -- before a text of n tokens, with token 0 and the register names in front: tokens 1 to 16 mean the registers 0 to 15, and no other token means anything
 abbrev pub standard : ℕ → Meant

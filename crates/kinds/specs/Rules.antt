@@ -9,7 +9,7 @@ use lib.ListN.{getD}
 use Rattle.base.specs.Choose.{if_then_else_}
 use Rattle.base.specs.Lists.{member}
 use Rattle.token.specs.Kinds as K
-use Rattle.grammar.specs.Tree.{Designator, Operand, number, place, Sign, plain, abs, neg, negAbs, Term, Assignment, Condition, compared, bare, Width, full, short, Register, Item, Declaration, registers, cells, base}
+use Rattle.grammar.specs.Tree.{Designator, Operand, number, place, Sign, plain, abs, neg, negAbs, Term, Condition, compared, bare, Width, full, short}
 use Rattle.names.specs.declared.Broken.{Broken}
 use Rattle.names.specs.Broken.{unbroken, rule, broken, _⊕_}
 use Rattle.kinds.specs.Registers.{Registers, noRegisters, spares}
@@ -50,9 +50,16 @@ isBare (some s) (some x) = false
 abbrev pub bareName : Designator → Bool
 bareName d = isBare (d .subscript) (d .index)
 
+-- "Rules on a number's value or sign read its 32 bits as signed."
+abbrev pub negative : ℕ → Bool
+negative v = leb 2147483648 v
+
+abbrev pub inRange : (low high : ℕ) → ℕ → Bool
+inRange low high v = not (negative v) && (leb low v && leb v high)
+
 -- "A subscript is a byte offset, … is a multiple of the element size, and its element lies inside the array."
 abbrev pub inside : Cell → ℕ → Bool
-inside c v = eqb (v % elementSize (c .width)) 0 && leb (v + elementSize (c .width)) (elementSize (c .width) * c .elements)
+inside c v = not (negative v) && (eqb (v % elementSize (c .width)) 0 && leb (v + elementSize (c .width)) (elementSize (c .width) * c .elements))
 
 abbrev pub shifts : List ℕ
 shifts = K.SHLL ∷ K.SHRL ∷ K.SHLA ∷ K.SHRA ∷ []
@@ -73,15 +80,21 @@ noSign (abs t) = broken 8 t
 noSign (neg t) = broken 8 t
 noSign (negAbs t) = broken 8 t
 
--- each term is judged: the first stands before the others
-abbrev pub noChain : List Term → Broken
-noChain [] = unbroken
-noChain (t ∷ ts) = broken 8 (t .operator) ⊕ noChain ts
+-- "a cell target one register name only": no sign
+abbrev pub signBy : Meaning → Sign → Broken
+signBy nothing g = unbroken
+signBy (register r) g = unbroken
+signBy (cell c) g = noSign g
+signBy (routine r) g = unbroken
 
--- "A value for a short cell has signed value -32768 to 65535": a number's 32 bits are read as signed
+-- "A value for a short cell has signed value -32768 to 65535"
 abbrev pub fitsWidth : Width → ℕ → Bool
 fitsWidth full v = true
-fitsWidth short v = leb v 65535 || leb (4294967296 - 32768) v
+fitsWidth short v = if negative v then leb (4294967296 - 32768) v else leb v 65535
+
+-- "11: … array count not 1 to 2,048"
+abbrev pub mostElements : ℕ
+mostElements = 2048
 
 -- the last of segments 1 to 3: "12: … a third base declaration"
 abbrev pub lastSegment : ℕ
@@ -131,7 +144,7 @@ module _ (f : Tables) where
 
   -- "Shift operands are a number 0 to 63 or a register."
   unfoldable pub shiftRules : Operand → Broken
-  shiftRules (number t) = rule (leb (valueAt f t) 63) 11 t
+  shiftRules (number t) = rule (inRange 0 63 (valueAt f t)) 11 t
   shiftRules (place d) = onlyRegister (place d) ⊕ zeroRule (d .name)
 
   unfoldable pub noShort : Operand → Broken
@@ -152,39 +165,33 @@ module _ (f : Tables) where
       if member k fullOnly then operandRules (t .operand) ⊕ noShort (t .operand) else
       operandRules (t .operand)
 
-  unfoldable pub chainRules : List ℕ → ℕ → List Term → Broken
-  chainRules kept r [] = unbroken
-  chainRules kept r (t ∷ ts) = termRules kept r t ⊕ chainRules kept r ts
+  -- ── assignments: each part by what the target means ──
 
-  -- ── assignments ──
+  abbrev pub targetBy : Meaning → List ℕ → ℕ → Broken
+  targetBy nothing kept t = unbroken
+  targetBy (register r) kept t = writeRule kept r t
+  targetBy (cell c) kept t = unbroken
+  targetBy (routine r) kept t = unbroken
 
-  -- "A register target takes the whole chain, left to right"
-  unfoldable pub toRegister : List ℕ → ℕ → Assignment → Broken
-  toRegister kept r a =
-      rule (bareName (a .target)) 8 (a .target .name) ⊕ writeRule kept r (a .target .name) ⊕ operandRules (a .first) ⊕ chainRules kept r (a .rest)
-
-  -- "a cell target one register name only"
-  unfoldable pub toCell : Assignment → Broken
-  toCell a = placeRules (a .target) ⊕ noSign (a .sign) ⊕ onlyRegister (a .first) ⊕ noChain (a .rest)
-
-  abbrev pub assignBy : Meaning → List ℕ → Assignment → Broken
-  assignBy nothing kept a = broken 8 (a .target .name)
-  assignBy (register r) kept a = toRegister kept r a
-  assignBy (cell c) kept a = toCell a
-  assignBy (routine r) kept a = broken 8 (a .target .name)
-
-  unfoldable pub assignmentRules : List ℕ → Assignment → Broken
-  assignmentRules kept a = assignBy (meaningAt f (a .target .name)) kept a
+  unfoldable pub targetRules : List ℕ → Designator → Broken
+  targetRules kept d = placeRules d ⊕ targetBy (meaningAt f (d .name)) kept (d .name)
 
   -- the FOR target is a register
-  abbrev pub controlBy : Meaning → List ℕ → Assignment → Broken
-  controlBy nothing kept a = broken 8 (a .target .name)
-  controlBy (register r) kept a = toRegister kept r a
-  controlBy (cell c) kept a = broken 8 (a .target .name)
-  controlBy (routine r) kept a = broken 8 (a .target .name)
+  unfoldable pub controlRules : List ℕ → Designator → Broken
+  controlRules kept d = onlyRegister (place d) ⊕ targetBy (meaningAt f (d .name)) kept (d .name)
 
-  unfoldable pub controlRules : List ℕ → Assignment → Broken
-  controlRules kept a = controlBy (meaningAt f (a .target .name)) kept a
+  -- "A register target takes the whole chain, left to right, a cell target one register name only."
+  abbrev pub firstBy : Meaning → Operand → Broken
+  firstBy nothing a = unbroken
+  firstBy (register r) a = operandRules a
+  firstBy (cell c) a = onlyRegister a
+  firstBy (routine r) a = unbroken
+
+  abbrev pub termBy : Meaning → List ℕ → Term → Broken
+  termBy nothing kept t = unbroken
+  termBy (register r) kept t = termRules kept r t
+  termBy (cell c) kept t = broken 8 (t .operator)
+  termBy (routine r) kept t = unbroken
 
   unfoldable pub conditionRules : Condition → Broken
   conditionRules (compared n r a) = registerRule n ⊕ operandRules a
@@ -204,36 +211,15 @@ module _ (f : Tables) where
 
   -- ── declarations ──
 
-  -- "9: register not 0 to 15"
-  unfoldable pub registersRules : List Register → Broken
-  registersRules [] = unbroken
-  registersRules (r ∷ rs) = rule (leb (valueAt f (r .number)) 15) 9 (r .number) ⊕ registersRules rs
-
   -- "11: bad initial value or one too many", of the values for which there is room; each that is too many is judged, and the first stands before the others
   unfoldable pub valueRules : Width → ℕ → List ℕ → Broken
   valueRules w room [] = unbroken
   valueRules w zero (t ∷ ts) = broken 11 t ⊕ valueRules w zero ts
   valueRules w (suc room) (t ∷ ts) = rule (fitsWidth w (valueAt f t)) 11 t ⊕ valueRules w room ts
 
-  unfoldable pub itemRules : Width → ℕ → List Item → Broken
-  itemRules w room [] = unbroken
-  itemRules w room (i ∷ is) = valueRules w room (i .numbers) ⊕ itemRules w room is
-
-  -- "11: … array count not 1 to 2,048"
-  unfoldable pub cellsRules : Option ℕ → Width → List Item → Broken
-  cellsRules none w is = itemRules w 1 is
-  cellsRules (some t) w is = rule (leb 1 (valueAt f t) && leb (valueAt f t) 2048) 11 t ⊕ itemRules w (valueAt f t) is
+  abbrev pub countRule : Option ℕ → Broken
+  countRule none = unbroken
+  countRule (some t) = rule (inRange 1 mostElements (valueAt f t)) 11 t
 
   unfoldable pub baseRules : List ℕ → ℕ → Broken
   baseRules kept n = registerRule n ⊕ zeroRule n ⊕ writeRule kept (registerOf (meaningAt f n)) n ⊕ rule (leb (getD (f .opens) n 0) lastSegment) 12 n
-
-  unfoldable pub declarationRules : List ℕ → Declaration → Broken
-  declarationRules kept (registers rs) = registersRules rs
-  declarationRules kept (cells c w is) = cellsRules c w is
-  declarationRules kept (base n) = baseRules kept n
-
-  -- the protected registers after a declaration
-  abbrev pub keptAfter : Declaration → List ℕ → List ℕ
-  keptAfter (registers rs) kept = kept
-  keptAfter (cells c w is) kept = kept
-  keptAfter (base n) kept = registerOf (meaningAt f n) ∷ kept

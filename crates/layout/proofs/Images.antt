@@ -15,18 +15,18 @@ use Rattle.base.proofs.Tests.{cases, by-test}
 use Rattle.base.proofs.Numbers.{length-bytesOf}
 use Rattle.base.proofs.Parts.{sets-append}
 use Rattle.grammar.specs.Tree.{Item, Statement, Width}
+use Rattle.grammar.specs.Derives.{isProgram}
 use Rattle.tape.specs.Events as E
 use Rattle.tape.specs.Tape.{tapeStatement}
 use Rattle.tape.specs.Pass.{pass}
-use Rattle.tape.proofs.Pass.{pass-none}
-use Rattle.kinds.specs.Meaning.{Based, elementSize}
-use Rattle.kinds.specs.Meanings.{Filled, Meant, meanStatement}
+use Rattle.kinds.specs.Meaning.{elementSize}
+use Rattle.kinds.specs.Meanings.{Filled, Meant, meanProgram}
 use Rattle.kinds.proofs.Known.{Below, Falling}
 use Rattle.translator.specs.Layout.{Placed, offsetFor, valueBytes, placeCell, placeCells, offsetOf, segmentLimit}
 use Rattle.translator.specs.Image.{fill}
 use Rattle.layout.specs.declared.Filling.{Filling}
 use Rattle.layout.specs.Along.{Imaging, imagingOf, nowhere, startCell, layValue, imageEvent}
-use Rattle.layout.proofs.Trees.{Apart, onValues, onItem, onStatement, statement-on, statement-made}
+use Rattle.layout.proofs.Trees.{Apart, onValues, onItem, cells-made}
 use Rattle.layout.proofs.Laid.{Right, fields}
 
 -- ── values, one after the other ──
@@ -69,7 +69,7 @@ module _ (k : ℕ) (means bases offsets values : List ℕ) where
   read ts = map (λ (t : ℕ). getD values t 0) ts
 
   abbrev Laid : (ts image : List ℕ) (f : Filling) → Type 0
-  Laid ts image f = onValues step quiet ts (imagingOf image f) ≡ imagingOf (sets image (f .at) (bytesAll (f .size) (read ts))) (movedAll (read ts) f)
+  Laid ts image f = onValues step ts (imagingOf image f) ≡ imagingOf (sets image (f .at) (bytesAll (f .size) (read ts))) (movedAll (read ts) f)
 
   module _ (t : ℕ) (ts image : List ℕ) (f : Filling) (h : length image ≤ segmentLimit) (ih : (image : List ℕ) (f : Filling) → length image ≤ segmentLimit → Laid ts image f) where
     here : f .at < segmentLimit → Laid (t ∷ ts) image f
@@ -80,7 +80,7 @@ module _ (k : ℕ) (means bases offsets values : List ℕ) where
         let on : layValue (getD values t 0) (imagingOf image f) ≡ imagingOf (sets image (f .at) bs) g = rw (lt-ltb (f .at) segmentLimit l) in
         let m : g ≡ moved f = rw (lt-ltb (f .at) segmentLimit l) in
         let e = rw (length-bytesOf (f .size) (getD values t 0)) at (sets-append image (f .at) bs (bytesAll (f .size) (read ts))) in
-        ap (onValues step quiet ts) on
+        ap (onValues step ts) on
         ∙ (ih (sets image (f .at) bs) g (omega (arith, length-sets image (f .at) bs)) ∙ ap₂ (λ (x : List ℕ) (y : Filling). imagingOf x (movedAll (read ts) y)) (sym e) m)
 
     past : segmentLimit ≤ f .at → Laid (t ∷ ts) image f
@@ -90,7 +90,7 @@ module _ (k : ℕ) (means bases offsets values : List ℕ) where
         let b = sets-out image (f .at) (bytesAll (f .size) (read (t ∷ ts))) (omega arith) in
         let on : layValue (getD values t 0) (imagingOf image f) ≡ imagingOf image f = rw (le-ltb (f .at) segmentLimit l) in
         let m : f ≡ moved f = rw (le-ltb (f .at) segmentLimit l) in
-        ap (onValues step quiet ts) on ∙ (ih image f h ∙ ap₂ (λ (x : List ℕ) (y : Filling). imagingOf x (movedAll (read ts) y)) (a ∙ sym b) m)
+        ap (onValues step ts) on ∙ (ih image f h ∙ ap₂ (λ (x : List ℕ) (y : Filling). imagingOf x (movedAll (read ts) y)) (a ∙ sym b) m)
 
     either : Dec (f .at < segmentLimit) → Laid (t ∷ ts) image f
     either (yes l) = here l
@@ -132,18 +132,11 @@ module _ (k : ℕ) (means bases offsets values : List ℕ) where
         (λ e. rw (f .of-segment, e) (ap (λ (bs : List ℕ). sets image (getD offsets (d .cell .name) 0) bs) (ap (λ (z : ℕ). bytesAll z (d .values)) (f .of-size) ∙ values-are (d .cell .width) (d .values))))
         (λ e. rw (f .of-segment, e, none-are (d .values)))
 
-    one : (i : Item) (d : Filled) (ds : List Filled) → d .cell .name ≡ i .name → d .values ≡ read (i .numbers) → Right means bases d → onItem step quiet i (made ds) ≡ made (d ∷ ds)
+    one : (i : Item) (d : Filled) (ds : List Filled) → d .cell .name ≡ i .name → d .values ≡ read (i .numbers) → Right means bases d → onItem step i (made ds) ≡ made (d ∷ ds)
     unfolding imageEvent
     one i d ds e v r =
         values-laid (i .numbers) (layCells ds) (startCell k means bases offsets (i .name)) (short-cells ds)
         ∙ rw (← e, ← v) (ap (λ (x : List ℕ). imagingOf x (movedAll (d .values) (startCell k means bases offsets (d .cell .name)))) (cell-laid d (layCells ds) r))
-
-    laid-cells : (kinds found : List ℕ) (x : Statement) (own : ℕ) (b : Based) (s : Meant) → s .cells ≡ [] → All (Right means bases) (meanStatement kinds values found x own b s .cells)
-        → pass step (imagingOf image nowhere) (tapeStatement x []) ≡ made (meanStatement kinds values found x own b s .cells)
-    laid-cells kinds found x own b s e r =
-        statement-on step quiet x (imagingOf image nowhere) []
-        ∙ (pass-none step _
-        ∙ (ap (λ (ds : List Filled). onStatement step quiet x (made ds)) (sym e) ∙ statement-made step quiet values (Right means bases) made one kinds found x own b s r .1))
 
     -- ── they are the definition's ──
 
@@ -157,11 +150,11 @@ module _ (k : ℕ) (means bases offsets values : List ℕ) where
         ap₂ (λ (l : List ℕ) (o : ℕ). if eqb (d .cell .base .segment) k then sets l o (valueBytes (d .cell .width) (d .values)) else l) (filled n ds (a .1)) (a .0)
 
     -- the initial values of the cells of segment k
-    pub image-of-tree : (kinds found : List ℕ) (x : Statement) (own : ℕ) (b : Based) (s : Meant) (n : ℕ) → s .cells ≡ []
-        → All (Right means bases) (meanStatement kinds values found x own b s .cells) → All There (placeCells n (meanStatement kinds values found x own b s .cells) .placed)
-        → pass step (imagingOf image nowhere) (tapeStatement x []) .image ≡ fill k (placeCells n (meanStatement kinds values found x own b s .cells) .placed) image
-    image-of-tree kinds found x own b s n e r a =
-        ap (λ (m : Imaging). m .image) (laid-cells kinds found x own b s e r) ∙ filled n (meanStatement kinds values found x own b s .cells) a
+    pub image-of-tree : (kinds found : List ℕ) (x : Statement) (i j : ℕ) → isProgram kinds x i j → (s : Meant) (n : ℕ) → s .cells ≡ []
+        → All (Right means bases) (meanProgram kinds values found x s .cells) → All There (placeCells n (meanProgram kinds values found x s .cells) .placed)
+        → pass step (imagingOf image nowhere) (tapeStatement x []) .image ≡ fill k (placeCells n (meanProgram kinds values found x s .cells) .placed) image
+    image-of-tree kinds found x i j p s n e r a =
+        ap (λ (m : Imaging). m .image) (cells-made kinds values found step quiet (Right means bases) made one x i j p s e r) ∙ filled n (meanProgram kinds values found x s .cells) a
 
 -- no two cells are declared at one token, so each stands where it was placed
 pub placed-there : (n : ℕ) (ds : List Filled) → Falling ds → All (λ (p : Placed). offsetOf (placeCells n ds .placed) (p .name) ≡ p .offset) (placeCells n ds .placed)

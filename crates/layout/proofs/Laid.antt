@@ -14,20 +14,19 @@ use Rattle.base.proofs.Tests.{cases}
 use Rattle.names.specs.declared.Broken.{Broken}
 use Rattle.names.specs.Broken.{unbroken, rule, _⊕_}
 use Rattle.grammar.specs.Tree.{Item, Statement}
-use Rattle.grammar.specs.Rising.{statementRises}
+use Rattle.grammar.specs.Derives.{isProgram}
 use Rattle.tape.specs.Events as E
 use Rattle.tape.specs.Tape.{tapeStatement}
 use Rattle.tape.specs.Pass.{pass}
-use Rattle.tape.proofs.Pass.{pass-none}
 use Rattle.kinds.specs.Meaning.{Meaning, nothing, cell, Cell, Based, elementSize}
-use Rattle.kinds.specs.Meanings.{Filled, Meant, meanStatement}
+use Rattle.kinds.specs.Meanings.{Filled, Meant, meanProgram}
+use Rattle.kinds.proofs.Known.{Below, Told, Opened, Known}
 use Rattle.tables.specs.Packed.{numberIn, basedIn, cellIn, unpacked, meaningsOf}
 use Rattle.tables.proofs.Meanings.{by-sort, meaning-at}
 use Rattle.translator.specs.Layout.{roundUp, offsetFor, endFor, emptyEnds, placeCell, placeCells, offsetOf, segmentLimit}
 use Rattle.translator.proofs.Rooms.{length-ends}
 use Rattle.layout.specs.Along.{Laying, layingOf, startEnds, segmentAt, sizeAt, offsetAt, endAt, placeAt, layoutEvent}
-use Rattle.layout.proofs.Declared.{Told, told-statement}
-use Rattle.layout.proofs.Trees.{Apart, onValues, onItem, onStatement, statement-on, statement-made}
+use Rattle.layout.proofs.Trees.{Apart, onValues, onItem, cells-made}
 
 -- ── a cell by its packed meaning ──
 
@@ -65,23 +64,15 @@ module _ (means bases : List ℕ) where
     unfolding layoutEvent
     quiet op t s h = rw (h .0)
 
-    values-quiet : (ts : List ℕ) (s : Laying) → onValues (layoutEvent means bases) quiet ts s ≡ s
+    values-quiet : (ts : List ℕ) (s : Laying) → onValues (layoutEvent means bases) ts s ≡ s
     unfolding layoutEvent
     values-quiet [] s = refl
     values-quiet (t ∷ ts) s = values-quiet ts s
 
     one : (values : List ℕ) (i : Item) (d : Filled) (ds : List Filled) → d .cell .name ≡ i .name → d .values ≡ map (λ (t : ℕ). getD values t 0) (i .numbers) → Right d
-        → onItem (layoutEvent means bases) quiet i (layAll ds) ≡ layAll (d ∷ ds)
+        → onItem (layoutEvent means bases) i (layAll ds) ≡ layAll (d ∷ ds)
     unfolding layoutEvent
     one values i d ds e v r = values-quiet (i .numbers) _ ∙ rw e
-
-    pub laid-all : (kinds values found : List ℕ) (x : Statement) (own : ℕ) (b : Based) (s : Meant) → s .cells ≡ [] → All Right (meanStatement kinds values found x own b s .cells)
-        → pass (layoutEvent means bases) start (tapeStatement x []) ≡ layAll (meanStatement kinds values found x own b s .cells)
-    laid-all kinds values found x own b s e r =
-        statement-on (layoutEvent means bases) quiet x start []
-        ∙ (pass-none (layoutEvent means bases) _
-        ∙ (ap (λ (ds : List Filled). onStatement (layoutEvent means bases) quiet x (layAll ds)) (sym e)
-        ∙ statement-made (layoutEvent means bases) quiet values Right layAll (one values) kinds found x own b s r .1))
 
 -- ── it is the definition's ──
 
@@ -161,34 +152,26 @@ module _ (means bases : List ℕ) (N M n : ℕ) (fit : 2 + n ≤ N) where
         broken = ap₂ (λ (x : Broken) (y : ℕ). x ⊕ rule (leb y segmentLimit) 12 (c .name)) (h .broken) e;
       }
 
--- the laws of a whole text: s is what stands before it, n the number of its base declarations, N and M the lengths of the two arrays
+-- the laws of a whole text: s is what stands before it, N and M the lengths of the two arrays
 module _
-    (means bases kinds values found : List ℕ) (x : Statement) (own lo hi : ℕ) (b : Based) (s : Meant) (empty : s .cells ≡ []) (rises : statementRises x lo hi)
-    (N M n : ℕ) (long : length (s .means) ≡ M) (in-text : hi ≤ M) (fit : 2 + n ≤ N)
+    (means bases kinds values found : List ℕ) (x : Statement) (i j : ℕ) (program : isProgram kinds x i j) (s : Meant) (empty : s .cells ≡ [])
+    (k : ℕ) (known : Known k (meanProgram kinds values found x s)) (table : meaningsOf means bases ≡ meanProgram kinds values found x s .means)
   where
     abbrev after : Meant
-    after = meanStatement kinds values found x own b s
+    after = meanProgram kinds values found x s
 
-    module _ (table : meaningsOf means bases ≡ after .means) where
-      told-after : Told M hi after
-      told-after =
-          told-statement M kinds values found x lo hi own b s rises in-text
-          (record { long = long; told = subst (λ (ds : List Filled). All (λ (d : Filled). (d .cell .name < lo) × (getD (s .means) (d .cell .name) nothing ≡ cell (d .cell))) ds) (sym empty) tt })
+    pub all-right : All (Right means bases) (after .cells)
+    all-right = all-map (Told (after .means)) (Right means bases) (after .cells) (λ d h. ap (λ (ms : List Meaning). getD ms (d .cell .name) nothing) table ∙ h) (known .told)
 
-      pub all-right : All (Right means bases) (after .cells)
-      all-right = all-map _ (Right means bases) (after .cells) (λ d h. ap (λ (ms : List Meaning). getD ms (d .cell .name) nothing) table ∙ h .1) (told-after .told)
-
-      all-named : All (λ (d : Filled). d .cell .name < M) (after .cells)
-      all-named = all-map _ (λ (d : Filled). d .cell .name < M) (after .cells) (λ d h. let l = h .0 in omega arith) (told-after .told)
-
-      all-fit : (ds : List Filled) → All (Right means bases) ds → All (λ (d : Filled). d .cell .base .segment ≤ 1 + n) ds → All (λ (d : Filled). d .cell .name < M) ds
-          → All (Fits means bases N M n fit) ds
+    module _ (N M : ℕ) (in-text : k ≤ M) (fit : 2 + after .bases ≤ N) where
+      all-fit : (ds : List Filled) → All (Right means bases) ds → Opened (after .bases) ds → Below k ds → All (Fits means bases N M (after .bases) fit) ds
       all-fit [] r o m = tt
-      all-fit (d ∷ ds) r o m = ((r .0, o .0, m .0), all-fit ds (r .1) (o .1) (m .1))
+      all-fit (d ∷ ds) r o m = ((r .0, o .0, (let l = m .0 in omega arith)), all-fit ds (r .1) (o .1) (m .1))
 
       -- where the cells stand, where their segments end, and refusal 12
-      pub layout-of-tree : All (λ (d : Filled). d .cell .base .segment ≤ 1 + n) (after .cells)
-          → LaidAs n (after .cells) (pass (layoutEvent means bases) (layingOf (startEnds N) (replicate M 0) unbroken) (tapeStatement x []))
-      layout-of-tree o =
-          subst (λ (l : Laying). LaidAs n (after .cells) l) (sym (laid-all means bases (start means bases N M n fit) kinds values found x own b s empty all-right))
-          (laid-as means bases N M n fit (after .cells) (all-fit (after .cells) all-right o all-named))
+      pub layout-of-tree : LaidAs (after .bases) (after .cells) (pass (layoutEvent means bases) (layingOf (startEnds N) (replicate M 0) unbroken) (tapeStatement x []))
+      layout-of-tree =
+          let from = start means bases N M (after .bases) fit in
+          subst (λ (l : Laying). LaidAs (after .bases) (after .cells) l)
+          (sym (cells-made kinds values found (layoutEvent means bases) (quiet means bases from) (Right means bases) (layAll means bases from) (one means bases from values) x i j program s empty all-right))
+          (laid-as means bases N M (after .bases) fit (after .cells) (all-fit (after .cells) all-right (known .opened) (known .below)))

@@ -1,6 +1,5 @@
 -- Laws of layout and images along a tape.
 pub mod Along
-pub mod Declared
 pub mod Trees
 pub mod Laid
 pub mod Images

@@ -15,7 +15,7 @@ use Rattle.base.proofs.Tests.{cases}
 use Rattle.token.specs.Kinds as K
 use Rattle.token.specs.declared.Token.{Token}
 use Rattle.grammar.specs.Tree.{Statement}
-use Rattle.grammar.specs.Derives.{isStatement, isProgram}
+use Rattle.grammar.specs.Derives.{isProgram}
 use Rattle.grammar.specs.Rising.{statementRises}
 use Rattle.grammar.proofs.Theorems.{program-rises, program-inside}
 use Rattle.tape.specs.Tape.{tapeStatement}
@@ -23,7 +23,7 @@ use Rattle.names.specs.Search.{firstToken, around}
 use Rattle.names.specs.Names.{Named}
 use Rattle.names.specs.Labels.{Labelled}
 use Rattle.names.proofs.Bound.{BoundStatement, bound-program}
-use Rattle.kinds.specs.Meanings.{Filled, Meant, meanStatement, dataBase, standard}
+use Rattle.kinds.specs.Meanings.{Filled, Meant, standard}
 use Rattle.kinds.specs.Tables.{Tables}
 use Rattle.kinds.proofs.Known.{Known}
 use Rattle.tables.specs.Packed.{low, meaningsOf}
@@ -81,23 +81,14 @@ module _
     abbrev tape : List ℕ
     tape = tapeStatement x []
 
-    -- where the tree ends, before the `@`
-    abbrev last : ℕ
-    unfolding isProgram
-    last = program .0
-
-    read : isStatement (kindsOf ts) x firstToken last
-    unfolding isProgram
-    read = program .1 .1
-
-    known : Known last m
-    known = O.known ts x last front read quiet
+    known : Known to m
+    known = O.known ts x to front program quiet
 
     cells-quiet : placeCells (m .bases) (m .cells) .broken .number ≡ 0
-    cells-quiet = O.cells-quiet ts x last front read quiet
+    cells-quiet = O.cells-quiet ts x to front program quiet
 
     few : m .bases ≤ 2
-    few = O.few ts x last front read quiet
+    few = O.few ts x to front program quiet
 
     -- ── the layout ──
 
@@ -126,16 +117,12 @@ module _
 
     right : All (Right means under) (m .cells)
     unfolding meant
-    right =
-        all-right means under (kindsOf ts) (valuesOf ts) (named ts x .found) x 0 firstToken to dataBase before refl rises 2 (length ts) 0 long inside (omega arith) means-are
-      where
-        long : length (before .means) ≡ length ts
-        long = let e = length-replicate {A = Rattle.kinds.specs.Meaning.Meaning} (length ts - firstToken) Rattle.kinds.specs.Meaning.nothing in omega arith
+    right = all-right means under (kindsOf ts) (valuesOf ts) (named ts x .found) x firstToken to program before refl to known means-are
 
     image-is : (k : ℕ) → imageAlong (valuesOf ts) means under offsets tape k ≡ fill k (y .placed) zeros
     unfolding imageAlong meant layout
     image-is k =
-        image-of-tree k means under offsets (valuesOf ts) zeros (let e = length-replicate {A = ℕ} segmentLimit 0 in omega arith) (kindsOf ts) (named ts x .found) x 0 dataBase before (m .bases) refl right
+        image-of-tree k means under offsets (valuesOf ts) zeros (let e = length-replicate {A = ℕ} segmentLimit 0 in omega arith) (kindsOf ts) (named ts x .found) x firstToken to program before (m .bases) refl right
         (all-map _ _ (placeCells (m .bases) (m .cells) .placed) (λ (p : Placed) h. offsets-are (p .name) ∙ h) (placed-there (m .bases) (m .cells) (known .falling)))
 
     -- ── the program ──
@@ -169,8 +156,8 @@ module _
         → objectAlong (valuesOf ts) means under offsets tape (m .bases) ends (startOf ends) (take (lain .at) (lain .image)) (lain .literals) ≡ segments (m .bases) y is
     unfolding objectAlong objectCut endOfFirst
     object-is h k =
-        let fit : Fitting y = O.fitting ts x last front read quiet k in
-        let bytes = O.program-bytes ts x last front read quiet h k in
+        let fit : Fitting y = O.fitting ts x to front program quiet k in
+        let bytes = O.program-bytes ts x to front program quiet h k in
         rw (lain-is, start-is, image-is 1, image-is 2, image-is 3, end-is 1, end-is 2, end-is 3, program-cut (encodeAll y is) (sizes is) (length-encodeAll y is) h bytes, first-cut y fit, later-cut y 2 (fit .ends 2), later-cut y 3 (fit .ends 3))
         (sym (segments-are y (m .bases) is few))
 

@@ -1,18 +1,19 @@
 -- Arrays of zeros, with the registers' names, are the tables before a text; so on the tape of a program the walk makes the definition's tables of it.
 use mathlib.Core.Path.{_≡_, refl, ap, ap₂, sym, _∙_}
 use mathlib.Core.List.{List, [], _∷_}
-use Prim.Native.Nat.{ℕ, zero, suc, _+_, _%_}
+use Prim.Native.Nat.{ℕ, zero, suc, _+_, _%_, _≤_}
 use native.Mathlib.Omega.{arith}
-use lib.ListN.{getD, set, replicate}
+use lib.ListN.{getD, set, replicate, length-replicate}
 use Rattle.base.specs.Choose.{if_then_else_}
 use Rattle.names.specs.Search.{firstToken}
+use Rattle.names.proofs.Early.{Early}
 use Rattle.grammar.specs.Tree.{Statement}
 use Rattle.grammar.specs.Derives.{isProgram}
 use Rattle.tape.specs.Tape.{tapeStatement}
 use Rattle.tape.specs.Pass.{pass}
 use Rattle.kinds.specs.Registers.{Registers, noRegisters}
 use Rattle.kinds.specs.Meaning.{Meaning, nothing}
-use Rattle.kinds.specs.Meanings.{Meant, meanStatement, dataBase, standard}
+use Rattle.kinds.specs.Meanings.{Meant, meanProgram, standard}
 use Rattle.tables.specs.Packed.{low, packed, numberIn, unpacked, meaningsFrom, meaningsOf, setOf, setsOf}
 use Rattle.tables.proofs.Sets.{set-none}
 use Rattle.meanings.specs.Along.{meanEvent, beginning}
@@ -42,7 +43,8 @@ blank n bases =
 
 -- a program's tape, from arrays of zeros
 pub meant-text :
-    (kinds values found bases : List ℕ) (n : ℕ) → Small kinds values found → (x : Statement) (i j : ℕ) → isProgram kinds x i j
+    (kinds values found bases : List ℕ) (n : ℕ) → Small kinds values found → Early found → (x : Statement) (i j : ℕ) → isProgram kinds x i j → j ≤ firstToken + n
     → pass (meanEvent kinds values found) (beginning (meantOf (registersNamed 16 (replicate (firstToken + n) 0)) bases (replicate (firstToken + n) 0) (replicate (firstToken + n) 0) 0)) (tapeStatement x []) .meant
-    ≡ tabled (meanStatement kinds values found x 0 dataBase (standard n))
-meant-text kinds values found bases n small x i j h = rw (blank n bases) (meant-program kinds values found small x i j h (standard n))
+    ≡ tabled (meanProgram kinds values found x (standard n))
+meant-text kinds values found bases n small early x i j h l =
+    rw (blank n bases) (meant-program kinds values found small early x i j h (standard n) (omega (arith, length-replicate {A = ℕ} (firstToken + n) 0)))

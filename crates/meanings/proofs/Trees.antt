@@ -1,332 +1,316 @@
--- On the tape of a program the walk's tables are what the definition makes of its tree: a line for each way to make a tree. What stands at a fixed distance
--- from an event's token does so by the grammar; the numbers of a text have 32 bits.
-use mathlib.Core.Path.{_≡_, refl, ap, sym, _∙_}
+-- On the tape of a program the walk's tables are what the definition says, event by event. What stands at a fixed distance from an event's token does so by the
+-- grammar; the numbers of a text have 32 bits; and a base stays in force, since its name means what was declared before it.
+use mathlib.Core.Path.{_≡_, refl, ap, ap₂, sym, _∙_}
 use mathlib.Core.List.{List, [], _∷_}
 use mathlib.Core.Bool.{Bool, true, false, _&&_, _||_}
 use mathlib.Core.Option.{Option, none, some}
-use Prim.Native.Nat.{ℕ, zero, suc, _+_, _-_, _%_, _<_}
+use Prim.Native.Nat.{ℕ, zero, suc, _+_, _-_, _≤_, _<_}
 use native.Mathlib.Omega.{arith}
 use lib.Dec.{eqb}
-use lib.ListN.{getD, set}
+use lib.ListN.{getD, set, length}
+use lib.Seq.{getD-set-same}
 use Rattle.base.specs.Choose.{choose, if_then_else_}
-use Rattle.base.specs.Lists.{All}
-use Rattle.base.proofs.Tests.{by-test, cases}
 use Rattle.token.specs.Kinds as K
-use Rattle.grammar.specs.Tree.{Designator, Operand, number, place, Sign, plain, abs, neg, negAbs, Term, Assignment, Condition, compared, bare, Register, Item, Declaration, registers, cells, base, Statement, assign, call, block, goto, null, ifThen, ifElse, while, for, Body, declare, procedure, items, Items, ended, label, item, Width, full, short}
+use Rattle.grammar.specs.Tree.{Designator, Operand, number, place, Sign, plain, abs, neg, negAbs, Term, Condition, compared, bare, Statement, Width, full, short}
+use Rattle.grammar.specs.Derives.{isRegister, isProgram}
 use Rattle.grammar.specs.Pinned.{headOf}
 use Rattle.grammar.proofs.Pinned.{pinned-operand}
-use Rattle.grammar.specs.Derives.{isShape, isDesignator, isOperand, areTerms, isAssignment, isRegister, areMore, areSome, isDeclaration, isStatement, isBody, isItems, isProgram}
+use Rattle.grammar.specs.Events.{Edge, opened, closed, entered, left, Route, labelled, sent, Entry, named, celled, itemed, valued, based, Phrase, aimed, driven, signed, given, joined, tested, limited, called, Mark, looped, otherwise, endedIf, endedElse, endedWhile, endedFor, Event, edge, route, entry, phrase, mark, eventsOf}
+use Rattle.grammar.specs.Places.{within, body, Place, after, along}
+use Rattle.grammar.specs.Contexts.{Context, nowhere, aiming, declaring, contextAfter, entrySuits, phraseSuits, Suits}
+use Rattle.grammar.proofs.Contexts.{program-coherent}
+use Rattle.grammar.specs.Texts.{InBlock, EdgeFits, isEvent, Stands}
+use Rattle.grammar.proofs.Texts.{program-text}
+use Rattle.grammar.proofs.Order.{Earlier, Placed, text-placed}
 use Rattle.tape.specs.Events as E
-use Rattle.tape.specs.Tape.{event, shapeBy, tapeDesignator, tapeOperand, tapeCondition, tapeSign, tapeEach, tapeTerm, tapeAssignment, tapeValue, tapeItem, tapeRegister, cellsEvent, tapeDeclaration, tapeStatement, tapeBody, tapeItems}
+use Rattle.tape.specs.Tape.{tapeStatement, shape}
 use Rattle.tape.specs.Pass.{pass}
-use Rattle.tape.proofs.Pass.{pass-none, pass-event}
-use Rattle.kinds.specs.Meaning.{Meaning, nothing, register, cell, routine, Based, meaningOf, registerOf, isLong, longOperand}
-use Rattle.kinds.specs.Writes.{isProduct, lowers, targetWrites, assignmentWrites}
-use Rattle.kinds.specs.Meanings.{Meant, mean, write, writeAll, writeText, callWrites, openBase, addCell, meanRegisters, countOf, isArray, cellOf, meanCells, meaningIn, meanStatement, meanBody, meanItems, dataBase}
+use Rattle.tape.specs.Written.{operandShape, signCode, conditionCode, opOf, tokenOf}
+use Rattle.tape.proofs.Numbers.{by-shape, by-operand}
+use Rattle.tape.proofs.Written.{tree-tape, follows-in}
+use Rattle.names.proofs.Early.{Early}
+use Rattle.kinds.specs.Meaning.{Meaning, nothing, register, cell, routine, Based, meaningOf, registerOf, isLong, longOperand, isProduct}
+use Rattle.kinds.specs.Meanings as D
+use Rattle.kinds.specs.Meanings.{Meant, mean, write, writeText, callWrites, targetWrites, openBase, addCell, countOf, isArray, meaningIn, ownIn, newest, baseIn, meanProgram}
+use Rattle.kinds.proofs.Heeds.{Alike, phrase-alike}
+use Rattle.kinds.proofs.Lengths.{event-long}
+use Rattle.kinds.proofs.Stays.{Stays, event-stays}
 use Rattle.tables.specs.Packed.{low, packed, unpacked}
 use Rattle.tables.proofs.Meanings.{low-is, packed-cell}
-use Rattle.meanings.specs.Along.{Within, enterBlock, leaveBlock, enterProcedure, changeBase, targetOf, writeTarget, writeLower, withinAfter, formAfter, targetAfter, declaredAfter, isProductAt, writeProduct, writtenAfter, Meaning-walk, meanEvent, outside, beginning}
+use Rattle.meanings.specs.Along.{Within, targetOf, writeTarget, writeLower, withinAfter, formAfter, targetAfter, declaredAfter, isProductAt, writeProduct, writtenAfter, Meaning-walk, meanEvent, beginning}
 
 -- the tables without the list of cells
 abbrev pub tabled : Meant → Meant
 tabled s = record { means = s .means; opens = s .opens; written = s .written; cells = []; bases = s .bases }
 
+-- the procedures around the innermost
+abbrev ownersIn : Place → List ℕ
+ownersIn [] = []
+ownersIn (within b ∷ p) = ownersIn p
+ownersIn (body n r ∷ p) = ownIn p ∷ ownersIn p
+
 module _ (kinds values found : List ℕ) where
-  abbrev at : Within → ℕ → ℕ → Meant → Meaning-walk
-  at w form target s = record { within = w; form = form; target = target; meant = s }
-
-  abbrev run : Meaning-walk → List ℕ → Meaning-walk
-  run m k = pass (meanEvent kinds values found) m k
-
-  via : (op t : ℕ) (m m′ : Meaning-walk) (k : List ℕ) → meanEvent kinds values found (op % 64) t m ≡ m′ → run m (event op t ∷ k) ≡ run m′ k
-  via op t m m′ k e = pass-event (meanEvent kinds values found) op t m k ∙ ap (λ (x : Meaning-walk). run x k) e
-
-  -- ── assignments ──
-
-  -- an event that changes nothing, by its shape
-  abbrev Quiet : ℕ → Type 0
-  Quiet op =
-      (t : ℕ) (m : Meaning-walk)
-      → (meanEvent kinds values found ((op + 0) % 64) t m ≡ m) × (meanEvent kinds values found ((op + 1) % 64) t m ≡ m)
-      × (meanEvent kinds values found ((op + 2) % 64) t m ≡ m) × (meanEvent kinds values found ((op + 3) % 64) t m ≡ m) × (meanEvent kinds values found ((op + 4) % 64) t m ≡ m)
-
-  passed : (op : ℕ) → Quiet op → (a : Operand) (m : Meaning-walk) (k : List ℕ) → run m (tapeOperand op a k) ≡ run m k
-  unfolding tapeOperand tapeDesignator
-  passed op q (number t) m k = via (op + 4) t m m k (q t m .4)
-  passed op q (place d) m k = by-shape (d .subscript) (d .index)
-    where
-      by-shape : (subscript index : Option ℕ) → run m (event (op + shapeBy subscript index) (d .name) ∷ k) ≡ run m k
-      by-shape none none = via (op + 0) (d .name) m m k (q (d .name) m .0)
-      by-shape (some v) none = via (op + 1) (d .name) m m k (q (d .name) m .1)
-      by-shape none (some x) = via (op + 2) (d .name) m m k (q (d .name) m .2)
-      by-shape (some v) (some x) = via (op + 3) (d .name) m m k (q (d .name) m .3)
-
-  initial : (a : Operand) (m : Meaning-walk) (k : List ℕ) → run m (tapeOperand E.FIRST a k) ≡ run m k
-  unfolding meanEvent withinAfter formAfter targetAfter declaredAfter writtenAfter
-  initial a m k = passed E.FIRST (λ t m. (refl, refl, refl, refl, refl)) a m k
-
-  limit : (a : Operand) (m : Meaning-walk) (k : List ℕ) → run m (tapeOperand E.LIMIT a k) ≡ run m k
-  unfolding meanEvent withinAfter formAfter targetAfter declaredAfter writtenAfter
-  limit a m k = passed E.LIMIT (λ t m. (refl, refl, refl, refl, refl)) a m k
-
-  condition : (c : Condition) (m : Meaning-walk) (k : List ℕ) → run m (tapeCondition c k) ≡ run m k
-  unfolding meanEvent withinAfter formAfter targetAfter declaredAfter writtenAfter tapeCondition
-  condition (compared n r a) m k = passed E.COMPARED (λ t m. (refl, refl, refl, refl, refl)) a m k
-  condition (bare r) m k = via E.BARE r m m k refl
-
-  sign : (g : Sign) (m : Meaning-walk) (k : List ℕ) → run m (tapeSign g k) ≡ run m k
-  unfolding meanEvent withinAfter formAfter targetAfter declaredAfter writtenAfter tapeSign
-  sign plain m k = refl
-  sign (abs t) m k = via E.ABS t m m k refl
-  sign (neg t) m k = via E.NEG t m m k refl
-  sign (negAbs t) m k = via E.NEG-ABS t m m k refl
-
-  module _ (w : Within) (form g : ℕ) (s : Meant) (k : List ℕ) where
-    -- what a target leaves
-    aimed : ℕ → Meaning-walk
-    aimed n = at w form (targetOf (meaningOf found (s .means) n)) (writeTarget (w .own) (targetOf (meaningOf found (s .means) n)) s)
-
-    target : (d : Designator) → run (at w form g s) (tapeDesignator E.TARGET d k) ≡ run (aimed (d .name)) k
-    unfolding meanEvent withinAfter formAfter targetAfter declaredAfter writtenAfter tapeDesignator aimed
-    target d = by-shape (d .subscript) (d .index)
-      where
-        by-shape : (subscript index : Option ℕ) → run (at w form g s) (event (E.TARGET + shapeBy subscript index) (d .name) ∷ k) ≡ run (aimed (d .name)) k
-        by-shape none none = via E.TARGET (d .name) (at w form g s) (aimed (d .name)) k refl
-        by-shape (some v) none = via (E.TARGET + 1) (d .name) (at w form g s) (aimed (d .name)) k refl
-        by-shape none (some x) = via (E.TARGET + 2) (d .name) (at w form g s) (aimed (d .name)) k refl
-        by-shape (some v) (some x) = via (E.TARGET + 3) (d .name) (at w form g s) (aimed (d .name)) k refl
-
-    control : (d : Designator) → run (at w form g s) (tapeDesignator E.CONTROL d k) ≡ run (aimed (d .name)) k
-    unfolding meanEvent withinAfter formAfter targetAfter declaredAfter writtenAfter tapeDesignator aimed
-    control d = by-shape (d .subscript) (d .index)
-      where
-        by-shape : (subscript index : Option ℕ) → run (at w form g s) (event (E.CONTROL + shapeBy subscript index) (d .name) ∷ k) ≡ run (aimed (d .name)) k
-        by-shape none none = via E.CONTROL (d .name) (at w form g s) (aimed (d .name)) k refl
-        by-shape (some v) none = via (E.CONTROL + 1) (d .name) (at w form g s) (aimed (d .name)) k refl
-        by-shape none (some x) = via (E.CONTROL + 2) (d .name) (at w form g s) (aimed (d .name)) k refl
-        by-shape (some v) (some x) = via (E.CONTROL + 3) (d .name) (at w form g s) (aimed (d .name)) k refl
-
-    -- a term writes the lower register where it is a product
-    term : (o : ℕ) (a : Operand) → headOf a - 1 ≡ o
-        → run (at w form g s) (tapeOperand E.TERM a k)
-        ≡ run (at w form g (if eqb (getD kinds o 0) K.TIMES && longOperand found (s .means) a then writeLower (w .own) g s else s)) k
-    unfolding meanEvent withinAfter formAfter targetAfter declaredAfter writtenAfter writeProduct isProductAt tapeOperand tapeDesignator
-    term o (number t) e = rw (← e) (via (E.TERM + 4) t (at w form g s) _ k refl)
-    term o (place d) e = rw (← e) (by-shape (d .subscript) (d .index))
-      where
-        left : Meaning-walk
-        left = at w form g (if eqb (getD kinds (d .name - 1) 0) K.TIMES && isLong (meaningOf found (s .means) (d .name)) then writeLower (w .own) g s else s)
-
-        by-shape : (subscript index : Option ℕ) → run (at w form g s) (event (E.TERM + shapeBy subscript index) (d .name) ∷ k) ≡ run left k
-        by-shape none none = via E.TERM (d .name) (at w form g s) left k refl
-        by-shape (some v) none = via (E.TERM + 1) (d .name) (at w form g s) left k refl
-        by-shape none (some x) = via (E.TERM + 2) (d .name) (at w form g s) left k refl
-        by-shape (some v) (some x) = via (E.TERM + 3) (d .name) (at w form g s) left k refl
-
-  operator-at : (o : ℕ) (a : Operand) (i j : ℕ) → o ≡ i → isOperand kinds a (i + 1) j → headOf a - 1 ≡ o
-  operator-at o a i j e h = omega (arith, pinned-operand kinds a (i + 1) j h .0)
-
-  -- no register, so nothing is written
-  unaimed : (ts : List Term) (i j : ℕ) → areTerms kinds ts i j → (w : Within) (form : ℕ) (s : Meant) (k : List ℕ) → run (at w form 0 s) (tapeEach tapeTerm ts k) ≡ run (at w form 0 s) k
-  unfolding areTerms tapeEach writeLower
-  unaimed [] i j h w form s k = refl
-  unaimed (t ∷ ts) i j h w form s k =
-      term w form 0 s _ (t .operator) (t .operand) (operator-at _ (t .operand) _ _ (h .0) (h .2 .1))
-      ∙ (by-test (λ (x : Meant). run (at w form 0 x) (tapeEach tapeTerm ts k) ≡ run (at w form 0 s) (tapeEach tapeTerm ts k)) (isProduct kinds found (s .means) t) s s (λ e. refl) (λ e. refl)
-      ∙ unaimed ts _ _ (h .2 .2) w form s k)
-
-  -- the products in the chain of register r
-  chained :
-      (ts : List Term) (i j : ℕ) → areTerms kinds ts i j → (w : Within) (form r : ℕ) (s : Meant) (k : List ℕ)
-      → run (at w form (suc r) (tabled s)) (tapeEach tapeTerm ts k) ≡ run (at w form (suc r) (tabled (writeAll (w .own) (lowers kinds found (s .means) r ts) s))) k
-  unfolding areTerms tapeEach writeLower lowers writeAll write
-  chained [] i j h w form r s k = refl
-  chained (t ∷ ts) i j h w form r s k =
-      term w form (suc r) (tabled s) _ (t .operator) (t .operand) (operator-at _ (t .operand) _ _ (h .0) (h .2 .1))
-      ∙ cases (isProduct kinds found (s .means) t)
-      (λ e. rw e (chained ts _ _ (h .2 .2) w form r (write (w .own) (r - 1) s) k))
-      (λ e. rw e (chained ts _ _ (h .2 .2) w form r s k))
-
-  -- by what the target means
-  by-target :
-      (m : Meaning) (ts : List Term) (i j : ℕ) → areTerms kinds ts i j → (w : Within) (form : ℕ) (s : Meant) (k : List ℕ)
-      → run (at w form (targetOf m) (writeTarget (w .own) (targetOf m) (tabled s))) (tapeEach tapeTerm ts k)
-      ≡ run (at w form (targetOf m) (tabled (writeAll (w .own) (targetWrites kinds found (s .means) m ts) s))) k
-  unfolding writeTarget writeAll write
-  by-target nothing ts i j h w form s k = unaimed ts i j h w form (tabled s) k
-  by-target (register r) ts i j h w form s k = chained ts i j h w form r (write (w .own) r s) k
-  by-target (cell c) ts i j h w form s k = unaimed ts i j h w form (tabled s) k
-  by-target (routine r) ts i j h w form s k = unaimed ts i j h w form (tabled s) k
-
-  -- op: TARGET or CONTROL
-  assignment :
-      (op : ℕ) → ((w : Within) (form g : ℕ) (s : Meant) (k : List ℕ) (d : Designator) → run (at w form g s) (tapeDesignator op d k) ≡ run (aimed w form g s k (d .name)) k)
-      → (a : Assignment) (i j : ℕ) → isAssignment kinds a i j → (w : Within) (form g : ℕ) (s : Meant) (k : List ℕ)
-      → run (at w form g (tabled s)) (tapeAssignment op a k)
-      ≡ run (at w form (targetOf (meaningOf found (s .means) (a .target .name))) (tabled (writeAll (w .own) (assignmentWrites kinds found (s .means) a) s))) k
-  unfolding isAssignment tapeAssignment assignmentWrites aimed
-  assignment op aim a i j h w form g s k =
-      aim w form g (tabled s) _ (a .target)
-      ∙ (sign (a .sign) _ _ ∙ (initial (a .first) _ _ ∙ by-target (meaningOf found (s .means) (a .target .name)) (a .rest) _ _ (h .2 .1 .2 .2) w form s k))
-
-  -- ── what leads from one place and its tables to another, whatever stands open of the last declaration and assignment ──
-
-  record Leads (out : List ℕ → List ℕ) (w : Within) (s : Meant) (w′ : Within) (s′ : Meant) : Type 0 where
-    leads : (form g : ℕ) → (form′ : ℕ) × (g′ : ℕ) × ((k : List ℕ) → run (at w form g (tabled s)) (out k) ≡ run (at w′ form′ g′ (tabled s′)) k)
-
-  infixr 25 _then_
-  _then_ : {out next : List ℕ → List ℕ} {a b c : Within} {s t u : Meant} → Leads out a s b t → Leads next b t c u → Leads (λ k. out (next k)) a s c u
-  _then_ {next = next} p q = record {
-    leads = λ form g. let x = p .leads form g in let y = q .leads (x .0) (x .1) in (y .0, y .1, λ k. x .2 (next k) ∙ y .2 k);
-  }
-
-  -- form and target stay as they are
-  same :
-      (out : List ℕ → List ℕ) (w w′ : Within) (s s′ : Meant) → ((form g : ℕ) (k : List ℕ) → run (at w form g (tabled s)) (out k) ≡ run (at w′ form g (tabled s′)) k)
-      → Leads out w s w′ s′
-  same out w w′ s s′ e = record { leads = λ form g. (form, g, e form g) }
-
-  on :
-      (op t : ℕ) (w w′ : Within) (s s′ : Meant) → ((form g : ℕ) → meanEvent kinds values found (op % 64) t (at w form g (tabled s)) ≡ at w′ form g (tabled s′))
-      → Leads (λ k. event op t ∷ k) w s w′ s′
-  on op t w w′ s s′ e = same (λ k. event op t ∷ k) w w′ s s′ (λ form g k. via op t _ _ k (e form g))
-
-  -- ── declarations ──
-
   -- numbers have 32 bits
   abbrev pub Small : Type 0
   Small = (t : ℕ) → getD kinds t 0 ≡ K.NUMBER → getD values t 0 < 4294967296
 
+  -- the bases in force around each open block
+  abbrev outerIn : Meant → Place → List Based
+  outerIn s [] = []
+  outerIn s (within b ∷ p) = baseIn found s p ∷ outerIn s p
+  outerIn s (body n r ∷ p) = outerIn s p
+
+  -- ── a base stays in force ──
+
+  module _ (early : Early found) (i : ℕ) (s t : Meant) (stays : Stays i s t) where
+    newest-stays : (ns : List ℕ) (p : Place) → Earlier kinds i (within (record { at = 0; names = []; bases = ns; labels = []; set = [] }) ∷ p) → baseIn found t p ≡ baseIn found s p
+        → newest found t ns (baseIn found t p) ≡ newest found s ns (baseIn found s p)
+    newest-stays [] p h e = e
+    newest-stays (n ∷ ns) p h e =
+        let l = h .1 .0 in
+        let d = early n in
+        ap₂ (λ (m : Meaning) (k : ℕ). record { register = registerOf m; segment = k }) (stays .of-means (getD found n 0) (omega arith)) (stays .of-opens n l)
+
+    base-stays : (p : Place) → Earlier kinds i p → baseIn found t p ≡ baseIn found s p
+    base-stays [] h = refl
+    base-stays (within b ∷ p) h = newest-stays (b .bases) p (tt, h .1, h .2) (base-stays p (h .2))
+    base-stays (body n r ∷ p) h = base-stays p (h .2)
+
+    outer-stays : (p : Place) → Earlier kinds i p → outerIn t p ≡ outerIn s p
+    outer-stays [] h = refl
+    outer-stays (within b ∷ p) h = ap₂ (λ (x : Based) (xs : List Based). x ∷ xs) (base-stays p (h .2)) (outer-stays p (h .2))
+    outer-stays (body n r ∷ p) h = outer-stays p (h .2)
+
+  -- ── the walk's state, by what stands open ──
+
+  abbrev Formed : Option ℕ → Width → ℕ → Type 0
+  Formed n w form = (t : ℕ) (b : Based) → unpacked t form b ≡ cell (record { name = t; base = b; width = w; elements = countOf values n; array = isArray n })
+
+  abbrev Opens : Context → Meant → ℕ → ℕ → Type 0
+  Opens nowhere s form target = Unit {0}
+  Opens (aiming d) s form target = target ≡ targetOf (meaningIn found s (d .name))
+  Opens (declaring n w ts) s form target = Formed n w form
+
+  -- own, owners: the innermost procedure and those around it; s: the tables by which the bases at p are told
+  abbrev walkFrom : (own : ℕ) (owners : List ℕ) → Place → Meant → (form target : ℕ) → Meant → Meaning-walk
+  walkFrom own owners p s form target t = record { within = record { own = own; owners = owners; base = baseIn found s p; outer = outerIn s p }; form = form; target = target; meant = tabled t }
+
+  abbrev walk : Place → Meant → ℕ → ℕ → Meaning-walk
+  walk p s form target = walkFrom (ownIn p) (ownersIn p) p s form target s
+
+  abbrev step : ℕ → ℕ → Meaning-walk → Meaning-walk
+  step op t m = meanEvent kinds values found op t m
+
+  abbrev meanAt : Event → Place → Meant → Meant
+  meanAt = D.meanEvent kinds values found
+
+  -- at a place, for a text of N tokens
+  abbrev At : ℕ → Place → Context → Meant → Meaning-walk → Type 0
+  At N p c s m = (form : ℕ) × (target : ℕ) × (m ≡ walk p s form target) × Opens c s form target × (length (s .opens) ≡ N)
+
+  abbrev Next : Event → Place → Context → Meant → ℕ → ℕ → Type 0
+  Next e p c s form target =
+      (form′ : ℕ) × (target′ : ℕ) × (step (opOf e) (tokenOf e) (walk p s form target) ≡ walk (after e p) (meanAt e p s) form′ target′) × Opens (contextAfter e c) (meanAt e p s) form′ target′
+
+  -- the tables that an event leaves tell the same bases
+  abbrev Settles : Place → Meant → Meant → Type 0
+  Settles p s t = (baseIn found t p ≡ baseIn found s p) × (outerIn t p ≡ outerIn s p)
+
+  settle : (own : ℕ) (owners : List ℕ) (p : Place) (s t : Meant) (form target : ℕ) (x : Meaning-walk) → Settles p s t → x ≡ walkFrom own owners p s form target t → x ≡ walkFrom own owners p t form target t
+  settle own owners p s t form target x g e =
+      e ∙ ap₂ (λ (b : Based) (bs : List Based). record { within = record { own = own; owners = owners; base = b; outer = bs }; form = form; target = target; meant = tabled t }) (sym (g .0)) (sym (g .1))
+
+  -- ── edges and routes ──
+
+  turn-edge : (x : Edge) (p : Place) (c : Context) (s : Meant) (form target : ℕ) → EdgeFits x p → Settles p s (meanAt (edge x) p s) → (i j : ℕ) → isEvent kinds (edge x) i j → Next (edge x) p c s form target
+  unfolding D.meanEvent meanEvent withinAfter formAfter targetAfter declaredAfter writtenAfter writeText
+  turn-edge (opened t ls) p c s form target f g i j h = (form, target, refl, tt)
+  turn-edge (closed t) (within b ∷ p) c s form target f g i j h = (form, target, refl, tt)
+  turn-edge (entered n r) (within b ∷ p) c s form target f g i j h =
+      let e : r ≡ n + 2 = omega (arith, h .1 .0, h .1 .2 .1 .0) in
+      (form, target, settle n (ownIn p ∷ ownersIn p) (within b ∷ p) s (meanAt (edge (entered n r)) (within b ∷ p) s) form target _ g (rw e), tt)
+  turn-edge (left n) (body k r ∷ p) c s form target f g i j h = (form, target, settle (ownIn p) (ownersIn p) p s (meanAt (edge (left n)) (body k r ∷ p) s) form target _ g refl, tt)
+
+  turn-route : (x : Route) (p : Place) (c : Context) (s : Meant) (form target : ℕ) → Stands kinds (route x) p 0 → Next (route x) p c s form target
+  unfolding D.meanEvent meanEvent withinAfter formAfter targetAfter declaredAfter writtenAfter
+  turn-route (labelled l) p c s form target h = labels p (h .fits)
+    where
+      labels : (p : Place) → InBlock p → Next (route (labelled l)) p c s form target
+      labels (within b ∷ p) f = (form, target, refl, tt)
+  turn-route (sent t n) p c s form target h = (form, target, refl, tt)
+
+  -- ── entries ──
+
   module _ (small : Small) where
-    -- a register's number stands behind its name
-    abbrev Numbered : Register → Type 0
-    Numbered r = (r .number ≡ r .name + 2) × (getD kinds (r .number) 0 ≡ K.NUMBER)
-
-    numbered : (r : Register) (i j : ℕ) → isRegister kinds r i j → Numbered r
-    unfolding isRegister
-    numbered r i j h = (omega (arith, h .0, h .2 .1 .0), rw (h .2 .1 .0) (h .2 .1 .1))
-
-    numbered-more : (rs : List Register) (i j : ℕ) → areMore kinds (isRegister kinds) rs i j → All Numbered rs
-    unfolding areMore
-    numbered-more [] i j h = tt
-    numbered-more (r ∷ rs) i j h = (numbered r _ _ (h .1 .1), numbered-more rs _ _ (h .1 .2))
-
-    numbered-some : (rs : List Register) (i j : ℕ) → areSome kinds (isRegister kinds) rs i j → All Numbered rs
-    unfolding areSome
-    numbered-some [] i j h = tt
-    numbered-some (r ∷ rs) i j h = (numbered r _ _ (h .1), numbered-more rs _ _ (h .2))
-
-    listed : (rs : List Register) → All Numbered rs → (w : Within) (s : Meant) → Leads (tapeEach tapeRegister rs) w s w (meanRegisters values rs s)
-    unfolding tapeEach meanRegisters meanEvent withinAfter formAfter targetAfter declaredAfter writtenAfter
-    listed [] h w s = same (λ k. k) w w s s (λ form g k. refl)
-    listed (r ∷ rs) h w s =
-        on E.REGISTER (r .name) w w s _ (λ form g. rw (← (h .0 .0), low-is _ (small (r .number) (h .0 .1)))) then listed rs (h .1) w _
-
-    given : (ts : List ℕ) (m : Meaning-walk) (k : List ℕ) → run m (tapeEach tapeValue ts k) ≡ run m k
-    unfolding tapeEach meanEvent withinAfter formAfter targetAfter declaredAfter writtenAfter
-    given [] m k = refl
-    given (t ∷ ts) m k = via E.VALUE t m m _ refl ∙ given ts m k
-
-    -- the cells of a declaration, under what its opening event has said
-    abbrev Formed : Option ℕ → Width → Based → ℕ → Type 0
-    Formed c wd b form = (t : ℕ) → unpacked t form b ≡ cell (record { name = t; base = b; width = wd; elements = countOf values c; array = isArray c })
-
-    itemized :
-        (c : Option ℕ) (wd : Width) (is : List Item) (w : Within) (form g : ℕ) → Formed c wd (w .base) form → (s : Meant) (k : List ℕ)
-        → run (at w form g (tabled s)) (tapeEach tapeItem is k) ≡ run (at w form g (tabled (meanCells values c wd (w .base) is s))) k
-    unfolding tapeEach tapeItem meanCells addCell meanEvent withinAfter formAfter targetAfter declaredAfter writtenAfter
-    itemized c wd [] w form g f s k = refl
-    itemized c wd (i ∷ is) w form g f s k =
-        via E.ITEM (i .name) _ (at w form g (tabled (addCell (cellOf values c wd (w .base) i) [] s))) _ (rw (f (i .name))) ∙ (given (i .numbers) _ _ ∙ itemized c wd is w form g f _ k)
-
     -- an array's count has 32 bits
-    counted : (c : ℕ) (wd : Width) (is : List Item) (i j : ℕ) → isDeclaration kinds (cells (some c) wd is) i j → low (getD values c 0) ≡ getD values c 0
-    unfolding isDeclaration
-    counted c wd is i j h = low-is _ (small c (rw (h .1 .1 .0) (h .1 .1 .1)))
+    counted : (n : ℕ) (w : Width) (i j : ℕ) → isEvent kinds (entry (celled (some n) w)) i j → low (getD values n 0) ≡ getD values n 0
+    counted n w i j h = low-is _ (small n (rw (h .1 .1 .0) (h .1 .1 .1)))
 
-    -- by the opening event
-    celled :
-        (c : Option ℕ) (wd : Width) (is : List Item) (form : ℕ) → ((w : Within) (g₀ g : ℕ) (s : Meant) (k : List ℕ) → run (at w g₀ g s) (cellsEvent c wd ∷ k) ≡ run (at w form g s) k)
-        → ((b : Based) → Formed c wd b form) → (w : Within) (s : Meant) → Leads (λ k. cellsEvent c wd ∷ tapeEach tapeItem is k) w s w (meanCells values c wd (w .base) is s)
-    celled c wd is form e f w s = record { leads = λ form₀ g. (form, g, λ k. e w form₀ g _ _ ∙ itemized c wd is w form g (f (w .base)) s k) }
+    turn-entry : (d : Entry) (p : Place) (c : Context) (s : Meant) (form target : ℕ) → InBlock p → Settles p s (meanAt (entry d) p s) → (i j : ℕ) → isEvent kinds (entry d) i j → j ≤ length (s .opens)
+        → entrySuits d c → Opens c s form target → Next (entry d) p c s form target
+    unfolding D.meanEvent meanEvent withinAfter formAfter targetAfter declaredAfter writtenAfter openBase write addCell low isRegister
+    turn-entry (named r) (within b ∷ p) c s form target f g i j h l q o =
+        let e : r .number ≡ r .name + 2 = omega (arith, h .0, h .2 .1 .0) in
+        let n : getD kinds (r .number) 0 ≡ K.NUMBER = rw (h .2 .1 .0) (h .2 .1 .1) in
+        (form, target, settle (ownIn p) (ownersIn p) (within b ∷ p) s (meanAt (entry (named r)) (within b ∷ p) s) form target _ g (rw (← e, low-is _ (small (r .number) n))), tt)
+    turn-entry (celled none full) (within b ∷ p) c s form target f g i j h l q o = (packed 4 1, target, refl, λ t b. packed-cell t 1 4 b (omega arith) (omega arith))
+    turn-entry (celled none short) (within b ∷ p) c s form target f g i j h l q o = (packed 5 1, target, refl, λ t b. packed-cell t 1 5 b (omega arith) (omega arith))
+    turn-entry (celled (some n) full) (within b ∷ p) c s form target f g i j h l q o =
+        (packed 6 (getD values n 0), target, refl, λ t b. rw (counted n full i j h) at (packed-cell t (getD values n 0) 6 b (omega arith) (omega arith)))
+    turn-entry (celled (some n) short) (within b ∷ p) c s form target f g i j h l q o =
+        (packed 7 (getD values n 0), target, refl, λ t b. rw (counted n short i j h) at (packed-cell t (getD values n 0) 7 b (omega arith) (omega arith)))
+    turn-entry (itemed n w x) (within b ∷ p) (declaring m v ts) s form target f g i j h l q o = (
+      form,
+      target,
+      settle (ownIn p) (ownersIn p) (within b ∷ p) s (meanAt (entry (itemed n w x)) (within b ∷ p) s) form target _ g (rw (o (x .name) (baseIn found s (within b ∷ p)), q .0, q .1)),
+      λ t u. rw (← (q .0), ← (q .1)) (o t u),
+    )
+    turn-entry (valued t) (within b ∷ p) (declaring m v (u ∷ ts)) s form target f g i j h l q o = (form, target, refl, o)
+    turn-entry (based n) (within b ∷ p) c s form target f g i j h l q o =
+        let e = getD-set-same (s .opens) n (2 + s .bases) 0 (omega arith) in
+        (form, target, rw (e, g .1), tt)
 
-    cells-declared :
-        (c : Option ℕ) (wd : Width) (is : List Item) (i j : ℕ) → isDeclaration kinds (cells c wd is) i j → (w : Within) (s : Meant)
-        → Leads (tapeDeclaration (cells c wd is)) w s w (meanCells values c wd (w .base) is s)
-    unfolding tapeDeclaration isDeclaration low meanEvent withinAfter formAfter targetAfter declaredAfter writtenAfter
-    cells-declared none full is i j h = celled none full is (packed 4 1) (λ w f g s k. via E.SINGLE-FULL 0 _ _ k refl) (λ b t. packed-cell t 1 4 b (omega arith) (omega arith))
-    cells-declared none short is i j h = celled none short is (packed 5 1) (λ w f g s k. via E.SINGLE-SHORT 0 _ _ k refl) (λ b t. packed-cell t 1 5 b (omega arith) (omega arith))
-    cells-declared (some c) full is i j h =
-        celled (some c) full is (packed 6 (getD values c 0)) (λ w f g s k. via E.ARRAY-FULL c _ _ k refl) (λ b t. rw (counted c full is i j h) at (packed-cell t (getD values c 0) 6 b (omega arith) (omega arith)))
-    cells-declared (some c) short is i j h =
-        celled (some c) short is (packed 7 (getD values c 0)) (λ w f g s k. via E.ARRAY-SHORT c _ _ k refl) (λ b t. rw (counted c short is i j h) at (packed-cell t (getD values c 0) 7 b (omega arith) (omega arith)))
+  -- ── phrases ──
 
-  -- ── statements ──
+  target-same : (m : Meaning) (own : ℕ) (s : Meant) → writeTarget own (targetOf m) (tabled s) ≡ tabled (targetWrites m (λ r. r) own s)
+  unfolding writeTarget targetWrites write
+  target-same nothing own s = refl
+  target-same (register r) own s = refl
+  target-same (cell c) own s = refl
+  target-same (routine r) own s = refl
 
-  call-tabled : (m : Meaning) (own p : ℕ) (s : Meant) → callWrites m own p (tabled s) ≡ tabled (callWrites m own p s)
+  lower-same : (t : Bool) (m : Meaning) (own : ℕ) (s : Meant) → (if t then writeLower own (targetOf m) (tabled s) else tabled s) ≡ tabled (if t then targetWrites m (λ r. r - 1) own s else s)
+  unfolding writeLower targetWrites write
+  lower-same false m own s = refl
+  lower-same true nothing own s = refl
+  lower-same true (register r) own s = refl
+  lower-same true (cell c) own s = refl
+  lower-same true (routine r) own s = refl
+
+  call-same : (m : Meaning) (own p : ℕ) (s : Meant) → callWrites m own p (tabled s) ≡ tabled (callWrites m own p s)
   unfolding callWrites writeText write
-  call-tabled nothing own p s = refl
-  call-tabled (register r) own p s = refl
-  call-tabled (cell c) own p s = refl
-  call-tabled (routine r) own p s = refl
+  call-same nothing own p s = refl
+  call-same (register r) own p s = refl
+  call-same (cell c) own p s = refl
+  call-same (routine r) own p s = refl
 
-  module _ (small : Small) where
-    assigned :
-        (op : ℕ) → ((w : Within) (form g : ℕ) (s : Meant) (k : List ℕ) (d : Designator) → run (at w form g s) (tapeDesignator op d k) ≡ run (aimed w form g s k (d .name)) k)
-        → (a : Assignment) (i j : ℕ) → isAssignment kinds a i j → (w : Within) (s : Meant)
-        → Leads (tapeAssignment op a) w s w (writeAll (w .own) (assignmentWrites kinds found (s .means) a) s)
-    assigned op aim a i j h w s = record { leads = λ form g. (form, targetOf (meaningOf found (s .means) (a .target .name)), λ k. assignment op aim a i j h w form g s k) }
+  -- the walk with other tables
+  abbrev tell : Place → Meant → (form target : ℕ) → Meant → Meaning-walk
+  tell p s form target x = record { within = record { own = ownIn p; owners = ownersIn p; base = baseIn found s p; outer = outerIn s p }; form = form; target = target; meant = x }
 
-    tested : (c : Condition) (w : Within) (s : Meant) → Leads (tapeCondition c) w s w s
-    tested c w s = same (tapeCondition c) w w s s (λ form g k. condition c _ k)
+  module _ (p : Place) (s : Meant) (form target : ℕ) where
+    abbrev here : Meaning-walk
+    here = walk p s form target
 
-    mutual
-      unfolding meanEvent withinAfter formAfter targetAfter declaredAfter writtenAfter openBase write writeText isStatement isDeclaration tapeStatement tapeDeclaration meanStatement
+    sign-is : (g : Sign) → step (signCode g .family + signCode g .form) (signCode g .token) here ≡ here
+    unfolding meanEvent withinAfter formAfter targetAfter declaredAfter writtenAfter
+    sign-is plain = refl
+    sign-is (abs t) = refl
+    sign-is (neg t) = refl
+    sign-is (negAbs t) = refl
 
-      statement : (x : Statement) (i j : ℕ) → isStatement kinds x i j → (w : Within) (s : Meant) → Leads (tapeStatement x) w s w (meanStatement kinds values found x (w .own) (w .base) s)
-      statement (assign a) i j h w s = assigned E.TARGET target a i j h w s
-      statement (call n) i j h w s = on E.CALL n w w s _ (λ form g. ap (λ (x : Meant). at w form g x) (call-tabled (meaningIn found s n) (w .own) (getD found n 0) s))
-      statement (block t b) i j h w s = on E.BLOCK t w (enterBlock w) s s (λ form g. refl) then body b _ _ (h .2) t (enterBlock w) s
-      statement (goto t n) i j h w s = on E.GOTO n w w s s (λ form g. refl)
-      statement null i j h w s = same (λ k. k) w w s s (λ form g k. refl)
-      statement (ifThen t c x) i j h w s = tested c w s then (statement x _ _ (h .2 .2 .1) w s then on E.END-IF t w w _ _ (λ form g. refl))
-      statement (ifElse t c x e y) i j h w s =
-          tested c w s
-          then (statement x _ _ (h .2 .2 .1 .1 .1) w s then (on E.ELSE t w w _ _ (λ form g. refl) then (statement y _ _ (h .2 .2 .1 .2 .2) w _ then on E.END-ELSE t w w _ _ (λ form g. refl))))
-      statement (while t c x) i j h w s =
-          on E.WHILE t w w s s (λ form g. refl) then (tested c w s then (statement x _ _ (h .2 .2 .1) w s then on E.END-WHILE t w w _ _ (λ form g. refl)))
-      statement (for t a v l x) i j h w s =
-          assigned E.CONTROL control a _ _ (h .2 .1) w s
-          then (same (tapeOperand E.LIMIT l) w w _ _ (λ form g k. limit l _ k)
-          then (statement x _ _ (h .2 .2 .1 .2 .1 .2 .1) w (writeAll (w .own) (assignmentWrites kinds found (s .means) a) s) then on E.END-FOR v w w _ _ (λ form g. refl)))
+    condition-is : (c : Condition) → step (conditionCode c .family + conditionCode c .form) (conditionCode c .token) here ≡ here
+    unfolding meanEvent withinAfter formAfter targetAfter declaredAfter writtenAfter
+    condition-is (compared n r a) = by-operand (λ n. step (E.COMPARED + n) (headOf a) here ≡ here) refl refl refl refl refl a
+    condition-is (bare r) = refl
 
-      -- with the event that closes the block
-      body : (b : Body) (i j : ℕ) → isBody kinds b i j → (t : ℕ) (w : Within) (s : Meant)
-          → Leads (λ k. tapeBody b (event E.END-BLOCK t ∷ k)) w s (leaveBlock w) (meanBody kinds values found b (w .own) (w .base) s)
-      body (declare (registers rs) b) i j h t w s = listed small rs (numbered-some small rs _ _ (h .1 .1 .1)) w s then body b _ _ (h .2 .1) t w _
-      body (declare (cells c wd is) b) i j h t w s = cells-declared small c wd is _ _ (h .1) w s then body b _ _ (h .2 .1) t w _
-      body (declare (base n) b) i j h t w s =
-          on E.BASE n w (changeBase (registerOf (meaningIn found s n)) (s .bases) w) s (openBase (w .own) (registerOf (meaningIn found s n)) n s) (λ form g. refl)
-          then body b _ _ (h .2 .1) t (changeBase (registerOf (meaningIn found s n)) (s .bases) w) _
-      body (procedure n r x b) i j h t w s =
-          let e : r ≡ n + 2 = omega (arith, h .1 .1 .0, h .1 .1 .2 .1 .0) in
-          rw e
-          (on E.PROCEDURE n w (enterProcedure n w) s (mean n (routine (registerOf (meaningIn found s (n + 2)))) s) (λ form g. refl)
-          then (statement x _ _ (h .1 .1 .2 .1 .2 .1 .1) (enterProcedure n w) _
-          then (on E.END-PROCEDURE n (enterProcedure n w) w _ _ (λ form g. refl) then body b _ _ (h .2 .1) t w _)))
-      body (items is) i j h t w s = listing is _ _ h w s then on E.END-BLOCK t w (leaveBlock w) _ _ (λ form g. refl)
+    -- a term writes the lower register where it is a product
+    term-is : (o : ℕ) (a : Operand) → headOf a - 1 ≡ o
+        → step (E.TERM + operandShape a) (headOf a) here
+        ≡ tell p s form target (if eqb (getD kinds o 0) K.TIMES && longOperand found (s .means) a then writeLower (ownIn p) target (tabled s) else tabled s)
+    unfolding meanEvent withinAfter formAfter targetAfter declaredAfter writtenAfter writeProduct isProductAt
+    term-is o (number t) e = rw e
+    term-is o (place d) e =
+        rw (← e)
+        (by-shape (λ n. step (E.TERM + n) (d .name) here
+        ≡ tell p s form target (if eqb (getD kinds (d .name - 1) 0) K.TIMES && isLong (meaningOf found (s .means) (d .name)) then writeLower (ownIn p) target (tabled s) else tabled s))
+        refl refl refl refl (d .subscript) (d .index))
 
-      listing : (is : Items) (i j : ℕ) → isItems kinds is i j → (w : Within) (s : Meant) → Leads (tapeItems is) w s w (meanItems kinds values found is (w .own) (w .base) s)
-      listing ended i j h w s = same (λ k. k) w w s s (λ form g k. refl)
-      listing (label n is) i j h w s = on E.LABEL n w w s s (λ form g. refl) then listing is _ _ (h .2 .1) w s
-      listing (item x is) i j h w s = statement x _ _ (h .1) w s then listing is _ _ (h .2 .1) w _
+  -- what a target leaves
+  abbrev aimedAt : Designator → Place → Meant → ℕ → Meaning-walk
+  aimedAt d p s form = tell p s form (targetOf (meaningIn found s (d .name))) (writeTarget (ownIn p) (targetOf (meaningIn found s (d .name))) (tabled s))
+
+  aim-is : (op : ℕ) (d : Designator) (p : Place) (s t : Meant) (form : ℕ) (x : Meaning-walk) → t ≡ targetWrites (meaningIn found s (d .name)) (λ r. r) (ownIn p) s → Settles p s t → t .means ≡ s .means
+      → x ≡ aimedAt d p s form
+      → (form′ : ℕ) × (target′ : ℕ) × (x ≡ walk p t form′ target′) × (target′ ≡ targetOf (meaningIn found t (d .name)))
+  aim-is op d p s t form x u g k e =
+      let m = meaningIn found s (d .name) in (
+        form,
+        targetOf m,
+        settle (ownIn p) (ownersIn p) p s t form (targetOf m) x g (e ∙ ap (tell p s form (targetOf m)) (target-same m (ownIn p) s ∙ ap tabled (sym u))),
+        ap (λ (ms : List Meaning). targetOf (meaningOf found ms (d .name))) (sym k),
+      )
+
+  turn-phrase : (f : Phrase) (p : Place) (c : Context) (s : Meant) (form target : ℕ) → Settles p s (meanAt (phrase f) p s) → (i j : ℕ) → isEvent kinds (phrase f) i j → phraseSuits f c
+      → Opens c s form target → Next (phrase f) p c s form target
+  unfolding D.meanEvent meanEvent withinAfter formAfter targetAfter declaredAfter writtenAfter
+  turn-phrase (aimed d) p c s form target g i j h q o =
+      aim-is E.TARGET d p s _ form _ refl g (phrase-alike kinds values found (aimed d) p s .of-means)
+      (by-shape (λ n. step (E.TARGET + n) (d .name) (walk p s form target) ≡ aimedAt d p s form) refl refl refl refl (d .subscript) (d .index))
+  turn-phrase (driven d) p c s form target g i j h q o =
+      aim-is E.CONTROL d p s _ form _ refl g (phrase-alike kinds values found (driven d) p s .of-means)
+      (by-shape (λ n. step (E.CONTROL + n) (d .name) (walk p s form target) ≡ aimedAt d p s form) refl refl refl refl (d .subscript) (d .index))
+  turn-phrase (signed d x) p c s form target g i j h q o = (form, target, sign-is p s form target x, o)
+  turn-phrase (given d a) p c s form target g i j h q o = (form, target, by-operand (λ n. step (E.FIRST + n) (headOf a) (walk p s form target) ≡ walk p s form target) refl refl refl refl refl a, o)
+  turn-phrase (joined d t) p (aiming x) s form target g i j h q o =
+      let m = meaningIn found s (d .name) in
+      let b = isProduct kinds found (s .means) t in
+      let e : target ≡ targetOf m = o ∙ ap (λ (y : Designator). targetOf (meaningIn found s (y .name))) q in
+      let k = phrase-alike kinds values found (joined d t) p s .of-means in (
+        form,
+        target,
+        settle (ownIn p) (ownersIn p) p s (meanAt (phrase (joined d t)) p s) form target _ g
+            (term-is p s form target (t .operator) (t .operand) (omega (arith, h .0, pinned-operand kinds (t .operand) _ _ (h .2) .0)) ∙ ap (tell p s form target) (rw e (lower-same b m (ownIn p) s))),
+        o ∙ ap (λ (ms : List Meaning). targetOf (meaningOf found ms (x .name))) (sym k),
+      )
+  turn-phrase (tested t x) p c s form target g i j h q o = (form, target, condition-is p s form target x, tt)
+  turn-phrase (limited d v a) p c s form target g i j h q o = (form, target, by-operand (λ n. step (E.LIMIT + n) (headOf a) (walk p s form target) ≡ walk p s form target) refl refl refl refl refl a, tt)
+  turn-phrase (called n) p c s form target g i j h q o =
+      (form, target, settle (ownIn p) (ownersIn p) p s (meanAt (phrase (called n)) p s) form target _ g (ap (tell p s form target) (call-same (meaningIn found s n) (ownIn p) (getD found n 0) s)), tt)
+
+  -- ── marks ──
+
+  unheeded : (k : Mark) (m : Meaning-walk) → step (opOf (mark k)) (tokenOf (mark k)) m ≡ m
+  unfolding meanEvent withinAfter formAfter targetAfter declaredAfter writtenAfter
+  unheeded (looped t) m = refl
+  unheeded (otherwise t) m = refl
+  unheeded (endedIf t) m = refl
+  unheeded (endedElse t) m = refl
+  unheeded (endedWhile t) m = refl
+  unheeded (endedFor v) m = refl
+
+  -- ── along the tape ──
+
+  module _ (small : Small) (early : Early found) (N : ℕ) where
+    next : (e : Event) (p : Place) (c : Context) (s : Meant) (form target : ℕ) → Placed kinds N e p → N ≡ length (s .opens) → Suits e c → Opens c s form target → Next e p c s form target
+    unfolding D.meanEvent
+    next e p c s form target x l q o = go e x q o (settles e x)
+      where
+        settles : (e : Event) → (x : Placed kinds N e p) → Settles p s (meanAt e p s)
+        settles e x =
+            let z : Stands kinds e p (x .stands .from) = record { fits = x .stands .fits; from = x .stands .from; to = x .stands .to; later = omega arith; rises = x .stands .rises; is = x .stands .is } in
+            let k = event-stays kinds values found e p (x .stands .from) s z in
+            (base-stays early (x .stands .from) s (meanAt e p s) k p (x .earlier), outer-stays early (x .stands .from) s (meanAt e p s) k p (x .earlier))
+
+        go : (e : Event) → (x : Placed kinds N e p) → Suits e c → Opens c s form target → Settles p s (meanAt e p s) → Next e p c s form target
+        go (edge y) x q o g = turn-edge y p c s form target (x .stands .fits) g _ _ (x .stands .is)
+        go (route y) x q o g = turn-route y p c s form target (x .stands)
+        go (entry y) x q o g = turn-entry small y p c s form target (x .stands .fits) g _ _ (x .stands .is) (omega (arith, x .inside)) q o
+        go (phrase y) x q o g = turn-phrase y p c s form target g _ _ (x .stands .is) q o
+        go (mark y) x q o g = (form, target, unheeded y (walk p s form target), tt)
+
+    turn : (e : Event) (p : Place) (c : Context) (s : Meant) (m : Meaning-walk) → Placed kinds N e p → Suits e c → At N p c s m → At N (after e p) (contextAfter e c) (meanAt e p s) (step (opOf e) (tokenOf e) m)
+    turn e p c s m x q (form, target, h, o, l) =
+        let (form′, target′, k, u) = next e p c s form target x (sym l) q o in
+        (form′, target′, ap (step (opOf e) (tokenOf e)) h ∙ k, u, event-long kinds values found e p s .of-opens ∙ l)
 
 -- ── programs ──
 
 pub meant-program :
-    (kinds values found : List ℕ) → Small kinds values found → (x : Statement) (i j : ℕ) → isProgram kinds x i j → (s : Meant)
-    → pass (meanEvent kinds values found) (beginning (tabled s)) (tapeStatement x []) .meant ≡ tabled (meanStatement kinds values found x 0 dataBase s)
-unfolding isProgram
-meant-program kinds values found small x i j h s =
-    let p = statement kinds values found small x _ _ (h .1 .1) outside s .leads 0 0 in
-    ap (λ (m : Meaning-walk). m .meant) (p .2 [] ∙ pass-none (meanEvent kinds values found) _)
+    (kinds values found : List ℕ) → Small kinds values found → Early found → (x : Statement) (i j : ℕ) → isProgram kinds x i j → (s : Meant) → j ≤ length (s .opens)
+    → pass (meanEvent kinds values found) (beginning (tabled s)) (tapeStatement x []) .meant ≡ tabled (meanProgram kinds values found x s)
+meant-program kinds values found small early x i j h s l =
+    let N = length (s .opens) in
+    let (c, k, (form, target, e, o, w)) = follows-in (meanEvent kinds values found) (D.meanEvent kinds values found) (At kinds values found N) (Placed kinds N) (turn kinds values found small early N) (eventsOf x) [] nowhere
+    s (beginning (tabled s)) (text-placed kinds N (eventsOf x) [] i j l (program-text kinds x i j h) tt) (program-coherent x) (0, 0, refl, tt, refl) in
+    ap (λ (l : List ℕ). pass (meanEvent kinds values found) (beginning (tabled s)) l .meant) (tree-tape x) ∙ ap (λ (m : Meaning-walk). m .meant) e

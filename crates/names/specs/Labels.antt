@@ -1,11 +1,12 @@
 -- Document 01, "Names, cells, protected registers": which label each GOTO means, refusals 6, 7 and 13 of labels. "Labels are a separate set, found forward or
 -- backward in enclosing blocks, but never past the edge of a procedure body."
 use mathlib.Core.List.{List, [], _∷_}
-use mathlib.Core.Bool.{Bool, true, false}
-use Prim.Native.Nat.{ℕ, zero, suc, _+_}
+use Prim.Native.Nat.{ℕ, suc}
 use lib.Dec.{eqb, ltb}
 use lib.ListN.{getD, set}
-use Rattle.grammar.specs.Tree.{Statement, assign, call, block, goto, null, ifThen, ifElse, while, for, Body, declare, procedure, items, Items, ended, label, item}
+use Rattle.grammar.specs.Tree.{Statement}
+use Rattle.grammar.specs.Events.{Route, labelled, sent, Event, edge, route, entry, phrase, mark, eventsOf}
+use Rattle.grammar.specs.Places.{within, body, Place, along}
 use Rattle.names.specs.declared.Broken.{Broken}
 use Rattle.names.specs.Broken.{rule, _⊕_}
 use Rattle.names.specs.Search.{inBlock, find}
@@ -20,15 +21,17 @@ pub record Labelled : Type 0 where
   pub count : ℕ
   pub broken : Broken
 
--- the labels among items, the newest first, before those set earlier
-abbrev pub labelsOnto : Items → List ℕ → List ℕ
-labelsOnto ended earlier = earlier
-labelsOnto (label l is) earlier = labelsOnto is (l ∷ earlier)
-labelsOnto (item x is) earlier = labelsOnto is earlier
+-- the labels in force at a place, innermost block first: "found forward or backward in enclosing blocks", so all labels of each; "never past the edge of a procedure body"
+abbrev pub labelsIn : Place → List (List ℕ)
+labelsIn [] = []
+labelsIn (within b ∷ p) = b .labels ∷ labelsIn p
+labelsIn (body n r ∷ p) = []
 
--- all labels of a block, which its statements know from its start
-abbrev pub labelsOf : Items → List ℕ
-labelsOf is = labelsOnto is []
+-- the labels that have been set in the innermost block
+abbrev pub labelsSet : Place → List ℕ
+labelsSet [] = []
+labelsSet (within b ∷ p) = b .set
+labelsSet (body n r ∷ p) = []
 
 -- "6: … label not found"
 unfoldable pub noteLabel : ℕ → ℕ → Labelled → Labelled
@@ -43,26 +46,16 @@ module _ (keys : List ℕ) where
     broken = s .broken ⊕ rule (eqb (inBlock keys (getD keys l 0) earlier 0) 0) 7 l ⊕ rule (ltb (s .count) mostLabels) 13 l;
   }
 
-  -- ls: the labels of the enclosing blocks up to the edge of the procedure body, innermost first
-  unfoldable mutual
-    pub labelStatement : Statement → List (List ℕ) → Labelled → Labelled
-    labelStatement (assign a) ls s = s
-    labelStatement (call n) ls s = s
-    labelStatement (block t b) ls s = labelBody b ls s
-    labelStatement (goto t n) ls s = noteLabel n (find keys (getD keys n 0) ls) s
-    labelStatement null ls s = s
-    labelStatement (ifThen t c x) ls s = labelStatement x ls s
-    labelStatement (ifElse t c x e y) ls s = labelStatement y ls (labelStatement x ls s)
-    labelStatement (while t c x) ls s = labelStatement x ls s
-    labelStatement (for t a v l x) ls s = labelStatement x ls s
+  abbrev pub labelRoute : Route → Place → Labelled → Labelled
+  labelRoute (labelled l) p s = setLabel l (labelsSet p) s
+  labelRoute (sent t n) p s = noteLabel n (find keys (getD keys n 0) (labelsIn p)) s
 
-    -- a procedure's body starts with no label
-    pub labelBody : Body → List (List ℕ) → Labelled → Labelled
-    labelBody (declare d b) ls s = labelBody b ls s
-    labelBody (procedure n r x b) ls s = labelBody b ls (labelStatement x [] s)
-    labelBody (items is) ls s = labelItems is [] (labelsOf is ∷ ls) s
+  unfoldable pub labelEvent : Event → Place → Labelled → Labelled
+  labelEvent (edge x) p s = s
+  labelEvent (route r) p s = labelRoute r p s
+  labelEvent (entry d) p s = s
+  labelEvent (phrase f) p s = s
+  labelEvent (mark m) p s = s
 
-    pub labelItems : Items → List ℕ → List (List ℕ) → Labelled → Labelled
-    labelItems ended earlier ls s = s
-    labelItems (label l is) earlier ls s = labelItems is (l ∷ earlier) ls (setLabel l earlier s)
-    labelItems (item x is) earlier ls s = labelItems is earlier ls (labelStatement x ls s)
+  abbrev pub labelProgram : Statement → Labelled → Labelled
+  labelProgram x s = along labelEvent (eventsOf x) [] s

@@ -8,7 +8,7 @@ use native.Mathlib.Omega.{arith}
 use native.Mathlib.Nat.{mul-le-mul-right, div-add-mod'}
 use lib.Dec.{eqb, leb, ltb}
 use lib.ListN.{getD}
-use borrow.Author.Tests.{eqb-true, eq-eqb, ne-eqb, le-leb, lt-leb, ltb-true, ltb-false}
+use borrow.Author.Tests.{eqb-true, eq-eqb, ne-eqb, le-leb, lt-leb, leb-true, leb-false, ltb-true, ltb-false, lt-ltb, le-ltb}
 use Rattle.base.specs.Choose.{choose, if_then_else_}
 use Rattle.base.specs.Lists.{member}
 use Rattle.base.proofs.Tests.{cases}
@@ -96,8 +96,15 @@ within-is e v n h = cases (eqb (v % e) 0) (λ z. rw z (go (eqb-true _ _ z))) (λ
         (λ x. rw (x, le-leb (v + e) (e * n) (omega (arith, q, mul-le-mul-right {m = suc (v / e)} {n = n} e (ltb-true _ _ x)))))
         (λ x. rw (x, lt-leb (v + e) (e * n) (omega (arith, q, mul-le-mul-right {m = n} {n = v / e} e (ltb-false _ _ x)))))
 
-pub inside-is : (m e v k : ℕ) → e ≡ elementSize (widthIn m) → 2 ≤ e → k ≡ numberIn m → (n : ℕ) (b : Based) → (eqb (v % e) 0 && ltb (v / e) k) ≡ inside (cellIn n m b) v
-inside-is m e v k q h r n b = rw (← q, ← r) (within-is e v k (omega arith))
+pub inside-is : (m e v k : ℕ) → e ≡ elementSize (widthIn m) → 2 ≤ e → k ≡ numberIn m → (n : ℕ) (b : Based) → (ltb v 2147483648 && (eqb (v % e) 0 && ltb (v / e) k)) ≡ inside (cellIn n m b) v
+inside-is m e v k q h r n b = rw (← q, ← r, within-is e v k (omega arith), below-is v)
+  where
+    -- the test of the sign, either way
+    below-is : (v : ℕ) → ltb v 2147483648 ≡ not (leb 2147483648 v)
+    below-is v =
+        cases (leb 2147483648 v)
+        (λ x. let y = leb-true 2147483648 v x in rw (x, le-ltb v 2147483648 (omega arith)))
+        (λ x. let y = leb-false 2147483648 v x in rw (x, lt-ltb v 2147483648 (omega arith)))
 
 -- ── protected registers ──
 

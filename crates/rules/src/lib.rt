@@ -102,13 +102,13 @@ fn size(m: u64) -> u64
     if m % 2 == 0 { 4 } else { 2 }
 }
 
-// "A subscript … is a multiple of the element size, and its element lies inside the array."
+// "A subscript … is a multiple of the element size, and its element lies inside the array."; its 32 bits are read as signed.
 fn is_inside(m: u64, v: u64) -> bool
     ensures { λ r. ⌜ ((n : ℕ) (b : Based) → r ≡ inside (cellIn n m b) v) ⌝ }
 {
     let e = size(m);
     let n = number(m);
-    (v % e == 0) & (v / e < n)
+    (v < 2147483648) & ((v % e == 0) & (v / e < n))
 }
 
 fn subscript_rules(shape: u32, m: u64, values: &[u64], t: usize) -> Broken

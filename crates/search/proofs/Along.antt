@@ -8,6 +8,9 @@ use lib.Dec.{eqb, ltb}
 use lib.ListN.{getD, set, length, drop}
 use Rattle.base.proofs.Tests.{by-test}
 use Rattle.tape.specs.Pass.{pass}
+use Rattle.tape.specs.Events as E
+use Rattle.tape.specs.Numbers.{familyAt}
+use Rattle.tape.specs.Names.{declaring, shapeAt, indexAfter}
 use Rattle.tape.proofs.Pass.{pass-turn, pass-end}
 use Rattle.names.specs.declared.Broken.{Broken}
 use Rattle.names.specs.Broken.{rule, _⊕_, unbroken}
@@ -15,7 +18,7 @@ use Rattle.names.specs.Search.{inBlock, find, innermost}
 use Rattle.names.specs.Names.{Named, noteFound, useName, declareName, mostNames}
 use Rattle.search.specs.declared.Blocks.{Blocks}
 use Rattle.names.specs.declared.Noted.{Noted}
-use Rattle.search.specs.Naming.{Naming, declaring, blocksAfter, shapeOf, indexAfter, declareAt, useRegister, usePlace, useAt, nameOp, beginning}
+use Rattle.search.specs.Naming.{Naming, blocksAfter, declareAt, useRegister, usePlace, useAt, nameOp, beginning}
 use Rattle.search.specs.Flat.{span, blocksIn, namedIn, Rising, Changed, Begun}
 
 -- ── a declaration, a use ──
@@ -45,7 +48,7 @@ module _ (keys : List ℕ) (bs : List (List ℕ)) where
 
   register-count : (op t : ℕ) (s : Named) → useRegister keys op t bs s .count ≡ s .count
   unfolding useRegister
-  register-count op t s = by-test P (eqb op 10) _ _ (λ _. use-count (t + 2) s) (λ _. by-test P (ltb op 34) _ _ (λ _. refl) (λ _. by-test P (ltb op 39) _ _ (λ _. use-count (t - 2) s) (λ _. refl)))
+  register-count op t s = by-test P (eqb op E.PROCEDURE) _ _ (λ _. use-count (t + 2) s) (λ _. by-test P (eqb (familyAt op) E.COMPARED) _ _ (λ _. use-count (t - 2) s) (λ _. refl))
     where
       P : Named → Type 0
       P r = r .count ≡ s .count
@@ -59,7 +62,7 @@ module _ (keys : List ℕ) (bs : List (List ℕ)) where
 
   at-count : (op t : ℕ) (s : Named) → useAt keys op t bs s .count ≡ s .count
   unfolding useAt
-  at-count op t s = place-count (shapeOf op) t (useRegister keys op t bs s) ∙ register-count op t s
+  at-count op t s = place-count (shapeAt op) t (useRegister keys op t bs s) ∙ register-count op t s
 
   declare-count : (op t : ℕ) (s : Named) → declareAt keys op t bs s .count ≤ suc (s .count)
   unfolding declareAt declareName

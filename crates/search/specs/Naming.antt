@@ -1,10 +1,11 @@
 -- Naming along a tape: which declaration each name means, event by event.
 use mathlib.Core.List.{List, [], _∷_}
-use mathlib.Core.Bool.{Bool, _||_}
-use Prim.Native.Nat.{ℕ, _+_, _-_, _%_}
+use Prim.Native.Nat.{ℕ, _+_, _-_}
 use lib.Dec.{eqb, ltb}
 use Rattle.base.specs.Choose.{if_then_else_}
 use Rattle.tape.specs.Events as E
+use Rattle.tape.specs.Numbers.{familyAt}
+use Rattle.tape.specs.Names.{declaring, shapeAt, indexAfter}
 use Rattle.names.specs.Broken.{unbroken}
 use Rattle.names.specs.Search.{enter, around}
 use Rattle.names.specs.Names.{Named, useName, declareName}
@@ -20,10 +21,6 @@ abbrev pub outer : List (List ℕ) → List (List ℕ)
 outer [] = []
 outer (b ∷ bs) = bs
 
--- the events that declare the name at their token
-abbrev pub declaring : ℕ → Bool
-declaring op = eqb op E.REGISTER || (eqb op E.ITEM || eqb op E.PROCEDURE)
-
 unfoldable pub blocksAfter : ℕ → ℕ → List (List ℕ) → List (List ℕ)
 blocksAfter op t bs =
     if eqb op E.BLOCK then [] ∷ bs else
@@ -33,21 +30,6 @@ blocksAfter op t bs =
 
 -- ── uses ──
 
--- how the name at an event's token is used: alone, with a subscript, with an index, with both; 4 where no name stands there or its event uses none
-unfoldable pub shapeOf : ℕ → ℕ
-shapeOf op =
-    if eqb op E.BASE then 0 else
-    if eqb op E.CALL then 0 else
-    if ltb op E.TARGET then 4 else
-    if ltb op E.ABS then (op - E.TARGET) % 4 else
-    if ltb op E.FIRST then 4 else
-    if ltb op E.BARE then (op - E.FIRST) % 5 else
-    4
-
--- how far behind its name an index stands: name(name), name(number)(name)
-abbrev pub indexAfter : ℕ → ℕ
-indexAfter shape = if eqb shape 2 then 2 else 5
-
 module _ (keys : List ℕ) where
   unfoldable pub declareAt : ℕ → ℕ → List (List ℕ) → Named → Named
   declareAt op t bs s = if declaring op then declareName keys t bs s else s
@@ -56,8 +38,7 @@ module _ (keys : List ℕ) where
   unfoldable pub useRegister : ℕ → ℕ → List (List ℕ) → Named → Named
   useRegister op t bs s =
       if eqb op E.PROCEDURE then useName keys (t + 2) bs s else
-      if ltb op E.COMPARED then s else
-      if ltb op E.LIMIT then useName keys (t - 2) bs s else
+      if eqb (familyAt op) E.COMPARED then useName keys (t - 2) bs s else
       s
 
   unfoldable pub usePlace : ℕ → ℕ → List (List ℕ) → Named → Named
@@ -67,7 +48,7 @@ module _ (keys : List ℕ) where
       useName keys (t + indexAfter shape) bs (useName keys t bs s)
 
   unfoldable pub useAt : ℕ → ℕ → List (List ℕ) → Named → Named
-  useAt op t bs s = usePlace (shapeOf op) t bs (useRegister op t bs s)
+  useAt op t bs s = usePlace (shapeAt op) t bs (useRegister op t bs s)
 
   -- ── an event ──
 

@@ -6,7 +6,7 @@ ghost use lib.ListN.{length};
 ghost use Rattle.tape.specs.Pass.{pass};
 ghost use Rattle.names.specs.Search.{inBlock, find, innermost, enter};
 ghost use Rattle.names.specs.Names.{useName, declareName};
-ghost use Rattle.search.specs.Naming.{outer, declaring, blocksAfter, shapeOf, declareAt, useRegister, usePlace, useAt, nameOp, beginning};
+ghost use Rattle.search.specs.Naming.{outer, blocksAfter, declareAt, useRegister, usePlace, useAt, nameOp, beginning};
 ghost use Rattle.search.specs.Flat.{span, blocksOf, blocksIn, namedIn, Rising, Roomy, Changed, Begun};
 use arrays::get;
 use arrays::key;
@@ -116,12 +116,6 @@ fn enter_name(scope: &mut [u32], t: usize, b: Blocks) -> Blocks
     }
 }
 
-fn declares(op: u32) -> bool
-    ensures { λ r. ⌜ r ≡ declaring op ⌝ }
-{
-    (op == tape::REGISTER) | ((op == tape::ITEM) | (op == tape::PROCEDURE))
-}
-
 fn blocks_after(op: u32, t: usize, scope: &mut [u32], starts: &mut [u32], b: Blocks) -> Blocks
     requires { ⌜ Roomy (now scope) (now starts) b × (t < 4294967296) ⌝ }
     ensures { λ r. ⌜ Changed (blocksAfter op t (blocksIn (now (scope .entry)) (now (starts .entry)) b)) (now (scope .exit)) (now (starts .exit)) b r ⌝ }
@@ -132,7 +126,7 @@ fn blocks_after(op: u32, t: usize, scope: &mut [u32], starts: &mut [u32], b: Blo
     if op == tape::END_BLOCK {
         return close_block(starts, b);
     }
-    if declares(op) {
+    if tape::declares(op) {
         return enter_name(scope, t, b);
     }
     b
@@ -205,34 +199,10 @@ fn declare_at(
     requires { ⌜ n .count < 4294967296 ⌝ }
     ensures { λ r. ⌜ ((found : List ℕ) → namedIn found r ≡ declareAt (now (keys .entry)) op t (blocksIn (now (scope .entry)) (now (starts .entry)) b) (namedIn found n)) ⌝ }
 {
-    if declares(op) {
+    if tape::declares(op) {
         return declare_name(keys, scope, starts, b, t, n);
     }
     n
-}
-
-fn shape(op: u32) -> u32
-    ensures { λ r. ⌜ r ≡ shapeOf op ⌝ }
-{
-    if op == tape::BASE {
-        return 0;
-    }
-    if op == tape::CALL {
-        return 0;
-    }
-    if op < tape::TARGET {
-        return 4;
-    }
-    if op < tape::ABS {
-        return (op - tape::TARGET) % 4;
-    }
-    if op < tape::FIRST {
-        return 4;
-    }
-    if op < tape::BARE {
-        return (op - tape::FIRST) % 5;
-    }
-    4
 }
 
 fn use_register(
@@ -251,10 +221,7 @@ fn use_register(
     if op == tape::PROCEDURE {
         return use_name(keys, scope, starts, found, b, t + 2, n);
     }
-    if op < tape::COMPARED {
-        return n;
-    }
-    if op < tape::LIMIT {
+    if tape::family(op) == tape::COMPARED {
         return use_name(keys, scope, starts, found, b, two_before(t), n);
     }
     n
@@ -307,7 +274,7 @@ fn use_at(
     ensures { λ r. ⌜ namedIn (now (found .exit)) r ≡ useAt (now (keys .entry)) op t (blocksIn (now (scope .entry)) (now (starts .entry)) b) (namedIn (now (found .entry)) n) ⌝ }
 {
     let m = use_register(op, t, keys, scope, starts, found, b, n);
-    use_place(shape(op), t, keys, scope, starts, found, b, m)
+    use_place(tape::shape(op), t, keys, scope, starts, found, b, m)
 }
 
 // ── the tape ──

@@ -1,5 +1,8 @@
--- The events of a tape, as numbers. To those of designators (TARGET, CONTROL) and operands (FIRST, TERM, COMPARED, LIMIT) their shape is added.
+-- The events of a tape, as numbers below EVENTS. To those of designators (TARGET, CONTROL) and operands (FIRST, TERM, COMPARED, LIMIT) their shape is added.
 use Prim.Native.Nat.{ℕ}
+
+abbrev pub EVENTS : ℕ
+EVENTS = 64
 
 abbrev pub BLOCK : ℕ
 BLOCK = 0

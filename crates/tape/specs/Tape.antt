@@ -7,7 +7,7 @@ use Rattle.grammar.specs.Tree.{Designator, Operand, number, place, Sign, plain,
 use Rattle.tape.specs.Events as E
 
 unfoldable pub event : ℕ → ℕ → ℕ
-event op token = token * 64 + op % 64
+event op token = token * E.EVENTS + op % E.EVENTS
 
 -- ── designators and operands ──
 

@@ -1,6 +1,9 @@
 // The events of a tape, as specs/Events.antt numbers them. To those of designators and operands their shape is added.
 ghost use mathlib.Core.Path.{_≡_};
-ghost use Prim.Native.Nat.{_/_, _%_, _<_};
+ghost use Prim.Native.Nat.{_/_, _%_, _<_, _≤_};
+ghost use Rattle.tape.specs.Events.{EVENTS};
+ghost use Rattle.tape.specs.Numbers.{layerAt, formAt, familyAt};
+ghost use Rattle.tape.specs.Names.{declaring, shapeAt};
 
 pub const BLOCK: u32 = 0;
 
@@ -64,16 +67,122 @@ pub const CALL: u32 = 51;
 
 pub const GOTO: u32 = 52;
 
+// How many numbers of events a tape has room for.
+pub const EVENTS: u32 = 64;
+
+// The layers of events.
+pub const EDGE: u32 = 0;
+
+pub const ROUTE: u32 = 1;
+
+pub const ENTRY: u32 = 2;
+
+pub const PHRASE: u32 = 3;
+
+pub const MARK: u32 = 4;
+
 // What an event is.
 pub fn op(event: u32) -> u32
-    ensures { λ r. ⌜ (r ≡ event % 64) × (r < 64) ⌝ }
+    ensures { λ r. ⌜ (r ≡ event % EVENTS) × (r < EVENTS) ⌝ }
 {
-    event % 64
+    event % EVENTS
 }
 
 // The token that it stands for.
 pub fn token(event: u32) -> usize
-    ensures { λ r. ⌜ (r ≡ event / 64) × (r < 67108864) ⌝ }
+    ensures { λ r. ⌜ (r ≡ event / EVENTS) × (r < 67108864) ⌝ }
 {
-    (event / 64) as usize
+    (event / EVENTS) as usize
+}
+
+// Its layer: an edge, a route, an entry of a declaration, a phrase of a statement, a mark.
+pub fn layer(op: u32) -> u32
+    ensures { λ r. ⌜ r ≡ layerAt op ⌝ }
+{
+    if op < REGISTER {
+        return EDGE;
+    }
+    if op < PROCEDURE {
+        return ENTRY;
+    }
+    if op < LABEL {
+        return EDGE;
+    }
+    if op == LABEL {
+        return ROUTE;
+    }
+    if op < WHILE {
+        return PHRASE;
+    }
+    if op < CALL {
+        return MARK;
+    }
+    if op == CALL {
+        return PHRASE;
+    }
+    ROUTE
+}
+
+// The width of cells, the shape of a designator or an operand; 0 for all other events.
+pub fn form(op: u32) -> u32
+    ensures { λ r. ⌜ (r ≡ formAt op) × (r ≤ op) ⌝ }
+{
+    if op < SINGLE_FULL {
+        return 0;
+    }
+    if op < ITEM {
+        return (op - SINGLE_FULL) % 2;
+    }
+    if op < TARGET {
+        return 0;
+    }
+    if op < ABS {
+        return (op - TARGET) % 4;
+    }
+    if op < FIRST {
+        return 0;
+    }
+    if op < BARE {
+        return (op - FIRST) % 5;
+    }
+    0
+}
+
+// The event without its form.
+pub fn family(op: u32) -> u32
+    ensures { λ r. ⌜ r ≡ familyAt op ⌝ }
+{
+    op - form(op)
+}
+
+// Whether it declares the name at its token.
+pub fn declares(op: u32) -> bool
+    ensures { λ r. ⌜ r ≡ declaring op ⌝ }
+{
+    (op == REGISTER) | ((op == ITEM) | (op == PROCEDURE))
+}
+
+// How the name at its token is used: alone, with a subscript, with an index, with both; 4 where no name stands there or it uses none.
+pub fn shape(op: u32) -> u32
+    ensures { λ r. ⌜ r ≡ shapeAt op ⌝ }
+{
+    if op == BASE {
+        return 0;
+    }
+    if op == CALL {
+        return 0;
+    }
+    if op < TARGET {
+        return 4;
+    }
+    if op < ABS {
+        return (op - TARGET) % 4;
+    }
+    if op < FIRST {
+        return 4;
+    }
+    if op < BARE {
+        return (op - FIRST) % 5;
+    }
+    4
 }

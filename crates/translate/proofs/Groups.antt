@@ -20,8 +20,7 @@ use Rattle.names.specs.declared.Broken.{Broken}
 use Rattle.names.specs.Broken.{_⊕_}
 use Rattle.names.specs.Search.{inFront, firstToken}
 use Rattle.names.proofs.Joins.{join-assoc}
-use Rattle.kinds.specs.Rules.{protected}
-use Rattle.kinds.specs.Kinds.{kindStatement}
+use Rattle.kinds.specs.Kinds.{rulesOf}
 use Rattle.translator.specs.Layout.{layout, placeCells}
 use Rattle.translator.specs.Translate as T
 use Rattle.translator.specs.Translate.{kindsOf, valuesOf, named, labelled, make, finish, judgeBy, judge, afterTokens, inRoom, translated, translate}
@@ -48,7 +47,7 @@ module _
     broken-is : r .broken ≡ make ts x .broken
     unfolding make layout
     broken-is =
-        let k = kindStatement (tablesIn ts x) x protected in
+        let k = rulesOf (tablesIn ts x) x in
         let y = placeCells (meantIn ts x .bases) (meantIn ts x .cells) .broken in
         s .broken-is ∙ (ap (λ (o : Broken). (o ⊕ k) ⊕ y) (b .broken-is) ∙ (join-assoc (named ts x .broken ⊕ labelled ts x .broken) k y ∙ join-assoc (named ts x .broken) (labelled ts x .broken) (k ⊕ y)))
 

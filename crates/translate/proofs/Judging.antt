@@ -1,36 +1,33 @@
 -- On the tape of a program the passes find and settle what the definition does. Assumes nothing.
 use mathlib.Core.Path.{_≡_, refl, sym, ap, ap₂, subst, _∙_}
 use mathlib.Core.List.{List, [], _∷_, _++_, map}
-use Prim.Native.Nat.{ℕ, zero, suc, _+_, _-_, _/_, _%_, _≤_, _<_}
+use Prim.Native.Nat.{ℕ, zero, suc, _+_, _-_, _≤_, _<_}
 use native.Mathlib.Omega.{arith}
-use lib.Dec.{eqb, ltb}
 use lib.ListN.{length, getD, replicate, length-replicate, length-append}
-use Rattle.base.specs.Choose.{if_then_else_}
-use Rattle.base.specs.Walk.{fold}
-use Rattle.base.proofs.Lists.{all-map}
-use Rattle.base.proofs.Tests.{by-test}
 use Rattle.token.specs.declared.Token.{Token}
 use Rattle.grammar.specs.Tree.{Statement}
-use Rattle.grammar.specs.Derives.{isProgram, isStatement}
-use Rattle.grammar.specs.Rising.{statementRises}
+use Rattle.grammar.specs.Derives.{isProgram}
+use Rattle.grammar.specs.Events.{Event, eventsOf}
+use Rattle.grammar.proofs.Texts.{program-text}
 use Rattle.grammar.proofs.Kept.{keep-statement}
 use Rattle.grammar.proofs.Theorems.{program-rises, program-inside}
-use Rattle.tape.specs.Events as E
-use Rattle.tape.specs.Tape.{tapeStatement}
-use Rattle.tape.specs.Pass.{onEvent, pass}
+use Rattle.tape.specs.Tape.{event, tapeStatement}
+use Rattle.tape.specs.Pass.{pass}
+use Rattle.tape.specs.Written.{opOf, tokenOf}
+use Rattle.tape.proofs.Written.{tree-tape}
 use Rattle.names.specs.declared.Broken.{Broken}
 use Rattle.names.specs.declared.Noted.{Noted}
 use Rattle.names.specs.Broken.{unbroken, _⊕_}
 use Rattle.names.specs.Search.{firstToken, around}
 use Rattle.names.specs.Names.{Named}
 use Rattle.names.specs.Labels.{Labelled}
-use Rattle.kinds.specs.Registers.{Registers}
-use Rattle.kinds.specs.Meaning.{Meaning, nothing, Based}
-use Rattle.kinds.specs.Meanings.{Meant, Filled, meanStatement, dataBase, standard, openBase, write, mean, writeText}
+use Rattle.names.proofs.Early.{Early, found-early}
+use Rattle.kinds.specs.Meaning.{Meaning, nothing}
+use Rattle.kinds.specs.Meanings.{Meant, meanProgram, standard}
 use Rattle.kinds.specs.Tables.{Tables}
-use Rattle.kinds.specs.Rules.{protected}
-use Rattle.kinds.specs.Kinds.{kindStatement}
-use Rattle.kinds.proofs.Known.{Known, Alike, text-alike, call-alike, write-alike, grown-statement, known-standard}
+use Rattle.kinds.specs.Kinds.{rulesOf}
+use Rattle.kinds.proofs.Bases.{bases-along}
+use Rattle.kinds.proofs.Known.{Known, known-text, known-standard}
 use Rattle.tables.specs.Packed.{meaningsOf, setsOf}
 use Rattle.search.specs.Naming.{nameOp, beginning}
 use Rattle.search.specs.Flat.{namedIn}
@@ -38,7 +35,7 @@ use Rattle.search.proofs.Trees.{named-program}
 use Rattle.labels.specs.Chains.{labelledIn}
 use Rattle.labels.specs.Labelling.{labelledAlong}
 use Rattle.labels.proofs.Trees.{labelled-program}
-use Rattle.meanings.specs.Along.{Meaning-walk, writeTarget, writeLower, withinAfter, formAfter, targetAfter, declaredAfter, isProductAt, writeProduct, writtenAfter, meanEvent}
+use Rattle.meanings.specs.Along.{meanEvent}
 use Rattle.meanings.specs.Along as M
 use Rattle.meanings.specs.Flat.{meantOf, registersNamed}
 use Rattle.meanings.proofs.Trees.{tabled}
@@ -63,6 +60,17 @@ module _ (ts : List Token) (x : Statement) (to : ℕ) (p : isProgram (kindsOf ts
   pub program-front : firstToken < length ts
   unfolding isProgram
   program-front = let r = keep-statement {kinds = kindsOf ts} {others = kindsOf ts} x .rises (p .1 .1) in let h = inside in let q = p .2 .1 in omega arith
+
+  -- each name is found at a declaration before it
+  pub early : Early (named ts x .found)
+  unfolding named
+  early =
+      found-early (kindsOf ts) (valuesOf ts) (eventsOf x) [] firstToken to (program-text (kindsOf ts) x firstToken to p) (omega arith) tt _ (λ t. let e = zeros (length ts) t in omega arith)
+    where
+      zeros : (k j : ℕ) → getD (replicate {A = ℕ} k 0) j 0 ≡ 0
+      zeros zero j = refl
+      zeros (suc k) zero = refl
+      zeros (suc k) (suc j) = zeros k j
 
 -- ── names and labels ──
 
@@ -89,54 +97,11 @@ module _ (ts : List Token) (x : Statement) (values tape : List ℕ) (t : Text ts
 
 -- ── base declarations ──
 
-module _ (kinds values found : List ℕ) where
-  -- an event opens one segment at most
-  written-same : (op t own target : ℕ) (s : Meant) → writtenAfter kinds found op t own target s .bases ≡ s .bases
-  unfolding writtenAfter writeTarget writeProduct writeLower
-  written-same op t own target s =
-      let P : Meant → Type 0 = λ u. u .bases ≡ s .bases in
-      by-test P (ltb op E.TARGET) _ _ (λ e. refl) (λ e.
-      by-test P (ltb op E.ABS) _ _ (λ e. aimed target) (λ e.
-      by-test P (ltb op E.TERM) _ _ (λ e. refl) (λ e.
-      by-test P (ltb op E.COMPARED) _ _ (λ e. by-test P (isProductAt kinds found op t (s .means)) _ _ (λ e. lowered target) (λ e. refl)) (λ e.
-      by-test P (eqb op E.CALL) _ _ (λ e. call-alike _ own _ s .of-bases) (λ e. refl)))))
-    where
-      aimed : (k : ℕ) → writeTarget own k s .bases ≡ s .bases
-      aimed zero = refl
-      aimed (suc r) = write-alike own r s .of-bases
-
-      lowered : (k : ℕ) → writeLower own k s .bases ≡ s .bases
-      lowered zero = refl
-      lowered (suc r) = write-alike own (r - 1) s .of-bases
-
-  declared-few : (op t own : ℕ) (b : Based) (form : ℕ) (s : Meant) → declaredAfter values found op t own b form s .bases ≤ s .bases + 1
-  unfolding declaredAfter openBase write
-  declared-few op t own b form s =
-      let P : Meant → Type 0 = λ u. u .bases ≤ s .bases + 1 in
-      by-test P (eqb op E.REGISTER) _ _ (λ e. omega arith) (λ e.
-      by-test P (eqb op E.ITEM) _ _ (λ e. omega arith) (λ e.
-      by-test P (eqb op E.BASE) _ _ (λ e. omega arith) (λ e.
-      by-test P (eqb op E.PROCEDURE) _ _ (λ e. omega arith) (λ e.
-      by-test P (eqb op E.END-PROCEDURE) _ _ (λ e. let z = text-alike own t s .of-bases in omega arith) (λ e. omega arith)))))
-
-  event-few : (op t : ℕ) (m : Meaning-walk) → meanEvent kinds values found op t m .meant .bases ≤ m .meant .bases + 1
-  unfolding meanEvent
-  event-few op t m =
-      let w = withinAfter found op t (m .meant .means) (m .meant .bases) (m .within) in
-      let form = formAfter values op t (m .form) in
-      let target = targetAfter found op t (m .meant .means) (m .target) in
-      let d = declaredAfter values found op t (w .own) (w .base) form (m .meant) in
-      let a = written-same op t (w .own) target d in
-      let b = declared-few op t (w .own) (w .base) form (m .meant) in
-      omega arith
-
-  pub few-opened : (tape : List ℕ) (m : Meaning-walk) → pass (meanEvent kinds values found) m tape .meant .bases ≤ m .meant .bases + length tape
-  unfolding pass fold onEvent
-  few-opened [] m = omega arith
-  few-opened (e ∷ es) m =
-      let a = event-few (e % 64) (e / 64) m in
-      let b = few-opened es (meanEvent kinds values found (e % 64) (e / 64) m) in
-      omega arith
+-- there are no more of them than events
+few-opened : (kinds values found : List ℕ) (x : Statement) (s : Meant) → meanProgram kinds values found x s .bases ≤ s .bases + length (tapeStatement x [])
+few-opened kinds values found x s =
+    let e : length (tapeStatement x []) ≡ length (eventsOf x) = ap length (tree-tape x) ∙ length-map (λ (e : Event). event (opOf e) (tokenOf e)) (eventsOf x) in
+    omega (arith, bases-along kinds values found (eventsOf x) [] s)
 
 -- ── meanings, rules and places ──
 
@@ -154,23 +119,22 @@ module _ (ts : List Token) (x : Statement) (kinds values found tape : List ℕ) 
       (means under opens written means′ under′ opens′ written′ : List ℕ) (bases : ℕ) (bm : Blank ts means) (bo : Blank ts opens) (bw : Blank ts written)
       (e : meantOf means′ under′ opens′ written′ bases ≡ pass (meanEvent kinds values found) (M.beginning (meantOf (registersNamed 16 means) under opens written 0)) tape .meant)
     where
-      few : bases ≤ length tape
-      few =
-          let a = ap (λ (s : Meant). s .bases) e in
-          let b = few-opened kinds values found tape (M.beginning (meantOf (registersNamed 16 means) under opens written 0)) in
-          omega arith
-
       -- the tables, but for the list of cells
       tables : meantOf means′ under′ opens′ written′ bases ≡ tabled (meantIn ts x)
       unfolding meant
       tables =
-          e ∙ rw (t .values-are, t .tape-is, ek, ef, blank means bm, blank opens bo, blank written bw) (meant-text (kindsOf ts) (valuesOf ts) (named ts x .found) under n (t .small) x firstToken (t .to) (t .program))
+          e ∙ rw (t .values-are, t .tape-is, ek, ef, blank means bm, blank opens bo, blank written bw) 
+          (meant-text (kindsOf ts) (valuesOf ts) (named ts x .found) under n (t .small) (early ts x (t .to) (t .program)) x firstToken (t .to) (t .program) (let a = inside ts x (t .to) (t .program) in let b = long in omega arith))
 
       means-are : meaningsOf means′ under′ ≡ meantIn ts x .means
       means-are = ap (λ (s : Meant). s .means) tables
 
       bases-are : bases ≡ meantIn ts x .bases
       bases-are = ap (λ (s : Meant). s .bases) tables
+
+      few : meantIn ts x .bases ≤ length tape
+      unfolding meant
+      few = rw (t .tape-is) (few-opened (kindsOf ts) (valuesOf ts) (named ts x .found) x (standard n))
 
       shown : Shown (tablesIn ts x) kinds values found means′ opens′ written′
       shown = record {
@@ -189,16 +153,14 @@ module _ (ts : List Token) (x : Statement) (kinds values found tape : List ℕ) 
       unfolding meant isProgram
       settled offsets ends′ offsets′ N others ruled placed r wide bl ej el eb er =
           let p = t .program in
-          let d : pass (judgeEvent (tablesIn ts x)) (J.beginning others) tape .broken ≡ others ⊕ kindStatement (tablesIn ts x) x protected =
+          let d : pass (judgeEvent (tablesIn ts x)) (J.beginning others) tape .broken ≡ others ⊕ rulesOf (tablesIn ts x) x =
           rw (t .tape-is) (judged-program (kindsOf ts) (tablesIn ts x) x firstToken (t .to) p others) in
-          let k = known in
           let f = few in
           let b = bases-are in
           let within = inside ts x (t .to) p in
           let l : LaidAs (meantIn ts x .bases) (meantIn ts x .cells) (layingOf ends′ offsets′ placed) =
           subst (λ (y : Laying). LaidAs (meantIn ts x .bases) (meantIn ts x .cells) y) (sym (rw (t .tape-is, bl) at el))
-          (layout-of-tree means′ under′ (kindsOf ts) (valuesOf ts) (named ts x .found) x 0 firstToken (t .to) dataBase (standard n) refl (program-rises (kindsOf ts) firstToken x (t .to) p)
-          N (length ts) (meantIn ts x .bases) means-long within (omega arith) means-are (k .opened)) in
+          (layout-of-tree means′ under′ (kindsOf ts) (valuesOf ts) (named ts x .found) x firstToken (t .to) p (standard n) refl (t .to) known means-are N (length ts) within (omega arith)) in
           record {
             means-are = means-are;
             opens-are = ap (λ (s : Meant). s .opens) tables;
@@ -211,10 +173,5 @@ module _ (ts : List Token) (x : Statement) (kinds values found tape : List ℕ) 
         where
           known : Known (t .to) (meantIn ts x)
           known =
-              let q = t .program in
-              let g = grown-statement (kindsOf ts) (valuesOf ts) (named ts x .found) x firstToken (q .0) 0 dataBase (standard n) (q .1 .1) (omega arith) (known-standard n) .known in
-              let z = q .2 .1 in
-              record { below = all-map _ _ (meantIn ts x .cells) (λ (c : Filled) h. omega arith) (g .below); falling = g .falling; held = g .held; opened = g .opened }
-
-          means-long : length (standard n .means) ≡ length ts
-          means-long = let a = length-replicate {A = Meaning} n nothing in let b = long in omega arith
+              known-text (kindsOf ts) (valuesOf ts) (named ts x .found) (eventsOf x) [] firstToken (t .to) (standard n) (program-text (kindsOf ts) x firstToken (t .to) (t .program))
+              (let a = length-replicate {A = Meaning} n nothing in let b = long in let c = inside ts x (t .to) (t .program) in omega arith) (known-standard n)

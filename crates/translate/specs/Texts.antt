@@ -19,8 +19,7 @@ use Rattle.names.specs.Names.{Named}
 use Rattle.names.specs.Labels.{Labelled}
 use Rattle.kinds.specs.Meanings.{Meant}
 use Rattle.kinds.specs.Tables.{Tables}
-use Rattle.kinds.specs.Rules.{protected}
-use Rattle.kinds.specs.Kinds.{kindStatement}
+use Rattle.kinds.specs.Kinds.{rulesOf}
 use Rattle.tables.specs.Packed.{meaningsOf, setsOf}
 use Rattle.translator.specs.Layout.{placeCells, offsetOf}
 use Rattle.translator.specs.Translate.{kindsOf, valuesOf, placeAt, named, labelled, meant, tablesOf}
@@ -86,7 +85,7 @@ pub record Settled (ts : List Token) (x : Statement) (means under opens written 
   pub bases-are : r .bases ≡ meantIn ts x .bases
   pub ends-are : (k : ℕ) → getD ends k 0 ≡ getD (placeCells (meantIn ts x .bases) (meantIn ts x .cells) .ends) k 0
   pub offsets-are : (t : ℕ) → getD offsets t 0 ≡ offsetOf (placeCells (meantIn ts x .bases) (meantIn ts x .cells) .placed) t
-  pub broken-is : r .broken ≡ (others ⊕ kindStatement (tablesIn ts x) x protected) ⊕ placeCells (meantIn ts x .bases) (meantIn ts x .cells) .broken
+  pub broken-is : r .broken ≡ (others ⊕ rulesOf (tablesIn ts x) x) ⊕ placeCells (meantIn ts x .bases) (meantIn ts x .cells) .broken
 
 -- ── room ──
 

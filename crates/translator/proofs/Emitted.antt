@@ -1,19 +1,20 @@
 -- Where no rule is broken, what is made of a text's statements is ready: registers are 0 to 15, elements lie in their cells, shifts are below 64.
 use mathlib.Core.Path.{_≡_, refl, sym, ap, subst, _∙_}
 use mathlib.Core.List.{List, [], _∷_, _++_}
-use mathlib.Core.Bool.{Bool, true, false}
+use mathlib.Core.Bool.{Bool, true, false, _&&_}
 use mathlib.Core.Option.{Option, none, some}
 use Prim.Native.Nat.{ℕ, zero, suc, _+_, _*_, _-_, _<_, _≤_}
 use native.Mathlib.Omega.{arith}
 use lib.Dec.{eqb, leb}
 use lib.ListN.{getD}
-use borrow.Author.Tests.{leb-true}
 use Rattle.base.specs.Choose.{choose, if_then_else_}
 use Rattle.base.specs.Lists.{All, member}
 use Rattle.base.proofs.Lists.{all-both}
 use Rattle.token.specs.Kinds as K
 use Rattle.grammar.specs.Tree as T
 use Rattle.grammar.specs.Tree.{Designator, Operand, number, place, Sign, plain, abs, neg, negAbs, Term, Assignment, Condition, compared, bare, Width, full, short, Statement, Body, Items}
+use Rattle.grammar.specs.Events.{Event, edge, phrase, mark, closed, left, given, limited, endedIf, otherwise, endedElse, endedWhile, endedFor, each, eventsValue, eventsItem, eventsRegister, eventsDeclaration, eventsSign, eventsTerm, eventsChain, eventsStatement, eventsBody, eventsItems, eventsOf}
+use Rattle.grammar.specs.Places.{Place, Along}
 use Rattle.names.specs.declared.Broken.{Broken}
 use Rattle.names.specs.Broken.{_⊕_, rule}
 use Rattle.names.proofs.Joins.{quiet-left, quiet-right, rule-holds}
@@ -21,9 +22,11 @@ use Rattle.kinds.specs.Meaning.{Meaning, nothing, register, cell, routine, Cell
 use Rattle.kinds.specs.Tables.{Tables, kindAt, valueAt, meaningAt}
 use Rattle.kinds.specs.Rules as R
 use Rattle.kinds.specs.Rules.{shifts, fullOnly, inside}
-use Rattle.kinds.specs.Kinds.{kindStatement, kindBody, kindItems}
-use Rattle.kinds.proofs.Elements.{inside-is}
+use Rattle.kinds.specs.Kinds.{keptIn}
+use Rattle.kinds.proofs.Elements.{inside-is, in-range}
 use Rattle.kinds.proofs.Small.{Small, register-small, meaning-small}
+use Rattle.kinds.proofs.Unbroken.{Unbroken}
+use Rattle.kinds.proofs.Bases.{base-segment}
 use Rattle.translator.specs.Instructions.{Datum, element, literal, entry, Instruction, rr, rx, shift, opcode, rowOf, loadRow, compareRow, timesRow, storeRow, column, shiftCode}
 use Rattle.translator.specs.Core as C
 use Rattle.translator.specs.Core.{Core, Use, held, stored, absent, apply, signed, load, exitMask, returnOf, subscriptOf, indexOf, useBy, useOf, shiftBy, productTarget, termOf, chainOf, toRegister, sourceOf, assignBy, assignmentOf, compareWith, testOf, maskOf, controlOf, coreStatement, coreBody, coreItems}
@@ -95,7 +98,7 @@ module _ (f : Tables) (l : Layout) (n : ℕ) (small : All Small (f .means))
   shift-ready : (op r : ℕ) (a : Operand) → op < 256 → r < 16 → R.shiftRules f a .number ≡ 0 → AllReady (shiftBy f op r a)
   unfolding shiftBy R.shiftRules
   shift-ready op r (number t) o h q =
-      let e = leb-true (valueAt f t) 63 (rule-holds (leb (valueAt f t) 63) 11 t (omega arith) q) in
+      let e = in-range 0 63 (valueAt f t) (rule-holds (R.inRange 0 63 (valueAt f t)) 11 t (omega arith) q) .1 in
       ((o, h, omega arith, omega arith), tt)
   shift-ready op r (place d) o h q = ((o, h, register-at (d .name), omega arith), tt)
 
@@ -121,33 +124,33 @@ module _ (f : Tables) (l : Layout) (n : ℕ) (small : All Small (f .means))
       go false false true q = apply-ready (rowOf k) r (useOf f a) h (use-ready a (quiet-left _ _ q))
       go false false false q = apply-ready (rowOf k) r (useOf f a) h (use-ready a q)
 
-  chain-ready : (kept : List ℕ) (r : ℕ) (ts : List Term) → r < 16 → R.chainRules f kept r ts .number ≡ 0 → AllReady (chainOf f r ts)
-  unfolding chainOf R.chainRules
-  chain-ready kept r [] h q = tt
-  chain-ready kept r (t ∷ ts) h q =
-      all-both (Ready l n) (termOf f r t) (chainOf f r ts) (term-ready kept r t h (quiet-left _ (R.chainRules f kept r ts) q)) (chain-ready kept r ts h (quiet-right _ (R.chainRules f kept r ts) q))
+  -- each term of a chain, with the registers that are protected there
+  abbrev Terms : Meaning → List Term → Type 0
+  Terms m ts = All (λ (t : Term). (kept : List ℕ) × (R.termBy f m kept t .number ≡ 0)) ts
+
+  chain-ready : (r : ℕ) (ts : List Term) → r < 16 → Terms (register r) ts → AllReady (chainOf f r ts)
+  unfolding chainOf
+  chain-ready r [] h q = tt
+  chain-ready r (t ∷ ts) h ((kept, q), qs) = all-both (Ready l n) (termOf f r t) (chainOf f r ts) (term-ready kept r t h q) (chain-ready r ts h qs)
 
   -- ── assignments and conditions ──
 
-  register-ready : (kept : List ℕ) (r : ℕ) (a : Assignment) → r < 16 → R.toRegister f kept r a .number ≡ 0 → AllReady (toRegister f r a)
-  unfolding toRegister R.toRegister
-  register-ready kept r a h q =
-      let rest = quiet-right (R.writeRule kept r (a .target .name)) (R.operandRules f (a .first) ⊕ R.chainRules f kept r (a .rest)) (quiet-right _ _ q) in
-      all-both (Ready l n) (load (a .sign) r (useOf f (a .first))) (chainOf f r (a .rest))
-      (load-ready (a .sign) r (useOf f (a .first)) h (use-ready (a .first) (quiet-left _ (R.chainRules f kept r (a .rest)) rest)))
-      (chain-ready kept r (a .rest) h (quiet-right (R.operandRules f (a .first)) _ rest))
+  register-ready : (r : ℕ) (a : Assignment) → r < 16 → R.operandRules f (a .first) .number ≡ 0 → Terms (register r) (a .rest) → AllReady (toRegister f r a)
+  unfolding toRegister
+  register-ready r a h q qs =
+      all-both (Ready l n) (load (a .sign) r (useOf f (a .first))) (chainOf f r (a .rest)) (load-ready (a .sign) r (useOf f (a .first)) h (use-ready (a .first) q)) (chain-ready r (a .rest) h qs)
 
   source-ready : (a : Operand) → sourceOf f a < 16
   source-ready (number t) = omega arith
   source-ready (place d) = register-at (d .name)
 
-  assign-ready : (m : Meaning) (kept : List ℕ) (a : Assignment) → Small m → R.assignBy f m kept a .number ≡ 0 → AllReady (assignBy f m a)
-  unfolding R.toCell R.placeRules R.operandRules
-  assign-ready nothing kept a h q = tt
-  assign-ready (register r) kept a h q = register-ready kept r a h q
-  assign-ready (cell c) kept a h q =
-      apply-ready storeRow (sourceOf f (a .first)) (useOf f (place (a .target))) (source-ready (a .first)) (use-ready (place (a .target)) (quiet-left _ _ q))
-  assign-ready (routine r) kept a h q = tt
+  -- by what the target means: its place, the first operand and the terms fit
+  assign-ready : (m : Meaning) (a : Assignment) → Small m → R.placeRules f (a .target) .number ≡ 0 → R.firstBy f m (a .first) .number ≡ 0 → Terms m (a .rest) → AllReady (assignBy f m a)
+  unfolding R.operandRules
+  assign-ready nothing a h q u v = tt
+  assign-ready (register r) a h q u v = register-ready r a h u v
+  assign-ready (cell c) a h q u v = apply-ready storeRow (sourceOf f (a .first)) (useOf f (place (a .target))) (source-ready (a .first)) (use-ready (place (a .target)) q)
+  assign-ready (routine r) a h q u v = tt
 
   compare-ready : (r : ℕ) (a : Operand) → r < 16 → R.operandRules f a .number ≡ 0 → AllReady (compareWith f r a)
   unfolding compareWith
@@ -158,11 +161,13 @@ module _ (f : Tables) (l : Layout) (n : ℕ) (small : All Small (f .means))
   test-ready (compared m k a) q = (compare-ready (registerOf (meaningAt f m)) a (register-at m) (quiet-right _ _ q), mask-small (kindAt f k))
   test-ready (bare k) q = (tt, mask-small (kindAt f k))
 
-  control-ready : (m : Meaning) (kept : List ℕ) (a : Assignment) → Small m → R.controlBy f m kept a .number ≡ 0 → AllReady (toRegister f (registerOf m) a)
-  control-ready nothing kept a h q = absurd (omega arith)
-  control-ready (register r) kept a h q = register-ready kept r a h q
-  control-ready (cell c) kept a h q = absurd (omega arith)
-  control-ready (routine r) kept a h q = absurd (omega arith)
+  control-ready : (m : Meaning) (a : Assignment) (b : Bool) (t : ℕ) → Small m → rule (R.isRegister m && b) 8 t .number ≡ 0 → R.firstBy f m (a .first) .number ≡ 0 → Terms m (a .rest)
+      → AllReady (toRegister f (registerOf m) a)
+  unfolding rule
+  control-ready nothing a b t h q u v = absurd (omega arith)
+  control-ready (register r) a b t h q u v = register-ready r a h u v
+  control-ready (cell c) a b t h q u v = absurd (omega arith)
+  control-ready (routine r) a b t h q u v = absurd (omega arith)
 
   exit-ready : (step : ℕ) → exitMask step < 16
   exit-ready step = go (leb 2147483648 step)
@@ -177,56 +182,103 @@ module _ (f : Tables) (l : Layout) (n : ℕ) (small : All Small (f .means))
   return-ready (cell c) h = omega arith
   return-ready (routine r) h = h
 
-  segment-ready : (kept : List ℕ) (t : ℕ) → R.baseRules f kept t .number ≡ 0 → getD (f .opens) t 0 ≤ 3
-  unfolding R.baseRules
-  segment-ready kept t q =
-      leb-true _ _ (rule-holds (leb (getD (f .opens) t 0) R.lastSegment) 12 t (omega arith) (quiet-right _ _ (quiet-right (R.zeroRule f t) _ (quiet-right (R.registerRule f t) _ q))))
-
   -- ── the whole text ──
 
-  mutual
-    unfolding coreStatement kindStatement assignmentOf R.assignmentRules R.controlRules R.declarationRules
+  abbrev Quiet : List Event → Place → Type 0
+  Quiet es p = Along (Unbroken f) es p
 
-    pub core-ready : (x : Statement) (kept : List ℕ) → kindStatement f x kept .number ≡ 0 → ReadyCore l n (coreStatement f x)
-    core-ready (T.assign a) kept q = assign-ready (meaningAt f (a .target .name)) kept a (small-at (a .target .name)) q
-    core-ready (T.call m) kept q = return-ready (meaningAt f m) (small-at m)
-    core-ready (T.block t x) kept q = core-ready-body x kept q
-    core-ready (T.goto t m) kept q = tt
-    core-ready T.null kept q = tt
-    core-ready (T.ifThen t c x) kept q =
-        let r = test-ready c (quiet-left (R.conditionRules f c) (kindStatement f x kept) q) in
-        (r .0, r .1, core-ready x kept (quiet-right (R.conditionRules f c) (kindStatement f x kept) q))
-    core-ready (T.ifElse t c x e y) kept q =
-        let r = test-ready c (quiet-left (R.conditionRules f c) (kindStatement f x kept ⊕ kindStatement f y kept) q) in
-        let s = quiet-right (R.conditionRules f c) (kindStatement f x kept ⊕ kindStatement f y kept) q in
-        (r .0, r .1, core-ready x kept (quiet-left (kindStatement f x kept) (kindStatement f y kept) s), core-ready y kept (quiet-right (kindStatement f x kept) (kindStatement f y kept) s))
-    core-ready (T.while t c x) kept q =
-        let r = test-ready c (quiet-left (R.conditionRules f c) (kindStatement f x kept) q) in
-        (r .0, r .1, core-ready x kept (quiet-right (R.conditionRules f c) (kindStatement f x kept) q))
-    core-ready (T.for t a v m x) kept q =
-        let s = quiet-right (R.controlRules f kept a) (R.operandRules f m ⊕ kindStatement f x kept) q in
-        let r = register-at (a .target .name) in (
-          control-ready (meaningAt f (a .target .name)) kept a (small-at (a .target .name)) (quiet-left (R.controlRules f kept a) (R.operandRules f m ⊕ kindStatement f x kept) q),
-          compare-ready (controlOf f a) m r (quiet-left (R.operandRules f m) (kindStatement f x kept) s),
-          exit-ready (valueAt f v),
-          r,
-          core-ready x kept (quiet-right (R.operandRules f m) (kindStatement f x kept) s),
+  -- no rule is broken in what follows, wherever it stands
+  abbrev Later : List Event → Type 0
+  Later k = (q : Place) × Quiet k q
+
+  abbrev Passes : (List Event → List Event) → Type 0
+  Passes out = (k : List Event) (p : Place) → Quiet (out k) p → Later k
+
+  each-passes : {A : Type 0} (out : A → List Event → List Event) → ((x : A) → Passes (out x)) → (xs : List A) → Passes (each out xs)
+  unfolding each
+  each-passes out h [] k p q = (p, q)
+  each-passes out h (x ∷ xs) k p q = let (o, r) = h x (each out xs k) p q in each-passes out h xs k o r
+
+  item-passes : (c : Option ℕ) (w : Width) (i : T.Item) → Passes (eventsItem c w i)
+  unfolding eventsItem Along
+  item-passes c w i k p (q, r) = each-passes eventsValue (λ t k p (q, r). (_, r)) (i .numbers) k _ r
+
+  terms-quiet : (d : Designator) (ts : List Term) (k : List Event) (p : Place) → Quiet (each (eventsTerm d) ts k) p → Terms (meaningAt f (d .name)) ts × Quiet k p
+  unfolding each Along
+  terms-quiet d [] k p q = (tt, q)
+  terms-quiet d (t ∷ ts) k p (q, qs) = let (r, s) = terms-quiet d ts k p qs in (((keptIn f p, q), r), s)
+
+  sign-quiet : (d : Designator) (g : Sign) (k : List Event) (p : Place) → Quiet (eventsSign d g k) p → Quiet k p
+  unfolding eventsSign Along
+  sign-quiet d plain k p q = q
+  sign-quiet d (abs t) k p (q, r) = r
+  sign-quiet d (neg t) k p (q, r) = r
+  sign-quiet d (negAbs t) k p (q, r) = r
+
+  -- what follows a target
+  chain-quiet : (a : Assignment) (k : List Event) (p : Place) → Quiet (eventsChain a k) p
+      → (R.firstBy f (meaningAt f (a .target .name)) (a .first) .number ≡ 0) × Terms (meaningAt f (a .target .name)) (a .rest) × Quiet k p
+  unfolding eventsChain Along
+  chain-quiet a k p h =
+      let (q, r) = sign-quiet (a .target) (a .sign) (phrase (given (a .target) (a .first)) ∷ each (eventsTerm (a .target)) (a .rest) k) p h in
+      let (t, s) = terms-quiet (a .target) (a .rest) k p r in
+      (q, t, s)
+
+  mutual
+    unfolding coreStatement eventsStatement eventsDeclaration assignmentOf R.targetRules R.controlRules R.onlyRegister Along
+
+    core-made : (x : Statement) (k : List Event) (p : Place) → Quiet (eventsStatement x k) p → ReadyCore l n (coreStatement f x) × Later k
+    core-made (T.assign a) k p (h, hs) =
+        let (q, r, s) = chain-quiet a k p hs in
+        (assign-ready (meaningAt f (a .target .name)) a (small-at (a .target .name)) (quiet-left (R.placeRules f (a .target)) _ h) q r, (p, s))
+    core-made (T.call m) k p (h, hs) = (return-ready (meaningAt f m) (small-at m), (p, hs))
+    core-made (T.block t x) k p (h, hs) = let (r, (o, (g, gs))) = core-made-body x (edge (closed t) ∷ k) _ hs in (r, (_, gs))
+    core-made (T.goto t m) k p (h, hs) = (tt, (p, hs))
+    core-made T.null k p h = (tt, (p, h))
+    core-made (T.ifThen t c x) k p (h, hs) =
+        let r = test-ready c h in
+        let (s, (o, (g, gs))) = core-made x (mark (endedIf t) ∷ k) p hs in
+        ((r .0, r .1, s), (_, gs))
+    core-made (T.ifElse t c x e y) k p (h, hs) =
+        let r = test-ready c h in
+        let (s, (o, (g, gs))) = core-made x (mark (otherwise t) ∷ eventsStatement y (mark (endedElse t) ∷ k)) p hs in
+        let (u, (o′, (g′, gs′))) = core-made y (mark (endedElse t) ∷ k) o gs in
+        ((r .0, r .1, s, u), (_, gs′))
+    core-made (T.while t c x) k p (m, (h, hs)) =
+        let r = test-ready c h in
+        let (s, (o, (g, gs))) = core-made x (mark (endedWhile t) ∷ k) p hs in
+        ((r .0, r .1, s), (_, gs))
+    core-made (T.for t a v m x) k p (h, hs) =
+        let (q, r, (s, ss)) = chain-quiet a (phrase (limited (a .target) v m) ∷ eventsStatement x (mark (endedFor v) ∷ k)) p hs in
+        let (u, (o, (g, gs))) = core-made x (mark (endedFor v) ∷ k) p ss in
+        let i = register-at (a .target .name) in (
+          (
+            control-ready (meaningAt f (a .target .name)) a (R.bareName (a .target)) (a .target .name) (small-at (a .target .name)) (quiet-left (rule _ 8 (a .target .name)) _ h) q r,
+            compare-ready (controlOf f a) m i s,
+            exit-ready (valueAt f v),
+            i,
+            u,
+          ),
+          (_, gs),
         )
 
-    pub core-ready-body : (x : Body) (kept : List ℕ) → kindBody f x kept .number ≡ 0 → ReadyCore l n (coreBody f x)
-    core-ready-body (T.declare (T.registers rs) x) kept q = core-ready-body x kept (quiet-right _ _ q)
-    core-ready-body (T.declare (T.cells c w is) x) kept q = core-ready-body x kept (quiet-right _ _ q)
-    core-ready-body (T.declare (T.base m) x) kept q =
-        let s = quiet-left (R.baseRules f kept m) (kindBody f x (R.keptAfter f (T.base m) kept)) q in
-        (register-at m, segment-ready kept m s, core-ready-body x (R.keptAfter f (T.base m) kept) (quiet-right (R.baseRules f kept m) _ q))
-    core-ready-body (T.procedure m r x y) kept q =
-        let s = quiet-right (R.zeroRule f r) _ (quiet-right (R.registerRule f r) _ q) in
-        let inner = registerOf (meaningAt f r) ∷ kept in
-        (register-at r, core-ready x inner (quiet-left (kindStatement f x inner) (kindBody f y kept) s), core-ready-body y kept (quiet-right (kindStatement f x inner) (kindBody f y kept) s))
-    core-ready-body (T.items is) kept q = core-ready-items is kept q
+    core-made-body : (x : Body) (k : List Event) (p : Place) → Quiet (eventsBody x k) p → ReadyCore l n (coreBody f x) × Later k
+    core-made-body (T.declare (T.registers rs) x) k p h = let (o, g) = each-passes eventsRegister (λ r k p (q, s). (_, s)) rs (eventsBody x k) p h in core-made-body x k o g
+    core-made-body (T.declare (T.cells c w is) x) k p (h, hs) = let (o, g) = each-passes (eventsItem c w) (item-passes c w) is (eventsBody x k) _ hs in core-made-body x k o g
+    core-made-body (T.declare (T.base m) x) k p (h, hs) = let (r, s) = core-made-body x k _ hs in ((register-at m, base-segment f (keptIn f p) m h, r), s)
+    core-made-body (T.procedure m r x y) k p (h, hs) =
+        let (s, (o, (g, gs))) = core-made x (edge (left m) ∷ eventsBody y k) _ hs in
+        let (u, v) = core-made-body y k _ gs in
+        ((register-at r, s, u), v)
+    core-made-body (T.items is) k p h = core-made-items is k p h
 
-    pub core-ready-items : (is : Items) (kept : List ℕ) → kindItems f is kept .number ≡ 0 → ReadyCore l n (coreItems f is)
-    core-ready-items T.ended kept q = tt
-    core-ready-items (T.label x is) kept q = core-ready-items is kept q
-    core-ready-items (T.item x is) kept q =
-        (core-ready x kept (quiet-left (kindStatement f x kept) (kindItems f is kept) q), core-ready-items is kept (quiet-right (kindStatement f x kept) (kindItems f is kept) q))
+    core-made-items : (is : Items) (k : List Event) (p : Place) → Quiet (eventsItems is k) p → ReadyCore l n (coreItems f is) × Later k
+    core-made-items T.ended k p h = (tt, (p, h))
+    core-made-items (T.label x is) k p (h, hs) = core-made-items is k _ hs
+    core-made-items (T.item x is) k p h =
+        let (r, (o, g)) = core-made x (eventsItems is k) p h in
+        let (s, t) = core-made-items is k o g in
+        ((r, s), t)
+
+  pub core-ready : (x : Statement) → Along (Unbroken f) (eventsOf x) [] → ReadyCore l n (coreStatement f x)
+  core-ready x h = core-made x [] [] h .0

@@ -12,7 +12,12 @@ use Rattle.base.proofs.Lists.{all-both, all-getD, all-in}
 use Rattle.token.specs.declared.Token.{Token}
 use Rattle.token.specs.Text.{tokensOf}
 use Rattle.grammar.specs.Tree.{Width, full, Statement}
-use Rattle.grammar.specs.Derives.{isStatement}
+use Rattle.grammar.specs.Derives.{isProgram}
+use Rattle.grammar.specs.Events.{eventsOf}
+use Rattle.grammar.specs.Places.{Along}
+use Rattle.grammar.specs.Texts.{Text}
+use Rattle.grammar.proofs.Texts.{program-text}
+use Rattle.grammar.proofs.Theorems.{read-is-program, program-inside}
 use Rattle.names.specs.declared.Broken.{Broken}
 use Rattle.names.specs.Broken.{_⊕_}
 use Rattle.names.specs.Search.{inFront, firstToken}
@@ -20,14 +25,13 @@ use Rattle.names.specs.Names.{Named}
 use Rattle.names.specs.Labels.{Labelled}
 use Rattle.names.proofs.Joins.{quiet-left, quiet-right}
 use Rattle.kinds.specs.Meaning.{Meaning, nothing, register, cell, routine, Cell, Based, elementSize, meaningOf}
-use Rattle.kinds.specs.Meanings.{Filled, Meant, meanStatement, dataBase, standard}
+use Rattle.kinds.specs.Meanings.{Filled, Meant, standard}
 use Rattle.kinds.specs.Tables.{Tables, meaningAt}
-use Rattle.kinds.specs.Rules.{protected}
-use Rattle.kinds.specs.Kinds.{kindStatement}
+use Rattle.kinds.specs.Kinds.{rulesOf}
 use Rattle.kinds.proofs.Elements.{size-positive}
-use Rattle.kinds.proofs.Lengths.{meant-long}
+use Rattle.kinds.proofs.Unbroken.{Unbroken, unbroken-program}
 use Rattle.kinds.proofs.Small.{Small, meant-small, standard-small}
-use Rattle.kinds.proofs.Known.{Known, Held, grown-statement, known-standard}
+use Rattle.kinds.proofs.Known.{Known, Held, known-text, known-standard}
 use Rattle.kinds.proofs.Bases.{few-bases}
 use Rattle.objtext.specs.Object.{Segment, program, cells, Object, IsObject, Data}
 use Rattle.objtext.specs.Reader.{readObject}
@@ -46,7 +50,7 @@ use Rattle.translator.proofs.Ready.{Ready, ReadyCore, ready-code}
 use Rattle.translator.proofs.Encoded.{bytes-encodeAll}
 use Rattle.translator.proofs.Emitted.{core-ready}
 use Rattle.translator.proofs.Images.{Fitting, placed-bytes, first-data, data-from, length-data}
-use Rattle.translator.proofs.Tables.{length-map, Derived, accepted-derived}
+use Rattle.translator.proofs.Tables.{length-map}
 use Rattle.translator.proofs.Answers.{Accepted}
 
 -- what is in a list of parts is a part of something in the list
@@ -55,8 +59,8 @@ map-in c [] h = absurd h
 map-in c (d ∷ ds) (inl e) = (d, inl refl, e)
 map-in c (d ∷ ds) (inr h) = let r = map-in c ds h in (r .0, inr (r .1), r .2)
 
--- a text of tokens ts, read as the tree x up to token j, with no rule broken
-module _ (ts : List Token) (x : Statement) (j : ℕ) (front : firstToken ≤ length ts) (read : isStatement (kindsOf ts) x firstToken j) (quiet : make ts x .broken .number ≡ 0) where
+-- a text of tokens ts that is the program x up to token j, with no rule broken
+module _ (ts : List Token) (x : Statement) (j : ℕ) (front : firstToken ≤ length ts) (read : isProgram (kindsOf ts) x firstToken j) (quiet : make ts x .broken .number ≡ 0) where
   abbrev pub n : Named
   n = named ts x
 
@@ -72,30 +76,45 @@ module _ (ts : List Token) (x : Statement) (j : ℕ) (front : firstToken ≤ len
   abbrev pub y : Layout
   y = layout (m .bases) (m .cells) (instructions core)
 
-  kinds-quiet : kindStatement f x protected .number ≡ 0
+  kinds-quiet : rulesOf f x .number ≡ 0
   unfolding make
-  kinds-quiet = quiet-left (kindStatement f x protected) _ (quiet-right (labelled ts x .broken) _ (quiet-right (n .broken) _ quiet))
+  kinds-quiet = quiet-left (rulesOf f x) _ (quiet-right (labelled ts x .broken) _ (quiet-right (n .broken) _ quiet))
 
   pub cells-quiet : placeCells (m .bases) (m .cells) .broken .number ≡ 0
   unfolding make layout
-  cells-quiet = quiet-right (kindStatement f x protected) _ (quiet-right (labelled ts x .broken) _ (quiet-right (n .broken) _ quiet))
+  cells-quiet = quiet-right (rulesOf f x) _ (quiet-right (labelled ts x .broken) _ (quiet-right (n .broken) _ quiet))
 
   -- ── what is known of the tables ──
 
+  -- no rule is broken at any event, at its place
+  pub quiet-along : Along (Unbroken f) (eventsOf x) []
+  quiet-along = unbroken-program f x kinds-quiet
+
+  abbrev before : Meant
+  before = standard (length ts - firstToken)
+
+  text : Text (kindsOf ts) (eventsOf x) [] firstToken j
+  text = program-text (kindsOf ts) x firstToken j read
+
+  inside : j ≤ length ts
+  inside = let h = program-inside (kindsOf ts) firstToken x j read in let e = length-map (λ (t : Token). t .kind) ts in omega arith
+
   small : All Small (m .means)
   unfolding meant
-  small = meant-small f x protected 0 dataBase (standard (length ts - firstToken)) kinds-quiet (omega arith) (standard-small (length ts - firstToken))
+  small = meant-small f x before quiet-along (standard-small (length ts - firstToken))
 
   pub known : Known j m
   unfolding meant
-  known = grown-statement (kindsOf ts) (valuesOf ts) (n .found) x firstToken j 0 dataBase (standard (length ts - firstToken)) read (omega arith) (known-standard (length ts - firstToken)) .known
+  known =
+      known-text (kindsOf ts) (valuesOf ts) (n .found) (eventsOf x) [] firstToken j before text
+      (let e = length-replicate {A = Meaning} (length ts - firstToken) nothing in let h = inside in omega arith) (known-standard (length ts - firstToken))
 
   -- "a third base declaration" is refused
   pub few : m .bases ≤ 2
   unfolding meant
   few =
-      few-bases f x firstToken j 0 dataBase protected (standard (length ts - firstToken)) read kinds-quiet
-      (let a = length-map (λ (t : Token). t .kind) ts in let b = length-replicate {A = ℕ} (firstToken + (length ts - firstToken)) 0 in omega arith) (λ u h. refl) (omega arith)
+      few-bases f (eventsOf x) [] firstToken j before text quiet-along
+      (let e = length-replicate {A = ℕ} (firstToken + (length ts - firstToken)) 0 in let h = inside in omega arith) (λ u h. refl) (omega arith)
 
   -- an element of a cell stands within its segment
   within : (t : ℕ) (c : Cell) → meaningAt f t ≡ cell c → (v : ℕ) → v + elementSize (c .width) ≤ elementSize (c .width) * c .elements → offsetOf (y .placed) (c .name) + v < segmentLimit
@@ -120,7 +139,7 @@ module _ (ts : List Token) (x : Statement) (j : ℕ) (front : firstToken ≤ len
   unfolding instructions
   ready h =
       all-both (Ready y (sizeOf core)) (code [] [] core 0) (stop ∷ [])
-      (ready-code y (sizeOf core) [] [] core 0 tt tt (omega arith) (core-ready f y (sizeOf core) small within x protected kinds-quiet)) (tt, tt)
+      (ready-code y (sizeOf core) [] [] core 0 tt tt (omega arith) (core-ready f y (sizeOf core) small within x quiet-along)) (tt, tt)
 
   pub program-bytes : sizes (instructions core) ≤ segmentLimit → literalsEnd y ≤ segmentLimit → All (λ (b : ℕ). b < 256) (encodeAll y (instructions core))
   unfolding layout
@@ -160,8 +179,8 @@ front-long ts = let e = length-append inFront ts in omega arith
 -- every text that is accepted has the object text of an object
 pub accepted-object : (source object : List ℕ) (a : Accepted source object) → Object (segments (make (a .tokens) (a .tree) .bases) (make (a .tokens) (a .tree) .layout) (make (a .tokens) (a .tree) .instructions))
 accepted-object source object a =
-    let d = accepted-derived source object a in
-    object-is (a .tokens) (a .tree) (d .to) (subst (λ (l : List Token). firstToken ≤ length l) (sym (a .text)) (front-long (tokensOf source .tokens))) (d .derived) (a .quiet) (a .short) (a .room)
+    object-is (a .tokens) (a .tree) (a .next) (subst (λ (l : List Token). firstToken ≤ length l) (sym (a .text)) (front-long (tokensOf source .tokens)))
+    (read-is-program (kindsOf (a .tokens)) firstToken (a .tree) (a .next) (a .read)) (a .quiet) (a .short) (a .room)
 
 -- and the reader of object texts gives its segments back
 pub accepted-read : (source object : List ℕ) (a : Accepted source object)

@@ -1,5 +1,5 @@
 -- In the tables of an accepted text each name has the declaration, and each GOTO the label, that the search finds where it stands.
-use mathlib.Core.Path.{_≡_, refl, sym, ap, subst, _∙_}
+use mathlib.Core.Path.{_≡_, refl, ap}
 use mathlib.Core.List.{List, [], _∷_, map}
 use Prim.Native.Nat.{ℕ, zero, suc, _<_, _≤_}
 use native.Mathlib.Omega.{arith}
@@ -8,15 +8,12 @@ use Rattle.token.specs.declared.Token.{Token}
 use Rattle.grammar.specs.Tree.{Statement}
 use Rattle.grammar.specs.Derives.{isStatement, isProgram}
 use Rattle.grammar.proofs.Theorems.{read-is-program}
-use Rattle.grammar.proofs.Rising.{rises-statement}
-use Rattle.names.specs.Broken.{unbroken}
-use Rattle.names.specs.Search.{firstToken, around}
-use Rattle.names.specs.Names.{Named}
-use Rattle.names.specs.Found.{FoundStatement}
-use Rattle.names.specs.Labels.{Labelled}
-use Rattle.names.specs.Led.{LedStatement}
-use Rattle.names.proofs.Finding.{statement-found}
-use Rattle.names.proofs.Leading.{statement-led}
+use Rattle.grammar.specs.Events.{eventsOf}
+use Rattle.grammar.specs.Places.{Along}
+use Rattle.grammar.proofs.Texts.{statement-text}
+use Rattle.names.specs.Search.{firstToken}
+use Rattle.names.specs.Found.{Found, Led}
+use Rattle.names.proofs.Finding.{finding, leading}
 use Rattle.kinds.proofs.Bases.{in-text}
 use Rattle.translator.specs.Translate.{kindsOf, valuesOf, named, labelled}
 use Rattle.translator.proofs.Answers.{Accepted}
@@ -25,19 +22,17 @@ pub length-map : {A : Type 0} (g : A → ℕ) (l : List A) → length (map g l) 
 length-map g [] = refl
 length-map g (a ∷ l) = ap (λ (k : ℕ). suc k) (length-map g l)
 
-pub names-found : (ts : List Token) (x : Statement) (j : ℕ) → isStatement (kindsOf ts) x firstToken j → j ≤ length ts → FoundStatement (valuesOf ts) (named ts x .found) x around
+pub names-found : (ts : List Token) (x : Statement) (j : ℕ) → isStatement (kindsOf ts) x firstToken j → j ≤ length ts
+    → Along (Found (valuesOf ts) (named ts x .found)) (eventsOf x) []
 unfolding named
 names-found ts x j p h =
-    let s : Named = record { found = replicate (length ts) 0; count = 0; broken = unbroken } in
-    let e : length (s .found) ≡ length ts = length-replicate {A = ℕ} (length ts) 0 in
-    statement-found (valuesOf ts) (named ts x .found) x firstToken j around s (rises-statement (kindsOf ts) x .so p) (omega arith) (λ u l r. refl)
+    finding (kindsOf ts) (valuesOf ts) (eventsOf x) [] firstToken j (statement-text (kindsOf ts) x firstToken j p) _ (omega (arith, length-replicate {A = ℕ} (length ts) 0))
 
-pub labels-led : (ts : List Token) (x : Statement) (j : ℕ) → isStatement (kindsOf ts) x firstToken j → j ≤ length ts → LedStatement (valuesOf ts) (labelled ts x .goes) x []
+pub labels-led : (ts : List Token) (x : Statement) (j : ℕ) → isStatement (kindsOf ts) x firstToken j → j ≤ length ts
+    → Along (Led (valuesOf ts) (labelled ts x .goes)) (eventsOf x) []
 unfolding labelled
 labels-led ts x j p h =
-    let s : Labelled = record { goes = replicate (length ts) 0; count = 0; broken = unbroken } in
-    let e : length (s .goes) ≡ length ts = length-replicate {A = ℕ} (length ts) 0 in
-    statement-led (valuesOf ts) (labelled ts x .goes) x firstToken j [] s (rises-statement (kindsOf ts) x .so p) (omega arith) (λ u l r. refl)
+    leading (kindsOf ts) (valuesOf ts) (eventsOf x) [] firstToken j (statement-text (kindsOf ts) x firstToken j p) _ (omega (arith, length-replicate {A = ℕ} (length ts) 0))
 
 -- an accepted text's tree, from the first token up to the `@`, which is a token of the text
 pub record Derived (source object : List ℕ) (a : Accepted source object) : Type 0 where
@@ -53,8 +48,8 @@ accepted-derived source object a =
     let e = length-map (λ (t : Token). t .kind) (a .tokens) in
     record { to = p .0; derived = p .1 .1; inside = omega arith }
 
-pub accepted-names : (source object : List ℕ) (a : Accepted source object) → FoundStatement (valuesOf (a .tokens)) (named (a .tokens) (a .tree) .found) (a .tree) around
-accepted-names source object a = let d = accepted-derived source object a in let h = d .inside in names-found (a .tokens) (a .tree) (d .to) (d .derived) (omega arith)
+pub accepted-names : (source object : List ℕ) (a : Accepted source object) → Along (Found (valuesOf (a .tokens)) (named (a .tokens) (a .tree) .found)) (eventsOf (a .tree)) []
+accepted-names source object a = let d = accepted-derived source object a in names-found (a .tokens) (a .tree) (d .to) (d .derived) (omega arith)
 
-pub accepted-labels : (source object : List ℕ) (a : Accepted source object) → LedStatement (valuesOf (a .tokens)) (labelled (a .tokens) (a .tree) .goes) (a .tree) []
-accepted-labels source object a = let d = accepted-derived source object a in let h = d .inside in labels-led (a .tokens) (a .tree) (d .to) (d .derived) (omega arith)
+pub accepted-labels : (source object : List ℕ) (a : Accepted source object) → Along (Led (valuesOf (a .tokens)) (labelled (a .tokens) (a .tree) .goes)) (eventsOf (a .tree)) []
+accepted-labels source object a = let d = accepted-derived source object a in labels-led (a .tokens) (a .tree) (d .to) (d .derived) (omega arith)

@@ -3,7 +3,7 @@ use mathlib.Core.List.{List, [], _∷_, _++_}
 use mathlib.Core.Bool.{Bool, true, false, _&&_}
 use mathlib.Core.Option.{Option, none, some}
 use Prim.Native.Nat.{ℕ, _-_}
-use lib.Dec.{eqb, leb}
+use lib.Dec.{eqb}
 use lib.ListN.{getD}
 use Rattle.base.specs.Choose.{if_then_else_}
 use Rattle.base.specs.Lists.{member}
@@ -12,7 +12,7 @@ use Rattle.grammar.specs.Tree as T
 use Rattle.grammar.specs.Tree.{Designator, Operand, number, place, Sign, plain, abs, neg, negAbs, Term, Assignment, Condition, compared, bare, Width, full, short, Statement, Body, Items}
 use Rattle.kinds.specs.Meaning.{Meaning, nothing, register, cell, routine, Cell, registerOf, longOperand}
 use Rattle.kinds.specs.Tables.{Tables, kindAt, valueAt, meaningAt}
-use Rattle.kinds.specs.Rules.{shifts}
+use Rattle.kinds.specs.Rules.{negative, shifts}
 use Rattle.translator.specs.Instructions.{Datum, element, literal, entry, Instruction, rr, rx, shift, opcode, rowOf, loadRow, compareRow, timesRow, storeRow, column, shiftCode, falseMask}
 
 -- a label or a procedure is known by the token of its name
@@ -62,9 +62,9 @@ load (abs t) r u = signed 0x10 r u
 load (neg t) r u = signed 0x13 r u
 load (negAbs t) r u = signed 0x11 r u
 
--- "exit branch, mask 2, or 4 if the step is negative": a number's 32 bits are read as signed
+-- "exit branch, mask 2, or 4 if the step is negative"
 abbrev pub exitMask : ℕ → ℕ
-exitMask step = if leb 2147483648 step then 4 else 2
+exitMask step = if negative step then 4 else 2
 
 -- the return register of the procedure that is called
 abbrev pub returnOf : Meaning → ℕ

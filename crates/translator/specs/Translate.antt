@@ -12,13 +12,12 @@ use Rattle.grammar.specs.Reader.{Result, ok, bad}
 use Rattle.grammar.specs.Grammar.{program}
 use Rattle.names.specs.declared.Broken.{Broken}
 use Rattle.names.specs.Broken.{unbroken, _⊕_}
-use Rattle.names.specs.Search.{inFront, firstToken, around}
-use Rattle.names.specs.Names.{Named, nameStatement}
-use Rattle.names.specs.Labels.{Labelled, labelStatement}
-use Rattle.kinds.specs.Meanings.{Meant, meanStatement, dataBase, standard}
+use Rattle.names.specs.Search.{inFront, firstToken}
+use Rattle.names.specs.Names.{Named, nameProgram}
+use Rattle.names.specs.Labels.{Labelled, labelProgram}
+use Rattle.kinds.specs.Meanings.{Meant, meanProgram, standard}
 use Rattle.kinds.specs.Tables.{Tables}
-use Rattle.kinds.specs.Rules.{protected}
-use Rattle.kinds.specs.Kinds.{kindStatement}
+use Rattle.kinds.specs.Kinds.{rulesOf}
 use Rattle.objtext.specs.Object.{Segment, objectText}
 use Rattle.translator.specs.Instructions.{Instruction, sizes}
 use Rattle.translator.specs.Core.{coreStatement}
@@ -66,10 +65,10 @@ placeAt ts i = getD (map (λ (t : Token). t .place) ts) i 0
 -- ── refusals 6 to 13, and what they are judged by ──
 
 unfoldable pub named : List Token → Statement → Named
-named ts x = nameStatement (valuesOf ts) x around (record { found = replicate (length ts) 0; count = 0; broken = unbroken })
+named ts x = nameProgram (valuesOf ts) x (record { found = replicate (length ts) 0; count = 0; broken = unbroken })
 
 unfoldable pub labelled : List Token → Statement → Labelled
-labelled ts x = labelStatement (valuesOf ts) x [] (record { goes = replicate (length ts) 0; count = 0; broken = unbroken })
+labelled ts x = labelProgram (valuesOf ts) x (record { goes = replicate (length ts) 0; count = 0; broken = unbroken })
 
 -- a text with its names, labels and meanings found, its instructions and its layout
 pub record Made : Type 0 where
@@ -80,7 +79,7 @@ pub record Made : Type 0 where
   pub broken : Broken
 
 unfoldable pub meant : List Token → Named → Statement → Meant
-meant ts n x = meanStatement (kindsOf ts) (valuesOf ts) (n .found) x 0 dataBase (standard (length ts - firstToken))
+meant ts n x = meanProgram (kindsOf ts) (valuesOf ts) (n .found) x (standard (length ts - firstToken))
 
 abbrev pub tablesOf : List Token → Named → Labelled → Meant → Tables
 tablesOf ts n l m = record {
@@ -101,7 +100,7 @@ make ts x =
     let f = tablesOf ts n l m in
     let is = instructions (coreStatement f x) in
     let y = layout (m .bases) (m .cells) is in
-    record { tables = f; instructions = is; layout = y; bases = m .bases; broken = n .broken ⊕ l .broken ⊕ kindStatement f x protected ⊕ y .broken }
+    record { tables = f; instructions = is; layout = y; bases = m .bases; broken = n .broken ⊕ l .broken ⊕ rulesOf f x ⊕ y .broken }
 
 -- ── the groups ──
 

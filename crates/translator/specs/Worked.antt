@@ -16,12 +16,13 @@ use Rattle.token.specs.Text as X
 use Rattle.token.specs.Text.{digitOf}
 use Rattle.grammar.specs.Reader as R
 use Rattle.grammar.specs.Grammar as G
+use Rattle.grammar.specs.Events as Ev
+use Rattle.grammar.specs.Places as Pl
 use Rattle.names.specs.Broken as B
 use Rattle.names.specs.Search as S
 use Rattle.names.specs.Names as N
 use Rattle.names.specs.Labels as L
 use Rattle.kinds.specs.Registers as Q
-use Rattle.kinds.specs.Writes as W
 use Rattle.kinds.specs.Meanings as M
 use Rattle.kinds.specs.Rules as J
 use Rattle.kinds.specs.Kinds as K
@@ -138,7 +139,7 @@ traps =
 -- ── computed ──
 
 worked : Hold cases × Hold limits × Hold slips × Hold traps
-unfolding sameBytes runLen numberFrom bytesOf walk X.wordKind X.comment X.nameOrWord X.number X.begins X.sign X.lexeme X.nextStep X.nextToken X.readFrom X.tokensOf R.andThen R.look R.next R.want R.wantOne G.designatorOf G.operand G.condition G.terms G.signOf G.assignmentOf G.numbers G.cellItem G.registerItem G.listOf G.typeOf G.cellsOf G.afterType G.declaration G.afterName G.statementOf G.itemsOf G.bodyOf G.ifOf G.constructOf G.statement G.program B.rule B._⊕_ S.inBlock S.find N.noteFound N.useName N.declareName N.nameStatement L.noteLabel L.setLabel L.labelStatement Q.flags Q.has Q.addRegister Q.union Q.spares W.lowers W.assignmentWrites M.write M.writeAll M.writeText M.callWrites M.openBase M.addCell M.meanRegisters M.meanCells M.meanStatement J.registerRule J.zeroRule J.writeRule J.indexRules J.subscriptRules J.placeRules J.operandRules J.onlyRegister J.shiftRules J.noShort J.productRules J.termRules J.chainRules J.toRegister J.toCell J.assignmentRules J.controlRules J.conditionRules J.callRules J.registersRules J.valueRules J.itemRules J.cellsRules J.baseRules J.declarationRules K.kindStatement I.opcode I.shiftCode I.falseMask C.useOf C.shiftBy C.termOf C.chainOf C.toRegister C.assignmentOf C.compareWith C.testOf C.coreStatement D.sizeOf D.own D.markAt D.code D.instructions Y.valueBytes Y.placeCell Y.placeCells Y.offsetOf Y.literalsFrom Y.layout E.encode E.encodeAll H.fill H.words H.firstData H.dataOf H.segments T.named T.labelled T.meant T.make T.finish T.judge T.translated T.inRoom translate O.hexDigit objectText
+unfolding sameBytes runLen numberFrom bytesOf walk X.wordKind X.comment X.nameOrWord X.number X.begins X.sign X.lexeme X.nextStep X.nextToken X.readFrom X.tokensOf R.andThen R.look R.next R.want R.wantOne G.designatorOf G.operand G.condition G.terms G.signOf G.assignmentOf G.numbers G.cellItem G.registerItem G.listOf G.typeOf G.cellsOf G.afterType G.declaration G.afterName G.statementOf G.itemsOf G.bodyOf G.ifOf G.constructOf G.statement G.program Ev.each Ev.eventsItem Ev.eventsDeclaration Ev.eventsSign Ev.eventsChain Ev.eventsStatement Pl.along B.rule B._⊕_ S.inBlock S.find N.noteFound N.useName N.declareName N.declareNames N.useNames N.nameEvent L.noteLabel L.setLabel L.labelEvent Q.flags Q.has Q.addRegister Q.union Q.spares M.write M.writeText M.callWrites M.targetWrites M.openBase M.addCell M.meanEvent J.registerRule J.zeroRule J.writeRule J.indexRules J.subscriptRules J.placeRules J.operandRules J.onlyRegister J.shiftRules J.noShort J.productRules J.termRules J.targetRules J.controlRules J.conditionRules J.callRules J.valueRules J.baseRules K.ruleEvent I.opcode I.shiftCode I.falseMask C.useOf C.shiftBy C.termOf C.chainOf C.toRegister C.assignmentOf C.compareWith C.testOf C.coreStatement D.sizeOf D.own D.markAt D.code D.instructions Y.valueBytes Y.placeCell Y.placeCells Y.offsetOf Y.literalsFrom Y.layout E.encode E.encodeAll H.fill H.words H.firstData H.dataOf H.segments T.named T.labelled T.meant T.make T.finish T.judge T.translated T.inRoom translate O.hexDigit objectText
 worked = (refl, refl, refl, refl)
 
 pub cases-hold : Hold cases

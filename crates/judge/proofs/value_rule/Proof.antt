@@ -1,3 +1,5 @@
+-- A value is judged by the room that is left and the width of its cell.
+use Rattle.kinds.proofs.Elements.{short-is}
 use Rattle.judge.specs.Along.{valueRule}
 use Rattle.names.specs.Broken.{rule}
 use Rattle.judge.proofs.Answers as answers
@@ -30,7 +32,7 @@ rule-requires c κs = search needs
 -- src/lib.rt:209:9
 returns-2 : tie.Need-returns-2
 unfolding valueRule
-returns-2 c = rw (ne-eqb _ 0 (c .before .before .if1 .left), c .before .if2 .taken) (c .rule .ensures)
+returns-2 c = rw (ne-eqb _ 0 (c .before .before .if1 .left), c .before .if2 .taken, short-is) (c .rule .ensures)
 
 -- src/lib.rt:211:5
 none-requires : tie.Need-none-requires

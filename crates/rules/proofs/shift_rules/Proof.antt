@@ -1,4 +1,6 @@
+-- The rules of a shift's operand, by its shape: a number is compared as it is, since what is at most 63 is not negative.
 use Rattle.kinds.specs.Rules.{shiftRules}
+use Rattle.kinds.proofs.Elements.{from-zero}
 use Rattle.names.specs.Broken.{_⊕_}
 use Rattle.names.specs.declared.Broken.{Broken}
 use Rattle.rules.proofs.Answers as answers
@@ -29,7 +31,7 @@ rule-requires c κs = search needs
 -- src/lib.rt:201:9
 returns : tie.Need-returns
 unfolding shiftRules
-returns c = λ f s v. rw (answers.a-number _ (c .before .before .before .before .before .before .args .t) (c .before .before .if1 .taken), v .values-is, ← (c .before .key .ensures)) (c .rule .ensures)
+returns c = λ f s v. rw (answers.a-number _ (c .before .before .before .before .before .before .args .t) (c .before .before .if1 .taken), v .values-is, ← (c .before .key .ensures), from-zero 63 _ (omega arith)) (c .rule .ensures)
 
 -- src/lib.rt:203:9
 only-register-requires : tie.Need-only-register-requires

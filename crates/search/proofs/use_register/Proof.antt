@@ -1,6 +1,7 @@
 -- `use_register` uses the register that stands before or behind the event's token. Assumes nothing.
 use borrow.Author.Needs.{needs}
-use borrow.Author.Tests.{ne-eqb, lt-ltb, le-ltb}
+use borrow.Author.Tests.{eq-eqb, ne-eqb}
+use Rattle.base.proofs.Tests.{same, other}
 use Rattle.search.specs.Naming.{useRegister}
 use Rattle.search.proofs.use_register.Statement.{statement}
 use Rattle.search.proofs.use_register.Tie as tie
@@ -18,9 +19,8 @@ returns : tie.Need-returns
 unfolding useRegister
 returns c = rw (c .before .before .before .before .if1 .taken) (c .before .before .use-name .ensures)
 
-returns-2 : tie.Need-returns-2
-unfolding useRegister
-returns-2 c = rw (ne-eqb _ 10 (c .before .if1 .left), lt-ltb _ 34 (c .if2 .taken))
+family-requires : tie.Need-family-requires
+family-requires c κs = search needs
 
 two-before-requires : tie.Need-two-before-requires
 two-before-requires c κs = search needs
@@ -31,13 +31,18 @@ use-name-requires-2 c κs = search needs
 same-length-2 : tie.Need-same-length-2
 same-length-2 c = search needs
 
+returns-2 : tie.Need-returns-2
+unfolding useRegister
+returns-2 c =
+    rw (
+      ne-eqb _ 10 (c .before .before .before .before .before .before .before .if1 .left),
+      eq-eqb _ 34 (same (c .before .before .before .before .before .before .family .ensures) (c .before .before .before .before .before .if2 .taken)),
+      ← (c .before .before .before .two-before .ensures),
+    ) (c .before .before .use-name2 .ensures)
+
 returns-3 : tie.Need-returns-3
 unfolding useRegister
-returns-3 c = rw (ne-eqb _ 10 (c .before .before .before .before .before .before .before .if1 .left), le-ltb _ 34 (c .before .before .before .before .before .before .if2 .left), lt-ltb _ 39 (c .before .before .before .before .before .if3 .taken), ← (c .before .before .before .two-before .ensures)) (c .before .before .use-name2 .ensures)
-
-returns-4 : tie.Need-returns-4
-unfolding useRegister
-returns-4 c = rw (ne-eqb _ 10 (c .before .before .if1 .left), le-ltb _ 34 (c .before .if2 .left), le-ltb _ 39 (c .if3 .left))
+returns-3 c = rw (ne-eqb _ 10 (c .before .before .if1 .left), ne-eqb _ 34 (other (c .before .family .ensures) (c .if2 .left)))
 
 pub use-register-spec : {M : Type 1} → statement M
 use-register-spec =
@@ -47,9 +52,9 @@ use-register-spec =
     use-name-requires
     same-length
     returns
-    returns-2
+    family-requires
     two-before-requires
     use-name-requires-2
     same-length-2
-    returns-3
-    returns-4)
+    returns-2
+    returns-3)

@@ -1,35 +1,35 @@
--- `shape` is the definition's, test by test. Assumes nothing.
+-- The shape is read from the number, test by test.
 use Rattle.base.proofs.Tests.{tests}
-use Rattle.search.specs.Naming.{shapeOf}
-use Rattle.search.proofs.shape.Statement.{statement}
-use Rattle.search.proofs.shape.Tie as tie
+use Rattle.tape.specs.Names.{shapeAt}
+use Rattle.tape.proofs.shape.Statement.{statement}
+use Rattle.tape.proofs.shape.Tie as tie
 
 returns : tie.Need-returns
-unfolding shapeOf
+unfolding shapeAt
 returns c = search tests
 
 returns-2 : tie.Need-returns-2
-unfolding shapeOf
+unfolding shapeAt
 returns-2 c = search tests
 
 returns-3 : tie.Need-returns-3
-unfolding shapeOf
+unfolding shapeAt
 returns-3 c = search tests
 
 returns-4 : tie.Need-returns-4
-unfolding shapeOf
+unfolding shapeAt
 returns-4 c = search tests
 
 returns-5 : tie.Need-returns-5
-unfolding shapeOf
+unfolding shapeAt
 returns-5 c = search tests
 
 returns-6 : tie.Need-returns-6
-unfolding shapeOf
+unfolding shapeAt
 returns-6 c = search tests
 
 returns-7 : tie.Need-returns-7
-unfolding shapeOf
+unfolding shapeAt
 returns-7 c = search tests
 
 pub shape-spec : {M : Type 1} → statement M
