@@ -1,12 +1,11 @@
 -- Of two broken rules the join is the one that is answered: "Inside a group the smallest place wins, then the smaller number." Assumes nothing.
-use mathlib.Core.Path.{_≡_, refl, sym, ap, _∙_}
+use mathlib.Core.Path.{_≡_, refl, sym}
 use mathlib.Core.Logic.{_⊎_, inl, inr}
 use mathlib.Core.Bool.{Bool, true, false, _&&_, _||_}
-use Prim.Native.Nat.{ℕ, _<_, _≤_}
+use Prim.Native.Nat.{_≤_}
 use native.Mathlib.Omega.{arith}
 use lib.Dec.{eqb, leb, ltb}
-use borrow.Author.Tests.{ltb-false, eqb-true, eqb-false, leb-false, lt-ltb, le-ltb, le-leb, eq-eqb}
-use Rattle.base.specs.Choose.{choose, if_then_else_}
+use borrow.Author.Tests.{ltb-false, eqb-true, eqb-false, leb-false, le-ltb, le-leb, eq-eqb}
 use Rattle.base.proofs.Tests.{cases, never-true}
 use Rattle.names.specs.declared.Broken.{Broken}
 use Rattle.names.specs.Broken.{before, _⊕_}

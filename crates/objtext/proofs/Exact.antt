@@ -1,11 +1,11 @@
 -- What the reader takes is exactly the text of an object, and it takes every such text: `exactly`, `form`. Backwards through the reader: a line, a frame, a content,
 -- a segment, an object. Assumes nothing.
 use Prim.Native.Nat.{ℕ, zero, suc, _+_, _-_, _*_, _/_, _%_, _<_, _≤_, min}
-use mathlib.Core.Path.{_≡_, refl, sym, ap, ap₂, _∙_, subst}
+use mathlib.Core.Path.{_≡_, refl, sym, ap, _∙_, subst}
 use mathlib.Core.Bool.{Bool, true, false, not, _&&_, _||_}
 use mathlib.Core.List.{List, [], _∷_, _++_, append-assoc, append-nil}
 use mathlib.Core.Logic.{_↔_}
-use mathlib.Core.Option.{Option, none, some}
+use mathlib.Core.Option.{none, some}
 use native.Mathlib.Omega.{arith}
 use native.Mathlib.Decide.{decLe}
 use lib.Dec.{eqb, ltb, leb, eqb→eq}
@@ -17,9 +17,9 @@ use Rattle.base.specs.Numbers.{bytesOf}
 use Rattle.base.proofs.Lists.{all-both}
 use Rattle.base.proofs.Tables.{all-below}
 use Rattle.base.proofs.Tests.{cases, implied, never-true}
-use Rattle.objtext.specs.Object.{Segment, program, cells, Bytes, contentFrame, contentFrames, framesFor, headFrame, segmentFrames, objectFrames, hexDigit, hex, line, textOf, newline, objectText, Data, IsData, Object, IsObject, Form, of-object, of-none}
-use Rattle.objtext.specs.Reader.{digitOf, joinOf, byteOf, frontBytes, twoOf, isLine, isContentFrame, isContent, headLength, headFrom, headTo, isProgramHead, isDataHead, also, isProgram, programAt, afterProgram, isData, dataAt, afterData, isLast, Read, onSegment, atLast, readData, readObject}
-use Rattle.objtext.proofs.Lines.{byte-back, two-back, before, line-before, front-back, length-line}
+use Rattle.objtext.specs.Object.{Segment, program, cells, Bytes, contentFrame, contentFrames, framesFor, segmentFrames, objectFrames, hexDigit, hex, line, textOf, newline, objectText, Data, IsData, Object, Form, of-object, of-none}
+use Rattle.objtext.specs.Reader.{digitOf, joinOf, byteOf, twoOf, isLine, isContentFrame, isContent, headLength, headFrom, headTo, isProgramHead, isDataHead, also, isProgram, programAt, afterProgram, isData, dataAt, afterData, isLast, Read, onSegment, readData, readObject}
+use Rattle.objtext.proofs.Lines.{before, line-before, length-line}
 use Rattle.objtext.proofs.Written.{text-append, only-frames, segmentText, segment-before, the-program, past-program, the-data, past-data, read-written}
 use Rattle.objtext.proofs.Walks.{no-some, Behind, behind, at-end}
 

@@ -1,19 +1,18 @@
 -- The reader at places of a text: what stands at the front of `drop i t`, and the turns of the loops in the form of their invariants. Assumes nothing.
 use Prim.Native.Nat.{ℕ, zero, suc, _+_, _-_, _*_, _/_, _%_, _<_, _≤_, min}
-use mathlib.Core.Path.{_≡_, refl, sym, ap, ap₂, _∙_, subst}
+use mathlib.Core.Path.{_≡_, refl, sym, ap, _∙_, subst}
 use mathlib.Core.Bool.{Bool, true, false, _&&_}
-use mathlib.Core.List.{List, [], _∷_, _++_}
+use mathlib.Core.List.{List, _++_}
 use native.Mathlib.Omega.{arith}
 use native.Mathlib.Decide.{decLe}
-use lib.Dec.{eqb, ltb, leb}
-use lib.ListN.{length, take, drop, getD, set, length-append, length-drop, drop-of-length-le, List·getD-append}
+use lib.Dec.{eqb, leb}
+use lib.ListN.{length, drop, getD, set, length-append, drop-of-length-le, List·getD-append}
 use lib.Seq.{drop-drop, getD-drop, getD-append-add, sets}
-use borrow.Author.Tests.{lt-ltb, le-ltb, le-leb, lt-leb, eq-eqb, ne-eqb, eqb-true, eqb-false, leb-true}
-use Rattle.base.specs.Choose.{choose}
+use borrow.Author.Tests.{lt-ltb, le-ltb, le-leb, lt-leb}
 use Rattle.base.proofs.Tests.{cases}
 use Rattle.base.proofs.Parts.{drop-turn}
-use Rattle.objtext.specs.Object.{Segment, framesFor, newline}
-use Rattle.objtext.specs.Reader.{digitOf, joinOf, byteOf, frontBytes, twoOf, isLine, contentLength, isContentFrame, isContent, contentAt, headLength, headFrom, headTo, isProgramHead, isDataHead, also, isProgram, afterProgram, isData, afterData, isLast}
+use Rattle.objtext.specs.Object.{framesFor, newline}
+use Rattle.objtext.specs.Reader.{digitOf, joinOf, byteOf, frontBytes, twoOf, isLine, contentLength, isContentFrame, isContent, contentAt, headLength, headFrom, headTo, isProgramHead, isDataHead, also, isProgram, afterProgram, isData, afterData}
 
 -- ── bytes ──
 

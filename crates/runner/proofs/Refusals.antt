@@ -1,13 +1,13 @@
 -- The runner's number by the three tests, in order, and that an answer is told by its outcome. Assumes nothing.
 use Prim.Native.Nat.{ℕ, _<_, _≤_}
-use mathlib.Core.Path.{_≡_, refl, sym, ap, _∙_, subst}
+use mathlib.Core.Path.{_≡_, refl, sym, ap, _∙_}
 use mathlib.Core.Bool.{Bool, true, false}
 use mathlib.Core.List.{List}
 use mathlib.Core.Logic.{_↔_}
 use native.Mathlib.Omega.{arith}
 use lib.Dec.{ltb, eqb}
 use lib.ListN.{length}
-use borrow.Author.Tests.{ltb-true, ltb-false, lt-ltb, le-ltb}
+use borrow.Author.Tests.{ltb-true, ltb-false}
 use Rattle.base.specs.Choose.{choose}
 use Rattle.objtext.specs.Object.{Segment, Object, objectText, Form, of-object, of-none}
 use Rattle.objtext.proofs.Exact.{form}
@@ -21,7 +21,7 @@ use Rattle.runner.specs.declared.Stop.the-variants.{BudgetUsed, AtEnd, F
 use Rattle.runner.specs.Load.{loaded, spaceOf, started}
 use Rattle.runner.specs.Numbers.{numberOf, stopOf}
 use Rattle.runner.specs.Runner.{Outcome, refused, accepted, onObject, onForm, runner, outcome}
-use Rattle.runner.proofs.Forms.{runner-object, runner-none}
+use Rattle.runner.proofs.Forms.{runner-object}
 
 -- ── which number ──
 

@@ -1,21 +1,21 @@
 -- How a step stops and what a run counts: the step's stop is the first of the causes that apply, a run is its completed steps and then its end, and the counter
 -- stays below 2 ^ 24. Assumes nothing.
 use Prim.Native.Nat.{ℕ, zero, suc, _+_, _*_, _/_, _%_, _^_, _<_, _≤_}
-use mathlib.Core.Path.{_≡_, refl, sym, ap, _∙_, subst}
-use mathlib.Core.Bool.{Bool, true, false, not, _&&_, _||_}
+use mathlib.Core.Path.{_≡_, refl, sym, _∙_, subst}
+use mathlib.Core.Bool.{Bool, true, false, not}
 use mathlib.Core.List.{List}
 use native.Mathlib.Omega.{arith}
 use lib.Dec.{ltb, leb, eqb}
 use lib.ListN.{getD}
-use borrow.Author.Tests.{leb-true, leb-false, le-leb, lt-leb, eq-eqb, ne-eqb, eqb-true, eqb-false}
+use borrow.Author.Tests.{leb-true, le-leb, eq-eqb, ne-eqb, eqb-true, eqb-false}
 use Rattle.base.specs.Choose.{choose}
 use Rattle.base.proofs.Tests.{cases, by-test}
 use Rattle.machine.specs.Space.{Space, origin, readable, writable}
 use Rattle.machine.specs.Instructions.{Short, applies, multiplies, branches, ends, unlisted, Long, appliesTo, multipliesBy, stores, branchesTo, links, shifts, unlistedLong, shortKind, longKind}
 use Rattle.machine.specs.Step.{Cpu, Turn, Stepped, stepped, went, halted, address, asked, completed, shortBy, longBy, step}
-use Rattle.machine.specs.Run.{Result, result, counted, onward, after, run}
+use Rattle.machine.specs.Run.{Result, result, counted, onward, run}
 use Rattle.machine.proofs.Stops.{stopped-same}
-use Rattle.runner.specs.Stops.{opcode, second, isShort, size, operandAt, isOdd, isOutside, noShort, noLong, isNone, endsAt, isEnd, misalignedAt, isMisaligned, forbiddenAt, isForbidden, firstOf, State, reached}
+use Rattle.runner.specs.Stops.{noShort, noLong, isNone, endsAt, isEnd, misalignedAt, isMisaligned, forbiddenAt, isForbidden, firstOf, reached}
 
 -- ── the first of several causes ──
 

@@ -1,7 +1,7 @@
 -- What a reader of document 01's section "Runner" may rely on, sentence by sentence: over the definitions `runner`, `run` and `step`, each proved by citation.
 -- Assumes nothing.
-use Prim.Native.Nat.{ℕ, suc, _+_, _/_, _%_, _^_, _<_, _≤_}
-use mathlib.Core.Path.{_≡_, refl, sym, ap, _∙_}
+use Prim.Native.Nat.{ℕ, suc, _/_, _%_, _^_, _<_, _≤_}
+use mathlib.Core.Path.{_≡_, refl}
 use mathlib.Core.Bool.{false}
 use mathlib.Core.List.{List}
 use mathlib.Core.Logic.{_↔_}
@@ -16,7 +16,7 @@ use Rattle.runner.specs.declared.Answer.{Answer}
 use Rattle.runner.specs.Load.{loaded, spaceOf, started}
 use Rattle.runner.specs.Runner.{refused, accepted, runner, outcome}
 use Rattle.runner.specs.Stops.{isNone, isEnd, isMisaligned, isForbidden, firstOf, reached}
-use Rattle.runner.proofs.Refusals.{Verdicts, verdicts, answer-told}
+use Rattle.runner.proofs.Refusals.{verdicts, answer-told}
 use Rattle.runner.proofs.Stopping.{first-cause, stops-run, counts-on, Counts, run-counts, reached-24}
 
 -- a text that is exactly of the form

@@ -1,11 +1,10 @@
 -- Reading a text lexeme by lexeme: what is read from a place on is told by what stands there (`rest-by`), so a refusal stands where reading comes to. Assumes nothing.
 use Prim.Native.Nat.{ℕ, zero, suc, pred, _+_, _-_, _≤_, _<_}
-use mathlib.Core.Path.{_≡_, refl, ap, sym, _∙_, subst}
+use mathlib.Core.Path.{_≡_, refl, ap, sym, _∙_}
 use mathlib.Core.Bool.{Bool, true, false, not}
 use mathlib.Core.List.{List, [], _∷_}
 use native.Mathlib.Omega.{arith}
 use native.Mathlib.Decide.{decLe}
-use native.Mathlib.Nat.{add-zero, add-assoc}
 use lib.ListN.{length, take, drop, length-drop, drop-of-length-le}
 use lib.Seq.{drop-drop}
 use Rattle.base.specs.Walk.{walk}
@@ -15,7 +14,7 @@ use Rattle.base.proofs.Tests.{never-true}
 use Rattle.token.specs.Kinds as K
 use Rattle.token.specs.declared.Lexeme.{Lexeme}
 use Rattle.token.specs.declared.Lexeme.the-variants.{Gap, Token, NoToken, OutOfRange}
-use Rattle.token.specs.Text.{lexeme, token, Outcome, read, refused, nextBy, nextStep, nextToken, Reading, ended, refusedAt, after, isLast, moved, readBy, readFrom}
+use Rattle.token.specs.Text.{lexeme, token, Outcome, read, refused, nextStep, nextToken, Reading, ended, refusedAt, after, isLast, moved, readFrom}
 use Rattle.token.specs.Refusals.{passes, goesOn, Leads, here, on}
 use Rattle.token.proofs.Gaps.{from, start, past, found, no-token, out-of-range, some, fits}
 use Rattle.token.proofs.Readings.{rest, read-on, read-last, read-no}

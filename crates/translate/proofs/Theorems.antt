@@ -1,9 +1,8 @@
 -- What a caller of `translate` may rely on: no second answer fits its contract, and no second buffer. Assumes nothing.
-use mathlib.Core.Path.{_≡_, refl, sym, ap, ap₂, _∙_}
+use mathlib.Core.Path.{_≡_, sym, ap, ap₂, _∙_}
 use mathlib.Core.List.{List}
 use Prim.Native.Nat.{ℕ}
 use lib.ListN.{length}
-use Rattle.translator.specs.Translate as T
 use Rattle.translator.specs.Translate.{translate}
 use Rattle.translator.proofs.Theorems.{not-both}
 use Rattle.translate.specs.declared.Answer.{Answer}
