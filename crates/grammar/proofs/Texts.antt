@@ -206,7 +206,7 @@ module _ {S : Type 0} (kinds : List ℕ) (f : Event → Place → S → S) (tabl
   pub settles :
       (P : List ℕ → Event → Place → Type 0)
       → ((e : Event) (p : Place) (s : S) (final : List ℕ) (i : ℕ) (x : Stands kinds e p i) → x .to ≤ length (table s)
-          → ((u : ℕ) → u < x .to → getD final u 0 ≡ getD (table (f e p s)) u 0) → P final e p)
+      → ((u : ℕ) → u < x .to → getD final u 0 ≡ getD (table (f e p s)) u 0) → P final e p)
       → (es : List Event) (p : Place) (i j : ℕ) → Text kinds es p i j → (s : S) → j ≤ length (table s) → Along (P (table (along f es p s))) es p
   unfolding Text along Along
   settles P one [] p i j h s w = tt

@@ -14,9 +14,8 @@ use Rattle.grammar.proofs.Places.{along-keeps}
 use Rattle.names.specs.declared.Broken.{Broken}
 use Rattle.names.specs.Broken.{unbroken, _⊕_}
 use Rattle.names.proofs.Numbers.{Ruled, ruled-none, ruled-at, ruled-rule, ruled-join}
-use Rattle.kinds.specs.Meaning.{Meaning, nothing, register, cell, routine, Cell}
+use Rattle.kinds.specs.Meaning.{Meaning, nothing, register, cell, routine, Cell, longOperand}
 use Rattle.kinds.specs.Meanings.{countOf}
-use Rattle.kinds.specs.Writes.{longOperand}
 use Rattle.kinds.specs.Tables.{Tables, kindAt, meaningAt}
 use Rattle.kinds.specs.Rules.{writeRule, noSign, signBy, registerRule, zeroRule, indexRules, subscriptRules, placeBy, placeRules, operandRules, onlyRegister, shiftRules, noShort, productRules, termRules, shifts, fullOnly, targetBy, targetRules, controlRules, firstBy, termBy, conditionRules, callBy, callRules, valueRules, countRule, baseRules}
 use Rattle.kinds.specs.Kinds.{keptIn, edgeRules, entryRules, phraseRules, rulesAt, ruleEvent, rulesOf}

@@ -138,13 +138,13 @@ module _ (kinds keys links outer : List ℕ) where
           let o = g .held .0 in
           let newest = link-is es p (s .to) _ h g′ e (b .at) (omega arith) (apart-from (m .links) (m .outer) p (b .at) (b .at) (omega arith) (g .held .1)) in (
             record {
-                real = o .real;
-                around = out-is es p (s .to) _ h g′ e (b .at) (omega arith) ∙ o .around;
-                below = below p (b .at) m (o .real) (g .held .1);
-                all = ap (λ (n : ℕ). chain links n) newest
-                    ∙ (chain-alike (m .links) links _ _ (o .chained) (all-alike (m .links) links (b .set) (b .at) lo
-                    (λ u k l. link-is es p (s .to) _ h g′ e u (omega arith) (apart-from (m .links) (m .outer) p (b .at) u (omega arith) (g .held .1))) (o .apart))
-                    ∙ f .1);
+              real = o .real;
+              around = out-is es p (s .to) _ h g′ e (b .at) (omega arith) ∙ o .around;
+              below = below p (b .at) m (o .real) (g .held .1);
+              all = ap (λ (n : ℕ). chain links n) newest
+                  ∙ (chain-alike (m .links) links _ _ (o .chained) (all-alike (m .links) links (b .set) (b .at) lo
+                  (λ u k l. link-is es p (s .to) _ h g′ e u (omega arith) (apart-from (m .links) (m .outer) p (b .at) u (omega arith) (g .held .1))) (o .apart))
+                  ∙ f .1);
             },
             n,
           )

@@ -123,7 +123,7 @@ module _ (ts : List Token) (x : Statement) (kinds values found tape : List ℕ) 
       tables : meantOf means′ under′ opens′ written′ bases ≡ tabled (meantIn ts x)
       unfolding meant
       tables =
-          e ∙ rw (t .values-are, t .tape-is, ek, ef, blank means bm, blank opens bo, blank written bw) 
+          e ∙ rw (t .values-are, t .tape-is, ek, ef, blank means bm, blank opens bo, blank written bw)
           (meant-text (kindsOf ts) (valuesOf ts) (named ts x .found) under n (t .small) (early ts x (t .to) (t .program)) x firstToken (t .to) (t .program) (let a = inside ts x (t .to) (t .program) in let b = long in omega arith))
 
       means-are : meaningsOf means′ under′ ≡ meantIn ts x .means
