@@ -72,7 +72,7 @@ module _ (f : Tables) (means bases offsets : List ℕ) where
 
   -- an event of n bytes that changes the addresses to what `marked` says by the address behind it
   on : (op t p n q : ℕ) (w : Writing) (ms : List ℕ) (marked : ℕ → List ℕ) (k : List ℕ)
-      → placeEvent (f .kinds) (f .values) (f .found) (f .goes) means bases (f .opens) offsets (op % 64) t (placingOf p w ms) ≡ placingOf (p + n) w (marked (p + n))
+      → placeEvent (f .kinds) (f .values) (f .found) (f .goes) means bases (f .opens) offsets (op % E.EVENTS) t (placingOf p w ms) ≡ placingOf (p + n) w (marked (p + n))
       → p + n ≡ q → at p w ms (event op t ∷ k) ≡ at q w (marked q) k
   on op t p n q w ms marked k e g =
       pass-event _ op t (placingOf p w ms) k
@@ -89,7 +89,7 @@ module _ (f : Tables) (means bases offsets : List ℕ) where
   still p w ms t k =
       (by E.REGISTER refl, (by E.SINGLE-FULL refl, (by E.SINGLE-SHORT refl, (by E.ARRAY-FULL refl, (by E.ARRAY-SHORT refl, (by E.ITEM refl, (by E.VALUE refl, tt)))))))
     where
-      by : (op : ℕ) → placeEvent (f .kinds) (f .values) (f .found) (f .goes) means bases (f .opens) offsets (op % 64) t (placingOf p w ms) ≡ placingOf (p + 0) w ms
+      by : (op : ℕ) → placeEvent (f .kinds) (f .values) (f .found) (f .goes) means bases (f .opens) offsets (op % E.EVENTS) t (placingOf p w ms) ≡ placingOf (p + 0) w ms
           → at p w ms (event op t ∷ k) ≡ at p w ms k
       by op e = on op t p 0 p w ms (λ q. ms) k e (omega arith)
 

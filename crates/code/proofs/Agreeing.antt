@@ -1,10 +1,9 @@
 -- The address pass leaves the addresses that the tree has. Tokens rise along a text, so none is set twice; and where a call's or a GOTO's name was found, there the
--- definition's marks lead. Assumes nothing.
-use mathlib.Core.Path.{_≡_, refl, sym, ap, _∙_}
+-- definition's marks lead.
+use mathlib.Core.Path.{_≡_, refl, sym, ap, subst, _∙_}
 use mathlib.Core.Logic.{_⊎_, inl, inr}
-use mathlib.Core.List.{List, [], _∷_, _++_, map}
+use mathlib.Core.List.{List, [], _∷_, _++_}
 use mathlib.Core.Bool.{Bool, true, false}
-use mathlib.Core.Option.{Option, none, some}
 use Prim.Native.Nat.{ℕ, _+_, _-_, _≤_, _<_}
 use native.Mathlib.Omega.{arith}
 use lib.Dec.{eqb}
@@ -12,48 +11,26 @@ use lib.ListN.{length, getD, set, length-set, replicate, length-replicate, getD-
 use lib.Seq.{getD-set-same, getD-set-other}
 use borrow.Author.Tests.{eqb-true, eqb-false}
 use Rattle.base.specs.Choose.{if_then_else_}
-use Rattle.base.specs.Lists.{_∈_}
+use Rattle.base.specs.Lists.{_∈_, All}
 use Rattle.base.proofs.Lists.{all-in}
-use Rattle.grammar.specs.Tree.{Operand, number, place, Assignment, Condition, compared, bare, Register, Item, Declaration, registers, cells, base, Statement, assign, call, block, goto, null, ifThen, ifElse, while, for, Body, declare, procedure, items, Items, ended, label, item}
-use Rattle.grammar.specs.Rising.{rest, _↑_, perhaps, designatorRises, operandRises, conditionRises, assignmentRises, cellsRise, registersRise, declarationRises, statementRises, bodyRises, itemsRise}
-use Rattle.grammar.proofs.Rising.{rising-operand, rising-sign, rising-terms, rising-numbers, rising-cells, rising-registers, rising-declaration, rising-statement, rising-body, rising-items}
-use Rattle.names.specs.Search.{innermost, enter, around}
-use Rattle.names.specs.Names.{declares, enterAll}
-use Rattle.names.specs.Labels.{labelsOnto, labelsOf}
-use Rattle.names.proofs.Bound.{Within, Bound, BoundStatement, BoundBody, BoundItems}
+use Rattle.grammar.specs.Tree.{Assignment, Condition, compared, bare, Declaration, registers, cells, base, Statement, assign, call, block, goto, null, ifThen, ifElse, while, for, Body, declare, procedure, items, Items, ended, label, item}
+use Rattle.grammar.specs.Derives.{isCondition, isRegister}
+use Rattle.grammar.specs.Events.{Route, labelled, sent, Entry, named, celled, itemed, valued, based, Phrase, aimed, driven, signed, given, joined, tested, limited, called, Event, edge, route, entry, phrase, mark, labelsOnto, labelsOf, eventsDeclaration, eventsChain, eventsStatement, eventsBody, eventsItems, eventsOf}
+use Rattle.grammar.specs.Places.{Block, within, Place, enterName, enterLabel, namesAfter, after, afterAll, Along}
+use Rattle.grammar.specs.Texts.{Stands, Text}
+use Rattle.grammar.proofs.Kept.{keep-operand}
+use Rattle.grammar.proofs.Places.{Appends, append-chain, append-declaration, append-statement, append-body, leave-chain, after-statement, along-parts, IsEntry, blockAfter, after-entries, labels-stay, declaration-entries}
+use Rattle.grammar.proofs.Texts.{text-rises, text-parts, statement-text}
+use Rattle.names.specs.Search.{innermost, enter, around, firstToken}
+use Rattle.names.specs.Names.{namesIn}
+use Rattle.names.specs.Labels.{labelsIn}
+use Rattle.names.proofs.Bound.{Within, Bound, Goes}
 use Rattle.kinds.specs.Tables.{Tables}
 use Rattle.translator.specs.Instructions.{sizes}
 use Rattle.translator.specs.Core.{toRegister, compareWith, testOf, controlOf, coreStatement, coreItems}
 use Rattle.translator.specs.Code.{Mark, sizeOf, own, markAt}
 use Rattle.code.proofs.Statements.{Agree, AgreeBody, AgreeItems}
 use Rattle.code.proofs.Addresses.{marksOf, marksBody, marksItems}
-
--- ── parts that have a token ──
-
-strict-operand : (l : Operand) (lo hi : ℕ) → operandRises l lo hi → lo < hi
-unfolding operandRises designatorRises
-strict-operand (number t) lo hi h = let a = h .0 in let b = h .1 in omega arith
-strict-operand (place d) lo hi h = shaped (d .subscript) (d .index) h
-  where
-    shaped : (s x : Option ℕ) → (d .name ↑ perhaps s (perhaps x rest)) lo hi → lo < hi
-    shaped none none h = omega arith
-    shaped none (some x) h = omega arith
-    shaped (some s) none h = omega arith
-    shaped (some s) (some x) h = omega arith
-
-strict-condition : (c : Condition) (lo hi : ℕ) → conditionRises c lo hi → lo < hi
-unfolding conditionRises
-strict-condition (compared n r a) lo hi h = let b = rising-operand a .ordered (h .1 .1) in let c = h .0 in let d = h .1 .0 in omega arith
-strict-condition (bare r) lo hi h = omega arith
-
-strict-assignment : (a : Assignment) (lo hi : ℕ) → assignmentRises a lo hi → lo < hi
-unfolding assignmentRises operandRises
-strict-assignment a lo hi h =
-    let d = strict-operand (place (a .target)) lo _ (h .1) in
-    let s = rising-sign (a .sign) .ordered (h .2 .1) in
-    let o = rising-operand (a .first) .ordered (h .2 .2 .1) in
-    let t = rising-terms (a .rest) .ordered (h .2 .2 .2) in
-    omega arith
 
 -- ── what is changed lies at the tokens from lo up to hi ──
 
@@ -74,71 +51,119 @@ changes-then : {lo hi : ℕ} {a b c : List ℕ} → Changes lo hi a b → Change
 changes-then j k = record { long = k .long ∙ j .long; other = λ u n. k .other u n ∙ j .other u n }
 
 module _ (f : Tables) where
-  mutual
-    unfolding statementRises marksOf
+  -- ── parts of a text, in which each call and each GOTO goes to what is open at its place ──
 
-    changes-statement : (x : Statement) (lo hi p : ℕ) (ms : List ℕ) → statementRises x lo hi → Changes lo hi ms (marksOf f x p ms)
-    changes-statement (assign a) lo hi p ms h = changes-none ms
-    changes-statement (call n) lo hi p ms h = changes-none ms
-    changes-statement (block t b) lo hi p ms h = let a = h .0 in wider (changes-body b (t + 1) hi p ms (h .1)) (omega arith)
-    changes-statement (goto t n) lo hi p ms h = changes-none ms
-    changes-statement null lo hi p ms h = changes-none ms
-    changes-statement (ifThen t c x) lo hi p ms h =
-        let a = h .0 in
-        let r = strict-condition c _ _ (h .1 .1) in
-        let z = rising-statement x .ordered (h .1 .2) in
-        changes-then (wider (changes-statement x _ _ _ ms (h .1 .2)) (omega arith)) (wider (changes-set _ t _) (omega arith))
-    changes-statement (ifElse t c x e y) lo hi p ms h =
-        let a = h .0 in
-        let r = strict-condition c _ _ (h .1 .1) in
-        let q = h .1 .2 in
-        let d = q .2 .0 in
-        let u = rising-statement x .ordered (q .1) in
-        let z = rising-statement y .ordered (q .2 .1) in
-        changes-then (wider (changes-statement x _ _ _ ms (q .1)) (omega arith))
-        (changes-then (wider (changes-set _ t _) (omega arith)) (changes-then (wider (changes-statement y _ _ _ _ (q .2 .1)) (omega arith)) (wider (changes-set _ (t + 1) _) (omega arith))))
-    changes-statement (while t c x) lo hi p ms h =
-        let a = h .0 in
-        let r = strict-condition c _ _ (h .1 .1) in
-        let z = rising-statement x .ordered (h .1 .2) in
+  abbrev Part : List Event → Place → ℕ → ℕ → Type 0
+  Part es pl lo hi = Text (f .kinds) es pl lo hi × Along (Goes (f .found) (f .goes)) es pl
+
+  rises : (es : List Event) (pl : Place) (lo hi : ℕ) → Part es pl lo hi → lo ≤ hi
+  rises es pl lo hi h = text-rises (f .kinds) es pl lo hi (h .0)
+
+  -- what comes first, at tokens before some m, and what follows it, at the place that it leaves
+  record Parted (out : List Event → List Event) (k : List Event) (pl to : Place) (lo hi : ℕ) : Type 0 where
+    m : ℕ
+    low : lo ≤ m
+    high : m ≤ hi
+    one : Part (out []) pl lo m
+    next : Part k to m hi
+
+  part : (out : List Event → List Event) → Appends out → (k : List Event) (pl to : Place) (lo hi : ℕ) → afterAll (out []) pl ≡ to → Part (out k) pl lo hi → Parted out k pl to lo hi
+  part out a k pl to lo hi e (t, g) =
+      let (m, one, two) = text-parts (f .kinds) out a k pl lo hi t in
+      let (first, second) = along-parts (Goes (f .found) (f .goes)) out a k pl g in
+      let last : Part k to m hi = subst (λ (q : Place). Part k q m hi) e (two, second) in
+      record { m = m; low = rises (out []) pl lo m (one, first); high = rises k to m hi last; one = (one, first); next = last }
+
+  part-statement : (x : Statement) (k : List Event) (pl : Place) (lo hi : ℕ) → Part (eventsStatement x k) pl lo hi → Parted (eventsStatement x) k pl pl lo hi
+  unfolding afterAll
+  part-statement x k pl lo hi h = part (eventsStatement x) (append-statement x) k pl pl lo hi (after-statement x [] pl) h
+
+  part-chain : (a : Assignment) (k : List Event) (pl : Place) (lo hi : ℕ) → Part (eventsChain a k) pl lo hi → Parted (eventsChain a) k pl pl lo hi
+  unfolding afterAll
+  part-chain a k pl lo hi h = part (eventsChain a) (append-chain a) k pl pl lo hi (leave-chain a [] pl) h
+
+  part-body : (x : Body) (k : List Event) (pl : Place) (lo hi : ℕ) → Part (eventsBody x k) pl lo hi → Parted (eventsBody x) k pl (afterAll (eventsBody x []) pl) lo hi
+  part-body x k pl lo hi h = part (eventsBody x) (append-body x) k pl _ lo hi refl h
+
+  -- the block after a declaration
+  abbrev declaredIn : Declaration → Block → Block
+  declaredIn d b = blockAfter (eventsDeclaration d []) b
+
+  part-declaration : (d : Declaration) (k : List Event) (b : Block) (pl : Place) (lo hi : ℕ) → Part (eventsDeclaration d k) (within b ∷ pl) lo hi
+      → Parted (eventsDeclaration d) k (within b ∷ pl) (within (declaredIn d b) ∷ pl) lo hi
+  part-declaration d k b pl lo hi h = part (eventsDeclaration d) (append-declaration d) k _ _ lo hi (after-entries (eventsDeclaration d []) (declaration-entries d) b pl) h
+
+  condition-strict : (c : Condition) (i j : ℕ) → isCondition (f .kinds) c i j → i < j
+  unfolding isCondition
+  condition-strict (compared n r a) i j (e, h, (y, z, k)) = (let u = keep-operand {kinds = f .kinds} {others = f .kinds} a .rises k in omega arith)
+  condition-strict (bare r) i j (e, h, q) = omega arith
+
+  -- ── what the pass changes ──
+
+  mutual
+    unfolding Text Along eventsStatement marksOf
+
+    changes-statement : (x : Statement) (pl : Place) (lo hi p : ℕ) (ms : List ℕ) → Part (eventsStatement x []) pl lo hi → Changes lo hi ms (marksOf f x p ms)
+    changes-statement (assign a) pl lo hi p ms h = changes-none ms
+    changes-statement (call n) pl lo hi p ms h = changes-none ms
+    changes-statement (block t b) pl lo hi p ms ((s, h), (u, g)) =
+        let q = part-body b _ _ (s .to) hi (h, g) in
+        wider (changes-body b _ pl (s .to) (q .m) p ms (q .one)) (omega arith)
+    changes-statement (goto t n) pl lo hi p ms h = changes-none ms
+    changes-statement null pl lo hi p ms h = changes-none ms
+    changes-statement (ifThen t c x) pl lo hi p ms ((s, h), (u, g)) =
+        let r = condition-strict c _ _ (s .is .1) in
+        let q = part-statement x _ pl (s .to) hi (h, g) in
+        changes-then (wider (changes-statement x pl (s .to) (q .m) _ ms (q .one)) (omega arith)) (wider (changes-set _ t _) (omega arith))
+    changes-statement (ifElse t c x e y) pl lo hi p ms ((s, h), (u, g)) =
+        let r = condition-strict c _ _ (s .is .1) in
+        let q = part-statement x _ pl (s .to) hi (h, g) in
+        let o = q .next .0 .0 in
+        let z = part-statement y _ pl (o .to) hi (q .next .0 .1, q .next .1 .1) in
+        changes-then (wider (changes-statement x pl (s .to) (q .m) _ ms (q .one)) (omega arith))
+        (changes-then (wider (changes-set _ t _) (omega arith))
+        (changes-then (wider (changes-statement y pl (o .to) (z .m) _ _ (z .one)) (omega arith)) (wider (changes-set _ (t + 1) _) (omega arith))))
+    changes-statement (while t c x) pl lo hi p ms ((l, (s, h)), (v, (u, g))) =
+        let r = condition-strict c _ _ (s .is .1) in
+        let q = part-statement x _ pl (s .to) hi (h, g) in
         changes-then (wider (changes-set ms (t + 1) _) (omega arith))
-        (changes-then (wider (changes-statement x _ _ _ _ (h .1 .2)) (omega arith)) (wider (changes-set _ t _) (omega arith)))
-    changes-statement (for t a v l x) lo hi p ms h =
-        let u = h .0 in
-        let r = strict-assignment a _ _ (h .1 .1) in
-        let q = h .1 .2 in
-        let d = q .0 in
-        let s = strict-operand l _ _ (q .1 .1) in
-        let z = rising-statement x .ordered (q .1 .2) in
+        (changes-then (wider (changes-statement x pl (s .to) (q .m) _ _ (q .one)) (omega arith)) (wider (changes-set _ t _) (omega arith)))
+    changes-statement (for t a v l x) pl lo hi p ms ((s, h), (u, g)) =
+        let c = part-chain a _ pl (s .to) hi (h, g) in
+        let o = c .next .0 .0 in
+        let r = keep-operand {kinds = f .kinds} {others = f .kinds} l .rises (o .is .1 .2 .1) in
+        let q = part-statement x _ pl (o .to) hi (c .next .0 .1, c .next .1 .1) in
         changes-then (wider (changes-set ms v _) (omega arith))
         (changes-then (wider (changes-set _ (v + 1) _) (omega arith))
-        (changes-then (wider (changes-statement x _ _ _ _ (q .1 .2)) (omega arith)) (wider (changes-set _ (v - 1) _) (omega arith))))
+        (changes-then (wider (changes-statement x pl (o .to) (q .m) _ _ (q .one)) (omega arith)) (wider (changes-set _ (v - 1) _) (omega arith))))
 
-    changes-body : (b : Body) (lo hi p : ℕ) (ms : List ℕ) → bodyRises b lo hi → Changes lo hi ms (marksBody f b p ms)
-    changes-body (declare (registers rs) b) lo hi p ms h = let r = rising-declaration (registers rs) .ordered (h .1) in wider (changes-body b _ _ _ ms (h .2)) (omega arith)
-    changes-body (declare (cells c w is) b) lo hi p ms h = let r = rising-declaration (cells c w is) .ordered (h .1) in wider (changes-body b _ _ _ ms (h .2)) (omega arith)
-    changes-body (declare (base n) b) lo hi p ms h = let r = rising-declaration (base n) .ordered (h .1) in wider (changes-body b _ _ _ ms (h .2)) (omega arith)
-    changes-body (procedure n r x b) lo hi p ms h =
-        let a = h .0 in
-        let c = h .1 .0 in
-        let q = h .1 .1 in
-        let y = rising-statement x .ordered (q .1) in
-        let z = rising-body b .ordered (q .2) in
+    changes-body : (x : Body) (b : Block) (pl : Place) (lo hi p : ℕ) (ms : List ℕ) → Part (eventsBody x []) (within b ∷ pl) lo hi → Changes lo hi ms (marksBody f x p ms)
+    changes-body (declare (registers rs) x) b pl lo hi p ms h =
+        let q = part-declaration (registers rs) _ b pl lo hi h in
+        wider (changes-body x _ pl (q .m) hi p ms (q .next)) (omega arith)
+    changes-body (declare (cells c w is) x) b pl lo hi p ms h =
+        let q = part-declaration (cells c w is) _ b pl lo hi h in
+        wider (changes-body x _ pl (q .m) hi p ms (q .next)) (omega arith)
+    changes-body (declare (base n) x) b pl lo hi p ms h =
+        let q = part-declaration (base n) _ b pl lo hi h in
+        wider (changes-body x _ pl (q .m) hi (p + 4) ms (q .next)) (omega arith)
+    changes-body (procedure n r x y) b pl lo hi p ms ((s, h), (u, g)) =
+        let q = part-statement x _ _ (s .to) hi (h, g) in
+        let o = q .next .0 .0 in
+        let z = rises (eventsBody y []) (enterName n (within b ∷ pl)) (o .to) hi (q .next .0 .1, q .next .1 .1) in
         changes-then (wider (changes-set ms n _) (omega arith))
-        (changes-then (wider (changes-statement x _ _ _ _ (q .1)) (omega arith))
-        (changes-then (wider (changes-set _ (n + 1) _) (omega arith)) (wider (changes-body b _ _ _ _ (q .2)) (omega arith))))
-    changes-body (items is) lo hi p ms h = changes-items is lo hi p ms h
+        (changes-then (wider (changes-statement x _ (s .to) (q .m) _ _ (q .one)) (omega arith))
+        (changes-then (wider (changes-set _ (n + 1) _) (omega arith)) (wider (changes-body y _ pl (o .to) hi _ _ (q .next .0 .1, q .next .1 .1)) (omega arith))))
+    changes-body (items is) b pl lo hi p ms h = changes-items is b pl lo hi p ms h
 
-    changes-items : (is : Items) (lo hi p : ℕ) (ms : List ℕ) → itemsRise is lo hi → Changes lo hi ms (marksItems f is p ms)
-    changes-items ended lo hi p ms h = changes-none ms
-    changes-items (label l is) lo hi p ms h =
-        let a = h .0 in
-        let z = rising-items is .ordered (h .1) in
-        changes-then (wider (changes-set ms l _) (omega arith)) (wider (changes-items is _ _ _ _ (h .1)) (omega arith))
-    changes-items (item x is) lo hi p ms h =
-        let y = rising-statement x .ordered (h .1) in
-        let z = rising-items is .ordered (h .2) in
-        changes-then (wider (changes-statement x _ _ _ ms (h .1)) (omega arith)) (wider (changes-items is _ _ _ _ (h .2)) (omega arith))
+    changes-items : (is : Items) (b : Block) (pl : Place) (lo hi p : ℕ) (ms : List ℕ) → Part (eventsItems is []) (within b ∷ pl) lo hi → Changes lo hi ms (marksItems f is p ms)
+    changes-items ended b pl lo hi p ms h = changes-none ms
+    changes-items (label l is) b pl lo hi p ms ((s, h), (u, g)) =
+        let z = rises (eventsItems is []) (enterLabel l (within b ∷ pl)) (s .to) hi (h, g) in
+        changes-then (wider (changes-set ms l _) (omega arith)) (wider (changes-items is _ pl (s .to) hi _ _ (h, g)) (omega arith))
+    changes-items (item x is) b pl lo hi p ms h =
+        let q = part-statement x _ _ lo hi h in
+        changes-then (wider (changes-statement x _ lo (q .m) p ms (q .one)) (omega arith)) (wider (changes-items is b pl (q .m) hi _ _ (q .next)) (omega arith))
 
 -- ── the marks that the pass leaves in the end ──
 
@@ -256,237 +281,222 @@ module _ (marks : List ℕ) where
       by d (inl i) a = entered d a (within-enter d n bs i)
       by d (inr z) a = t .told d (inr z)
 
-  -- ── declared registers and cells have no address ──
-
-  told-registers : {bs : List (List ℕ)} {ps : List Mark} (rs : List Register) (lo hi : ℕ) → registersRise rs lo hi → ((u : ℕ) → lo ≤ u → u < hi → getD marks u 0 ≡ 0)
-      → Told bs ps → Told (enterAll (declares (registers rs)) bs) ps
-  unfolding registersRise
-  told-registers [] lo hi h z t = t
-  told-registers (r ∷ rs) lo hi h z t =
-      let a = h .1 .0 in
-      let b = h .1 .1 .0 in
-      let c = h .1 .1 .1 in
-      let o = rising-registers rs .ordered (h .2) in
-      told-registers rs (h .0) hi (h .2) (λ u x y. z u (omega arith) y) (told-enter (r .name) (z (r .name) a (omega arith)) t)
-
-  told-cells : {bs : List (List ℕ)} {ps : List Mark} (c : Option ℕ) (is : List Item) (lo hi : ℕ) → cellsRise is lo hi → ((u : ℕ) → lo ≤ u → u < hi → getD marks u 0 ≡ 0)
-      → Told bs ps → Told (enterAll (map (λ (i : Item). i .name) is) bs) ps
-  unfolding cellsRise
-  told-cells c [] lo hi h z t = t
-  told-cells c (i ∷ is) lo hi h z t =
-      let a = h .1 .0 in
-      let b = rising-numbers (i .numbers) .ordered (h .1 .1) in
-      let o = rising-cells is .ordered (h .2) in
-      told-cells c is (h .0) hi (h .2) (λ u x y. z u (omega arith) y) (told-enter (i .name) (z (i .name) a (omega arith)) t)
-
-  told-declared : {bs : List (List ℕ)} {ps : List Mark} (d : Declaration) (lo hi : ℕ) → declarationRises d lo hi → ((u : ℕ) → lo ≤ u → u < hi → getD marks u 0 ≡ 0)
-      → Told bs ps → Told (enterAll (declares d) bs) ps
-  unfolding declarationRises
-  told-declared (registers rs) lo hi h z t = told-registers rs lo hi h z t
-  told-declared (cells none w is) lo hi h z t = told-cells none is lo hi h z t
-  told-declared (cells (some c) w is) lo hi h z t = let a = h .0 in told-cells (some c) is (c + 1) hi (h .1) (λ u x y. z u (omega arith) y) t
-  told-declared (base n) lo hi h z t = t
-
   module _ (f : Tables) where
+    -- ── declared registers and cells have no address ──
+
+    told-entry : (d : Entry) (b : Block) (pl : Place) (lo : ℕ) (s : Stands (f .kinds) (entry d) (within b ∷ pl) lo) → ((u : ℕ) → s .from ≤ u → u < s .to → getD marks u 0 ≡ 0)
+        → (bs : List (List ℕ)) (ps : List Mark) → Told (b .names ∷ bs) ps → Told (namesAfter d (b .names) ∷ bs) ps
+    unfolding isRegister
+    told-entry (named r) b pl lo s z bs ps t = told-enter (r .name) (z (r .name) (omega arith) (omega arith)) t
+    told-entry (celled c w) b pl lo s z bs ps t = t
+    told-entry (itemed c w i) b pl lo s z bs ps t = told-enter (i .name) (z (i .name) (omega arith) (omega arith)) t
+    told-entry (valued n) b pl lo s z bs ps t = t
+    told-entry (based n) b pl lo s z bs ps t = t
+
+    told-entries : (es : List Event) → All IsEntry es → (b : Block) (pl : Place) (lo hi : ℕ) → Text (f .kinds) es (within b ∷ pl) lo hi → ((u : ℕ) → lo ≤ u → u < hi → getD marks u 0 ≡ 0)
+        → (bs : List (List ℕ)) (ps : List Mark) → Told (b .names ∷ bs) ps → Told (blockAfter es b .names ∷ bs) ps
+    unfolding Text blockAfter
+    told-entries [] a b pl lo hi h z bs ps t = t
+    told-entries (edge x ∷ es) (a, more) b pl lo hi h z bs ps t = absurd a
+    told-entries (route r ∷ es) (a, more) b pl lo hi h z bs ps t = absurd a
+    told-entries (entry d ∷ es) (a, more) b pl lo hi (s, h) z bs ps t =
+        let up = text-rises (f .kinds) es _ (s .to) hi h in
+        told-entries es more _ pl (s .to) hi h (λ u x y. z u (omega arith) y) bs ps (told-entry d b pl lo s (λ u x y. z u (omega arith) (omega arith)) bs ps t)
+    told-entries (phrase x ∷ es) (a, more) b pl lo hi h z bs ps t = absurd a
+    told-entries (mark m ∷ es) (a, more) b pl lo hi h z bs ps t = absurd a
+
+    -- after a declaration, where the rest of the body leaves its tokens
+    told-declared : (d : Declaration) (x : Body) (b : Block) (pl : Place) (lo hi p : ℕ) (ms : List ℕ) (q : Parted f (eventsDeclaration d) (eventsBody x []) (within b ∷ pl) (within (declaredIn f d b) ∷ pl) lo hi)
+        → Final lo hi ms (marksBody f x p ms) → (ps : List Mark) → Told (b .names ∷ namesIn pl) ps → Told (declaredIn f d b .names ∷ namesIn pl) ps
+    told-declared d x b pl lo hi p ms q k ps t =
+        told-entries (eventsDeclaration d []) (declaration-entries d) b pl lo (q .m) (q .one .0)
+        (λ u a c. unset k (changes-body f x _ pl (q .m) hi p ms (q .next)) u a (omega arith) (λ l h. omega arith)) (namesIn pl) ps t
+
     -- ── the labels of a block ──
 
     -- with the labels es before them, where whatever else is asked of d leads by the marks around
-    labels-led : (is : Items) (es : List ℕ) (lo hi p : ℕ) (ms : List ℕ) → itemsRise is lo hi → Final lo hi ms (marksItems f is p ms) → (ls : List Mark) (d : ℕ) (Q : Type 0)
-        → ((d ∈ es) ⊎ Q → getD marks d 0 ≡ markAt ls d) → (d ∈ labelsOnto is es) ⊎ Q → getD marks d 0 ≡ markAt (own (coreItems f is) p ++ ls) d
-    unfolding statementRises marksOf coreStatement own
-    labels-led ended es lo hi p ms h k ls d Q g i = g i
-    labels-led (label l is) es lo hi p ms h k ls d Q g i =
-        let a = h .0 in
-        let z = rising-items is .ordered (h .1) in
-        marked l p d _ (set-final ms p (without-last l (l + 1) k (changes-items f is _ _ p _ (h .1)) (omega arith)) (omega arith))
-        (λ n. labels-led is (l ∷ es) (l + 1) hi p (set ms l p) (h .1) (without-first (l + 1) hi k (changes-set ms l p) (omega arith)) ls d Q (earlier n) i)
+    labels-led : (is : Items) (es : List ℕ) (b : Block) (pl : Place) (lo hi p : ℕ) (ms : List ℕ) → Part f (eventsItems is []) (within b ∷ pl) lo hi → Final lo hi ms (marksItems f is p ms)
+        → (ls : List Mark) (d : ℕ) (Q : Type 0) → ((d ∈ es) ⊎ Q → getD marks d 0 ≡ markAt ls d) → (d ∈ labelsOnto is es) ⊎ Q → getD marks d 0 ≡ markAt (own (coreItems f is) p ++ ls) d
+    unfolding Text Along eventsStatement marksOf coreStatement own
+    labels-led ended es b pl lo hi p ms h k ls d Q g i = g i
+    labels-led (label l is) es b pl lo hi p ms ((s, h), (v, w)) k ls d Q g i =
+        let z = rises f (eventsItems is []) (enterLabel l (within b ∷ pl)) (s .to) hi (h, w) in
+        marked l p d _ (set-final ms p (without-last l (l + 1) k (changes-items f is _ pl (s .to) hi p _ (h, w)) (omega arith)) (omega arith))
+        (λ n. labels-led is (l ∷ es) _ pl (s .to) hi p (set ms l p) (h, w) (without-first (s .to) hi k (changes-set ms l p) (omega arith)) ls d Q (earlier n) i)
       where
         earlier : (l ≡ d → ⊥) → ((d ≡ l) ⊎ (d ∈ es)) ⊎ Q → getD marks d 0 ≡ markAt ls d
         earlier n (inl (inl e)) = absurd (n (sym e))
         earlier n (inl (inr i)) = g (inl i)
         earlier n (inr q) = g (inr q)
-    labels-led (item x is) es lo hi p ms h k ls d Q g i =
-        let y = rising-statement x .ordered (h .1) in
-        let z = rising-items is .ordered (h .2) in
-        labels-led is es _ hi _ _ (h .2) (without-first (h .0) hi k (changes-statement f x _ _ p ms (h .1)) (omega arith)) ls d Q g i
+    labels-led (item x is) es b pl lo hi p ms h k ls d Q g i =
+        let q = part-statement f x _ _ lo hi h in
+        labels-led is es b pl (q .m) hi _ _ (q .next) (without-first (q .m) hi k (changes-statement f x _ lo (q .m) p ms (q .one)) (omega arith)) ls d Q g i
 
-    told-labels : (is : Items) (lo hi p : ℕ) (ms : List ℕ) → itemsRise is lo hi → Final lo hi ms (marksItems f is p ms) → (bs : List (List ℕ)) (ls : List Mark) → Told bs ls
-        → Told (labelsOf is ∷ bs) (own (coreItems f is) p ++ ls)
+    told-labels : (is : Items) (b : Block) (pl : Place) (lo hi p : ℕ) (ms : List ℕ) → Part f (eventsItems is []) (within b ∷ pl) lo hi → Final lo hi ms (marksItems f is p ms) → (bs : List (List ℕ))
+        (ls : List Mark) → Told bs ls → Told (labelsOnto is [] ∷ bs) (own (coreItems f is) p ++ ls)
     unfolding Within
-    told-labels is lo hi p ms h k bs ls t = record { told = λ d i. labels-led is [] lo hi p ms h k ls d (Within d bs ⊎ (getD marks d 0 ≡ 0)) (around d) (by d i) }
+    told-labels is b pl lo hi p ms h k bs ls t = record { told = λ d i. labels-led is [] b pl lo hi p ms h k ls d (Within d bs ⊎ (getD marks d 0 ≡ 0)) (around d) (by d i) }
       where
         around : (d : ℕ) → ⊥ ⊎ (Within d bs ⊎ (getD marks d 0 ≡ 0)) → getD marks d 0 ≡ markAt ls d
         around d (inl i) = absurd i
         around d (inr i) = t .told d i
 
-        by : (d : ℕ) → Within d (labelsOf is ∷ bs) ⊎ (getD marks d 0 ≡ 0) → (d ∈ labelsOf is) ⊎ (Within d bs ⊎ (getD marks d 0 ≡ 0))
+        by : (d : ℕ) → Within d (labelsOnto is [] ∷ bs) ⊎ (getD marks d 0 ≡ 0) → (d ∈ labelsOnto is []) ⊎ (Within d bs ⊎ (getD marks d 0 ≡ 0))
         by d (inl (inl i)) = inl i
         by d (inl (inr i)) = inr (inl i)
         by d (inr e) = inr (inr e)
-
-    told-after : {bs : List (List ℕ)} {ps : List Mark} (d : Declaration) (x : Body) (lo m hi p : ℕ) (ms : List ℕ) → declarationRises d lo m → bodyRises x m hi
-        → Final lo hi ms (marksBody f x p ms) → Told bs ps → Told (enterAll (declares d) bs) ps
-    told-after d x lo m hi p ms h g k n =
-        let z = rising-body x .ordered g in
-        told-declared d lo m h (λ u a b. unset k (changes-body f x m hi p ms g) u a (omega arith) (λ c e. omega arith)) n
 
     -- ── the addresses of a tree ──
 
     -- token 0, where no name was found, has no address
     module _ (zero : getD marks 0 0 ≡ 0) where
       mutual
-        unfolding statementRises marksOf Agree BoundStatement
+        unfolding Text Along eventsStatement marksOf Agree
 
-        agree-statement : (x : Statement) (lo hi p : ℕ) (ms : List ℕ) → statementRises x lo hi → Final lo hi ms (marksOf f x p ms)
-            → (names labels : List (List ℕ)) (ls ps : List Mark) → Told names ps → Told labels ls → BoundStatement (f .found) (f .goes) x names labels → Agree f marks ls ps x p
-        agree-statement (assign a) lo hi p ms h k names labels ls ps n l b = tt
-        agree-statement (call t) lo hi p ms h k names labels ls ps n l b = told-bound _ zero n b
-        agree-statement (block t x) lo hi p ms h k names labels ls ps n l b =
-            let a = h .0 in
-            agree-body x (t + 1) hi p ms (h .1) (narrower (t + 1) hi k (omega arith)) ([] ∷ names) labels ls ps (told-block n) l b
-        agree-statement (goto t m) lo hi p ms h k names labels ls ps n l b = told-bound _ zero l b
-        agree-statement null lo hi p ms h k names labels ls ps n l b = tt
-        agree-statement (ifThen t c x) lo hi p ms h k names labels ls ps n l b =
-            let a = h .0 in
-            let r = strict-condition c _ _ (h .1 .1) in
-            let z = rising-statement x .ordered (h .1 .2) in
-            let q = p + (sizes (testOf f c) + 4) in
-            let cx = changes-statement f x (h .1 .0) hi q ms (h .1 .2) in
-            let ct = changes-set (marksOf f x q ms) t (p + (sizes (testOf f c) + (4 + sizeOf (coreStatement f x)))) in (
+        agree-statement : (x : Statement) (pl : Place) (lo hi p : ℕ) (ms : List ℕ) → Part f (eventsStatement x []) pl lo hi → Final lo hi ms (marksOf f x p ms)
+            → (ls ps : List Mark) → Told (namesIn pl) ps → Told (labelsIn pl) ls → Agree f marks ls ps x p
+        agree-statement (assign a) pl lo hi p ms h k ls ps n l = tt
+        agree-statement (call t) pl lo hi p ms (h, (b, g)) k ls ps n l = told-bound _ zero n b
+        agree-statement (block t x) pl lo hi p ms ((s, h), (u, g)) k ls ps n l =
+            let q = part-body f x _ _ (s .to) hi (h, g) in
+            agree-body x _ pl (s .to) (q .m) p ms refl (q .one) (narrower (s .to) (q .m) k (omega arith)) ls ps (told-block n) l
+        agree-statement (goto t m) pl lo hi p ms (h, (b, g)) k ls ps n l = told-bound _ zero l b
+        agree-statement null pl lo hi p ms h k ls ps n l = tt
+        agree-statement (ifThen t c x) pl lo hi p ms ((s, h), (u, g)) k ls ps n l =
+            let r = condition-strict f c _ _ (s .is .1) in
+            let q = part-statement f x _ pl (s .to) hi (h, g) in
+            let p1 = p + (sizes (testOf f c) + 4) in
+            let cx = changes-statement f x pl (s .to) (q .m) p1 ms (q .one) in
+            let ct = changes-set (marksOf f x p1 ms) t (p + (sizes (testOf f c) + (4 + sizeOf (coreStatement f x)))) in (
               set-final _ _ (without-first t (t + 1) k cx (omega arith)) (omega arith),
-              agree-statement x _ _ q ms (h .1 .2) (without-last (h .1 .0) hi k ct (omega arith)) names labels ls ps n l b,
+              agree-statement x pl (s .to) (q .m) p1 ms (q .one) (without-last (s .to) (q .m) k ct (omega arith)) ls ps n l,
             )
-        agree-statement (ifElse t c x e y) lo hi p ms h k names labels ls ps n l b =
-            let a = h .0 in
-            let r = strict-condition c _ _ (h .1 .1) in
-            let s = h .1 .2 in
-            let d = s .2 .0 in
-            let u = rising-statement x .ordered (s .1) in
-            let z = rising-statement y .ordered (s .2 .1) in
-            let q1 = p + (sizes (testOf f c) + 4) in
-            let q2 = p + (sizes (testOf f c) + (4 + (sizeOf (coreStatement f x) + 4))) in
-            let q3 = p + (sizes (testOf f c) + (4 + (sizeOf (coreStatement f x) + (4 + sizeOf (coreStatement f y))))) in
-            let m1 = marksOf f x q1 ms in
-            let cx = changes-statement f x (h .1 .0) (s .0) q1 ms (s .1) in
-            let ct = changes-set m1 t q2 in
-            let cy = changes-statement f y (e + 1) hi q2 (set m1 t q2) (s .2 .1) in
-            let cu = changes-set (marksOf f y q2 (set m1 t q2)) (t + 1) q3 in (
+        agree-statement (ifElse t c x e y) pl lo hi p ms ((s, h), (u, g)) k ls ps n l =
+            let r = condition-strict f c _ _ (s .is .1) in
+            let q = part-statement f x _ pl (s .to) hi (h, g) in
+            let o = q .next .0 .0 in
+            let z = part-statement f y _ pl (o .to) hi (q .next .0 .1, q .next .1 .1) in
+            let p1 = p + (sizes (testOf f c) + 4) in
+            let p2 = p + (sizes (testOf f c) + (4 + (sizeOf (coreStatement f x) + 4))) in
+            let p3 = p + (sizes (testOf f c) + (4 + (sizeOf (coreStatement f x) + (4 + sizeOf (coreStatement f y))))) in
+            let m1 = marksOf f x p1 ms in
+            let cx = changes-statement f x pl (s .to) (q .m) p1 ms (q .one) in
+            let ct = changes-set m1 t p2 in
+            let cy = changes-statement f y pl (o .to) (z .m) p2 (set m1 t p2) (z .one) in
+            let cu = changes-set (marksOf f y p2 (set m1 t p2)) (t + 1) p3 in (
               set-final _ _ (without-first t (t + 1) (without-last t (t + 1) (without-last t (t + 1) k cu (omega arith)) cy (omega arith)) cx (omega arith)) (omega arith),
               set-final _ _ (without-first (t + 1) (t + 2) (without-first (t + 1) (t + 2) (without-first (t + 1) (t + 2) k cx (omega arith)) ct (omega arith)) cy (omega arith)) (omega arith),
-              agree-statement x _ _ q1 ms (s .1)
-                  (without-last (h .1 .0) (s .0) (without-last (h .1 .0) (s .0) (without-last (h .1 .0) (s .0) k cu (omega arith)) cy (omega arith)) ct (omega arith)) names labels ls ps n l (b .0),
-              agree-statement y _ _ q2 _ (s .2 .1)
-                  (without-first (e + 1) hi (without-first (e + 1) hi (without-last (e + 1) hi k cu (omega arith)) cx (omega arith)) ct (omega arith)) names labels ls ps n l (b .1),
+              agree-statement x pl (s .to) (q .m) p1 ms (q .one)
+                  (without-last (s .to) (q .m) (without-last (s .to) (q .m) (without-last (s .to) (q .m) k cu (omega arith)) cy (omega arith)) ct (omega arith)) ls ps n l,
+              agree-statement y pl (o .to) (z .m) p2 _ (z .one)
+                  (without-first (o .to) (z .m) (without-first (o .to) (z .m) (without-last (o .to) (z .m) k cu (omega arith)) cx (omega arith)) ct (omega arith)) ls ps n l,
             )
-        agree-statement (while t c x) lo hi p ms h k names labels ls ps n l b =
-            let a = h .0 in
-            let r = strict-condition c _ _ (h .1 .1) in
-            let z = rising-statement x .ordered (h .1 .2) in
-            let q = p + (sizes (testOf f c) + 4) in
+        agree-statement (while t c x) pl lo hi p ms ((w, (s, h)), (v, (u, g))) k ls ps n l =
+            let r = condition-strict f c _ _ (s .is .1) in
+            let q = part-statement f x _ pl (s .to) hi (h, g) in
+            let p1 = p + (sizes (testOf f c) + 4) in
             let cu = changes-set ms (t + 1) p in
-            let cx = changes-statement f x (h .1 .0) hi q (set ms (t + 1) p) (h .1 .2) in
-            let ct = changes-set (marksOf f x q (set ms (t + 1) p)) t (p + (sizes (testOf f c) + (4 + (sizeOf (coreStatement f x) + 4)))) in (
+            let cx = changes-statement f x pl (s .to) (q .m) p1 (set ms (t + 1) p) (q .one) in
+            let ct = changes-set (marksOf f x p1 (set ms (t + 1) p)) t (p + (sizes (testOf f c) + (4 + (sizeOf (coreStatement f x) + 4)))) in (
               set-final _ _ (without-first t (t + 1) (without-first t (t + 1) k cu (omega arith)) cx (omega arith)) (omega arith),
               set-final _ _ (without-last (t + 1) (t + 2) (without-last (t + 1) (t + 2) k ct (omega arith)) cx (omega arith)) (omega arith),
-              agree-statement x _ _ q _ (h .1 .2) (without-first (h .1 .0) hi (without-last (h .1 .0) hi k ct (omega arith)) cu (omega arith)) names labels ls ps n l b,
+              agree-statement x pl (s .to) (q .m) p1 _ (q .one) (without-first (s .to) (q .m) (without-last (s .to) (q .m) k ct (omega arith)) cu (omega arith)) ls ps n l,
             )
-        agree-statement (for t a v o x) lo hi p ms h k names labels ls ps n l b =
-            let u = h .0 in
-            let r = strict-assignment a _ _ (h .1 .1) in
-            let s = h .1 .2 in
-            let d = s .0 in
-            let w = strict-operand o _ _ (s .1 .1) in
-            let z = rising-statement x .ordered (s .1 .2) in
-            let q0 = p + sizes (toRegister f (controlOf f a) a) in
-            let q1 = p + (sizes (toRegister f (controlOf f a) a) + (sizes (compareWith f (controlOf f a) o) + 4)) in
-            let q2 = p + (sizes (toRegister f (controlOf f a) a) + (sizes (compareWith f (controlOf f a) o) + (4 + (sizeOf (coreStatement f x) + 8)))) in
-            let m1 = set ms v q0 in
+        agree-statement (for t a v o x) pl lo hi p ms ((s, h), (u, g)) k ls ps n l =
+            let c = part-chain f a _ pl (s .to) hi (h, g) in
+            let b = c .next .0 .0 in
+            let r = keep-operand {kinds = f .kinds} {others = f .kinds} o .rises (b .is .1 .2 .1) in
+            let q = part-statement f x _ pl (b .to) hi (c .next .0 .1, c .next .1 .1) in
+            let p0 = p + sizes (toRegister f (controlOf f a) a) in
+            let p1 = p + (sizes (toRegister f (controlOf f a) a) + (sizes (compareWith f (controlOf f a) o) + 4)) in
+            let p2 = p + (sizes (toRegister f (controlOf f a) a) + (sizes (compareWith f (controlOf f a) o) + (4 + (sizeOf (coreStatement f x) + 8)))) in
+            let m1 = set ms v p0 in
             let m2 = set m1 (v + 1) (controlOf f a) in
-            let cv = changes-set ms v q0 in
+            let cv = changes-set ms v p0 in
             let cr = changes-set m1 (v + 1) (controlOf f a) in
-            let cx = changes-statement f x (s .1 .0) hi q1 m2 (s .1 .2) in
-            let ce = changes-set (marksOf f x q1 m2) (v - 1) q2 in (
+            let cx = changes-statement f x pl (b .to) (q .m) p1 m2 (q .one) in
+            let ce = changes-set (marksOf f x p1 m2) (v - 1) p2 in (
               set-final _ _ (without-first (v - 1) v (without-first (v - 1) v (without-first (v - 1) v k cv (omega arith)) cr (omega arith)) cx (omega arith)) (omega arith),
               set-final _ _ (without-last v (v + 1) (without-last v (v + 1) (without-last v (v + 1) k ce (omega arith)) cx (omega arith)) cr (omega arith)) (omega arith),
               set-final _ _ (without-last (v + 1) (v + 2) (without-last (v + 1) (v + 2) (without-first (v + 1) (v + 2) k cv (omega arith)) ce (omega arith)) cx (omega arith)) (omega arith),
-              agree-statement x _ _ q1 m2 (s .1 .2)
-                  (without-first (s .1 .0) hi (without-first (s .1 .0) hi (without-last (s .1 .0) hi k ce (omega arith)) cv (omega arith)) cr (omega arith)) names labels ls ps n l b,
+              agree-statement x pl (b .to) (q .m) p1 m2 (q .one)
+                  (without-first (b .to) (q .m) (without-first (b .to) (q .m) (without-last (b .to) (q .m) k ce (omega arith)) cv (omega arith)) cr (omega arith)) ls ps n l,
             )
 
-        agree-body : (x : Body) (lo hi p : ℕ) (ms : List ℕ) → bodyRises x lo hi → Final lo hi ms (marksBody f x p ms)
-            → (names labels : List (List ℕ)) (ls ps : List Mark) → Told names ps → Told labels ls → BoundBody (f .found) (f .goes) x names labels → AgreeBody f marks ls ps x p
-        agree-body (declare (registers rs) x) lo hi p ms h k names labels ls ps n l b =
-            let r = rising-declaration (registers rs) .ordered (h .1) in
-            agree-body x (h .0) hi p ms (h .2) (narrower (h .0) hi k (omega arith)) _ labels ls ps (told-after (registers rs) x lo (h .0) hi p ms (h .1) (h .2) k n) l b
-        agree-body (declare (cells c w is) x) lo hi p ms h k names labels ls ps n l b =
-            let r = rising-declaration (cells c w is) .ordered (h .1) in
-            agree-body x (h .0) hi p ms (h .2) (narrower (h .0) hi k (omega arith)) _ labels ls ps (told-after (cells c w is) x lo (h .0) hi p ms (h .1) (h .2) k n) l b
-        agree-body (declare (base m) x) lo hi p ms h k names labels ls ps n l b =
-            let r = rising-declaration (base m) .ordered (h .1) in
-            agree-body x (h .0) hi (p + 4) ms (h .2) (narrower (h .0) hi k (omega arith)) _ labels ls ps (told-after (base m) x lo (h .0) hi (p + 4) ms (h .1) (h .2) k n) l b
-        agree-body (procedure t r x y) lo hi p ms h k names labels ls ps n l b =
-            let a = h .0 in
-            let c = h .1 .0 in
-            let s = h .1 .1 in
-            let u = rising-statement x .ordered (s .1) in
-            let z = rising-body y .ordered (s .2) in
-            let q = p + (4 + (sizeOf (coreStatement f x) + 2)) in
+        agree-body : (x : Body) (b : Block) (pl : Place) (lo hi p : ℕ) (ms : List ℕ) → b .labels ≡ labelsOf x [] → Part f (eventsBody x []) (within b ∷ pl) lo hi → Final lo hi ms (marksBody f x p ms)
+            → (ls ps : List Mark) → Told (b .names ∷ namesIn pl) ps → Told (labelsIn pl) ls → AgreeBody f marks ls ps x p
+        agree-body (declare (registers rs) x) b pl lo hi p ms e h k ls ps n l =
+            let q = part-declaration f (registers rs) _ b pl lo hi h in
+            agree-body x _ pl (q .m) hi p ms (labels-stay (eventsDeclaration (registers rs) []) b ∙ e) (q .next) (narrower (q .m) hi k (omega arith)) ls ps
+            (told-declared (registers rs) x b pl lo hi p ms q k ps n) l
+        agree-body (declare (cells c w is) x) b pl lo hi p ms e h k ls ps n l =
+            let q = part-declaration f (cells c w is) _ b pl lo hi h in
+            agree-body x _ pl (q .m) hi p ms (labels-stay (eventsDeclaration (cells c w is) []) b ∙ e) (q .next) (narrower (q .m) hi k (omega arith)) ls ps
+            (told-declared (cells c w is) x b pl lo hi p ms q k ps n) l
+        agree-body (declare (base d) x) b pl lo hi p ms e h k ls ps n l =
+            let q = part-declaration f (base d) _ b pl lo hi h in
+            agree-body x _ pl (q .m) hi (p + 4) ms (labels-stay (eventsDeclaration (base d) []) b ∙ e) (q .next) (narrower (q .m) hi k (omega arith)) ls ps
+            (told-declared (base d) x b pl lo hi (p + 4) ms q k ps n) l
+        agree-body (procedure t r x y) b pl lo hi p ms e ((s, h), (u, g)) k ls ps n l =
+            let q = part-statement f x _ _ (s .to) hi (h, g) in
+            let o = q .next .0 .0 in
+            let rest : Part f (eventsBody y []) (enterName t (within b ∷ pl)) (o .to) hi = (q .next .0 .1, q .next .1 .1) in
+            let z = rises f (eventsBody y []) (enterName t (within b ∷ pl)) (o .to) hi rest in
+            let p1 = p + (4 + (sizeOf (coreStatement f x) + 2)) in
             let m1 = set ms t (p + 4) in
             let m2 = marksOf f x (p + 4) m1 in
             let ct = changes-set ms t (p + 4) in
-            let cx = changes-statement f x (r + 1) (s .0) (p + 4) m1 (s .1) in
-            let cb = changes-set m2 (t + 1) q in
-            let cy = changes-body f y (s .0) hi q (set m2 (t + 1) q) (s .2) in
-            let e = set-final _ _ (without-last t (t + 1) (without-last t (t + 1) (without-last t (t + 1) k cy (omega arith)) cb (omega arith)) cx (omega arith)) (omega arith) in
-            let known = told-procedure t (p + 4) e n in (
+            let cx = changes-statement f x _ (s .to) (q .m) (p + 4) m1 (q .one) in
+            let cb = changes-set m2 (t + 1) p1 in
+            let cy = changes-body f y _ pl (o .to) hi p1 (set m2 (t + 1) p1) rest in
+            let mine = set-final _ _ (without-last t (t + 1) (without-last t (t + 1) (without-last t (t + 1) k cy (omega arith)) cb (omega arith)) cx (omega arith)) (omega arith) in
+            let known = told-procedure t (p + 4) mine n in (
               set-final _ _ (without-first (t + 1) (t + 2) (without-first (t + 1) (t + 2) (without-last (t + 1) (t + 2) k cy (omega arith)) ct (omega arith)) cx (omega arith)) (omega arith),
-              agree-statement x _ _ (p + 4) m1 (s .1)
-                  (without-first (r + 1) (s .0) (without-last (r + 1) (s .0) (without-last (r + 1) (s .0) k cy (omega arith)) cb (omega arith)) ct (omega arith)) (enter t names) [] [] _ known told-none (b .0),
-              agree-body y _ _ q _ (s .2)
-                  (without-first (s .0) hi (without-first (s .0) hi (without-first (s .0) hi k ct (omega arith)) cx (omega arith)) cb (omega arith)) (enter t names) labels ls _ known l (b .1),
+              agree-statement x _ (s .to) (q .m) (p + 4) m1 (q .one)
+                  (without-first (s .to) (q .m) (without-last (s .to) (q .m) (without-last (s .to) (q .m) k cy (omega arith)) cb (omega arith)) ct (omega arith)) [] _ known told-none,
+              agree-body y _ pl (o .to) hi p1 _ e rest
+                  (without-first (o .to) hi (without-first (o .to) hi (without-first (o .to) hi k ct (omega arith)) cx (omega arith)) cb (omega arith)) ls _ known l,
             )
-        agree-body (items is) lo hi p ms h k names labels ls ps n l b =
-            agree-items is lo hi p ms h k names _ _ ps n (told-labels is lo hi p ms h k labels ls l) b
+        agree-body (items is) b pl lo hi p ms e h k ls ps n l =
+            agree-items is b pl lo hi p ms h k _ ps n (subst (λ (mine : List ℕ). Told (mine ∷ labelsIn pl) (own (coreItems f is) p ++ ls)) (sym e) (told-labels is b pl lo hi p ms h k (labelsIn pl) ls l))
 
-        agree-items : (is : Items) (lo hi p : ℕ) (ms : List ℕ) → itemsRise is lo hi → Final lo hi ms (marksItems f is p ms)
-            → (names labels : List (List ℕ)) (ls ps : List Mark) → Told names ps → Told labels ls → BoundItems (f .found) (f .goes) is names labels → AgreeItems f marks ls ps is p
-        agree-items ended lo hi p ms h k names labels ls ps n l b = tt
-        agree-items (label t is) lo hi p ms h k names labels ls ps n l b =
-            let a = h .0 in
-            let z = rising-items is .ordered (h .1) in
-            agree-items is _ _ p _ (h .1) (without-first (t + 1) hi k (changes-set ms t p) (omega arith)) names labels ls ps n l b
-        agree-items (item x is) lo hi p ms h k names labels ls ps n l b =
-            let y = rising-statement x .ordered (h .1) in
-            let z = rising-items is .ordered (h .2) in
-            let q = p + sizeOf (coreStatement f x) in
-            let cx = changes-statement f x lo (h .0) p ms (h .1) in
-            let ci = changes-items f is (h .0) hi q (marksOf f x p ms) (h .2) in (
-              agree-statement x _ _ p ms (h .1) (without-last lo (h .0) k ci (omega arith)) names labels ls ps n l (b .0),
-              agree-items is _ _ q _ (h .2) (without-first (h .0) hi k cx (omega arith)) names labels ls ps n l (b .1),
+        agree-items : (is : Items) (b : Block) (pl : Place) (lo hi p : ℕ) (ms : List ℕ) → Part f (eventsItems is []) (within b ∷ pl) lo hi → Final lo hi ms (marksItems f is p ms)
+            → (ls ps : List Mark) → Told (b .names ∷ namesIn pl) ps → Told (b .labels ∷ labelsIn pl) ls → AgreeItems f marks ls ps is p
+        agree-items ended b pl lo hi p ms h k ls ps n l = tt
+        agree-items (label t is) b pl lo hi p ms ((s, h), (u, g)) k ls ps n l =
+            let z = rises f (eventsItems is []) (enterLabel t (within b ∷ pl)) (s .to) hi (h, g) in
+            agree-items is _ pl (s .to) hi p _ (h, g) (without-first (s .to) hi k (changes-set ms t p) (omega arith)) ls ps n l
+        agree-items (item x is) b pl lo hi p ms h k ls ps n l =
+            let q = part-statement f x _ _ lo hi h in
+            let p1 = p + sizeOf (coreStatement f x) in
+            let cx = changes-statement f x _ lo (q .m) p ms (q .one) in
+            let ci = changes-items f is b pl (q .m) hi p1 (marksOf f x p ms) (q .next) in (
+              agree-statement x _ lo (q .m) p ms (q .one) (without-last lo (q .m) k ci (omega arith)) ls ps n l,
+              agree-items is b pl (q .m) hi p1 _ (q .next) (without-first (q .m) hi k cx (omega arith)) ls ps n l,
             )
 
 -- ── programs ──
 
 -- the names around a program stand before its tokens
 pub agree-program :
-    (f : Tables) (x : Statement) (lo hi n : ℕ) → statementRises x lo hi → 17 ≤ lo → hi ≤ n → BoundStatement (f .found) (f .goes) x around []
+    (f : Tables) (x : Statement) (lo hi n : ℕ) → Text (f .kinds) (eventsOf x) [] lo hi → Along (Goes (f .found) (f .goes)) (eventsOf x) [] → firstToken ≤ lo → hi ≤ n
     → Agree f (marksOf f x 0 (replicate n 0)) [] [] x 0
 unfolding Within markAt
-agree-program f x lo hi n h l r b =
-    let o = rising-statement x .ordered h in
-    agree-statement marks f (before 0 (omega arith)) x lo hi 0 (replicate n 0) h
+agree-program f x lo hi n h b l r =
+    let o = text-rises (f .kinds) (eventsOf x) [] lo hi h in
+    agree-statement marks f (before 0 (omega arith)) x [] lo hi 0 (replicate n 0) (h, b)
     (record { kept = λ u a b. refl; blank = λ u a b. getD-replicate n u 0 0 (omega arith); room = omega (arith, length-replicate {A = ℕ} n 0) })
-    around [] [] [] (record { told = by }) (told-none marks) b
+    [] [] (record { told = by }) (told-none marks)
   where
     marks : List ℕ
     marks = marksOf f x 0 (replicate n 0)
 
-    before : (d : ℕ) → d < 17 → getD marks d 0 ≡ 0
+    before : (d : ℕ) → d < firstToken → getD marks d 0 ≡ 0
     before d k =
-        let o = rising-statement x .ordered h in
-        changes-statement f x lo hi 0 (replicate n 0) h .other d (λ a b. omega arith) ∙ getD-replicate n d 0 0 (omega arith)
+        let o = text-rises (f .kinds) (eventsOf x) [] lo hi h in
+        changes-statement f x [] lo hi 0 (replicate n 0) (h, b) .other d (λ a b. omega arith) ∙ getD-replicate n d 0 0 (omega arith)
 
     by : (d : ℕ) → Within d around ⊎ (getD marks d 0 ≡ 0) → getD marks d 0 ≡ markAt [] d
-    by d (inl (inl i)) = before d (all-in (λ (u : ℕ). u < 17) (innermost around) (omega arith) d i)
+    by d (inl (inl i)) = before d (all-in (λ (u : ℕ). u < firstToken) (innermost around) (omega arith) d i)
     by d (inl (inr i)) = absurd i
     by d (inr e) = e

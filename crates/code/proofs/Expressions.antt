@@ -51,13 +51,13 @@ low-register m = by-test (λ (x : ℕ). low x ≡ x) (eqb (m % 8) 1) (low (m / 8
 -- two tokens behind its STEP's number v
 limit-marked :
     (l : Operand) (v p to r : ℕ) (aim : Use) (ms : List ℕ) → headOf l ≡ v + 2 → low (heldIn aim) ≡ r
-    → set (set ms v p) (v + 1) r ≡ markAfter ((E.LIMIT + shapeOf l) % 64) (headOf l) p to aim ms
+    → set (set ms v p) (v + 1) r ≡ markAfter ((E.LIMIT + shapeOf l) % E.EVENTS) (headOf l) p to aim ms
 unfolding markAfter markLimit
 limit-marked l v p to r aim ms e s =
     let at : headOf l - 2 ≡ v = omega arith in
     let next : headOf l - 1 ≡ v + 1 = omega arith in
     let here : set (set ms v p) (v + 1) r ≡ markLimit (headOf l) p aim ms = rw (s, at, next) in
-    here ∙ by-shape (λ x. markLimit (headOf l) p aim ms ≡ markAfter ((E.LIMIT + x) % 64) (headOf l) p to aim ms) refl refl refl refl refl l
+    here ∙ by-shape (λ x. markLimit (headOf l) p aim ms ≡ markAfter ((E.LIMIT + x) % E.EVENTS) (headOf l) p to aim ms) refl refl refl refl refl l
 
 module _ (f : Tables) (means bases offsets : List ℕ) where
   abbrev pub place : (p : ℕ) → Writing → (marks tape : List ℕ) → Placing
@@ -66,12 +66,12 @@ module _ (f : Tables) (means bases offsets : List ℕ) where
   -- an event, by the size of what it makes, the assignment and the addresses after it
   pub event-placed :
       (op t p z : ℕ) (w : Writing) (ms : List ℕ) {w′ : Writing} {ms′ : List ℕ} (k : List ℕ)
-      → z ≡ madeSize (made f means bases offsets ms (op % 64) t w) → ms′ ≡ markAfter (op % 64) t p (p + z) (w .aim) ms
-      → w′ ≡ after f means bases offsets ms (op % 64) t w → place p w ms (event op t ∷ k) ≡ place (p + z) w′ ms′ k
+      → z ≡ madeSize (made f means bases offsets ms (op % E.EVENTS) t w) → ms′ ≡ markAfter (op % E.EVENTS) t p (p + z) (w .aim) ms
+      → w′ ≡ after f means bases offsets ms (op % E.EVENTS) t w → place p w ms (event op t ∷ k) ≡ place (p + z) w′ ms′ k
   event-placed op t p z w ms k ez ek ew =
       let step = placeEvent (f .kinds) (f .values) (f .found) (f .goes) means bases (f .opens) offsets in
       pass-event step op t (placingOf p w ms) k
-      ∙ sym (ap (λ (x : Placing). pass step x k) (place-is (f .kinds) (f .values) (f .found) (f .goes) means bases (f .opens) offsets ms (op % 64) t p w refl ez ek ew))
+      ∙ sym (ap (λ (x : Placing). pass step x k) (place-is (f .kinds) (f .values) (f .found) (f .goes) means bases (f .opens) offsets ms (op % E.EVENTS) t p w refl ez ek ew))
 
   placing : (ms : List ℕ) → Walk f means bases offsets ms ℕ Placing
   placing ms = record {
@@ -79,7 +79,7 @@ module _ (f : Tables) (means bases offsets : List ℕ) where
     run = λ p w k. place p w ms k;
     emit-none = λ p. omega arith;
     emit-both = λ a b p. omega (arith, sizes-append a b);
-    on = λ op t q p w k. event-placed op t p _ w ms k (made-sizes _) (unmarked-stays (op % 64) t p _ (w .aim) ms q) refl;
+    on = λ op t q p w k. event-placed op t p _ w ms k (made-sizes _) (unmarked-stays (op % E.EVENTS) t p _ (w .aim) ms q) refl;
   }
 
   module _ (table : f .means ≡ meaningsOf means bases) (small : Small f) where

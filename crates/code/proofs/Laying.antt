@@ -14,6 +14,7 @@ use Rattle.base.proofs.Parts.{sets-append}
 use Rattle.base.specs.Choose.{if_then_else_}
 use Rattle.base.specs.Lists.{_∈_, member}
 use Rattle.base.specs.Runs.{runLen, indexOf}
+use Rattle.tape.specs.Events as E
 use Rattle.tape.specs.Pass.{onEvent, pass}
 use Rattle.kinds.specs.Meaning.{Cell, Based}
 use Rattle.translator.specs.Instructions.{Datum, element, literal, entry, Instruction, rr, rx, shift, branch, link, stop, size, sizes}
@@ -65,8 +66,8 @@ module _ (start : ℕ) where
     unfolding pass fold onEvent along codeEvent
     laid-along [] s w = refl
     laid-along (e ∷ es) s w =
-        let m = madeBy kinds values found goes means bases opens offsets marks (e % 64) (e / 64) w in
-        let v = writingAfter values found means bases offsets (e % 64) (e / 64) w in
+        let m = madeBy kinds values found goes means bases opens offsets marks (e % E.EVENTS) (e / E.EVENTS) w in
+        let v = writingAfter values found means bases offsets (e % E.EVENTS) (e / E.EVENTS) w in
         laid-along es (layMade start m s) v
         ∙ (ap (layAll (along kinds values found goes means bases opens offsets marks v es)) (lay-made m s)
         ∙ sym (lay-append (codesOf m) (along kinds values found goes means bases opens offsets marks v es) s))

@@ -1,5 +1,5 @@
 -- A program's code along its tape: with the addresses that the address pass leaves, the code pass makes exactly the definition's instructions, and they end where
--- the address pass ends. Assumes nothing.
+-- the address pass ends.
 use mathlib.Core.Path.{_≡_, ap, _∙_}
 use mathlib.Core.List.{List, [], append-nil}
 use Prim.Native.Nat.{ℕ, _≤_}
@@ -7,11 +7,13 @@ use native.Mathlib.Omega.{arith}
 use lib.ListN.{replicate}
 use Rattle.grammar.specs.Tree.{Statement}
 use Rattle.grammar.specs.Derives.{isProgram}
-use Rattle.grammar.proofs.Rising.{rises-statement}
+use Rattle.grammar.specs.Events.{eventsOf}
+use Rattle.grammar.specs.Places.{Along}
+use Rattle.grammar.proofs.Texts.{program-text}
 use Rattle.tape.specs.Tape.{tapeStatement}
 use Rattle.tape.proofs.Pass.{pass-none}
-use Rattle.names.specs.Search.{firstToken, around}
-use Rattle.names.proofs.Bound.{BoundStatement}
+use Rattle.names.specs.Search.{firstToken}
+use Rattle.names.proofs.Bound.{Goes}
 use Rattle.tables.specs.Packed.{meaningsOf}
 use Rattle.kinds.specs.Tables.{Tables}
 use Rattle.translator.specs.Core.{coreStatement}
@@ -37,7 +39,7 @@ module _
         ∙ (pass-none _ _ ∙ ap (λ (p : ℕ). placingOf p (leaves f means bases offsets x noWriting) (marksOf f x 0 (replicate n 0))) (omega arith))
 
     -- the tokens of names around a program stand before it, and the marks have room for its own
-    module _ (starts : firstToken ≤ i) (room : j ≤ n) (bound : BoundStatement (f .found) (f .goes) x around []) where
+    module _ (starts : firstToken ≤ i) (room : j ≤ n) (bound : Along (Goes (f .found) (f .goes)) (eventsOf x) []) where
       pub code-program :
           along (f .kinds) (f .values) (f .found) (f .goes) means bases (f .opens) offsets
           (placesAlong (f .kinds) (f .values) (f .found) (f .goes) means bases (f .opens) offsets (replicate n 0) (tapeStatement x []) .marks) noWriting (tapeStatement x [])
@@ -49,5 +51,5 @@ module _
           along (f .kinds) (f .values) (f .found) (f .goes) means bases (f .opens) offsets (s .marks) noWriting (tapeStatement x []))
           places-program
           ∙ (code-statement f means bases offsets _ table small x _ _ (program .1 .1) [] [] 0
-          (agree-program f x i (program .0) n (rises-statement (f .kinds) x .so (program .1 .1)) starts (omega (arith, room, program .2 .1)) bound) noWriting []
+          (agree-program f x i j n (program-text (f .kinds) x i j program) bound starts room) noWriting []
           ∙ append-nil _)

@@ -29,7 +29,7 @@ module _ (f : Tables) (means bases offsets marks : List ℕ) where
 
   pub along-event :
       (op t : ℕ) (w : Writing) (k : List ℕ)
-      → go w (event op t ∷ k) ≡ codesOf (made f means bases offsets marks (op % 64) t w) ++ go (after f means bases offsets marks (op % 64) t w) k
+      → go w (event op t ∷ k) ≡ codesOf (made f means bases offsets marks (op % E.EVENTS) t w) ++ go (after f means bases offsets marks (op % E.EVENTS) t w) k
   unfolding along
   along-event op t w k = rw (event-op op t, event-token op t)
 

@@ -49,16 +49,16 @@ module _ (f : Tables) (means bases offsets marks : List ℕ) where
     pub run : S → Writing → List ℕ → X
     pub emit-none : (s : S) → emit [] s ≡ s
     pub emit-both : (a b : List Code) (s : S) → emit (a ++ b) s ≡ emit b (emit a s)
-    pub on : (op t : ℕ) → unmarked (op % 64) ≡ true → (s : S) (w : Writing) (k : List ℕ)
-        → run s w (event op t ∷ k) ≡ run (emit (codesOf (made (op % 64) t w)) s) (after (op % 64) t w) k
+    pub on : (op t : ℕ) → unmarked (op % E.EVENTS) ≡ true → (s : S) (w : Writing) (k : List ℕ)
+        → run s w (event op t ∷ k) ≡ run (emit (codesOf (made (op % E.EVENTS) t w)) s) (after (op % E.EVENTS) t w) k
 
   -- ── what an event makes, and the assignment that is written after it ──
 
   abbrev pub Makes : (op t : ℕ) → Writing → List Code → Writing → Type 0
-  Makes op t w cs w′ = (codesOf (made (op % 64) t w) ≡ cs) × (after (op % 64) t w ≡ w′)
+  Makes op t w cs w′ = (codesOf (made (op % E.EVENTS) t w) ≡ cs) × (after (op % E.EVENTS) t w ≡ w′)
 
   abbrev Does : (op t : ℕ) → Writing → List Code → Writing → Type 0
-  Does op t w cs w′ = (unmarked (op % 64) ≡ true) × Makes op t w cs w′
+  Does op t w cs w′ = (unmarked (op % E.EVENTS) ≡ true) × Makes op t w cs w′
 
   -- with the shape n of its token's operand
   abbrev at : (n t : ℕ) → Use

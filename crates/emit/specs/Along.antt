@@ -29,8 +29,8 @@ codesOf m = codesIn (m .first) ++ codesIn (m .second)
 unfoldable pub along : (kinds values found goes means bases opens offsets marks : List ℕ) → Writing → List ℕ → List Code
 along kinds values found goes means bases opens offsets marks w [] = []
 along kinds values found goes means bases opens offsets marks w (e ∷ es) =
-    codesOf (madeBy kinds values found goes means bases opens offsets marks (e % 64) (e / 64) w)
-    ++ along kinds values found goes means bases opens offsets marks (writingAfter values found means bases offsets (e % 64) (e / 64) w) es
+    codesOf (madeBy kinds values found goes means bases opens offsets marks (e % E.EVENTS) (e / E.EVENTS) w)
+    ++ along kinds values found goes means bases opens offsets marks (writingAfter values found means bases offsets (e % E.EVENTS) (e / E.EVENTS) w) es
 
 -- ── the definition's instructions, with the places of cells ──
 

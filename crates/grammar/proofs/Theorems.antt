@@ -2,7 +2,7 @@
 -- is proved by citation.
 use mathlib.Core.Path.{_≡_}
 use mathlib.Core.Logic.{_⊎_, _↔_}
-use mathlib.Core.List.{List}
+use mathlib.Core.List.{List, []}
 use Prim.Native.Nat.{ℕ, _≤_, max}
 use native.Mathlib.Omega.{arith}
 use lib.ListN.{length}
@@ -12,11 +12,10 @@ use Rattle.grammar.specs.Reader.{ok, bad}
 use Rattle.grammar.specs.Grammar.{nesting, program}
 use Rattle.grammar.specs.Derives.{isProgram, nestingOf, isProgramWithin}
 use Rattle.grammar.specs.Refusals.{FourAt, FiveAt}
-use Rattle.grammar.specs.Rising.{statementRises}
-use Rattle.grammar.specs.Pinned.{statementPinned}
+use Rattle.grammar.specs.Events.{eventsOf}
+use Rattle.grammar.specs.Texts.{Text}
 use Rattle.grammar.proofs.Tests.{real}
-use Rattle.grammar.proofs.Rising.{rising-statement, rises-statement}
-use Rattle.grammar.proofs.Pinned.{pinned-statement}
+use Rattle.grammar.proofs.Texts.{program-text}
 use Rattle.grammar.proofs.Sequences.{read-right, refused-right, four-or-five}
 use Rattle.grammar.proofs.Rules.{right-program}
 use Rattle.grammar.proofs.Complete.{complete-program}
@@ -56,16 +55,11 @@ module _ (kinds : List ℕ) (i : ℕ) where
   pub program-is-read : (x : Statement) (j : ℕ) → isProgram kinds x i j → nestingOf x ≤ nesting → program kinds i ≡ ok x j
   program-is-read x j h n = accepted x j .1 (n, h)
 
-  -- its tokens rise along the tree, from i on and before j, and all are of the text
-  pub program-rises : (x : Statement) (j : ℕ) → isProgram kinds x i j → statementRises x i j
-  unfolding isProgram
-  program-rises x j (m, (e, h), (a, q)) = rising-statement x .higher (omega arith) (rises-statement kinds x .so h)
+  -- its events stand in blocks and procedures as they nest, each at tokens of its own, one after the other
+  pub program-is-text : (x : Statement) (j : ℕ) → isProgram kinds x i j → Text kinds (eventsOf x) [] i j
+  program-is-text x j h = program-text kinds x i j h
 
-  -- what stands at fixed distances in it does
-  pub program-pinned : (x : Statement) (j : ℕ) → isProgram kinds x i j → statementPinned x
-  unfolding isProgram
-  program-pinned x j (m, (e, h), r) = pinned-statement kinds x i m h
-
+  -- and all its tokens are of the text
   pub program-inside : (x : Statement) (j : ℕ) → isProgram kinds x i j → j ≤ length kinds
   unfolding isProgram
   program-inside x j (m, h, (a, q)) = (let l = real kinds m K.AT (omega arith) a in omega arith)

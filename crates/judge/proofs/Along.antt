@@ -11,6 +11,7 @@ use Rattle.base.specs.Choose.{choose, if_then_else_}
 use Rattle.base.specs.Lists.{All}
 use Rattle.base.proofs.Lists.{all-map}
 use Rattle.base.proofs.Tests.{by-test}
+use Rattle.tape.specs.Events as E
 use Rattle.tape.specs.Pass.{pass}
 use Rattle.tape.proofs.Pass.{pass-turn, pass-end}
 use Rattle.names.specs.declared.Broken.{Broken}
@@ -101,7 +102,7 @@ module _ (tape kinds values found means opens written : List ℕ) (others : Brok
 
   module _ {kept counts : List ℕ} {d : Depths} {c : Cells} {target : ℕ} {b : Broken} {i : ℕ} (g : Going kept counts d c target b i) where
     pub going-on :
-        {kept′ counts′ : List ℕ} {d′ : Depths} {c′ : Cells} {target′ : ℕ} {b′ r : Broken} (op t : ℕ) → i < length tape → op ≡ getD tape i 0 % 64 → t ≡ getD tape i 0 / 64
+        {kept′ counts′ : List ℕ} {d′ : Depths} {c′ : Cells} {target′ : ℕ} {b′ r : Broken} (op t : ℕ) → i < length tape → op ≡ getD tape i 0 % E.EVENTS → t ≡ getD tape i 0 / E.EVENTS
         → ((f : Tables) → Shown f kinds values found means opens written → r ≡ eventRule f (stackOf kept (d .kept)) c target op t)
         → b′ ≡ b ⊕ r
         → ((f : Tables) → Names f found means → Moved (heldAfter f op t (heldOf kept counts d)) kept′ counts′ d d′)

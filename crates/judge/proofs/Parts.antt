@@ -1,7 +1,7 @@
 -- Designators and operands are the parts that their shape and first token tell.
 use mathlib.Core.Path.{_≡_, refl, ap}
 use mathlib.Core.Option.{Option, none, some}
-use Prim.Native.Nat.{ℕ, _+_}
+use Prim.Native.Nat.{ℕ}
 use Rattle.grammar.specs.Tree.{Designator, Operand, number, place}
 use Rattle.grammar.specs.Pinned.{headOf, shapePinned, designatorPinned, operandPinned}
 use Rattle.tape.specs.Tape.{shapeBy, shape}

@@ -6,21 +6,20 @@ use mathlib.Core.Bool.{Bool, true, false, _&&_}
 use mathlib.Core.Option.{Option, none, some}
 use Prim.Native.Nat.{ℕ, zero, suc, _+_, _-_}
 use native.Mathlib.Omega.{arith}
-use lib.Dec.{eqb, leb}
 use lib.ListN.{length, drop}
-use borrow.Author.Tests.{ne-eqb, eq-eqb}
-use Rattle.base.specs.Choose.{choose, if_then_else_}
-use Rattle.grammar.specs.Tree.{Designator, Operand, number, place, Sign, plain, abs, neg, negAbs, Term, Condition, compared, bare, Item, Statement, Width, full, short}
+use borrow.Author.Tests.{ne-eqb}
+use Rattle.grammar.specs.Tree.{Designator, Operand, number, Sign, abs, neg, negAbs, Term, Condition, compared, bare, Item, Statement, Width, full, short}
 use Rattle.grammar.specs.Pinned.{headOf}
 use Rattle.grammar.proofs.Pinned.{pinned-designator, pinned-operand}
 use Rattle.grammar.specs.Derives.{isDesignator, isOperand, isCondition, isRegister, isProgram}
 use Rattle.grammar.specs.Events.{Edge, opened, closed, entered, left, Route, labelled, sent, Entry, named, celled, itemed, valued, based, Phrase, aimed, driven, signed, given, joined, tested, limited, called, Mark, looped, otherwise, endedIf, endedElse, endedWhile, endedFor, Event, edge, route, entry, phrase, mark, eventsOf}
-use Rattle.grammar.specs.Places.{Block, within, body, Place, after, along}
+use Rattle.grammar.specs.Places.{Block, within, body, Place, after}
 use Rattle.grammar.specs.Contexts.{Context, nowhere, aiming, declaring, contextAfter, Complete, Aims, Shown, entrySuits, phraseSuits, Suits}
 use Rattle.grammar.proofs.Contexts.{program-coherent}
 use Rattle.grammar.specs.Texts.{InBlock, EdgeFits, RouteFits, isEvent, Stands}
 use Rattle.grammar.proofs.Texts.{program-text, text-stands}
 use Rattle.tape.specs.Events as E
+use Rattle.tape.specs.Numbers.{layerAt, formAt}
 use Rattle.tape.specs.Tape.{tapeStatement, shape}
 use Rattle.tape.specs.Pass.{pass}
 use Rattle.tape.specs.Written.{operandShape, signCode, conditionCode, opOf, tokenOf}
@@ -33,12 +32,11 @@ use Rattle.kinds.specs.Meaning.{Meaning, nothing, register, cell, routine, regi
 use Rattle.kinds.specs.Meanings.{countOf}
 use Rattle.kinds.specs.Tables.{Tables, valueAt, meaningAt}
 use Rattle.kinds.specs.Rules as R
-use Rattle.kinds.specs.Rules.{bareName, protected}
+use Rattle.kinds.specs.Rules.{bareName}
 use Rattle.kinds.specs.Kinds.{keptIn, rulesAt, ruleEvent, rulesOf}
 use Rattle.kinds.proofs.Elements.{range-is, from-zero}
 use Rattle.kinds.proofs.Unbroken.{rules-onto}
-use Rattle.rules.specs.Parts.{designatorAt, operandAt, termAt}
-use Rattle.judge.specs.declared.Cells.{Cells}
+use Rattle.rules.specs.Parts.{designatorAt, operandAt}
 use Rattle.judge.specs.Along.{Held, heldAfter, cellsOf, cellsAfter, widthOf, valueRule, aimOf, targetAfter, aimBy, controlBy, signRule, firstRules, chainRule, declarationRule, assignmentRule, statementRule, eventRule, Judging, judgeEvent, beginning}
 use Rattle.judge.proofs.Parts.{designator-at, operand-at}
 
@@ -128,7 +126,7 @@ module _ (f : Tables) where
 
     turn-edge : (x : Edge) (p : Place) (s : Bool) (n room g : ℕ) (y : Broken) → EdgeFits x p → (i j : ℕ) → isEvent kinds (edge x) i j
         → step (opOf (edge x)) (tokenOf (edge x)) (at p s n room g y) ≡ at (after (edge x) p) s n room g (y ⊕ rulesAt f (edge x) p)
-    unfolding judgeEvent heldAfter cellsAfter targetAfter eventRule declarationRule
+    unfolding judgeEvent heldAfter cellsAfter targetAfter eventRule declarationRule layerAt formAt
     turn-edge (opened t ls) p s n room g y u i j h = refl
     turn-edge (closed t) (within b ∷ p) s n room g y u i j h = rw (bases-dropped (λ (m : ℕ). registerOf (meaningAt f m)) (b .bases) (keptIn f p))
     turn-edge (entered m r) (within b ∷ p) s n room g y u i j h = let e : r ≡ m + 2 = omega (arith, h .1 .0, h .1 .2 .1 .0) in rw e
@@ -136,12 +134,12 @@ module _ (f : Tables) where
 
     turn-route : (x : Route) (p : Place) (s : Bool) (n room g : ℕ) (y : Broken) → RouteFits x p
         → step (opOf (route x)) (tokenOf (route x)) (at p s n room g y) ≡ at (after (route x) p) s n room g (y ⊕ rulesAt f (route x) p)
-    unfolding judgeEvent heldAfter cellsAfter targetAfter eventRule declarationRule statementRule
+    unfolding judgeEvent heldAfter cellsAfter targetAfter eventRule declarationRule statementRule assignmentRule layerAt formAt
     turn-route (labelled l) (within b ∷ p) s n room g y u = refl
     turn-route (sent t m) p s n room g y u = refl
 
     turn-mark : (x : Mark) (p : Place) (s : Bool) (n room g : ℕ) (y : Broken) → step (opOf (mark x)) (tokenOf (mark x)) (at p s n room g y) ≡ at p s n room g (y ⊕ unbroken)
-    unfolding judgeEvent heldAfter cellsAfter targetAfter eventRule statementRule
+    unfolding judgeEvent heldAfter cellsAfter targetAfter eventRule declarationRule layerAt formAt
     turn-mark (looped t) p s n room g y = refl
     turn-mark (otherwise t) p s n room g y = refl
     turn-mark (endedIf t) p s n room g y = refl
@@ -154,7 +152,7 @@ module _ (f : Tables) where
     -- a cell, whose values are still to come
     turn-item : (m : Option ℕ) (w : Width) (y : Item) (c : Context) (k : Block) (p : Place) (b : Broken) (s : Bool) (n room g : ℕ) (x : Broken) → entrySuits (itemed m w y) c → Opens c s n g → b ≡ x ⊕ pending c room
         → At (after (entry (itemed m w y)) (within k ∷ p)) (declaring m w (y .numbers)) (ruleEvent f (entry (itemed m w y)) (within k ∷ p) b) (step E.ITEM (y .name) (at (within k ∷ p) s n room g x))
-    unfolding judgeEvent heldAfter cellsAfter targetAfter eventRule declarationRule ruleEvent
+    unfolding judgeEvent heldAfter cellsAfter targetAfter eventRule declarationRule ruleEvent layerAt formAt
     turn-item m w y (declaring m′ w′ ts) k p b s n room g x q o e =
         let u = complete (declaring m′ w′ ts) room b x (q .2) e in
         let v = o .1 ∙ ap (countOf (f .values)) (q .0) in
@@ -180,7 +178,7 @@ module _ (f : Tables) where
 
     turn-value : (t : ℕ) (c : Context) (k : Block) (p : Place) (b : Broken) (s : Bool) (n room g : ℕ) (x : Broken) → entrySuits (valued t) c → Opens c s n g → b ≡ x ⊕ pending c room
         → At (after (entry (valued t)) (within k ∷ p)) (contextAfter (entry (valued t)) c) (ruleEvent f (entry (valued t)) (within k ∷ p) b) (step E.VALUE t (at (within k ∷ p) s n room g x))
-    unfolding judgeEvent heldAfter cellsAfter targetAfter eventRule declarationRule ruleEvent
+    unfolding judgeEvent heldAfter cellsAfter targetAfter eventRule declarationRule ruleEvent layerAt formAt
     turn-value t (declaring m w (v ∷ ts)) k p b s n room g x q o e = record {
       short = s;
       elements = n;
@@ -194,7 +192,7 @@ module _ (f : Tables) where
 
     turn-entry : (d : Entry) (p : Place) (c : Context) (b : Broken) (s : Bool) (n room g : ℕ) (x : Broken) → InBlock p → (i j : ℕ) → isEvent kinds (entry d) i j → entrySuits d c → Opens c s n g
         → b ≡ x ⊕ pending c room → At (after (entry d) p) (contextAfter (entry d) c) (ruleEvent f (entry d) p b) (step (opOf (entry d)) (tokenOf (entry d)) (at p s n room g x))
-    unfolding judgeEvent heldAfter cellsAfter targetAfter eventRule declarationRule isRegister R.valueRules
+    unfolding judgeEvent heldAfter cellsAfter targetAfter eventRule declarationRule isRegister R.valueRules layerAt formAt
     turn-entry (named r) (within k ∷ p) c b s n room g x u i j h q o e =
         let l : r .number ≡ r .name + 2 = omega (arith, h .0, h .2 .1 .0) in
         judged (entry (named r)) (within k ∷ p) c b s n room g x s n room g (complete c room b x q e) tt join-right (rw (l, from-zero 15 (valueAt f (r .name + 2)) (omega arith)))
@@ -256,34 +254,34 @@ module _ (f : Tables) where
       judgedBy g y = at p s n room g (x ⊕ y)
 
       aimed-is : (d : Designator) (i j : ℕ) → isDesignator kinds d i j → step (E.TARGET + shape d) (d .name) here ≡ judgedBy (aimOf (meaningAt f (d .name))) (R.targetRules f (keptIn f p) d)
-      unfolding judgeEvent heldAfter cellsAfter targetAfter eventRule assignmentRule R.targetRules R.placeRules
+      unfolding judgeEvent heldAfter cellsAfter targetAfter eventRule statementRule assignmentRule layerAt formAt R.targetRules R.placeRules
       aimed-is d i j h =
           let m = meaningAt f (d .name) in
           by-shape (λ k. step (E.TARGET + k) (d .name) here ≡ judgedBy (aimOf m) (aimBy f (keptIn f p) (designatorAt k (d .name)) m)) refl refl refl refl (d .subscript) (d .index)
           ∙ ap (judgedBy (aimOf m)) (ap (λ (y : Designator). aimBy f (keptIn f p) y m) (designator-at d (pinned-designator kinds d i j h .1)) ∙ aim-same d (keptIn f p) m)
 
       driven-is : (d : Designator) (i j : ℕ) → isDesignator kinds d i j → step (E.CONTROL + shape d) (d .name) here ≡ judgedBy (aimOf (meaningAt f (d .name))) (R.controlRules f (keptIn f p) d)
-      unfolding judgeEvent heldAfter cellsAfter targetAfter eventRule assignmentRule R.controlRules R.onlyRegister
+      unfolding judgeEvent heldAfter cellsAfter targetAfter eventRule statementRule assignmentRule layerAt formAt R.controlRules R.onlyRegister
       driven-is d i j h =
           let m = meaningAt f (d .name) in
           by-shape (λ k. step (E.CONTROL + k) (d .name) here ≡ judgedBy (aimOf m) (controlBy (keptIn f p) (designatorAt k (d .name)) m)) refl refl refl refl (d .subscript) (d .index)
           ∙ ap (judgedBy (aimOf m)) (ap (λ (y : Designator). controlBy (keptIn f p) y m) (designator-at d (pinned-designator kinds d i j h .1)) ∙ control-same d (keptIn f p) m)
 
       signed-is : (m : Meaning) (y : Sign) → Shown y → g ≡ aimOf m → step (signCode y .family + signCode y .form) (signCode y .token) here ≡ judgedBy g (R.signBy m y)
-      unfolding judgeEvent heldAfter cellsAfter targetAfter eventRule assignmentRule
+      unfolding judgeEvent heldAfter cellsAfter targetAfter eventRule statementRule assignmentRule layerAt formAt
       signed-is m (abs t) q e = ap (judgedBy g) (ap (λ (z : ℕ). signRule z t) e ∙ sign-same m t (abs t) refl)
       signed-is m (neg t) q e = ap (judgedBy g) (ap (λ (z : ℕ). signRule z t) e ∙ sign-same m t (neg t) refl)
       signed-is m (negAbs t) q e = ap (judgedBy g) (ap (λ (z : ℕ). signRule z t) e ∙ sign-same m t (negAbs t) refl)
 
       given-is : (m : Meaning) (a : Operand) (i j : ℕ) → isOperand kinds a i j → g ≡ aimOf m → step (E.FIRST + operandShape a) (headOf a) here ≡ judgedBy g (R.firstBy f m a)
-      unfolding judgeEvent heldAfter cellsAfter targetAfter eventRule assignmentRule
+      unfolding judgeEvent heldAfter cellsAfter targetAfter eventRule statementRule assignmentRule layerAt formAt
       given-is m a i j h e =
           by-operand (λ k. step (E.FIRST + k) (headOf a) here ≡ judgedBy g (firstRules f g (operandAt k (headOf a)))) refl refl refl refl refl a
           ∙ ap (judgedBy g) (ap₂ (λ (z : ℕ) (y : Operand). firstRules f z y) e (operand-at a (pinned-operand kinds a i j h .1)) ∙ first-same m a)
 
       joined-is : (m : Meaning) (t : Term) (i j : ℕ) → t .operator ≡ i → isOperand kinds (t .operand) (i + 1) j → g ≡ aimOf m
           → step (E.TERM + operandShape (t .operand)) (headOf (t .operand)) here ≡ judgedBy g (R.termBy f m (keptIn f p) t)
-      unfolding judgeEvent heldAfter cellsAfter targetAfter eventRule assignmentRule
+      unfolding judgeEvent heldAfter cellsAfter targetAfter eventRule statementRule assignmentRule layerAt formAt
       joined-is m t i j o h e =
           let a = t .operand in
           let q = pinned-operand kinds a (i + 1) j h in
@@ -292,13 +290,13 @@ module _ (f : Tables) where
           (ap (λ (z : ℕ). chainRule f (keptIn f p) z (operandShape a) (headOf a)) e ∙ chain-same m (keptIn f p) (operandShape a) (headOf a) t (omega (arith, q .0)) (operand-at a (q .1)))
 
       operand-is : (a : Operand) (i j : ℕ) → isOperand kinds a i j → step (E.LIMIT + operandShape a) (headOf a) here ≡ judgedBy g (R.operandRules f a)
-      unfolding judgeEvent heldAfter cellsAfter targetAfter eventRule statementRule
+      unfolding judgeEvent heldAfter cellsAfter targetAfter eventRule statementRule assignmentRule layerAt formAt
       operand-is a i j h =
           by-operand (λ k. step (E.LIMIT + k) (headOf a) here ≡ judgedBy g (R.operandRules f (operandAt k (headOf a)))) refl refl refl refl refl a
           ∙ ap (λ (y : Operand). judgedBy g (R.operandRules f y)) (operand-at a (pinned-operand kinds a i j h .1))
 
       tested-is : (c : Condition) (i j : ℕ) → isCondition kinds c i j → step (conditionCode c .family + conditionCode c .form) (conditionCode c .token) here ≡ judgedBy g (R.conditionRules f c)
-      unfolding judgeEvent heldAfter cellsAfter targetAfter eventRule statementRule isCondition R.conditionRules
+      unfolding judgeEvent heldAfter cellsAfter targetAfter eventRule statementRule assignmentRule layerAt formAt isCondition R.conditionRules
       tested-is (compared m r a) i j h =
           let q = pinned-operand kinds a _ _ (h .2 .2) in
           let e : headOf a - 2 ≡ m = omega (arith, h .0, q .0) in
@@ -307,7 +305,7 @@ module _ (f : Tables) where
       tested-is (bare r) i j h = refl
 
     call-step : (p : Place) (s : Bool) (n room g : ℕ) (x : Broken) (t : ℕ) → step E.CALL t (at p s n room g x) ≡ at p s n room g (x ⊕ R.callRules f (keptIn f p) t)
-    unfolding judgeEvent heldAfter cellsAfter targetAfter eventRule statementRule
+    unfolding judgeEvent heldAfter cellsAfter targetAfter eventRule statementRule assignmentRule layerAt formAt
     call-step p s n room g x t = refl
 
     turn-signed : (d : Designator) (y : Sign) (p : Place) (c : Context) (b : Broken) (s : Bool) (n room g : ℕ) (x : Broken) → Aims d c → Shown y → Opens c s n g → b ≡ x ⊕ pending c room

@@ -3,16 +3,17 @@ use mathlib.Core.Path.{_≡_}
 use mathlib.Core.List.{List, [], _∷_}
 use mathlib.Core.Bool.{Bool, true, false, _&&_, _||_}
 use Prim.Native.Nat.{ℕ, zero, suc, _+_, _-_, _≤_}
-use lib.Dec.{eqb, leb, ltb}
+use lib.Dec.{eqb, leb}
 use lib.ListN.{getD, drop}
 use Rattle.base.specs.Choose.{if_then_else_}
 use Rattle.tape.specs.Events as E
+use Rattle.tape.specs.Numbers.{PHRASE, layerAt, formAt, familyAt}
 use Rattle.grammar.specs.Tree.{Designator, Operand, Width, full, short}
 use Rattle.names.specs.declared.Broken.{Broken}
 use Rattle.names.specs.Broken.{unbroken, rule, broken, _⊕_}
 use Rattle.kinds.specs.Meaning.{Meaning, nothing, register, cell, routine, registerOf}
 use Rattle.kinds.specs.Tables.{Tables, valueAt, meaningAt}
-use Rattle.kinds.specs.Rules.{protected, bareName, fitsWidth, writeRule, registerRule, zeroRule, placeBy, operandRules, onlyRegister, termRules, callRules, baseRules}
+use Rattle.kinds.specs.Rules.{protected, bareName, mostElements, fitsWidth, writeRule, registerRule, zeroRule, placeBy, operandRules, onlyRegister, termRules, callRules, baseRules}
 use Rattle.tables.specs.Stacks.{stackOf, top, under}
 use Rattle.rules.specs.Parts.{designatorAt, operandAt, termAt}
 use Rattle.judge.specs.declared.Cells.{Cells}
@@ -60,9 +61,8 @@ cellsOf s n room = record { short = s; elements = n; room = room }
 
 unfoldable pub cellsAfter : Tables → (op t : ℕ) → Cells → Cells
 cellsAfter f op t c =
-    if ltb op E.SINGLE-FULL then c else
-    if ltb op E.ARRAY-FULL then cellsOf (eqb op E.SINGLE-SHORT) 1 (c .room) else
-    if ltb op E.ITEM then cellsOf (eqb op E.ARRAY-SHORT) (valueAt f t) (c .room) else
+    if eqb (familyAt op) E.SINGLE-FULL then cellsOf (eqb (formAt op) 1) 1 (c .room) else
+    if eqb (familyAt op) E.ARRAY-FULL then cellsOf (eqb (formAt op) 1) (valueAt f t) (c .room) else
     if eqb op E.ITEM then cellsOf (c .short) (c .elements) (c .elements) else
     if eqb op E.VALUE then cellsOf (c .short) (c .elements) (c .room - 1) else
     c
@@ -85,10 +85,7 @@ aimOf (cell c) = 1
 aimOf (routine r) = 0
 
 unfoldable pub targetAfter : Tables → (op t target : ℕ) → ℕ
-targetAfter f op t target =
-    if ltb op E.TARGET then target else
-    if ltb op E.ABS then aimOf (meaningAt f t) else
-    target
+targetAfter f op t target = if eqb (familyAt op) E.TARGET || eqb (familyAt op) E.CONTROL then aimOf (meaningAt f t) else target
 
 abbrev pub registerTarget : List ℕ → Designator → ℕ → Broken
 registerTarget kept d r = rule (bareName d) 8 (d .name) ⊕ writeRule kept r (d .name)
@@ -127,7 +124,7 @@ chainRule f kept (suc (suc r)) shape t = termRules f kept r (termAt shape t)
 unfoldable pub declarationRule : Tables → List ℕ → Cells → (op t : ℕ) → Broken
 declarationRule f kept c op t =
     if eqb op E.REGISTER then rule (leb (valueAt f (t + 2)) 15) 9 (t + 2) else
-    if leb E.ARRAY-FULL op && leb op E.ARRAY-SHORT then rule (leb 1 (valueAt f t) && leb (valueAt f t) 2048) 11 t else
+    if eqb (familyAt op) E.ARRAY-FULL then rule (leb 1 (valueAt f t) && leb (valueAt f t) mostElements) 11 t else
     if eqb op E.VALUE then valueRule c (valueAt f t) t else
     if eqb op E.BASE then baseRules f kept t else
     if eqb op E.PROCEDURE then registerRule f (t + 2) ⊕ zeroRule f (t + 2) else
@@ -135,24 +132,24 @@ declarationRule f kept c op t =
 
 unfoldable pub assignmentRule : Tables → List ℕ → (target op t : ℕ) → Broken
 assignmentRule f kept target op t =
-    if ltb op E.CONTROL then aimBy f kept (designatorAt (op - E.TARGET) t) (meaningAt f t) else
-    if ltb op E.ABS then controlBy kept (designatorAt (op - E.CONTROL) t) (meaningAt f t) else
-    if ltb op E.FIRST then signRule target t else
-    if ltb op E.TERM then firstRules f target (operandAt (op - E.FIRST) t) else
-    chainRule f kept target (op - E.TERM) t
-
-unfoldable pub statementRule : Tables → List ℕ → (op t : ℕ) → Broken
-statementRule f kept op t =
-    if ltb op E.LIMIT then registerRule f (t - 2) ⊕ operandRules f (operandAt (op - E.COMPARED) t) else
-    if ltb op E.BARE then operandRules f (operandAt (op - E.LIMIT) t) else
-    if eqb op E.CALL then callRules f kept t else
+    if eqb (familyAt op) E.TARGET then aimBy f kept (designatorAt (formAt op) t) (meaningAt f t) else
+    if eqb (familyAt op) E.CONTROL then controlBy kept (designatorAt (formAt op) t) (meaningAt f t) else
+    if eqb (familyAt op) E.FIRST then firstRules f target (operandAt (formAt op) t) else
+    if eqb (familyAt op) E.TERM then chainRule f kept target (formAt op) t else
+    if eqb op E.ABS || (eqb op E.NEG || eqb op E.NEG-ABS) then signRule target t else
     unbroken
+
+unfoldable pub statementRule : Tables → List ℕ → (target op t : ℕ) → Broken
+statementRule f kept target op t =
+    if eqb (familyAt op) E.COMPARED then registerRule f (t - 2) ⊕ operandRules f (operandAt (formAt op) t) else
+    if eqb (familyAt op) E.LIMIT then operandRules f (operandAt (formAt op) t) else
+    if eqb op E.CALL then callRules f kept t else
+    assignmentRule f kept target op t
 
 unfoldable pub eventRule : Tables → List ℕ → Cells → (target op t : ℕ) → Broken
 eventRule f kept c target op t =
-    if ltb op E.TARGET then declarationRule f kept c op t else
-    if ltb op E.COMPARED then assignmentRule f kept target op t else
-    statementRule f kept op t
+    if eqb (layerAt op) PHRASE then statementRule f kept target op t else
+    declarationRule f kept c op t
 
 -- between two events: the protected registers; the cells; the target; the broken rules
 pub record Judging : Type 0 where

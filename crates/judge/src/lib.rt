@@ -37,6 +37,8 @@ use tables::meaning;
 use tables::number;
 use tables::register;
 use tables::top;
+use tape::family;
+use tape::layer;
 
 // What the cells that follow are, whether short and of how many elements, and for how many more values the last has room.
 pub struct Cells {
@@ -158,19 +160,18 @@ fn cells_after(op: u32, t: usize, values: &[u64], c: Cells) -> Cells
 {
     let room = c.room;
     let elements = c.elements;
-    if op < tape::SINGLE_FULL {
-        return c;
-    }
-    if op < tape::ARRAY_FULL {
+    let k = family(op);
+    let short = tape::form(op) == 1;
+    if k == tape::SINGLE_FULL {
         return Cells {
-            short: op == tape::SINGLE_SHORT,
+            short,
             elements: 1,
             room,
         };
     }
-    if op < tape::ITEM {
+    if k == tape::ARRAY_FULL {
         return Cells {
-            short: op == tape::ARRAY_SHORT,
+            short,
             elements: key(values, t),
             room,
         };
@@ -228,10 +229,8 @@ fn aim_of(m: u64) -> usize
 fn target_after(op: u32, t: usize, found: &[u32], means: &[u64], target: usize) -> usize
     ensures { λ r. ⌜ ((f : Tables) → Names f (now (found .entry)) (now (means .entry)) → r ≡ targetAfter f op t target) ⌝ }
 {
-    if op < tape::TARGET {
-        return target;
-    }
-    if op < tape::ABS {
+    let k = family(op);
+    if (k == tape::TARGET) | (k == tape::CONTROL) {
         return aim_of(meaning(found, means, t));
     }
     target
@@ -340,6 +339,9 @@ fn chain_rule(
 
 // ── an event ──
 
+// "array count not 1 to 2,048"
+const MOST_ELEMENTS: u64 = 2048;
+
 fn declaration_rule(
     op: u32,
     t: usize,
@@ -354,12 +356,13 @@ fn declaration_rule(
     requires { ⌜ t < 4294967296 ⌝ }
     ensures { λ x. ⌜ ((f : Tables) → Names f (now (found .entry)) (now (means .entry)) → Values f (now (values .entry)) → Opens f (now (opens .entry)) → x ≡ declarationRule f (stackOf (now (kept .entry)) depth) c op t) ⌝ }
 {
+    let k = family(op);
     if op == tape::REGISTER {
         return rule(key(values, t + 2) <= 15, 9, t + 2);
     }
-    if (tape::ARRAY_FULL <= op) & (op <= tape::ARRAY_SHORT) {
+    if k == tape::ARRAY_FULL {
         let v = key(values, t);
-        return rule((1 <= v) & (v <= 2048), 11, t);
+        return rule((1 <= v) & (v <= MOST_ELEMENTS), 11, t);
     }
     if op == tape::VALUE {
         return value_rule(c, key(values, t), t);
@@ -384,32 +387,27 @@ fn assignment_rule(
     depth: usize,
     target: usize,
 ) -> Broken
-    requires { ⌜ (t < 4294967296) × (13 ≤ op) ⌝ }
+    requires { ⌜ t < 4294967296 ⌝ }
     ensures { λ x. ⌜ ((f : Tables) → Names f (now (found .entry)) (now (means .entry)) → Values f (now (values .entry)) → Kinds f (now (kinds .entry)) → x ≡ assignmentRule f (stackOf (now (kept .entry)) depth) target op t) ⌝ }
 {
-    if op < tape::CONTROL {
-        return aim_rules(op - tape::TARGET, values, found, means, kept, depth, t);
+    let k = family(op);
+    let shape = tape::form(op);
+    if k == tape::TARGET {
+        return aim_rules(shape, values, found, means, kept, depth, t);
     }
-    if op < tape::ABS {
-        return control_rules(op - tape::CONTROL, found, means, kept, depth, t);
+    if k == tape::CONTROL {
+        return control_rules(shape, found, means, kept, depth, t);
     }
-    if op < tape::FIRST {
+    if k == tape::FIRST {
+        return first_rules(target, shape, values, found, means, t);
+    }
+    if k == tape::TERM {
+        return chain_rule(target, shape, kinds, values, found, means, kept, depth, t);
+    }
+    if (op == tape::ABS) | ((op == tape::NEG) | (op == tape::NEG_ABS)) {
         return sign_rule(target, t);
     }
-    if op < tape::TERM {
-        return first_rules(target, op - tape::FIRST, values, found, means, t);
-    }
-    chain_rule(
-        target,
-        op - tape::TERM,
-        kinds,
-        values,
-        found,
-        means,
-        kept,
-        depth,
-        t,
-    )
+    none()
 }
 
 // The register of a condition stands two tokens before its operand.
@@ -425,26 +423,29 @@ fn compared_rules(shape: u32, values: &[u64], found: &[u32], means: &[u64], t: u
 fn statement_rule(
     op: u32,
     t: usize,
+    kinds: &[u8],
     values: &[u64],
     found: &[u32],
     means: &[u64],
     written: &[u32],
     kept: &[u64],
     depth: usize,
+    target: usize,
 ) -> Broken
-    requires { ⌜ (t < 4294967296) × (34 ≤ op) ⌝ }
-    ensures { λ x. ⌜ ((f : Tables) → Names f (now (found .entry)) (now (means .entry)) → Values f (now (values .entry)) → Written f (now (written .entry)) → x ≡ statementRule f (stackOf (now (kept .entry)) depth) op t) ⌝ }
+    requires { ⌜ t < 4294967296 ⌝ }
+    ensures { λ x. ⌜ ((f : Tables) → Names f (now (found .entry)) (now (means .entry)) → Values f (now (values .entry)) → Kinds f (now (kinds .entry)) → Written f (now (written .entry)) → x ≡ statementRule f (stackOf (now (kept .entry)) depth) target op t) ⌝ }
 {
-    if op < tape::LIMIT {
-        return compared_rules(op - tape::COMPARED, values, found, means, t);
+    let k = family(op);
+    if k == tape::COMPARED {
+        return compared_rules(tape::form(op), values, found, means, t);
     }
-    if op < tape::BARE {
-        return operand_rules(op - tape::LIMIT, values, found, means, t);
+    if k == tape::LIMIT {
+        return operand_rules(tape::form(op), values, found, means, t);
     }
     if op == tape::CALL {
         return call_rules(found, means, written, kept, depth, t);
     }
-    none()
+    assignment_rule(op, t, kinds, values, found, means, kept, depth, target)
 }
 
 fn event_rule(
@@ -464,13 +465,21 @@ fn event_rule(
     requires { ⌜ t < 4294967296 ⌝ }
     ensures { λ x. ⌜ ((f : Tables) → Shown f (now (kinds .entry)) (now (values .entry)) (now (found .entry)) (now (means .entry)) (now (opens .entry)) (now (written .entry)) → x ≡ eventRule f (stackOf (now (kept .entry)) depth) c target op t) ⌝ }
 {
-    if op < tape::TARGET {
-        return declaration_rule(op, t, values, found, means, opens, kept, depth, c);
+    if layer(op) == tape::PHRASE {
+        return statement_rule(
+            op,
+            t,
+            kinds,
+            values,
+            found,
+            means,
+            written,
+            kept,
+            depth,
+            target,
+        );
     }
-    if op < tape::COMPARED {
-        return assignment_rule(op, t, kinds, values, found, means, kept, depth, target);
-    }
-    statement_rule(op, t, values, found, means, written, kept, depth)
+    declaration_rule(op, t, values, found, means, opens, kept, depth, c)
 }
 
 // ── the tape ──

@@ -1,6 +1,6 @@
 -- Where no rule is broken there are at most two base declarations: each opens the segment that the table has for it, since tokens rise along the text. And there are
 -- never more than events.
-use mathlib.Core.Path.{_≡_, refl, _∙_}
+use mathlib.Core.Path.{_≡_, _∙_}
 use mathlib.Core.List.{List, [], _∷_}
 use Prim.Native.Nat.{ℕ, zero, suc, _+_, _<_, _≤_}
 use native.Mathlib.Omega.{arith}

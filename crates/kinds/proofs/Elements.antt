@@ -1,5 +1,5 @@
 -- Elements have 4 or 2 bytes; what holds of both sizes is shown once, over the width. Ranges of numbers that are read as signed, as plain comparisons.
-use mathlib.Core.Path.{_≡_, refl, sym, ap, _∙_}
+use mathlib.Core.Path.{_≡_, refl, sym, _∙_}
 use mathlib.Core.Logic.{_⊎_, inl, inr}
 use mathlib.Core.Bool.{Bool, true, false, _&&_, _||_, not}
 use Prim.Native.Nat.{ℕ, _+_, _*_, _%_, _<_, _≤_}

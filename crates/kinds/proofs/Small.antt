@@ -1,7 +1,7 @@
 -- Where no rule is broken, every register that a name means is one of 0 to 15, and so are the bases of cells and the return registers of procedures; a cell
 -- has at least one element.
-use mathlib.Core.Path.{_≡_, sym, subst}
-use mathlib.Core.List.{List, [], _∷_, _++_, map}
+use mathlib.Core.Path.{sym, subst}
+use mathlib.Core.List.{List, [], _∷_, map}
 use mathlib.Core.Option.{Option, none, some}
 use Prim.Native.Nat.{ℕ, _<_, _≤_}
 use native.Mathlib.Omega.{arith}
@@ -10,7 +10,7 @@ use Rattle.base.specs.Lists.{All}
 use Rattle.base.proofs.Lists.{all-set, all-getD, all-replicate, all-both}
 use Rattle.grammar.specs.Tree.{Statement}
 use Rattle.grammar.specs.Events.{Entry, named, celled, itemed, valued, based, Phrase, aimed, driven, signed, given, joined, tested, limited, called, Event, edge, route, entry, phrase, mark, eventsOf}
-use Rattle.grammar.specs.Places.{within, body, Place, along, Along}
+use Rattle.grammar.specs.Places.{within, body, Place, Along}
 use Rattle.grammar.specs.Contexts.{Context, nowhere, aiming, declaring, contextAfter, phraseContext, Suits}
 use Rattle.grammar.proofs.Contexts.{program-coherent, along-keeps-in}
 use Rattle.names.proofs.Joins.{rule-holds}

@@ -1,7 +1,6 @@
 -- Where no rule is broken in a text, none is at any of its events, each at its place; and the rules of a text are joined to whatever else is broken.
-use mathlib.Core.Path.{_≡_, refl, sym, ap, _∙_}
+use mathlib.Core.Path.{_≡_, sym, ap, _∙_}
 use mathlib.Core.List.{List, [], _∷_}
-use Prim.Native.Nat.{ℕ}
 use Rattle.grammar.specs.Tree.{Statement}
 use Rattle.grammar.specs.Events.{Event, eventsOf}
 use Rattle.grammar.specs.Places.{Place, after, along, Along}

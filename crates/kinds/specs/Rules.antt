@@ -4,7 +4,7 @@ use mathlib.Core.List.{List, [], _∷_}
 use mathlib.Core.Bool.{Bool, true, false, _&&_, _||_, not}
 use mathlib.Core.Option.{Option, none, some}
 use Prim.Native.Nat.{ℕ, zero, suc, _+_, _*_, _-_, _%_}
-use lib.Dec.{eqb, leb, ltb}
+use lib.Dec.{eqb, leb}
 use lib.ListN.{getD}
 use Rattle.base.specs.Choose.{if_then_else_}
 use Rattle.base.specs.Lists.{member}
@@ -12,8 +12,8 @@ use Rattle.token.specs.Kinds as K
 use Rattle.grammar.specs.Tree.{Designator, Operand, number, place, Sign, plain, abs, neg, negAbs, Term, Condition, compared, bare, Width, full, short}
 use Rattle.names.specs.declared.Broken.{Broken}
 use Rattle.names.specs.Broken.{unbroken, rule, broken, _⊕_}
-use Rattle.kinds.specs.Registers.{Registers, noRegisters, spares}
-use Rattle.kinds.specs.Meaning.{Meaning, nothing, register, cell, routine, Cell, elementSize, isFull, meaningOf, registerOf, longOperand}
+use Rattle.kinds.specs.Registers.{noRegisters, spares}
+use Rattle.kinds.specs.Meaning.{Meaning, nothing, register, cell, routine, Cell, elementSize, isFull, registerOf, longOperand}
 use Rattle.kinds.specs.Tables.{Tables, kindAt, valueAt, meaningAt}
 
 -- "Program base is register 15. Data base is 14 … Protected at a point: 15, 14, the bases of enclosing blocks declared so far, the return registers of

@@ -7,6 +7,7 @@ use native.Mathlib.Numerals.{add-one}
 use lib.Dec.{eqb, ltb}
 use lib.ListN.{getD, set, length, drop}
 use Rattle.base.proofs.Tests.{by-test}
+use Rattle.tape.specs.Events as E
 use Rattle.tape.specs.Pass.{pass}
 use Rattle.tape.proofs.Pass.{pass-turn, pass-end}
 use Rattle.names.specs.declared.Broken.{Broken}
@@ -65,7 +66,7 @@ linking tape links outer = record { is = refl; inside = omega arith; small = ome
 
 module _ {tape links₀ outer₀ links outer : List ℕ} {block i : ℕ} (g : Linked tape links₀ outer₀ links outer block i) where
   pub linking-on :
-      {links′ outer′ : List ℕ} {block′ : ℕ} (op t : ℕ) → i < length tape → op ≡ getD tape i 0 % 64 → t ≡ getD tape i 0 / 64
+      {links′ outer′ : List ℕ} {block′ : ℕ} (op t : ℕ) → i < length tape → op ≡ getD tape i 0 % E.EVENTS → t ≡ getD tape i 0 / E.EVENTS
       → block′ ≡ blockAfter op t outer block → links′ ≡ linksAfter op t block links → outer′ ≡ outerAfter op t block outer
       → block′ < 4294967296 → length links′ ≡ length links → length outer′ ≡ length outer → Linked tape links₀ outer₀ links′ outer′ block′ (i + 1)
   unfolding linkOp
@@ -100,7 +101,7 @@ binding tape keys links outer goes = record { is = refl; inside = omega arith; s
 
 module _ {tape keys links outer goes₀ goes : List ℕ} {block : ℕ} {n : Noted} {i : ℕ} (g : Binding tape keys links outer goes₀ goes block n i) where
   pub binding-on :
-      {goes′ : List ℕ} {block′ : ℕ} {n′ : Noted} (op t : ℕ) → i < length tape → op ≡ getD tape i 0 % 64 → t ≡ getD tape i 0 / 64
+      {goes′ : List ℕ} {block′ : ℕ} {n′ : Noted} (op t : ℕ) → i < length tape → op ≡ getD tape i 0 % E.EVENTS → t ≡ getD tape i 0 / E.EVENTS
       → labelledIn goes′ n′ ≡ labelAt keys links outer op t block (labelledIn goes n) → block′ ≡ blockAfter op t outer block
       → block′ < 4294967296 → length goes′ ≡ length goes → Binding tape keys links outer goes₀ goes′ block′ n′ (i + 1)
   unfolding labelOp

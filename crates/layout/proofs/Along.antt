@@ -106,7 +106,7 @@ module _ (tape means bases ends₀ offsets₀ : List ℕ) where
 
   pub going-on :
       {ends offsets ends′ offsets′ : List ℕ} {b b′ : Broken} {i op t : ℕ} → Going tape means bases ends₀ offsets₀ ends offsets b i → i < length tape
-      → op ≡ getD tape i 0 % 64 → t ≡ getD tape i 0 / 64 → layingOf ends′ offsets′ b′ ≡ layoutEvent means bases op t (layingOf ends offsets b)
+      → op ≡ getD tape i 0 % E.EVENTS → t ≡ getD tape i 0 / E.EVENTS → layingOf ends′ offsets′ b′ ≡ layoutEvent means bases op t (layingOf ends offsets b)
       → length ends′ ≡ length ends → length offsets′ ≡ length offsets → Going tape means bases ends₀ offsets₀ ends′ offsets′ b′ (i + 1)
   going-on {ends} {offsets} {ends′} {offsets′} {b} {b′} {i} {op} {t} g h eo et e l m = record {
     inside = omega arith;

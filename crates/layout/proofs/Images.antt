@@ -16,7 +16,6 @@ use Rattle.base.proofs.Numbers.{length-bytesOf}
 use Rattle.base.proofs.Parts.{sets-append}
 use Rattle.grammar.specs.Tree.{Item, Statement, Width}
 use Rattle.grammar.specs.Derives.{isProgram}
-use Rattle.tape.specs.Events as E
 use Rattle.tape.specs.Tape.{tapeStatement}
 use Rattle.tape.specs.Pass.{pass}
 use Rattle.kinds.specs.Meaning.{elementSize}

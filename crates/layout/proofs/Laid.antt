@@ -15,7 +15,6 @@ use Rattle.names.specs.declared.Broken.{Broken}
 use Rattle.names.specs.Broken.{unbroken, rule, _⊕_}
 use Rattle.grammar.specs.Tree.{Item, Statement}
 use Rattle.grammar.specs.Derives.{isProgram}
-use Rattle.tape.specs.Events as E
 use Rattle.tape.specs.Tape.{tapeStatement}
 use Rattle.tape.specs.Pass.{pass}
 use Rattle.kinds.specs.Meaning.{Meaning, nothing, cell, Cell, Based, elementSize}

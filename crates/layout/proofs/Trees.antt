@@ -1,17 +1,17 @@
 -- A pass that heeds only cells and their values goes, on the tape of a program, through the cells that the definition lists: `cells-made`. Assumes nothing.
 use mathlib.Core.Path.{_≡_, refl, sym, ap, subst, _∙_}
 use mathlib.Core.List.{List, [], _∷_, map}
-use mathlib.Core.Bool.{Bool, true, false}
-use mathlib.Core.Option.{Option, none, some}
+use mathlib.Core.Bool.{false}
+use mathlib.Core.Option.{none, some}
 use Prim.Native.Nat.{ℕ}
 use lib.Dec.{eqb}
 use lib.ListN.{getD}
 use Rattle.base.specs.Lists.{All}
 use Rattle.base.proofs.Tests.{never-true}
-use Rattle.grammar.specs.Tree.{Designator, Item, Width, Statement}
+use Rattle.grammar.specs.Tree.{Designator, Item, Statement}
 use Rattle.grammar.specs.Derives.{isProgram}
 use Rattle.grammar.specs.Events.{Entry, named, celled, itemed, valued, based, Phrase, aimed, driven, signed, given, joined, tested, limited, called, Event, edge, route, entry, phrase, mark, eventsOf}
-use Rattle.grammar.specs.Places.{Place, after, along}
+use Rattle.grammar.specs.Places.{Place, after}
 use Rattle.grammar.specs.Contexts.{Context, nowhere, aiming, declaring, contextAfter, Complete, Aims, phraseContext, phraseSuits, entrySuits, Suits}
 use Rattle.grammar.proofs.Contexts.{program-coherent}
 use Rattle.grammar.specs.Texts.{Stands}
@@ -24,7 +24,7 @@ use Rattle.tape.specs.Written.{layerOf, opOf, tokenOf, tapeOf}
 use Rattle.tape.proofs.Numbers.{other-layer, other-family}
 use Rattle.tape.proofs.Written.{tree-tape, follows-in}
 use Rattle.kinds.specs.Meanings.{Filled, Meant, write, openBase, addCell, cellOf, baseIn, meanEvent, meanProgram}
-use Rattle.kinds.proofs.Heeds.{Alike, Heeds, enters, names, adds, opens, other, heeds}
+use Rattle.kinds.proofs.Heeds.{Heeds, enters, names, adds, opens, other, heeds}
 
 -- an event that is neither
 abbrev pub Apart : ℕ → Type 0

@@ -16,13 +16,13 @@ use Rattle.token.specs.Kinds as K
 use Rattle.token.specs.declared.Token.{Token}
 use Rattle.grammar.specs.Tree.{Statement}
 use Rattle.grammar.specs.Derives.{isProgram}
-use Rattle.grammar.specs.Rising.{statementRises}
-use Rattle.grammar.proofs.Theorems.{program-rises, program-inside}
+use Rattle.grammar.specs.Events.{eventsOf}
+use Rattle.grammar.specs.Places.{Along}
+use Rattle.grammar.proofs.Theorems.{program-inside}
 use Rattle.tape.specs.Tape.{tapeStatement}
-use Rattle.names.specs.Search.{firstToken, around}
+use Rattle.names.specs.Search.{firstToken}
 use Rattle.names.specs.Names.{Named}
-use Rattle.names.specs.Labels.{Labelled}
-use Rattle.names.proofs.Bound.{BoundStatement, bound-program}
+use Rattle.names.proofs.Bound.{Goes, goes-along}
 use Rattle.kinds.specs.Meanings.{Filled, Meant, standard}
 use Rattle.kinds.specs.Tables.{Tables}
 use Rattle.kinds.proofs.Known.{Known}
@@ -39,7 +39,7 @@ use Rattle.translator.specs.Image.{fill, words, segments}
 use Rattle.translator.specs.Translate.{Answer, accepted, refused, kindsOf, valuesOf, named, labelled, meant, Made, tablesOf, make, finish, inRoom}
 use Rattle.translator.proofs.Sizes.{length-encodeAll}
 use Rattle.translator.proofs.Rooms.{ends-fit, offsets-fit}
-use Rattle.translator.proofs.Tables.{length-map}
+use Rattle.translator.proofs.Tables.{length-map, names-found, labels-led}
 use Rattle.translator.proofs.Images.{Fitting}
 use Rattle.translator.proofs.Objects as O
 use Rattle.layout.specs.Along.{Imaging, imagingOf, nowhere, imageEvent}
@@ -106,9 +106,6 @@ module _
 
     -- ── the images ──
 
-    rises : statementRises x firstToken to
-    rises = program-rises (kindsOf ts) firstToken x to program
-
     inside : to ≤ length ts
     inside = let h = program-inside (kindsOf ts) firstToken x to program in let e = length-map (λ (t : Token). t .kind) ts in omega arith
 
@@ -131,11 +128,8 @@ module _
     abbrev marks : List ℕ
     marks = replicate (length ts) 0
 
-    bound : BoundStatement (named ts x .found) (labelled ts x .goes) x around []
-    unfolding named labelled
-    bound =
-        bound-program (valuesOf ts) x firstToken to rises _ _ (let e = length-replicate {A = ℕ} (length ts) 0 in let h = inside in omega arith)
-        (let e = length-replicate {A = ℕ} (length ts) 0 in let h = inside in omega arith) around []
+    bound : Along (Goes (named ts x .found) (labelled ts x .goes)) (eventsOf x) []
+    bound = goes-along (valuesOf ts) _ _ (eventsOf x) [] (names-found ts x to program inside) (labels-led ts x to program inside)
 
     coded : along (kindsOf ts) (valuesOf ts) (named ts x .found) (labelled ts x .goes) means under (m .opens) offsets
         (placesAlong (kindsOf ts) (valuesOf ts) (named ts x .found) (labelled ts x .goes) means under (m .opens) offsets marks tape .marks) noWriting tape

@@ -30,7 +30,7 @@ take-front (v ∷ vs) l = ap (λ (r : List ℕ). v ∷ r) (take-front vs l)
 -- what is laid from the start of an image, cut to its length
 pub program-cut : (bs : List ℕ) (n : ℕ) → length bs ≡ n → n ≤ segmentLimit → All (λ (b : ℕ). b < 256) bs → take n (sets zeros 0 (bytesIn bs)) ≡ bs
 program-cut bs n e h b =
-    let l : length zeros ≡ 4096 = length-replicate {A = ℕ} segmentLimit 0 in
+    let l : length zeros ≡ segmentLimit = length-replicate {A = ℕ} segmentLimit 0 in
     rw (bytes-are bs b) (rw (sets-eq bs zeros 0 (omega arith)) (rw (← e) (take-front bs (drop (0 + length bs) zeros))))
 
 -- ── the data ──

@@ -4,6 +4,7 @@ use mathlib.Core.List.{List, []}
 use Prim.Native.Nat.{ℕ, _+_, _/_, _%_, _≤_, _<_}
 use native.Mathlib.Omega.{arith}
 use lib.ListN.{getD, set, length, drop}
+use Rattle.tape.specs.Events as E
 use Rattle.tape.specs.Pass.{pass}
 use Rattle.tape.proofs.Pass.{pass-turn, pass-end}
 use Rattle.kinds.specs.Meanings.{Meant, dataBase}
@@ -50,7 +51,7 @@ module _ (tape kinds values found : List ℕ) (start : Meant) where
 
   module _ {means under opens written owners outer : List ℕ} {s : Scope} {form target bases i : ℕ} (g : Going means under opens written owners outer s form target bases i) where
     pub going-on :
-        {owners′ outer′ means′ under′ opens′ written″ : List ℕ} {s′ : Scope} {form′ target′ bases′ : ℕ} (written′ : List ℕ) (op t : ℕ) → i < length tape → op ≡ getD tape i 0 % 64 → t ≡ getD tape i 0 / 64
+        {owners′ outer′ means′ under′ opens′ written″ : List ℕ} {s′ : Scope} {form′ target′ bases′ : ℕ} (written′ : List ℕ) (op t : ℕ) → i < length tape → op ≡ getD tape i 0 % E.EVENTS → t ≡ getD tape i 0 / E.EVENTS
         → ((u : List ℕ) → Moved (withinAfter found op t (meaningsOf means u) bases (withinOf owners outer s)) owners′ outer′ s s′)
         → form′ ≡ formAfter values op t form
         → ((u : List ℕ) → target′ ≡ targetAfter found op t (meaningsOf means u) target)

@@ -13,6 +13,7 @@ use Rattle.token.specs.Kinds as K
 use Rattle.kinds.specs.Registers.{Registers, noRegisters, addRegister, union}
 use Rattle.kinds.specs.Meaning.{Meaning, nothing, register, routine, meaningOf, registerOf, isLong}
 use Rattle.kinds.specs.Meanings.{Meant, mean, write, writeText, callWrites, openBase}
+use Rattle.tape.specs.Numbers.{formAt}
 use Rattle.tables.specs.Packed.{low, packed, numberIn, basedIn, unpacked, meaningsOf, registerIn, longIn, packedAt, setsOf, grown}
 use Rattle.tables.proofs.Meanings.{by-sort, low-is, long-is, packed-register, packed-routine, meaning-at, meaning-set, meaning-set-both}
 use Rattle.meanings.specs.Along.{targetOf, writeTarget, writeLower, isProductAt, writeProduct}
@@ -37,10 +38,10 @@ module _ (found means bases : List ℕ) (t : ℕ) where
   long-at = ap isLong meant-at ∙ long-is _ _ _
 
   pub product-at :
-      (kinds : List ℕ) (op d k m : ℕ) (l : Bool) → d ≡ t - 1 → k ≡ getD kinds d 0 → m ≡ packedAt found means t → l ≡ longIn m
-      → (eqb k K.TIMES && (eqb op 33 || l)) ≡ isProductAt kinds found op t (meaningsOf means bases)
+      (kinds : List ℕ) (op g d k m : ℕ) (l : Bool) → g ≡ formAt op → d ≡ t - 1 → k ≡ getD kinds d 0 → m ≡ packedAt found means t → l ≡ longIn m
+      → (eqb k K.TIMES && (eqb g 4 || l)) ≡ isProductAt kinds found op t (meaningsOf means bases)
   unfolding isProductAt
-  product-at kinds op d k m l e f g h = rw (long-at, h, g, f, e)
+  product-at kinds op g d k m l w e f u h = rw (long-at, h, u, f, e, w)
 
 -- ── declarations ──
 

@@ -2,28 +2,29 @@
 -- grammar; the numbers of a text have 32 bits; and a base stays in force, since its name means what was declared before it.
 use mathlib.Core.Path.{_≡_, refl, ap, ap₂, sym, _∙_}
 use mathlib.Core.List.{List, [], _∷_}
-use mathlib.Core.Bool.{Bool, true, false, _&&_, _||_}
+use mathlib.Core.Bool.{Bool, true, false, _&&_}
 use mathlib.Core.Option.{Option, none, some}
-use Prim.Native.Nat.{ℕ, zero, suc, _+_, _-_, _≤_, _<_}
+use Prim.Native.Nat.{ℕ, _+_, _-_, _≤_, _<_}
 use native.Mathlib.Omega.{arith}
 use lib.Dec.{eqb}
 use lib.ListN.{getD, set, length}
 use lib.Seq.{getD-set-same}
-use Rattle.base.specs.Choose.{choose, if_then_else_}
+use Rattle.base.specs.Choose.{if_then_else_}
 use Rattle.token.specs.Kinds as K
-use Rattle.grammar.specs.Tree.{Designator, Operand, number, place, Sign, plain, abs, neg, negAbs, Term, Condition, compared, bare, Statement, Width, full, short}
+use Rattle.grammar.specs.Tree.{Designator, Operand, number, place, Sign, plain, abs, neg, negAbs, Condition, compared, bare, Statement, Width, full, short}
 use Rattle.grammar.specs.Derives.{isRegister, isProgram}
 use Rattle.grammar.specs.Pinned.{headOf}
 use Rattle.grammar.proofs.Pinned.{pinned-operand}
 use Rattle.grammar.specs.Events.{Edge, opened, closed, entered, left, Route, labelled, sent, Entry, named, celled, itemed, valued, based, Phrase, aimed, driven, signed, given, joined, tested, limited, called, Mark, looped, otherwise, endedIf, endedElse, endedWhile, endedFor, Event, edge, route, entry, phrase, mark, eventsOf}
-use Rattle.grammar.specs.Places.{within, body, Place, after, along}
+use Rattle.grammar.specs.Places.{within, body, Place, after}
 use Rattle.grammar.specs.Contexts.{Context, nowhere, aiming, declaring, contextAfter, entrySuits, phraseSuits, Suits}
 use Rattle.grammar.proofs.Contexts.{program-coherent}
 use Rattle.grammar.specs.Texts.{InBlock, EdgeFits, isEvent, Stands}
 use Rattle.grammar.proofs.Texts.{program-text}
 use Rattle.grammar.proofs.Order.{Earlier, Placed, text-placed}
 use Rattle.tape.specs.Events as E
-use Rattle.tape.specs.Tape.{tapeStatement, shape}
+use Rattle.tape.specs.Numbers.{formAt}
+use Rattle.tape.specs.Tape.{tapeStatement}
 use Rattle.tape.specs.Pass.{pass}
 use Rattle.tape.specs.Written.{operandShape, signCode, conditionCode, opOf, tokenOf}
 use Rattle.tape.proofs.Numbers.{by-shape, by-operand}
@@ -31,13 +32,13 @@ use Rattle.tape.proofs.Written.{tree-tape, follows-in}
 use Rattle.names.proofs.Early.{Early}
 use Rattle.kinds.specs.Meaning.{Meaning, nothing, register, cell, routine, Based, meaningOf, registerOf, isLong, longOperand, isProduct}
 use Rattle.kinds.specs.Meanings as D
-use Rattle.kinds.specs.Meanings.{Meant, mean, write, writeText, callWrites, targetWrites, openBase, addCell, countOf, isArray, meaningIn, ownIn, newest, baseIn, meanProgram}
-use Rattle.kinds.proofs.Heeds.{Alike, phrase-alike}
+use Rattle.kinds.specs.Meanings.{Meant, write, writeText, callWrites, targetWrites, openBase, addCell, countOf, isArray, meaningIn, ownIn, newest, baseIn, meanProgram}
+use Rattle.kinds.proofs.Heeds.{phrase-alike}
 use Rattle.kinds.proofs.Lengths.{event-long}
 use Rattle.kinds.proofs.Stays.{Stays, event-stays}
 use Rattle.tables.specs.Packed.{low, packed, unpacked}
 use Rattle.tables.proofs.Meanings.{low-is, packed-cell}
-use Rattle.meanings.specs.Along.{Within, targetOf, writeTarget, writeLower, withinAfter, formAfter, targetAfter, declaredAfter, isProductAt, writeProduct, writtenAfter, Meaning-walk, meanEvent, beginning}
+use Rattle.meanings.specs.Along.{targetOf, writeTarget, writeLower, withinAfter, formAfter, targetAfter, declaredAfter, isProductAt, writeProduct, writtenAfter, Meaning-walk, meanEvent, beginning}
 
 -- the tables without the list of cells
 abbrev pub tabled : Meant → Meant
@@ -123,7 +124,7 @@ module _ (kinds values found : List ℕ) where
   -- ── edges and routes ──
 
   turn-edge : (x : Edge) (p : Place) (c : Context) (s : Meant) (form target : ℕ) → EdgeFits x p → Settles p s (meanAt (edge x) p s) → (i j : ℕ) → isEvent kinds (edge x) i j → Next (edge x) p c s form target
-  unfolding D.meanEvent meanEvent withinAfter formAfter targetAfter declaredAfter writtenAfter writeText
+  unfolding D.meanEvent meanEvent withinAfter formAfter targetAfter declaredAfter writtenAfter formAt writeText
   turn-edge (opened t ls) p c s form target f g i j h = (form, target, refl, tt)
   turn-edge (closed t) (within b ∷ p) c s form target f g i j h = (form, target, refl, tt)
   turn-edge (entered n r) (within b ∷ p) c s form target f g i j h =
@@ -132,7 +133,7 @@ module _ (kinds values found : List ℕ) where
   turn-edge (left n) (body k r ∷ p) c s form target f g i j h = (form, target, settle (ownIn p) (ownersIn p) p s (meanAt (edge (left n)) (body k r ∷ p) s) form target _ g refl, tt)
 
   turn-route : (x : Route) (p : Place) (c : Context) (s : Meant) (form target : ℕ) → Stands kinds (route x) p 0 → Next (route x) p c s form target
-  unfolding D.meanEvent meanEvent withinAfter formAfter targetAfter declaredAfter writtenAfter
+  unfolding D.meanEvent meanEvent withinAfter formAfter targetAfter declaredAfter writtenAfter formAt
   turn-route (labelled l) p c s form target h = labels p (h .fits)
     where
       labels : (p : Place) → InBlock p → Next (route (labelled l)) p c s form target
@@ -148,7 +149,7 @@ module _ (kinds values found : List ℕ) where
 
     turn-entry : (d : Entry) (p : Place) (c : Context) (s : Meant) (form target : ℕ) → InBlock p → Settles p s (meanAt (entry d) p s) → (i j : ℕ) → isEvent kinds (entry d) i j → j ≤ length (s .opens)
         → entrySuits d c → Opens c s form target → Next (entry d) p c s form target
-    unfolding D.meanEvent meanEvent withinAfter formAfter targetAfter declaredAfter writtenAfter openBase write addCell low isRegister
+    unfolding D.meanEvent meanEvent withinAfter formAfter targetAfter declaredAfter writtenAfter formAt openBase write addCell low isRegister
     turn-entry (named r) (within b ∷ p) c s form target f g i j h l q o =
         let e : r .number ≡ r .name + 2 = omega (arith, h .0, h .2 .1 .0) in
         let n : getD kinds (r .number) 0 ≡ K.NUMBER = rw (h .2 .1 .0) (h .2 .1 .1) in
@@ -203,14 +204,14 @@ module _ (kinds values found : List ℕ) where
     here = walk p s form target
 
     sign-is : (g : Sign) → step (signCode g .family + signCode g .form) (signCode g .token) here ≡ here
-    unfolding meanEvent withinAfter formAfter targetAfter declaredAfter writtenAfter
+    unfolding meanEvent withinAfter formAfter targetAfter declaredAfter writtenAfter formAt
     sign-is plain = refl
     sign-is (abs t) = refl
     sign-is (neg t) = refl
     sign-is (negAbs t) = refl
 
     condition-is : (c : Condition) → step (conditionCode c .family + conditionCode c .form) (conditionCode c .token) here ≡ here
-    unfolding meanEvent withinAfter formAfter targetAfter declaredAfter writtenAfter
+    unfolding meanEvent withinAfter formAfter targetAfter declaredAfter writtenAfter formAt
     condition-is (compared n r a) = by-operand (λ n. step (E.COMPARED + n) (headOf a) here ≡ here) refl refl refl refl refl a
     condition-is (bare r) = refl
 
@@ -218,7 +219,7 @@ module _ (kinds values found : List ℕ) where
     term-is : (o : ℕ) (a : Operand) → headOf a - 1 ≡ o
         → step (E.TERM + operandShape a) (headOf a) here
         ≡ tell p s form target (if eqb (getD kinds o 0) K.TIMES && longOperand found (s .means) a then writeLower (ownIn p) target (tabled s) else tabled s)
-    unfolding meanEvent withinAfter formAfter targetAfter declaredAfter writtenAfter writeProduct isProductAt
+    unfolding meanEvent withinAfter formAfter targetAfter declaredAfter writtenAfter formAt writeProduct isProductAt
     term-is o (number t) e = rw e
     term-is o (place d) e =
         rw (← e)
@@ -243,7 +244,7 @@ module _ (kinds values found : List ℕ) where
 
   turn-phrase : (f : Phrase) (p : Place) (c : Context) (s : Meant) (form target : ℕ) → Settles p s (meanAt (phrase f) p s) → (i j : ℕ) → isEvent kinds (phrase f) i j → phraseSuits f c
       → Opens c s form target → Next (phrase f) p c s form target
-  unfolding D.meanEvent meanEvent withinAfter formAfter targetAfter declaredAfter writtenAfter
+  unfolding D.meanEvent meanEvent withinAfter formAfter targetAfter declaredAfter writtenAfter formAt
   turn-phrase (aimed d) p c s form target g i j h q o =
       aim-is E.TARGET d p s _ form _ refl g (phrase-alike kinds values found (aimed d) p s .of-means)
       (by-shape (λ n. step (E.TARGET + n) (d .name) (walk p s form target) ≡ aimedAt d p s form) refl refl refl refl (d .subscript) (d .index))
@@ -271,7 +272,7 @@ module _ (kinds values found : List ℕ) where
   -- ── marks ──
 
   unheeded : (k : Mark) (m : Meaning-walk) → step (opOf (mark k)) (tokenOf (mark k)) m ≡ m
-  unfolding meanEvent withinAfter formAfter targetAfter declaredAfter writtenAfter
+  unfolding meanEvent withinAfter formAfter targetAfter declaredAfter writtenAfter formAt
   unheeded (looped t) m = refl
   unheeded (otherwise t) m = refl
   unheeded (endedIf t) m = refl

@@ -2,15 +2,16 @@
 -- cells are under the base in force.
 use mathlib.Core.List.{List, [], _∷_}
 use mathlib.Core.Bool.{Bool, _&&_, _||_}
-use Prim.Native.Nat.{ℕ, zero, suc, _+_, _-_}
-use lib.Dec.{eqb, ltb}
+use Prim.Native.Nat.{ℕ, zero, suc, _+_, _-_, _%_}
+use lib.Dec.{eqb}
 use lib.ListN.{getD}
 use Rattle.base.specs.Choose.{if_then_else_}
 use Rattle.token.specs.Kinds as K
 use Rattle.tape.specs.Events as E
+use Rattle.tape.specs.Numbers.{formAt, familyAt}
 use Rattle.kinds.specs.Meaning.{Meaning, nothing, register, cell, routine, Based, meaningOf, registerOf, isLong}
 use Rattle.kinds.specs.Meanings.{Meant, mean, write, writeText, callWrites, openBase, meaningIn, dataBase}
-use Rattle.tables.specs.Packed.{low, packed, basedIn, unpacked}
+use Rattle.tables.specs.Packed.{CELL, ARRAY, low, packed, basedIn, unpacked}
 use Rattle.tables.specs.Stacks.{top, under}
 
 -- ── where the walk is ──
@@ -79,16 +80,12 @@ withinAfter found op t means bases w =
 -- what the cells that follow are, as a packed meaning: a cell declared without ARRAY is one element
 unfoldable pub formAfter : (values : List ℕ) (op t form : ℕ) → ℕ
 formAfter values op t form =
-    if ltb op E.SINGLE-FULL then form else
-    if ltb op E.ARRAY-FULL then packed (op + 1) 1 else
-    if ltb op E.ITEM then packed (op + 1) (getD values t 0) else
+    if eqb (familyAt op) E.SINGLE-FULL then packed (CELL + formAt op % 2) 1 else
+    if eqb (familyAt op) E.ARRAY-FULL then packed (ARRAY + formAt op % 2) (getD values t 0) else
     form
 
 unfoldable pub targetAfter : (found : List ℕ) (op t : ℕ) → List Meaning → ℕ → ℕ
-targetAfter found op t means target =
-    if ltb op E.TARGET then target else
-    if ltb op E.ABS then targetOf (meaningOf found means t) else
-    target
+targetAfter found op t means target = if eqb (familyAt op) E.TARGET || eqb (familyAt op) E.CONTROL then targetOf (meaningOf found means t) else target
 
 unfoldable pub declaredAfter : (values found : List ℕ) (op t own : ℕ) → Based → ℕ → Meant → Meant
 declaredAfter values found op t own b form s =
@@ -101,17 +98,15 @@ declaredAfter values found op t own b form s =
 
 -- the operator stands before its operand
 unfoldable pub isProductAt : (kinds found : List ℕ) (op t : ℕ) → List Meaning → Bool
-isProductAt kinds found op t means = eqb (getD kinds (t - 1) 0) K.TIMES && (eqb op (E.TERM + 4) || isLong (meaningOf found means t))
+isProductAt kinds found op t means = eqb (getD kinds (t - 1) 0) K.TIMES && (eqb (formAt op) 4 || isLong (meaningOf found means t))
 
 unfoldable pub writeProduct : (kinds found : List ℕ) (op t own target : ℕ) → Meant → Meant
 writeProduct kinds found op t own target s = if isProductAt kinds found op t (s .means) then writeLower own target s else s
 
 unfoldable pub writtenAfter : (kinds found : List ℕ) (op t own target : ℕ) → Meant → Meant
 writtenAfter kinds found op t own target s =
-    if ltb op E.TARGET then s else
-    if ltb op E.ABS then writeTarget own target s else
-    if ltb op E.TERM then s else
-    if ltb op E.COMPARED then writeProduct kinds found op t own target s else
+    if eqb (familyAt op) E.TARGET || eqb (familyAt op) E.CONTROL then writeTarget own target s else
+    if eqb (familyAt op) E.TERM then writeProduct kinds found op t own target s else
     if eqb op E.CALL then callWrites (meaningIn found s t) own (getD found t 0) s else
     s
 

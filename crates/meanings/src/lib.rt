@@ -23,6 +23,7 @@ use tables::register;
 use tables::top;
 use tables::write;
 use tables::write_text;
+use tape::family;
 
 // The innermost open procedure and how many are around it; the base in force, its register times 2^32 and its segment, and how many blocks are open.
 pub struct Scope {
@@ -137,14 +138,13 @@ fn within_after(
 fn form_after(op: u32, t: usize, values: &[u64], form: u64) -> u64
     ensures { λ r. ⌜ r ≡ formAfter (now (values .entry)) op t form ⌝ }
 {
-    if op < tape::SINGLE_FULL {
-        return form;
+    let k = family(op);
+    let width = (tape::form(op) % 2) as u64;
+    if k == tape::SINGLE_FULL {
+        return packed(tables::CELL + width, 1);
     }
-    if op < tape::ARRAY_FULL {
-        return packed(op as u64 + 1, 1);
-    }
-    if op < tape::ITEM {
-        return packed(op as u64 + 1, key(values, t));
+    if k == tape::ARRAY_FULL {
+        return packed(tables::ARRAY + width, key(values, t));
     }
     form
 }
@@ -162,10 +162,8 @@ fn target_of(m: u64) -> usize
 fn target_after(op: u32, t: usize, found: &[u32], means: &[u64], target: usize) -> usize
     ensures { λ r. ⌜ ((under : List ℕ) → r ≡ targetAfter (now (found .entry)) op t (meaningsOf (now (means .entry)) under) target) ⌝ }
 {
-    if op < tape::TARGET {
-        return target;
-    }
-    if op < tape::ABS {
+    let k = family(op);
+    if (k == tape::TARGET) | (k == tape::CONTROL) {
         return target_of(meaning(found, means, t));
     }
     target
@@ -265,7 +263,7 @@ fn is_product(op: u32, t: usize, kinds: &[u8], found: &[u32], means: &[u64]) -> 
     ensures { λ r. ⌜ ((under : List ℕ) → r ≡ isProductAt (now (kinds .entry)) (now (found .entry)) op t (meaningsOf (now (means .entry)) under)) ⌝ }
 {
     let times = kind(kinds, less(t)) == token::kinds::TIMES;
-    let number = op == tape::TERM + 4;
+    let number = tape::form(op) == 4;
     times & (number | is_long(meaning(found, means, t)))
 }
 
@@ -310,17 +308,12 @@ fn written_after(
 )
     ensures { λ _. ⌜ ((under opens : List ℕ) (bases : ℕ) → meantOf (now (means .entry)) under opens (now (written .exit)) bases ≡ writtenAfter (now (kinds .entry)) (now (found .entry)) op t own target (meantOf (now (means .entry)) under opens (now (written .entry)) bases)) ⌝ }
 {
-    if op < tape::TARGET {
-        return;
-    }
-    if op < tape::ABS {
+    let k = family(op);
+    if (k == tape::TARGET) | (k == tape::CONTROL) {
         write_target(written, own, target);
         return;
     }
-    if op < tape::TERM {
-        return;
-    }
-    if op < tape::COMPARED {
+    if k == tape::TERM {
         write_product(op, t, kinds, found, means, written, own, target);
         return;
     }

@@ -4,7 +4,7 @@ ghost use mathlib.Core.Path.{_≡_};
 ghost use Prim.Native.Nat.{_≤_, _<_};
 ghost use lib.ListN.{length, take, getD};
 ghost use Rattle.token.specs.Text.{TEXT-LIMIT};
-ghost use Rattle.phrases.specs.Reads.{TOKEN-LIMIT};
+ghost use Rattle.tape.specs.Events.{TOKEN-LIMIT};
 ghost use Rattle.grammar.specs.Grammar as G;
 ghost use Rattle.parse.specs.Programs.{Parsed, judgedBy, judged, verdictOf};
 use phrases::tokens::Answer;

@@ -14,13 +14,14 @@ use Rattle.base.proofs.Tests.{and-left, and-right}
 use Rattle.base.specs.Choose.{if_then_else_}
 use Rattle.grammar.specs.Reader.{Result, ok, bad, andThen, want}
 use Rattle.phrases.specs.declared.tokens.Answer.{Answer}
+use Rattle.tape.specs.Events as E
 use Rattle.tape.specs.Tape.{event}
 use Rattle.phrases.specs.Reads.{Tells, Reads, Is, Pushed, Kind, Took}
 
 -- ── one event more ──
-pub pushed : (l : List ℕ) (p op token : ℕ) → p < length l → op < 64 → Pushed (event op token) p l (set l p (token * 64 + op))
+pub pushed : (l : List ℕ) (p op token : ℕ) → p < length l → op < E.EVENTS → Pushed (event op token) p l (set l p (token * E.EVENTS + op))
 unfolding event
-pushed l p op token h s k = rw (mod-eq-of-lt s, add-one p, take-suc-set l p (token * 64 + op) h) (append-assoc (take p l) ((token * 64 + op) ∷ []) k)
+pushed l p op token h s k = rw (mod-eq-of-lt s, add-one p, take-suc-set l p (token * E.EVENTS + op) h) (append-assoc (take p l) ((token * E.EVENTS + op) ∷ []) k)
 
 -- ── one reader after another ──
 

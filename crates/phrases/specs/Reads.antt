@@ -5,6 +5,7 @@ use Prim.Native.Nat.{ℕ, _+_, _-_, _*_, _≤_, _<_}
 use lib.ListN.{length, getD, take}
 use Rattle.grammar.specs.Reader.{Result, ok, bad}
 use Rattle.grammar.specs.Grammar.{inParens, designatorOf, typeOf}
+use Rattle.tape.specs.Events as E
 use Rattle.tape.specs.Tape.{shape, widthOf}
 use Rattle.phrases.specs.declared.tokens.Answer.{Answer}
 
@@ -28,16 +29,12 @@ pub record Wrote {A : Type 0} (out : A → List ℕ → List ℕ) (ks : List ℕ
   pub read : Reads (Laid out p before after) ks i r m
   pub low : r .value + i ≤ r .at + p
 
--- an event is a number of 32 bits, 6 of them for what it is: so many tokens can be told apart
-abbrev pub TOKEN-LIMIT : ℕ
-TOKEN-LIMIT = 67108864
-
 -- where a reader that writes may begin
 pub record Ready (ks tape : List ℕ) (i p : ℕ) : Type 0 where
   pub inside : i ≤ length ks
   pub low : p ≤ i
   pub room : length ks ≤ length tape
-  pub small : length ks < TOKEN-LIMIT
+  pub small : length ks < E.TOKEN-LIMIT
 
 -- ── tokens ──
 

@@ -1,6 +1,7 @@
 pub mod Cases
 pub mod Forms
 pub mod Loads
+pub mod Loaded
 pub mod Refusals
 pub mod Spaces
 pub mod Stopping

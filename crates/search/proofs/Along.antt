@@ -111,7 +111,7 @@ going tape keys scope starts found b g =
 
 module _ {tape keys scope₀ starts₀ found₀ scope starts found : List ℕ} {b : Blocks} {n : Noted} {i : ℕ} (g : Going tape keys scope₀ starts₀ found₀ scope starts found b n i) where
   pub going-on :
-      {scope′ starts′ found′ : List ℕ} {b′ : Blocks} {n′ n″ : Noted} (op t : ℕ) → i < length tape → op ≡ getD tape i 0 % 64 → t ≡ getD tape i 0 / 64
+      {scope′ starts′ found′ : List ℕ} {b′ : Blocks} {n′ n″ : Noted} (op t : ℕ) → i < length tape → op ≡ getD tape i 0 % E.EVENTS → t ≡ getD tape i 0 / E.EVENTS
       → ((f : List ℕ) → namedIn f n′ ≡ declareAt keys op t (blocksIn scope starts b) (namedIn f n))
       → Changed (blocksAfter op t (blocksIn scope starts b)) scope′ starts′ b b′
       → namedIn found′ n″ ≡ useAt keys op t (blocksIn scope′ starts′ b′) (namedIn found n′)

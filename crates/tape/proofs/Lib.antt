@@ -3,4 +3,3 @@ pub mod Pass
 pub mod Numbers
 pub mod Written
 pub mod Names
-pub mod Skips

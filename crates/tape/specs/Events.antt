@@ -2,7 +2,11 @@
 use Prim.Native.Nat.{ℕ}
 
 abbrev pub EVENTS : ℕ
-EVENTS = 64
+EVENTS = 128
+
+-- the number of a token is below this, since an event on the tape has 32 bits
+abbrev pub TOKEN-LIMIT : ℕ
+TOKEN-LIMIT = 33554432
 
 abbrev pub BLOCK : ℕ
 BLOCK = 0

@@ -1,7 +1,7 @@
 // The events of a tape, as specs/Events.antt numbers them. To those of designators and operands their shape is added.
 ghost use mathlib.Core.Path.{_≡_};
 ghost use Prim.Native.Nat.{_/_, _%_, _<_, _≤_};
-ghost use Rattle.tape.specs.Events.{EVENTS};
+ghost use Rattle.tape.specs.Events.{EVENTS, TOKEN-LIMIT};
 ghost use Rattle.tape.specs.Numbers.{layerAt, formAt, familyAt};
 ghost use Rattle.tape.specs.Names.{declaring, shapeAt};
 
@@ -68,7 +68,7 @@ pub const CALL: u32 = 51;
 pub const GOTO: u32 = 52;
 
 // How many numbers of events a tape has room for.
-pub const EVENTS: u32 = 64;
+pub const EVENTS: u32 = 128;
 
 // The layers of events.
 pub const EDGE: u32 = 0;
@@ -90,7 +90,7 @@ pub fn op(event: u32) -> u32
 
 // The token that it stands for.
 pub fn token(event: u32) -> usize
-    ensures { λ r. ⌜ (r ≡ event / EVENTS) × (r < 67108864) ⌝ }
+    ensures { λ r. ⌜ (r ≡ event / EVENTS) × (r < TOKEN-LIMIT) ⌝ }
 {
     (event / EVENTS) as usize
 }

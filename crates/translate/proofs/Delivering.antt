@@ -42,7 +42,7 @@ module _ (k : ℕ) (means under offsets values : List ℕ) where
   pass-long : (tape : List ℕ) (s : Imaging) → length (pass (imageEvent k means under offsets values) s tape .image) ≡ length (s .image)
   unfolding pass fold onEvent
   pass-long [] s = refl
-  pass-long (e ∷ es) s = pass-long es (imageEvent k means under offsets values (e % 64) (e / 64) s) ∙ event-long (e % 64) (e / 64) s
+  pass-long (e ∷ es) s = pass-long es (imageEvent k means under offsets values (e % E.EVENTS) (e / E.EVENTS) s) ∙ event-long (e % E.EVENTS) (e / E.EVENTS) s
 
 module _ (values means under offsets tape : List ℕ) where
   pub image-long : (k : ℕ) → length (imageAlong values means under offsets tape k) ≡ segmentLimit

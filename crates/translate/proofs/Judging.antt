@@ -10,7 +10,7 @@ use Rattle.grammar.specs.Derives.{isProgram}
 use Rattle.grammar.specs.Events.{Event, eventsOf}
 use Rattle.grammar.proofs.Texts.{program-text}
 use Rattle.grammar.proofs.Kept.{keep-statement}
-use Rattle.grammar.proofs.Theorems.{program-rises, program-inside}
+use Rattle.grammar.proofs.Theorems.{program-inside}
 use Rattle.tape.specs.Tape.{event, tapeStatement}
 use Rattle.tape.specs.Pass.{pass}
 use Rattle.tape.specs.Written.{opOf, tokenOf}
@@ -18,7 +18,7 @@ use Rattle.tape.proofs.Written.{tree-tape}
 use Rattle.names.specs.declared.Broken.{Broken}
 use Rattle.names.specs.declared.Noted.{Noted}
 use Rattle.names.specs.Broken.{unbroken, _⊕_}
-use Rattle.names.specs.Search.{firstToken, around}
+use Rattle.names.specs.Search.{firstToken}
 use Rattle.names.specs.Names.{Named}
 use Rattle.names.specs.Labels.{Labelled}
 use Rattle.names.proofs.Early.{Early, found-early}

@@ -685,9 +685,11 @@ fn long(src: &[u8], out: &mut [u8]) -> Answer
     )
 }
 
-// The object text of a source, laid at the front of a buffer: number, place and length, and the buffer, are the definition's.
-pub fn translate(src: &[u8], out: &mut [u8]) -> Answer
-    ensures { λ r. ⌜ outcome r (now (out .exit)) ≡ defined (translation (now (src .entry)) (length (now (out .entry)))) (now (out .entry)) ⌝ }
+// By length. A function that calls itself takes none with large arrays into its own frame: so each of the three has a frame of its own, and a short text
+// needs little stack.
+fn sized(src: &[u8], out: &mut [u8]) -> Answer
+    requires { ⌜ length (now src) ≤ 32768 ⌝ }
+    ensures { λ r. ⌜ Gives (translation (now (src .entry)) (length (now (out .entry)))) (now (out .entry)) (now (out .exit)) r ⌝ }
 {
     if src.len() <= SHORT {
         return short(src, out);
@@ -697,6 +699,16 @@ pub fn translate(src: &[u8], out: &mut [u8]) -> Answer
     }
     if src.len() <= TEXT_LIMIT {
         return long(src, out);
+    }
+    sized(&src[..TEXT_LIMIT], out)
+}
+
+// The object text of a source, laid at the front of a buffer: number, place and length, and the buffer, are the definition's.
+pub fn translate(src: &[u8], out: &mut [u8]) -> Answer
+    ensures { λ r. ⌜ outcome r (now (out .exit)) ≡ defined (translation (now (src .entry)) (length (now (out .entry)))) (now (out .entry)) ⌝ }
+{
+    if src.len() <= TEXT_LIMIT {
+        return sized(src, out);
     }
     Answer::Refused(1, TEXT_LIMIT)
 }

@@ -1,13 +1,12 @@
 -- Where no rule is broken, what is made of a text's statements is ready: registers are 0 to 15, elements lie in their cells, shifts are below 64.
-use mathlib.Core.Path.{_≡_, refl, sym, ap, subst, _∙_}
-use mathlib.Core.List.{List, [], _∷_, _++_}
+use mathlib.Core.Path.{_≡_, refl}
+use mathlib.Core.List.{List, [], _∷_}
 use mathlib.Core.Bool.{Bool, true, false, _&&_}
 use mathlib.Core.Option.{Option, none, some}
-use Prim.Native.Nat.{ℕ, zero, suc, _+_, _*_, _-_, _<_, _≤_}
+use Prim.Native.Nat.{ℕ, _+_, _*_, _-_, _<_, _≤_}
 use native.Mathlib.Omega.{arith}
 use lib.Dec.{eqb, leb}
-use lib.ListN.{getD}
-use Rattle.base.specs.Choose.{choose, if_then_else_}
+use Rattle.base.specs.Choose.{if_then_else_}
 use Rattle.base.specs.Lists.{All, member}
 use Rattle.base.proofs.Lists.{all-both}
 use Rattle.token.specs.Kinds as K
@@ -15,10 +14,9 @@ use Rattle.grammar.specs.Tree as T
 use Rattle.grammar.specs.Tree.{Designator, Operand, number, place, Sign, plain, abs, neg, negAbs, Term, Assignment, Condition, compared, bare, Width, full, short, Statement, Body, Items}
 use Rattle.grammar.specs.Events.{Event, edge, phrase, mark, closed, left, given, limited, endedIf, otherwise, endedElse, endedWhile, endedFor, each, eventsValue, eventsItem, eventsRegister, eventsDeclaration, eventsSign, eventsTerm, eventsChain, eventsStatement, eventsBody, eventsItems, eventsOf}
 use Rattle.grammar.specs.Places.{Place, Along}
-use Rattle.names.specs.declared.Broken.{Broken}
 use Rattle.names.specs.Broken.{_⊕_, rule}
 use Rattle.names.proofs.Joins.{quiet-left, quiet-right, rule-holds}
-use Rattle.kinds.specs.Meaning.{Meaning, nothing, register, cell, routine, Cell, Based, elementSize, meaningOf, registerOf, longOperand}
+use Rattle.kinds.specs.Meaning.{Meaning, nothing, register, cell, routine, Cell, elementSize, registerOf, longOperand}
 use Rattle.kinds.specs.Tables.{Tables, kindAt, valueAt, meaningAt}
 use Rattle.kinds.specs.Rules as R
 use Rattle.kinds.specs.Rules.{shifts, fullOnly, inside}
@@ -27,9 +25,8 @@ use Rattle.kinds.proofs.Elements.{inside-is, in-range}
 use Rattle.kinds.proofs.Small.{Small, register-small, meaning-small}
 use Rattle.kinds.proofs.Unbroken.{Unbroken}
 use Rattle.kinds.proofs.Bases.{base-segment}
-use Rattle.translator.specs.Instructions.{Datum, element, literal, entry, Instruction, rr, rx, shift, opcode, rowOf, loadRow, compareRow, timesRow, storeRow, column, shiftCode}
-use Rattle.translator.specs.Core as C
-use Rattle.translator.specs.Core.{Core, Use, held, stored, absent, apply, signed, load, exitMask, returnOf, subscriptOf, indexOf, useBy, useOf, shiftBy, productTarget, termOf, chainOf, toRegister, sourceOf, assignBy, assignmentOf, compareWith, testOf, maskOf, controlOf, coreStatement, coreBody, coreItems}
+use Rattle.translator.specs.Instructions.{Instruction, rowOf, loadRow, compareRow, timesRow, storeRow, column, shiftCode}
+use Rattle.translator.specs.Core.{Use, held, stored, absent, apply, signed, load, exitMask, returnOf, subscriptOf, indexOf, useBy, useOf, shiftBy, productTarget, termOf, chainOf, toRegister, sourceOf, assignBy, assignmentOf, compareWith, testOf, maskOf, controlOf, coreStatement, coreBody, coreItems}
 use Rattle.translator.specs.Layout.{Layout, segmentLimit, offsetOf}
 use Rattle.translator.proofs.Ready.{Ready, ReadyDatum, ReadyCore, opcode-small, shift-small, mask-small}
 

@@ -7,10 +7,10 @@ use lib.ListN.{length, replicate, length-replicate}
 use Rattle.token.specs.declared.Token.{Token}
 use Rattle.grammar.specs.Tree.{Statement}
 use Rattle.grammar.specs.Derives.{isStatement, isProgram}
-use Rattle.grammar.proofs.Theorems.{read-is-program}
+use Rattle.grammar.proofs.Theorems.{read-is-program, program-inside}
 use Rattle.grammar.specs.Events.{eventsOf}
 use Rattle.grammar.specs.Places.{Along}
-use Rattle.grammar.proofs.Texts.{statement-text}
+use Rattle.grammar.proofs.Texts.{program-text}
 use Rattle.names.specs.Search.{firstToken}
 use Rattle.names.specs.Found.{Found, Led}
 use Rattle.names.proofs.Finding.{finding, leading}
@@ -22,17 +22,17 @@ pub length-map : {A : Type 0} (g : A → ℕ) (l : List A) → length (map g l) 
 length-map g [] = refl
 length-map g (a ∷ l) = ap (λ (k : ℕ). suc k) (length-map g l)
 
-pub names-found : (ts : List Token) (x : Statement) (j : ℕ) → isStatement (kindsOf ts) x firstToken j → j ≤ length ts
+pub names-found : (ts : List Token) (x : Statement) (j : ℕ) → isProgram (kindsOf ts) x firstToken j → j ≤ length ts
     → Along (Found (valuesOf ts) (named ts x .found)) (eventsOf x) []
 unfolding named
 names-found ts x j p h =
-    finding (kindsOf ts) (valuesOf ts) (eventsOf x) [] firstToken j (statement-text (kindsOf ts) x firstToken j p) _ (omega (arith, length-replicate {A = ℕ} (length ts) 0))
+    finding (kindsOf ts) (valuesOf ts) (eventsOf x) [] firstToken j (program-text (kindsOf ts) x firstToken j p) _ (omega (arith, length-replicate {A = ℕ} (length ts) 0))
 
-pub labels-led : (ts : List Token) (x : Statement) (j : ℕ) → isStatement (kindsOf ts) x firstToken j → j ≤ length ts
+pub labels-led : (ts : List Token) (x : Statement) (j : ℕ) → isProgram (kindsOf ts) x firstToken j → j ≤ length ts
     → Along (Led (valuesOf ts) (labelled ts x .goes)) (eventsOf x) []
 unfolding labelled
 labels-led ts x j p h =
-    leading (kindsOf ts) (valuesOf ts) (eventsOf x) [] firstToken j (statement-text (kindsOf ts) x firstToken j p) _ (omega (arith, length-replicate {A = ℕ} (length ts) 0))
+    leading (kindsOf ts) (valuesOf ts) (eventsOf x) [] firstToken j (program-text (kindsOf ts) x firstToken j p) _ (omega (arith, length-replicate {A = ℕ} (length ts) 0))
 
 -- an accepted text's tree, from the first token up to the `@`, which is a token of the text
 pub record Derived (source object : List ℕ) (a : Accepted source object) : Type 0 where
@@ -48,8 +48,15 @@ accepted-derived source object a =
     let e = length-map (λ (t : Token). t .kind) (a .tokens) in
     record { to = p .0; derived = p .1 .1; inside = omega arith }
 
-pub accepted-names : (source object : List ℕ) (a : Accepted source object) → Along (Found (valuesOf (a .tokens)) (named (a .tokens) (a .tree) .found)) (eventsOf (a .tree)) []
-accepted-names source object a = let d = accepted-derived source object a in names-found (a .tokens) (a .tree) (d .to) (d .derived) (omega arith)
+module _ (source object : List ℕ) (a : Accepted source object) where
+  program : isProgram (kindsOf (a .tokens)) (a .tree) firstToken (a .next)
+  program = read-is-program (kindsOf (a .tokens)) firstToken (a .tree) (a .next) (a .read)
 
-pub accepted-labels : (source object : List ℕ) (a : Accepted source object) → Along (Led (valuesOf (a .tokens)) (labelled (a .tokens) (a .tree) .goes)) (eventsOf (a .tree)) []
-accepted-labels source object a = let d = accepted-derived source object a in labels-led (a .tokens) (a .tree) (d .to) (d .derived) (omega arith)
+  inside : a .next ≤ length (a .tokens)
+  inside = omega (arith, program-inside (kindsOf (a .tokens)) firstToken (a .tree) (a .next) program, length-map (λ (t : Token). t .kind) (a .tokens))
+
+  pub accepted-names : Along (Found (valuesOf (a .tokens)) (named (a .tokens) (a .tree) .found)) (eventsOf (a .tree)) []
+  accepted-names = names-found (a .tokens) (a .tree) (a .next) program inside
+
+  pub accepted-labels : Along (Led (valuesOf (a .tokens)) (labelled (a .tokens) (a .tree) .goes)) (eventsOf (a .tree)) []
+  accepted-labels = labels-led (a .tokens) (a .tree) (a .next) program inside
