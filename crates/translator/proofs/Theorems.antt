@@ -28,7 +28,8 @@ pub rules-6-to-13 : (ts : List Token) (x : Statement) → (make ts x .broken .nu
 rules-6-to-13 ts x n = make-ruled ts x .told n
 
 module _ (source : List ℕ) (room : ℕ) where
-  -- "given exactly when": the answer is that of a row of the table (`Rows`), and of no other. "Groups in order: 1; 2, 3; 4, 5; 6 to 13; 14; 15; 16."
+  -- "given exactly when": a refusal n at p is answered exactly when row n of the table (`Rows`) says so, and a text is accepted exactly when none does. "Groups in order: 1;
+  -- 2, 3; 4, 5; 6 to 13; 14; 15; 16."
   pub given-exactly : (a : Answer) → translate source room ≡ a ↔ Given source room a
   given-exactly a = (λ e. subst (Given source room) e (row-given source room), row-answered source room a)
 
