@@ -16,7 +16,7 @@ use Rattle.base.proofs.Lists.{all-in}
 use Rattle.grammar.specs.Tree.{Assignment, Condition, compared, bare, Declaration, registers, cells, base, Statement, assign, call, block, goto, null, ifThen, ifElse, while, for, Body, declare, procedure, items, Items, ended, label, item}
 use Rattle.grammar.specs.Derives.{isCondition, isRegister}
 use Rattle.grammar.specs.Events.{Route, labelled, sent, Entry, named, celled, itemed, valued, based, Phrase, aimed, driven, signed, given, joined, tested, limited, called, Event, edge, route, entry, phrase, mark, labelsOnto, labelsOf, eventsDeclaration, eventsChain, eventsStatement, eventsBody, eventsItems, eventsOf}
-use Rattle.grammar.specs.Places.{Block, within, Place, namesAfter, after, afterAll, Along}
+use Rattle.grammar.specs.Places.{Block, within, Place, enterName, enterLabel, namesAfter, after, afterAll, Along}
 use Rattle.grammar.specs.Texts.{Stands, Text}
 use Rattle.grammar.proofs.Kept.{keep-operand}
 use Rattle.grammar.proofs.Places.{Appends, append-chain, append-declaration, append-statement, append-body, leave-chain, after-statement, along-parts, IsEntry, blockAfter, after-entries, labels-stay, declaration-entries}
@@ -150,7 +150,7 @@ module _ (f : Tables) where
     changes-body (procedure n r x y) b pl lo hi p ms ((s, h), (u, g)) =
         let q = part-statement x _ _ (s .to) hi (h, g) in
         let o = q .next .0 .0 in
-        let z = rises _ _ (o .to) hi (q .next .0 .1, q .next .1 .1) in
+        let z = rises (eventsBody y []) (enterName n (within b ∷ pl)) (o .to) hi (q .next .0 .1, q .next .1 .1) in
         changes-then (wider (changes-set ms n _) (omega arith))
         (changes-then (wider (changes-statement x _ (s .to) (q .m) _ _ (q .one)) (omega arith))
         (changes-then (wider (changes-set _ (n + 1) _) (omega arith)) (wider (changes-body y _ pl (o .to) hi _ _ (q .next .0 .1, q .next .1 .1)) (omega arith))))
@@ -159,7 +159,7 @@ module _ (f : Tables) where
     changes-items : (is : Items) (b : Block) (pl : Place) (lo hi p : ℕ) (ms : List ℕ) → Part (eventsItems is []) (within b ∷ pl) lo hi → Changes lo hi ms (marksItems f is p ms)
     changes-items ended b pl lo hi p ms h = changes-none ms
     changes-items (label l is) b pl lo hi p ms ((s, h), (u, g)) =
-        let z = rises _ _ (s .to) hi (h, g) in
+        let z = rises (eventsItems is []) (enterLabel l (within b ∷ pl)) (s .to) hi (h, g) in
         changes-then (wider (changes-set ms l _) (omega arith)) (wider (changes-items is _ pl (s .to) hi _ _ (h, g)) (omega arith))
     changes-items (item x is) b pl lo hi p ms h =
         let q = part-statement x _ _ lo hi h in
@@ -297,13 +297,13 @@ module _ (marks : List ℕ) where
         → (bs : List (List ℕ)) (ps : List Mark) → Told (b .names ∷ bs) ps → Told (blockAfter es b .names ∷ bs) ps
     unfolding Text blockAfter
     told-entries [] a b pl lo hi h z bs ps t = t
-    told-entries (edge x ∷ es) (a, as) b pl lo hi h z bs ps t = absurd a
-    told-entries (route r ∷ es) (a, as) b pl lo hi h z bs ps t = absurd a
-    told-entries (entry d ∷ es) (a, as) b pl lo hi (s, h) z bs ps t =
+    told-entries (edge x ∷ es) (a, more) b pl lo hi h z bs ps t = absurd a
+    told-entries (route r ∷ es) (a, more) b pl lo hi h z bs ps t = absurd a
+    told-entries (entry d ∷ es) (a, more) b pl lo hi (s, h) z bs ps t =
         let up = text-rises (f .kinds) es _ (s .to) hi h in
-        told-entries es as _ pl (s .to) hi h (λ u x y. z u (omega arith) y) bs ps (told-entry d b pl lo s (λ u x y. z u (omega arith) (omega arith)) bs ps t)
-    told-entries (phrase x ∷ es) (a, as) b pl lo hi h z bs ps t = absurd a
-    told-entries (mark m ∷ es) (a, as) b pl lo hi h z bs ps t = absurd a
+        told-entries es more _ pl (s .to) hi h (λ u x y. z u (omega arith) y) bs ps (told-entry d b pl lo s (λ u x y. z u (omega arith) (omega arith)) bs ps t)
+    told-entries (phrase x ∷ es) (a, more) b pl lo hi h z bs ps t = absurd a
+    told-entries (mark m ∷ es) (a, more) b pl lo hi h z bs ps t = absurd a
 
     -- after a declaration, where the rest of the body leaves its tokens
     told-declared : (d : Declaration) (x : Body) (b : Block) (pl : Place) (lo hi p : ℕ) (ms : List ℕ) (q : Parted f (eventsDeclaration d) (eventsBody x []) (within b ∷ pl) (within (declaredIn f d b) ∷ pl) lo hi)
@@ -320,7 +320,7 @@ module _ (marks : List ℕ) where
     unfolding Text Along eventsStatement marksOf coreStatement own
     labels-led ended es b pl lo hi p ms h k ls d Q g i = g i
     labels-led (label l is) es b pl lo hi p ms ((s, h), (v, w)) k ls d Q g i =
-        let z = rises f _ _ (s .to) hi (h, w) in
+        let z = rises f (eventsItems is []) (enterLabel l (within b ∷ pl)) (s .to) hi (h, w) in
         marked l p d _ (set-final ms p (without-last l (l + 1) k (changes-items f is _ pl (s .to) hi p _ (h, w)) (omega arith)) (omega arith))
         (λ n. labels-led is (l ∷ es) _ pl (s .to) hi p (set ms l p) (h, w) (without-first (s .to) hi k (changes-set ms l p) (omega arith)) ls d Q (earlier n) i)
       where
@@ -440,8 +440,8 @@ module _ (marks : List ℕ) where
         agree-body (procedure t r x y) b pl lo hi p ms e ((s, h), (u, g)) k ls ps n l =
             let q = part-statement f x _ _ (s .to) hi (h, g) in
             let o = q .next .0 .0 in
-            let rest : Part f (eventsBody y []) _ (o .to) hi = (q .next .0 .1, q .next .1 .1) in
-            let z = rises f _ _ (o .to) hi rest in
+            let rest : Part f (eventsBody y []) (enterName t (within b ∷ pl)) (o .to) hi = (q .next .0 .1, q .next .1 .1) in
+            let z = rises f (eventsBody y []) (enterName t (within b ∷ pl)) (o .to) hi rest in
             let p1 = p + (4 + (sizeOf (coreStatement f x) + 2)) in
             let m1 = set ms t (p + 4) in
             let m2 = marksOf f x (p + 4) m1 in
@@ -464,7 +464,7 @@ module _ (marks : List ℕ) where
             → (ls ps : List Mark) → Told (b .names ∷ namesIn pl) ps → Told (b .labels ∷ labelsIn pl) ls → AgreeItems f marks ls ps is p
         agree-items ended b pl lo hi p ms h k ls ps n l = tt
         agree-items (label t is) b pl lo hi p ms ((s, h), (u, g)) k ls ps n l =
-            let z = rises f _ _ (s .to) hi (h, g) in
+            let z = rises f (eventsItems is []) (enterLabel t (within b ∷ pl)) (s .to) hi (h, g) in
             agree-items is _ pl (s .to) hi p _ (h, g) (without-first (s .to) hi k (changes-set ms t p) (omega arith)) ls ps n l
         agree-items (item x is) b pl lo hi p ms h k ls ps n l =
             let q = part-statement f x _ _ lo hi h in

@@ -34,7 +34,7 @@ token-requires : tie.Need-token-requires Inv-loop μ-loop
 token-requires c κs = search needs
 
 make-requires : tie.Need-make-requires Inv-loop μ-loop
-make-requires c κs = c .before .token .ensures .1
+make-requires c κs = omega (arith, c .before .token .ensures .1)
 
 made-size-requires : tie.Need-made-size-requires Inv-loop μ-loop
 made-size-requires c κs = search needs
@@ -43,10 +43,10 @@ add-q : tie.Need-add-q Inv-loop μ-loop
 add-q c = (let b = c .before .before .before .before .before .before .before .loop .inv .1 in let h = c .before .before .before .before .before .before .loop-test .taken in let n = c .before .before .before .before .before .before .before .before .before .before .before .before .before .before .before .before .before .before .pre in omega (arith, c .made-size .ensures .1))
 
 mark-after-requires : tie.Need-mark-after-requires Inv-loop μ-loop
-mark-after-requires c κs = (let b = c .before .before .before .before .before .before .before .before .loop .inv .1 in let h = c .before .before .before .before .before .before .before .loop-test .taken in let n = c .before .before .before .before .before .before .before .before .before .before .before .before .before .before .before .before .before .before .before .pre in (c .before .before .before .before .token .ensures .1, omega arith, omega (arith, c .before .made-size .ensures .1)))
+mark-after-requires c κs = (let b = c .before .before .before .before .before .before .before .before .loop .inv .1 in let h = c .before .before .before .before .before .before .before .loop-test .taken in let n = c .before .before .before .before .before .before .before .before .before .before .before .before .before .before .before .before .before .before .before .pre in (omega (arith, c .before .before .before .before .token .ensures .1), omega arith, omega (arith, c .before .made-size .ensures .1)))
 
 writing-after-requires : tie.Need-writing-after-requires Inv-loop μ-loop
-writing-after-requires c κs = c .before .before .before .before .before .before .before .token .ensures .1
+writing-after-requires c κs = omega (arith, c .before .before .before .before .before .before .before .token .ensures .1)
 
 add-i : tie.Need-add-i Inv-loop μ-loop
 add-i c = (let h = c .before .before .before .before .before .before .before .before .before .before .before .loop-test .taken in let n = c .before .before .before .before .before .before .before .before .before .before .before .before .before .before .before .before .before .before .before .before .before .before .before .pre in omega arith)

@@ -37,7 +37,7 @@ token-requires : tie.Need-token-requires Inv-loop μ-loop
 token-requires c κs = search needs
 
 make-requires : tie.Need-make-requires Inv-loop μ-loop
-make-requires c κs = c .token .ensures .1
+make-requires c κs = omega (arith, c .token .ensures .1)
 
 lay-made-requires : tie.Need-lay-made-requires Inv-loop μ-loop
 lay-made-requires c κs = (let b = c .before .before .before .before .before .before .before .loop .inv .1 in let k = c .before .before .before .before .before .before .before .loop .inv .2 in let l = c .before .before .before .before .before .before .before .loop .inv .4 in let h = c .before .before .before .before .before .before .loop-test .taken in let n = c .before .before .before .before .before .before .before .before .before .before .before .before .before .before .before .before .before .before .before .before .pre .0 in let o = c .before .before .before .before .before .before .before .before .before .before .before .before .before .before .before .before .before .before .before .before .pre .1 in let q = c .before .before .before .before .before .before .before .before .before .before .before .before .before .before .before .before .before .before .before .before .pre .2 in (omega arith, omega arith, c .before .before .before .before .before .before .before .before .before .before .before .before .before .before .before .before .before .before .before .before .pre .3, omega arith))
@@ -49,7 +49,7 @@ add-p : tie.Need-add-p Inv-loop μ-loop
 add-p c = (let b = c .before .before .before .before .before .before .before .before .before .before .before .before .before .loop .inv .1 in let h = c .before .before .before .before .before .before .before .before .before .before .before .before .loop-test .taken in let n = c .before .before .before .before .before .before .before .before .before .before .before .before .before .before .before .before .before .before .before .before .before .before .before .before .before .before .pre .0 in omega (arith, c .made-size .ensures .1))
 
 writing-after-requires : tie.Need-writing-after-requires Inv-loop μ-loop
-writing-after-requires c κs = c .before .before .before .before .before .before .before .before .before .token .ensures .1
+writing-after-requires c κs = omega (arith, c .before .before .before .before .before .before .before .before .before .token .ensures .1)
 
 add-i : tie.Need-add-i Inv-loop μ-loop
 add-i c = (let h = c .before .before .before .before .before .before .before .before .before .before .before .before .before .loop-test .taken in let n = c .before .before .before .before .before .before .before .before .before .before .before .before .before .before .before .before .before .before .before .before .before .before .before .before .before .before .before .pre .0 in omega arith)
