@@ -2,7 +2,7 @@
 
 use crate::runcase::{answer_line, Case, STORAGE_BEFORE};
 use crate::runner::{run, RunAnswer, STORAGE_NEEDED};
-use crate::{cmd_text, codetable, genrun, hercules, runspeed, runvectors};
+use crate::{cmd_text, cmd_watch, codetable, genrun, hercules, runspeed, runvectors};
 use std::io::{self, BufReader, BufWriter, Write};
 
 const USAGE: &str =
@@ -51,7 +51,8 @@ pub fn main(args: &[String]) -> i32 {
             print!("{report}");
             !equal as i32
         }),
-        _ => Err(wrong(&format!("{}\n{USAGE}", cmd_text::USAGE))),
+        [command, ..] if cmd_watch::COMMANDS.contains(command) => cmd_watch::main(&words),
+        _ => Err(wrong(&format!("{}\n{USAGE}\n{}", cmd_text::USAGE, cmd_watch::USAGE))),
     };
     done.unwrap_or_else(|error| {
         eprintln!("{error}");

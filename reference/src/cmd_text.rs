@@ -1,5 +1,6 @@
 //! The commands on source texts.
 
+use crate::examples;
 use crate::gen;
 use crate::random::Random;
 use crate::translate::translate;
@@ -15,10 +16,11 @@ pub const USAGE: &str = "usage:
   reference gen --histogram SEED COUNT   how these are answered
   reference sized LENGTH SEED   an accepted text of about that length
   reference speed            megabytes translated in a second, for texts of 1, 8 and 32 KB
-  reference vectors DIR      texts with their answers into DIR/texts, and DIR/MANIFEST.md";
+  reference vectors DIR      texts with their answers into DIR/texts, and DIR/MANIFEST.md
+  reference examples --compare|--write DIR   the results that stand beside the examples in DIR";
 
 /// The commands on texts; all others are about runs.
-pub const COMMANDS: [&str; 6] = ["translate", "batch", "gen", "sized", "speed", "vectors"];
+pub const COMMANDS: [&str; 7] = ["translate", "batch", "gen", "sized", "speed", "vectors", "examples"];
 
 /// Carries out a command on texts and gives the exit status.
 pub fn main(args: &[String]) -> i32 {
@@ -44,6 +46,8 @@ fn command(args: &[String]) -> io::Result<i32> {
         }
         ["speed"] => speed(),
         ["vectors", dir] => store_vectors(Path::new(dir)),
+        ["examples", "--compare", dir] => compare_examples(Path::new(dir)),
+        ["examples", "--write", dir] => write_examples(Path::new(dir)),
         _ => Err(io::Error::new(io::ErrorKind::InvalidInput, USAGE)),
     }
 }
@@ -146,6 +150,29 @@ fn store_vectors(dir: &Path) -> io::Result<i32> {
     let cases = vectors::cases();
     std::fs::write(dir.join("texts"), vectors::records(&cases))?;
     std::fs::write(dir.join("MANIFEST.md"), vectors::manifest(&cases))?;
+    Ok(0)
+}
+
+fn compare_examples(dir: &Path) -> io::Result<i32> {
+    let files = examples::files(dir)?;
+    let mut status = 0;
+    for (name, content) in &files {
+        if std::fs::read(dir.join(name)).ok().as_ref() != Some(content) {
+            println!("{name}: differs");
+            status = 1;
+        }
+    }
+    println!("{} files made again", files.len());
+    Ok(status)
+}
+
+/// Twice, since one file may be told of in another.
+fn write_examples(dir: &Path) -> io::Result<i32> {
+    for _ in 0..2 {
+        for (name, content) in examples::files(dir)? {
+            std::fs::write(dir.join(name), content)?;
+        }
+    }
     Ok(0)
 }
 

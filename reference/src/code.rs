@@ -4,6 +4,7 @@ use crate::grammar::*;
 use crate::kinds::{meaning, Meaning, DATA_BASE, PROGRAM_BASE};
 use crate::layout::{Layout, Place, FIRST_DATA, LAST_DATA};
 use crate::names::Found;
+use crate::slips::Slip;
 use crate::token::{Kind, Token};
 use std::collections::HashMap;
 
@@ -48,6 +49,7 @@ pub struct Findings<'a> {
     pub meanings: &'a [Meaning],
     pub labels: &'a [Option<TokenNo>],
     pub layout: &'a Layout,
+    pub slip: Slip,
 }
 
 /// The opcodes of one line of the code table: for a register, an integer cell or number, a short cell.
@@ -93,10 +95,11 @@ fn for_storage(opcodes: Opcodes, short: bool) -> u8 {
 }
 
 /// "Masks when a condition is false: = 7, ^= 9, < 11, <= 3, >= 5, > 13, OVERFLOW 14."
-fn false_mask(relation: Kind) -> u8 {
+fn false_mask(relation: Kind, slip: Slip) -> u8 {
     match relation {
         Kind::Equal => 7,
         Kind::NotEqual => 9,
+        Kind::Less if slip == Slip::LessAsTen => 10,
         Kind::Less => 11,
         Kind::LessEqual => 3,
         Kind::GreaterEqual => 5,
@@ -356,7 +359,7 @@ impl Writer<'_> {
                 relation
             }
         };
-        self.branch(false_mask(self.kind(*relation)), when_false);
+        self.branch(false_mask(self.kind(*relation), self.findings.slip), when_false);
     }
 
     fn assignment(&mut self, assignment: &Assignment) {

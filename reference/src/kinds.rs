@@ -5,6 +5,7 @@
 use crate::grammar::*;
 use crate::layout::{cell_size, COUNT_LIMIT};
 use crate::names::Found;
+use crate::slips::Slip;
 use crate::token::{Kind, Token};
 use crate::violations::Violations;
 
@@ -38,9 +39,15 @@ pub enum Meaning {
 }
 
 /// The meaning of every declared name, by its token.
-pub fn meanings(program: &Block, tokens: &[Token], found: &[Found], violations: &mut Violations) -> Vec<Meaning> {
+pub fn meanings(
+    program: &Block,
+    tokens: &[Token],
+    found: &[Found],
+    slip: Slip,
+    violations: &mut Violations,
+) -> Vec<Meaning> {
     let meanings = vec![Meaning::Unknown; tokens.len()];
-    let mut judge = Judge { tokens, found, meanings, violations, written: 0 };
+    let mut judge = Judge { tokens, found, slip, meanings, violations, bases: 0, written: 0 };
     judge.block(program, only(PROGRAM_BASE) | only(DATA_BASE));
     judge.meanings
 }
@@ -57,8 +64,11 @@ pub fn meaning(found: &[Found], meanings: &[Meaning], name: TokenNo) -> Meaning 
 struct Judge<'a, 'b> {
     tokens: &'a [Token],
     found: &'a [Found],
+    slip: Slip,
     meanings: Vec<Meaning>,
     violations: &'a mut Violations<'b>,
+    /// The bases of enclosing blocks.
+    bases: RegisterSet,
     /// What the text of the innermost procedure body has written so far.
     written: RegisterSet,
 }
@@ -71,6 +81,10 @@ impl Judge<'_, '_> {
     /// "Protected at a point: 15, 14, the bases of enclosing blocks declared so far, the return registers of enclosing
     /// procedures": `protected` is what holds where the block begins.
     fn block(&mut self, block: &Block, mut protected: RegisterSet) {
+        let outer_bases = self.bases;
+        if self.slip == Slip::BasesFreeInside {
+            protected &= !outer_bases;
+        }
         for declaration in &block.declarations {
             match declaration {
                 Declaration::Registers(items) => items.iter().for_each(|item| self.register_item(item)),
@@ -78,8 +92,13 @@ impl Judge<'_, '_> {
                 Declaration::Procedure(procedure) => self.procedure(procedure, protected),
                 Declaration::Base(name) => {
                     let register = self.register_but_zero(*name);
+                    let before = self.written;
                     self.writes(only(register), *name, protected);
+                    if self.slip == Slip::BasesForgotten {
+                        self.written = before;
+                    }
                     protected |= only(register);
+                    self.bases |= only(register);
                 }
             }
         }
@@ -88,6 +107,7 @@ impl Judge<'_, '_> {
                 self.statement(statement, protected);
             }
         }
+        self.bases = outer_bases;
     }
 
     /// "No statement, base declaration or call may write a protected register."
@@ -149,9 +169,10 @@ impl Judge<'_, '_> {
         let returns = only(register);
         self.meanings[procedure.name] = Meaning::Procedure { register, writes: returns };
         let outside = std::mem::take(&mut self.written);
-        self.statement(&procedure.body, protected | returns);
+        let kept = if self.slip == Slip::ReturnsFree { 0 } else { returns };
+        self.statement(&procedure.body, protected | kept);
         self.meanings[procedure.name] = Meaning::Procedure { register, writes: returns | self.written };
-        self.written |= outside;
+        self.written = if self.slip == Slip::NestedForgotten { outside } else { outside | self.written };
     }
 
     fn statement(&mut self, statement: &Statement, protected: RegisterSet) {
@@ -182,7 +203,13 @@ impl Judge<'_, '_> {
 
     fn call(&mut self, name: TokenNo, protected: RegisterSet) {
         match self.meaning(name) {
-            Meaning::Procedure { writes, .. } => self.writes(writes, name, protected),
+            Meaning::Procedure { register, writes } => {
+                let before = self.written;
+                self.writes(writes, name, protected);
+                if self.slip == Slip::CallsForgotten {
+                    self.written = before | only(register);
+                }
+            }
             Meaning::Unknown => {}
             _ => self.violations.add(8, name),
         }

@@ -1,6 +1,7 @@
 //! Labels: for every GOTO, the label that it means. Refusal 6 for GOTO, 7 and 13 for labels.
 
 use crate::grammar::*;
+use crate::slips::Slip;
 use crate::token::{Spelling, Token};
 use crate::violations::Violations;
 use std::collections::HashMap;
@@ -9,14 +10,15 @@ use std::collections::HashMap;
 pub const LABEL_LIMIT: usize = 256;
 
 /// The token that sets the label, for each token of a GOTO's name that has found one.
-pub fn labels(program: &Block, tokens: &[Token], violations: &mut Violations) -> Vec<Option<TokenNo>> {
-    let mut search = Search { tokens, violations, blocks: Vec::new(), set: 0, found: vec![None; tokens.len()] };
+pub fn labels(program: &Block, tokens: &[Token], slip: Slip, violations: &mut Violations) -> Vec<Option<TokenNo>> {
+    let mut search = Search { tokens, slip, violations, blocks: Vec::new(), set: 0, found: vec![None; tokens.len()] };
     search.block(program);
     search.found
 }
 
 struct Search<'a, 'b> {
     tokens: &'a [Token],
+    slip: Slip,
     violations: &'a mut Violations<'b>,
     /// The labels of the enclosing blocks inside the innermost procedure body, the innermost block last.
     blocks: Vec<HashMap<Spelling, TokenNo>>,
@@ -56,6 +58,9 @@ impl Search<'_, '_> {
 
     /// "but never past the edge of a procedure body"
     fn body(&mut self, body: &Statement) {
+        if self.slip == Slip::GotoOutOfBody {
+            return self.statement(body);
+        }
         let outside = std::mem::take(&mut self.blocks);
         self.statement(body);
         self.blocks = outside;
@@ -78,7 +83,9 @@ impl Search<'_, '_> {
 
     fn goto(&mut self, name: TokenNo) {
         let spelling = self.tokens[name].name;
-        let found = self.blocks.iter().rev().find_map(|own| own.get(&spelling));
+        let mut outward = self.blocks.iter().rev().filter_map(|own| own.get(&spelling));
+        let earlier = outward.clone().find(|&&label| self.slip == Slip::GotoToOuter && label < name);
+        let found = earlier.or_else(|| outward.next());
         self.violations.add_if(found.is_none(), 6, name);
         self.found[name] = found.copied();
     }

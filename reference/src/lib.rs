@@ -8,34 +8,48 @@
 //! The runner: `objread` reads object text, `machine` carries out one instruction, `runner` loads and runs; `genrun` makes
 //! runs to try it on, `runcase` has their form in files, `runvectors` stores them with their answers; `assemble`, `codetable`
 //! and `hercules` hold it against outside tools.
+//!
+//! `watch` watches a run of an accepted text, by what `meant` reads in the text; `hunt` makes texts that aim at protection,
+//! `slips` has wrong translators, and `watching` runs and tries the watcher on many.
+//!
+//! `examples` makes the results beside the examples, `refusals` the page on refusals, and `manual` reads the manual's texts.
 
 pub mod assemble;
 pub mod build;
 pub mod cmd_run;
 pub mod cmd_text;
+pub mod cmd_watch;
 pub mod code;
 pub mod codetable;
 pub mod earley;
+pub mod examples;
 pub mod gen;
 pub mod genrun;
 pub mod grammar;
 pub mod hercules;
+pub mod hunt;
 pub mod kinds;
 pub mod labels;
 pub mod layout;
 pub mod machine;
+pub mod manual;
+pub mod meant;
 pub mod names;
-pub mod objread;
 pub mod object;
+pub mod objread;
 pub mod points;
 pub mod random;
+pub mod refusals;
 pub mod rules;
 pub mod runcase;
 pub mod runner;
 pub mod runspeed;
 pub mod runvectors;
+pub mod slips;
 pub mod spell;
 pub mod token;
 pub mod translate;
 pub mod vectors;
 pub mod violations;
+pub mod watch;
+pub mod watching;

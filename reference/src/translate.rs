@@ -7,6 +7,7 @@ use crate::labels::labels;
 use crate::layout::{layout, next_multiple, FIRST_DATA, SEGMENT_LIMIT};
 use crate::names::names;
 use crate::object::{data_segments, object_text};
+use crate::slips::Slip;
 use crate::token::{tokens, Refusal, TEXT_LIMIT};
 use crate::violations::Violations;
 
@@ -20,28 +21,34 @@ pub struct Answer {
 
 /// The answer for a source and a buffer of `room` bytes, None for one that is always long enough.
 pub fn translate(source: &[u8], room: Option<usize>) -> Answer {
-    match object_for(source, room) {
+    translate_with(Slip::None, source, room)
+}
+
+/// The answer of a translator with a slip.
+pub fn translate_with(slip: Slip, source: &[u8], room: Option<usize>) -> Answer {
+    match object_for(slip, source, room) {
         Ok(object) => Answer { number: 0, place: 0, object },
         Err(Refusal { number, place }) => Answer { number, place, object: Vec::new() },
     }
 }
 
 /// "Groups in order: 1; 2, 3; 4, 5; 6 to 13; 14; 15; 16."
-fn object_for(source: &[u8], room: Option<usize>) -> Result<Vec<u8>, Refusal> {
+fn object_for(slip: Slip, source: &[u8], room: Option<usize>) -> Result<Vec<u8>, Refusal> {
     refuse_if(source.len() > TEXT_LIMIT, 1, TEXT_LIMIT)?;
     let tokens = &tokens(source)?;
     let program = &program(tokens)?;
 
     let mut violations = Violations::new(tokens);
     let found = names(program, tokens, &mut violations);
-    let labels = labels(program, tokens, &mut violations);
+    let labels = labels(program, tokens, slip, &mut violations);
     let layout = layout(program, tokens, &mut violations);
-    let meanings = meanings(program, tokens, &found, &mut violations);
+    let meanings = meanings(program, tokens, &found, slip, &mut violations);
     if let Some(least) = violations.least() {
         return Err(least);
     }
 
-    let code = code(program, Findings { tokens, found: &found, meanings: &meanings, labels: &labels, layout: &layout });
+    let findings = Findings { tokens, found: &found, meanings: &meanings, labels: &labels, layout: &layout, slip };
+    let code = code(program, findings);
     refuse_if(code.length > SEGMENT_LIMIT, 14, 0)?;
 
     // "from the next multiple of 4 after segment 1's cells"
@@ -49,7 +56,8 @@ fn object_for(source: &[u8], room: Option<usize>) -> Result<Vec<u8>, Refusal> {
     let first_literal = next_multiple(layout.ends[FIRST_DATA], 4);
     refuse_if(!literals.is_empty() && first_literal + 4 * literals.len() > SEGMENT_LIMIT, 15, 0)?;
 
-    let bytes = program_bytes(&code, &literals, first_literal);
+    let looked_for_at = if slip == Slip::LiteralsFourOff { first_literal + 4 } else { first_literal };
+    let bytes = program_bytes(&code, &literals, looked_for_at);
     let data = data_segments(program, tokens, &layout, &literals, first_literal);
     let object = object_text(&bytes, &data);
     refuse_if(matches!(room, Some(room) if room < object.len()), 16, object.len())?;

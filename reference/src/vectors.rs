@@ -25,7 +25,8 @@ pub struct Case {
     pub answer: Answer,
 }
 
-fn case(text: Vec<u8>, room: usize) -> Case {
+/// A text with its answer in so much room.
+pub fn case(text: Vec<u8>, room: usize) -> Case {
     let answer = translate(&text, Some(room));
     Case { text, room, answer }
 }

@@ -17,7 +17,7 @@ use Rattle.base.proofs.Tests.{cases}
 use Rattle.token.specs.Kinds as K
 use Rattle.grammar.specs.Tree.{Width, full, short, Condition, Statement, Body, procedure, Items}
 use Rattle.grammar.specs.Reader.{Result, ok, bad, Reader, andThen, look, next, want, wantOne}
-use Rattle.grammar.specs.Grammar.{inParens, designatorOf, operand, condition, operators, terms, signOf, assignmentOf, numbers, cellItem, registerItem, listOf, typeOf, cellsOf, afterType, declaration, afterName, openers, statementOf, itemsOf, Procedure, declarators, bodyOf, ifOf, constructOf, statement, procedureOf}
+use Rattle.grammar.specs.Grammar.{compounds, inParens, designatorOf, operand, condition, operators, terms, signOf, assignmentOf, numbers, cellItem, registerItem, listOf, typeOf, cellsOf, afterType, declaration, afterName, openers, statementOf, itemsOf, Procedure, declarators, bodyOf, ifOf, constructOf, statement, procedureOf}
 use Rattle.grammar.specs.Derives.{SameBefore, Inside, InsideBody, InsideItems}
 use Rattle.grammar.proofs.Tests.{no-token}
 use Rattle.grammar.proofs.Sequences.{reach}
@@ -343,10 +343,10 @@ module _ (kinds others : List ℕ) (k : ℕ) (same : SameBefore (k + 1) kinds ot
 
     if-alike : (t : ℕ) (c : Condition) (i : ℕ) → Alike (StatementAt (suc room)) i (ifOf (statement room) t c kinds i) (ifOf (statement room′) t c others i)
     unfolding ifOf andThen look next Inside
-    if-alike t c i = after-in _ _ (inner-alike i) (λ s m le. either-two (λ e z. eqb e K.ELSE && not (member z (K.IF ∷ K.WHILE ∷ K.FOR ∷ []))) m i m _ _ _ _ (omega arith) le
+    if-alike t c i = after-in _ _ (inner-alike i) (λ s m le. either-two (λ e z. eqb e K.ELSE && not (member z compounds)) m i m _ _ _ _ (omega arith) le
         (λ e. nexts (after-in _ _ (inner-alike (m + 1)) (λ u j le. gives) (λ t u j h. record { given = inr h })))
         (λ e. gives))
-        (λ t s m h. either-gives (eqb (getD others m 0) K.ELSE && not (member (getD others i 0) (K.IF ∷ K.WHILE ∷ K.FOR ∷ []))) _ _ others m (anything (statement room′ others (m + 1)) _ (λ u j. record { given = inl h })) (record { given = h }))
+        (λ t s m h. either-gives (eqb (getD others m 0) K.ELSE && not (member (getD others i 0) compounds)) _ _ others m (anything (statement room′ others (m + 1)) _ (λ u j. record { given = inl h })) (record { given = h }))
 
     module _ (proc-alike : (i : ℕ) → Alike (ProcedureAt room) i (procedureOf room kinds i) (procedureOf room′ others i)) where
       body-alike : (i : ℕ) → Alike (BodyAt room) i (bodyOf (statement room) (procedureOf room) (suc (length kinds)) kinds i) (bodyOf (statement room′) (procedureOf room′) (suc (length others)) others i)
@@ -374,7 +374,7 @@ module _ (kinds others : List ℕ) (k : ℕ) (same : SameBefore (k + 1) kinds ot
   opened inner proc i =
       either-gives (eqb (getD others i 0) K.BEGIN) _ _ others (i + 1) (anything (bodyOf inner proc (suc (length others)) others (i + 1)) _ (λ b j. record { given = refl }))
       (either-gives (eqb (getD others i 0) K.IF) _ _ others (i + 1)
-      (anything (condition others (i + 1)) _ (λ c m. anything (want K.THEN others m) _ (λ t p. anything (inner others p) _ (λ s q. either-gives (eqb (getD others q 0) K.ELSE && not (member (getD others p 0) (K.IF ∷ K.WHILE ∷ K.FOR ∷ []))) _ _ others q (anything (inner others (q + 1)) _ (λ u j. record { given = refl })) (record { given = refl })))))
+      (anything (condition others (i + 1)) _ (λ c m. anything (want K.THEN others m) _ (λ t p. anything (inner others p) _ (λ s q. either-gives (eqb (getD others q 0) K.ELSE && not (member (getD others p 0) compounds)) _ _ others q (anything (inner others (q + 1)) _ (λ u j. record { given = refl })) (record { given = refl })))))
       (either-gives (eqb (getD others i 0) K.WHILE) _ _ others (i + 1)
       (anything (condition others (i + 1)) _ (λ c m. anything (want K.DO others m) _ (λ t p. anything (inner others p) _ (λ s j. record { given = refl }))))
       (anything (want K.NAME others (i + 1)) _ (λ n p. anything (assignmentOf n others p) _ (λ a m. anything (want K.STEP others m) _ (λ x q. anything (want K.NUMBER others q) _ (λ v r. anything (want K.UNTIL others r) _ (λ y u. anything (operand others u) _ (λ l w. anything (want K.DO others w) _ (λ z o. anything (inner others o) _ (λ s j. record { given = refl })))))))))))

@@ -15,7 +15,7 @@ use Rattle.base.proofs.Tests.{never-true}
 use Rattle.token.specs.Kinds as K
 use Rattle.grammar.specs.Tree.{Designator, Operand, number, place, Sign, plain, abs, neg, negAbs, Term, Assignment, Condition, compared, bare, Width, full, short, Register, Item, Declaration, registers, cells, base, Statement, assign, call, block, goto, null, ifThen, ifElse, while, for, Body, declare, procedure, items, Items, ended, label, item}
 use Rattle.grammar.specs.Reader.{Result, ok, Reader, andThen, look, next, want, wantOne, give, refuse, _>>=_, _>>_}
-use Rattle.grammar.specs.Grammar.{designatorOf, operand, relations, condition, operators, terms, signOf, assignmentOf, numbers, cellItem, registerItem, listOf, typeOf, cellsOf, afterType, declaration, afterName, statementOf, itemsOf, Procedure, declarators, bodyOf, ifOf, constructOf, statement, procedureOf}
+use Rattle.grammar.specs.Grammar.{compounds, designatorOf, operand, relations, condition, operators, terms, signOf, assignmentOf, numbers, cellItem, registerItem, listOf, typeOf, cellsOf, afterType, declaration, afterName, statementOf, itemsOf, Procedure, declarators, bodyOf, ifOf, constructOf, statement, procedureOf}
 use Rattle.grammar.specs.Derives.{Part, isShape, isDesignator, isOperand, isCondition, isSign, areTerms, isAssignment, areNumbers, isItem, isRegister, areMore, areSome, integerOrLogical, isType, isDeclaration, simple, isStatement, isBody, isItems, isBlock, isProgram, nestingOf, bodyNesting, itemsNesting}
 use Rattle.grammar.proofs.Tests.{has, real, oneAt, one-real, isnt-one, passes, fails, inside, isnt}
 use Rattle.grammar.proofs.Kept.{keep-operand, keep-item, keep-register, keep-declaration, keep-statement}
@@ -217,7 +217,7 @@ module _ (kinds : List ℕ) where
   statement-first (while t c s) i j h f = inr (rw (h .1))
   statement-first (for t a v l s) i j h f = inr (rw (h .1))
 
-  simple-first : (s : Statement) (i j : ℕ) → isStatement kinds s i j → simple s ≡ true → member (getD kinds i 0) (K.IF ∷ K.WHILE ∷ K.FOR ∷ []) ≡ false
+  simple-first : (s : Statement) (i j : ℕ) → isStatement kinds s i j → simple s ≡ true → member (getD kinds i 0) compounds ≡ false
   unfolding isStatement
   simple-first (assign a) i j h e = rw (assignment-name a i j h)
   simple-first (call n) i j h e = rw (h .1)
@@ -258,7 +258,7 @@ module _ (kinds : List ℕ) where
     unfolding statementOf constructOf ifOf look next andThen want
     if-then-step i m j c s h e t k n = rw (h, h, e, t, k, n)
 
-    if-else-step : (i m n j : ℕ) (c : Condition) (s u : Statement) → getD kinds i 0 ≡ K.IF → condition kinds (i + 1) ≡ ok c m → getD kinds m 0 ≡ K.THEN → inner kinds (m + 1) ≡ ok s n → member (getD kinds (m + 1) 0) (K.IF ∷ K.WHILE ∷ K.FOR ∷ []) ≡ false → getD kinds n 0 ≡ K.ELSE → inner kinds (n + 1) ≡ ok u j → statementOf (constructOf inner proc) kinds i ≡ ok (ifElse i c s n u) j
+    if-else-step : (i m n j : ℕ) (c : Condition) (s u : Statement) → getD kinds i 0 ≡ K.IF → condition kinds (i + 1) ≡ ok c m → getD kinds m 0 ≡ K.THEN → inner kinds (m + 1) ≡ ok s n → member (getD kinds (m + 1) 0) compounds ≡ false → getD kinds n 0 ≡ K.ELSE → inner kinds (n + 1) ≡ ok u j → statementOf (constructOf inner proc) kinds i ≡ ok (ifElse i c s n u) j
     unfolding statementOf constructOf ifOf look next andThen want
     if-else-step i m n j c s u h e t k f l v = rw (h, h, e, t, k, f, l, v)
 

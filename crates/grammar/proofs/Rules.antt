@@ -16,7 +16,7 @@ use Rattle.base.proofs.Lists.{each}
 use Rattle.token.specs.Kinds as K
 use Rattle.grammar.specs.Tree.{Designator, Operand, number, place, Sign, plain, abs, neg, negAbs, Term, Assignment, Condition, compared, bare, Width, full, short, Register, Item, Declaration, registers, cells, base, Statement, assign, call, block, goto, null, ifThen, ifElse, while, for, Body, declare, procedure, items, Items, ended, label, item}
 use Rattle.grammar.specs.Reader.{Result, ok, bad, Reader, andThen, look, next, want}
-use Rattle.grammar.specs.Grammar.{designatorOf, operand, relations, condition, operators, terms, signOf, assignmentOf, numbers, cellItem, registerItem, listOf, typeOf, cellsOf, afterType, declaration, afterName, openers, statementOf, itemsOf, Procedure, declarators, bodyOf, ifOf, constructOf, statement, procedureOf, nesting, program}
+use Rattle.grammar.specs.Grammar.{compounds, designatorOf, operand, relations, condition, operators, terms, signOf, assignmentOf, numbers, cellItem, registerItem, listOf, typeOf, cellsOf, afterType, declaration, afterName, openers, statementOf, itemsOf, Procedure, declarators, bodyOf, ifOf, constructOf, statement, procedureOf, nesting, program}
 use Rattle.grammar.specs.Derives.{Part, Begins, only, within, constructs, nestingOf, bodyNesting, itemsNesting, isDesignator, isOperand, isCondition, isSign, areTerms, isAssignment, areNumbers, isItem, isRegister, areMore, areSome, integerOrLogical, isType, isDeclaration, simple, isProcedure, isStatement, isBody, isItems, isBlock, isProgram, isProgramWithin}
 use Rattle.grammar.proofs.Tests.{has, real, later, the-one, second, first, both}
 use Rattle.grammar.proofs.Kept.{keep-designator, keep-operand, keep-condition, keep-sign, keep-terms, keep-assignment, keep-numbers, keep-item, keep-register, keep-some, keep-type, keep-declaration, keep-procedure, keep-statement, keep-body, keep-items, keep-only, keep-within, keep-block}
@@ -454,7 +454,7 @@ module _ {kinds : List ℕ} (room i : ℕ) where
   as-if-else = starts (λ d o t c m h e s n (p, hs) x u j (q, hu). (omega arith, (refl, t, (m, h, (e, (n, hs, (refl, x, hu)))))))
 
 -- a statement that does not begin with IF, WHILE or FOR is simple
-simple-begin : (kinds : List ℕ) (s : Statement) (i j : ℕ) → isStatement kinds s i j → member (getD kinds i 0) (K.IF ∷ K.WHILE ∷ K.FOR ∷ []) ≡ false → simple s ≡ true
+simple-begin : (kinds : List ℕ) (s : Statement) (i j : ℕ) → isStatement kinds s i j → member (getD kinds i 0) compounds ≡ false → simple s ≡ true
 unfolding isStatement
 simple-begin kinds (assign a) i j h n = refl
 simple-begin kinds (call t) i j h n = refl
@@ -501,7 +501,7 @@ module _ (kinds : List ℕ) where
     right-if : (i m : ℕ) (c : Condition) → getD kinds i 0 ≡ K.IF → isCondition kinds c (i + 1) m → getD kinds m 0 ≡ K.THEN → Right (statementIn (suc room)) kinds i (ifOf inner i c kinds (m + 1))
     unfolding ifOf andThen look next
     right-if i m c f h t =
-        reads _ (leads-token (leads-part (leads-token (as-if-then room i) f) h) t) (right-inner (m + 1)) (λ s n hs l. either (has kinds n K.ELSE && not (member (getD kinds (m + 1) 0) (K.IF ∷ K.WHILE ∷ K.FOR ∷ []))) _ _ _
+        reads _ (leads-token (leads-part (leads-token (as-if-then room i) f) h) t) (right-inner (m + 1)) (λ s n hs l. either (has kinds n K.ELSE && not (member (getD kinds (m + 1) 0) compounds)) _ _ _
         (λ e. let (x, y) = both _ _ e in
         reads _ (leads-token (leads-part (leads-token (leads-part (leads-token (as-if-else room i) f) h) t) (hs .0, (simple-begin kinds s (m + 1) n (hs .1) (not-true _ y), hs .1))) (eqb-true _ _ x)) (right-inner (n + 1)) (λ u j hu. gives))
         (λ e. gives l))

@@ -255,13 +255,17 @@ bodyOf inner proc (suc fuel) = do
 -- ── "statement = simple; IF condition THEN statement; IF condition THEN simple ELSE statement; WHILE condition DO statement; FOR assignment STEP number
 -- UNTIL operand DO statement." ──
 
+-- the words with which a statement begins that is not simple
+abbrev pub compounds : List ℕ
+compounds = K.IF ∷ K.WHILE ∷ K.FOR ∷ []
+
 -- after THEN: an ELSE goes with a true part that is simple
 unfoldable pub ifOf : Reader Statement → ℕ → Condition → Reader Statement
 ifOf inner t c = do
   k ← look
   s ← inner
   e ← look
-  if eqb e K.ELSE && not (member k (K.IF ∷ K.WHILE ∷ K.FOR ∷ []))
+  if eqb e K.ELSE && not (member k compounds)
       then (do e ← next; u ← inner; give (ifElse t c s e u))
       else give (ifThen t c s)
 

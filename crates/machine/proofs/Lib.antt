@@ -3,3 +3,4 @@ pub mod Runs
 pub mod Stops
 pub mod Resumes
 pub mod Outside
+pub mod Effects

@@ -150,7 +150,7 @@ step-keeps m c s =
     untouched)
     untouched .keeps
 
-keeps-then : {m : Space} {s t u : List ℕ} → Keeps m s t → Keeps m t u → Keeps m s u
+pub keeps-then : {m : Space} {s t u : List ℕ} → Keeps m s t → Keeps m t u → Keeps m s u
 keeps-then p q = record { long = q .long ∙ p .long; kept = λ a h. q .kept a h ∙ p .kept a h }
 
 -- and so does a run

@@ -4,3 +4,5 @@ pub mod Instructions
 pub mod Step
 pub mod Run
 pub mod Lent
+pub mod Writes
+pub mod Operands

@@ -129,7 +129,7 @@ module _
     marks = replicate (length ts) 0
 
     bound : Along (Goes (named ts x .found) (labelled ts x .goes)) (eventsOf x) []
-    bound = goes-along (valuesOf ts) _ _ (eventsOf x) [] (names-found ts x to program inside) (labels-led ts x to program inside)
+    bound = goes-along (valuesOf ts) (named ts x .found) (labelled ts x .goes) (eventsOf x) [] (names-found ts x to program inside) (labels-led ts x to program inside)
 
     coded : along (kindsOf ts) (valuesOf ts) (named ts x .found) (labelled ts x .goes) means under (m .opens) offsets
         (placesAlong (kindsOf ts) (valuesOf ts) (named ts x .found) (labelled ts x .goes) means under (m .opens) offsets marks tape .marks) noWriting tape

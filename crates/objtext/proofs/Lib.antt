@@ -4,3 +4,4 @@ pub mod Written
 pub mod Places
 pub mod Segments
 pub mod Walks
+pub mod Exact

@@ -1,19 +1,18 @@
 -- The reader at places of a text: what stands at the front of `drop i t`, and the turns of the loops in the form of their invariants. Assumes nothing.
 use Prim.Native.Nat.{ℕ, zero, suc, _+_, _-_, _*_, _/_, _%_, _<_, _≤_, min}
-use mathlib.Core.Path.{_≡_, refl, sym, ap, ap₂, _∙_, subst}
+use mathlib.Core.Path.{_≡_, refl, sym, ap, _∙_, subst}
 use mathlib.Core.Bool.{Bool, true, false, _&&_}
-use mathlib.Core.List.{List, [], _∷_, _++_}
+use mathlib.Core.List.{List, _++_}
 use native.Mathlib.Omega.{arith}
 use native.Mathlib.Decide.{decLe}
-use lib.Dec.{eqb, ltb, leb}
-use lib.ListN.{length, take, drop, getD, set, length-append, length-drop, drop-of-length-le, List·getD-append}
+use lib.Dec.{eqb, leb}
+use lib.ListN.{length, drop, getD, set, length-append, drop-of-length-le, List·getD-append}
 use lib.Seq.{drop-drop, getD-drop, getD-append-add, sets}
-use borrow.Author.Tests.{lt-ltb, le-ltb, le-leb, lt-leb, eq-eqb, ne-eqb, eqb-true, eqb-false, leb-true}
-use Rattle.base.specs.Choose.{choose}
+use borrow.Author.Tests.{lt-ltb, le-ltb, le-leb, lt-leb}
 use Rattle.base.proofs.Tests.{cases}
 use Rattle.base.proofs.Parts.{drop-turn}
-use Rattle.objtext.specs.Object.{Segment, framesFor, newline}
-use Rattle.objtext.specs.Reader.{digitOf, joinOf, byteOf, frontBytes, twoOf, isLine, contentLength, isContentFrame, isContent, contentAt, headLength, headFrom, headTo, isProgramHead, isDataHead, also, isProgram, afterProgram, isData, afterData, isLast}
+use Rattle.objtext.specs.Object.{framesFor, newline}
+use Rattle.objtext.specs.Reader.{digitOf, joinOf, byteOf, frontBytes, twoOf, isLine, contentLength, isContentFrame, isContent, contentAt, headLength, headFrom, headTo, isProgramHead, isDataHead, also, isProgram, afterProgram, isData, afterData}
 
 -- ── bytes ──
 
@@ -234,11 +233,10 @@ pub after-data-place : (t : List ℕ) (i : ℕ) → drop (i + (17 + contentLengt
 unfolding afterData
 after-data-place t i = sym (drop-drop (17 + contentLength (headLength (drop i t))) i t)
 
-pub last-place : (t : List ℕ) (i : ℕ) → (eqb (byteOf (drop i t)) 255 && eqb (getD t (i + 2) 0) newline && eqb (i + 3) (length t)) ≡ isLast (drop i t)
-unfolding isLast
-last-place t i =
-    let e : eqb (i + 3) (length t) ≡ eqb (length (drop i t)) 3
-    = cases (eqb (i + 3) (length t))
-    (λ h. let q = eqb-true (i + 3) (length t) h in h ∙ sym (eq-eqb (length (drop i t)) 3 (omega (arith, length-drop i t))))
-    (λ h. let q = eqb-false (i + 3) (length t) h in h ∙ sym (ne-eqb (length (drop i t)) 3 (λ z. q (omega (arith, length-drop i t))))) in
-    rw (getD-drop i t 2 0, e)
+-- two tests that are passed together
+pub same-test : (a b : Bool) → (a ≡ true → b ≡ true) → (a ≡ false → b ≡ false) → a ≡ b
+same-test a b f g = cases a (λ h. h ∙ sym (f h)) (λ h. h ∙ sym (g h))
+
+pub last-place : (t : List ℕ) (i : ℕ) {x y : Bool} → x ≡ y
+    → (eqb (byteOf (drop i t)) 255 && eqb (getD t (i + 2) 0) newline && x) ≡ (eqb (byteOf (drop i t)) 255 && eqb (getD (drop i t) 2 0) newline && y)
+last-place t i e = rw (getD-drop i t 2 0, e)

@@ -25,7 +25,7 @@ pub record Walk (n : ℕ) (t : List ℕ) : Type 0 where
 
 -- ── what a reading that is no refusal says ──
 
-no-some {ℓ} : {X : Type ℓ} (gs : List Segment) → _≡_ {A = Read} none (some gs) → X
+pub no-some {ℓ} : {X : Type ℓ} (gs : List Segment) → _≡_ {A = Read} none (some gs) → X
 no-some gs e = absurd (let z : _≡_ {A = ℕ} 0 1 = cc in omega arith)
 
 -- a segment was read, and others behind it
@@ -35,7 +35,7 @@ pub record Behind (b : Bool) (next : Unit {0} → Read) (g : Segment) (gs : List
   pub read : next tt ≡ some others
   pub whole : gs ≡ g ∷ others
 
-behind : (b : Bool) (next : Unit {0} → Read) (g : Segment) (gs : List Segment) → onSegment b g next ≡ some gs → Behind b next g gs
+pub behind : (b : Bool) (next : Unit {0} → Read) (g : Segment) (gs : List Segment) → onSegment b g next ≡ some gs → Behind b next g gs
 unfolding onSegment push
 behind false next g gs e = no-some gs e
 behind true next g gs e = go (next tt) refl e
@@ -44,7 +44,7 @@ behind true next g gs e = go (next tt) refl e
     go none q f = no-some gs f
     go (some hs) q f = record { is = refl; others = hs; read = q; whole = cc }
 
-at-end : (b : Bool) (next : Unit {0} → Read) (gs : List Segment) → atLast b next ≡ some gs → (b ≡ true → length gs ≡ 0) × (b ≡ false → next tt ≡ some gs)
+pub at-end : (b : Bool) (next : Unit {0} → Read) (gs : List Segment) → atLast b next ≡ some gs → (b ≡ true → length gs ≡ 0) × (b ≡ false → next tt ≡ some gs)
 unfolding atLast
 at-end true next gs e = (λ h. ap length (let q : gs ≡ [] = cc in q), λ h. absurd (subst T h tt))
 at-end false next gs e = (λ h. absurd (subst T (sym h) tt), λ h. e)

@@ -58,7 +58,7 @@ fits-rest m k o bs f =
     record { bytes = all-drop Byte 16 bs (f .bytes); number = f .number; offset = λ z. omega (arith, h (omega arith)); frames = omega arith }
 
 -- what is read of m frames hangs on the text only where there are any
-only-frames : (m k o n : ℕ) (s t : List ℕ) → (0 < m → s ≡ t) → isContent m k o n t ≡ true → isContent m k o n s ≡ true
+pub only-frames : (m k o n : ℕ) (s t : List ℕ) → (0 < m → s ≡ t) → isContent m k o n t ≡ true → isContent m k o n s ≡ true
 only-frames zero k o n s t h e = refl
 only-frames (suc m) k o n s t h e = rw (h (omega arith)) e
 
@@ -90,7 +90,7 @@ module _ (m k o : ℕ) (bs s : List ℕ) (f : Fits (suc m) k o bs) where
       rw (← line-before (contentFrame k o (take 16 bs)) s)
       (frame-after k o (take 16 bs) s (f .number) (omega arith) (omega (arith, taken)) (all-take Byte 16 bs (f .bytes)) (omega (arith, taken)))
 
-abbrev framesText : ℕ → ℕ → ℕ → List ℕ → List ℕ → List ℕ
+abbrev pub framesText : ℕ → ℕ → ℕ → List ℕ → List ℕ → List ℕ
 framesText m k o bs s = textOf (contentFrames m k o bs) ++ s
 
 frames-before : (m k o : ℕ) (bs s : List ℕ) → framesText (suc m) k o bs s ≡ before (contentFrame k o (take 16 bs)) (framesText m k (o + 16) (drop 16 bs) s)
@@ -137,10 +137,10 @@ length-frames k o bs = frames-length (framesFor (length bs)) k o bs (omega arith
 segment-fits : (k : ℕ) (bs : List ℕ) → k < 256 → Bytes bs → length bs ≤ 4096 → Fits (framesFor (length bs)) k 0 bs
 segment-fits k bs hk a h = record { bytes = a; number = hk; offset = λ z. omega arith; frames = refl }
 
-abbrev segmentText : ℕ → Segment → List ℕ → List ℕ
+abbrev pub segmentText : ℕ → Segment → List ℕ → List ℕ
 segmentText k g s = before (headFrame k g) (framesText (framesFor (length (contentOf g))) k 0 (contentOf g) s)
 
-segment-before : (k : ℕ) (g : Segment) (s : List ℕ) → textOf (segmentFrames k g) ++ s ≡ segmentText k g s
+pub segment-before : (k : ℕ) (g : Segment) (s : List ℕ) → textOf (segmentFrames k g) ++ s ≡ segmentText k g s
 segment-before k g s =
     append-assoc (line (headFrame k g)) (textOf (contentFrames (framesFor (length (contentOf g))) k 0 (contentOf g))) s
     ∙ line-before (headFrame k g) (framesText (framesFor (length (contentOf g))) k 0 (contentOf g) s)

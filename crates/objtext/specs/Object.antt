@@ -1,4 +1,5 @@
 -- Document 01, "Object text": an object is the list of its segments, in number order from 0, and its text has a line for each frame.
+use mathlib.Core.Path.{_≡_}
 use mathlib.Core.List.{List, [], _∷_, _++_}
 use Prim.Native.Nat.{ℕ, zero, suc, _+_, _/_, _%_, _<_, _≤_}
 use lib.ListN.{length, take, drop, getD}
@@ -110,3 +111,8 @@ abbrev pub Object : List Segment → Type 0
 Object [] = ⊥
 Object (program c ∷ gs) = IsObject c gs
 Object (cells c from to ∷ gs) = ⊥
+
+-- "exactly of the form above": a text is that of an object, or that of none
+pub data Form (text : List ℕ) : Type 0 where
+  of-object : (gs : List Segment) → Object gs → objectText gs ≡ text → Form text
+  of-none : ((gs : List Segment) → Object gs → objectText gs ≡ text → ⊥) → Form text

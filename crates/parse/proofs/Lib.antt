@@ -1,3 +1,4 @@
 pub mod Rules
 pub mod Texts
 pub mod Cases
+pub mod Theorems

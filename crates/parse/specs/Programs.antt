@@ -2,7 +2,7 @@
 use mathlib.Core.Path.{_≡_}
 use mathlib.Core.List.{List, [], map}
 use mathlib.Core.Logic.{_⊎_}
-use Prim.Native.Nat.{ℕ, zero, suc, _≤_}
+use Prim.Native.Nat.{ℕ, zero, suc, _+_, _≤_}
 use lib.ListN.{length, take, getD}
 use Rattle.token.specs.Text.{Reading, tokensOf, TEXT-LIMIT}
 use Rattle.token.specs.Answers.{kindOf, placeOf}
@@ -24,11 +24,12 @@ abbrev pub toldOf : Result Statement → Told
 toldOf (ok x j) = record { number = 0; token = j; events = tapeStatement x [] }
 toldOf (bad n t) = record { number = n; token = t; events = [] }
 
--- the answer for the program from the token `first` on, with the tape at the end
+-- the answer for the program from the token `first` on, with the tape at the end; no more events than tokens
 pub record Parsed (kinds : List ℕ) (first : ℕ) (tape : List ℕ) (r : Answer) : Type 0 where
   pub is : record { number = r .number; token = r .at; events = take (r .value) tape } ≡ toldOf (G.program kinds first)
   pub inside : r .at ≤ length kinds
   pub fits : r .value ≤ length tape
+  pub few : first + r .value ≤ length kinds
   pub read : r .number ≡ 0 → (x : Statement) × (G.program kinds first ≡ ok x (r .at))
   pub known : (r .number ≡ 0) ⊎ ((r .number ≡ 4) ⊎ (r .number ≡ 5))
 

@@ -1,3 +1,8 @@
-pub mod Loads
-pub mod Spaces
 pub mod Cases
+pub mod Forms
+pub mod Loads
+pub mod Loaded
+pub mod Refusals
+pub mod Spaces
+pub mod Stopping
+pub mod Theorems

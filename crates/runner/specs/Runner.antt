@@ -1,12 +1,11 @@
 -- Document 01, "Runner": the whole answer to an object text, 16 registers, a condition code, a budget and storage.
 use mathlib.Core.List.{List}
-use mathlib.Core.Option.{Option, none, some}
 use Prim.Native.Nat.{ℕ}
 use lib.Dec.{ltb}
 use lib.ListN.{length}
 use Rattle.base.specs.Choose.{choose}
-use Rattle.objtext.specs.Object.{Segment}
-use Rattle.objtext.specs.Reader.{readObject}
+use Rattle.objtext.specs.Object.{Segment, Form, of-object, of-none}
+use Rattle.objtext.proofs.Exact.{form}
 use Rattle.machine.specs.Space.{needed}
 use Rattle.machine.specs.Run.{Result, run}
 use Rattle.runner.specs.declared.Answer.{Answer}
@@ -44,14 +43,20 @@ accepted r =
       store = r .store;
     }
 
-abbrev pub judged : Option (List Segment) → List ℕ → ℕ → ℕ → List ℕ → Outcome
-judged none regs k budget s = refused 17 regs k s
-judged (some gs) regs k budget s =
+-- "18 code over 3; 19 storage under 20,480 bytes", and else the run of what is loaded
+abbrev pub onObject : List Segment → List ℕ → ℕ → ℕ → List ℕ → Outcome
+onObject gs regs k budget s =
     choose (ltb 3 k) (refused 18 regs k s)
     (choose (ltb (length s) needed) (refused 19 regs k s) (accepted (run budget (spaceOf gs) (started regs k) (loaded gs s))))
 
+-- "Refusals, in order …: 17 text not exactly of the form above"
+abbrev pub onForm : {text : List ℕ} → Form text → List ℕ → ℕ → ℕ → List ℕ → Outcome
+onForm (of-object gs o e) regs k budget s = onObject gs regs k budget s
+onForm (of-none n) regs k budget s = refused 17 regs k s
+
+-- every text is of the form or not: `form` tells which
 unfoldable pub runner : List ℕ → List ℕ → ℕ → ℕ → List ℕ → Outcome
-runner text regs k budget s = judged (readObject text) regs k budget s
+runner text regs k budget s = onForm (form text) regs k budget s
 
 -- the answer of a refusal
 abbrev pub refusal : Verdict → List ℕ → ℕ → Answer

@@ -9,3 +9,5 @@ pub mod Gaps
 pub mod Readings
 pub mod Shape
 pub mod Values
+pub mod Refused
+pub mod Theorems

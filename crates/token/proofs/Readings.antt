@@ -69,7 +69,7 @@ module _ (s : List ℕ) (at : ℕ) (o : Outcome) (h : at ≤ length s) (e : o �
   next l = rw (drop-cons s at 0 l) (ap (λ (x : Outcome). readBy x at (λ n. readFrom (suc at) (pred n) (drop (suc at) s))) (ap nextToken (sym (drop-cons s at 0 l)) ∙ found))
 
   -- how reading goes on: with a token, after which the rest is read; with the last token; or with a refusal
-  read-on : (t : Token) (end : ℕ) → o ≡ read t end → isLast (t .kind) ≡ false → rest at s ≡ after (moved at t) (rest (at + end) s)
+  pub read-on : (t : Token) (end : ℕ) → o ≡ read t end → isLast (t .kind) ≡ false → rest at s ≡ after (moved at t) (rest (at + end) s)
   read-on t end q l = go (decLe (length s) at)
     where
       go : Dec (length s ≤ at) → rest at s ≡ after (moved at t) (rest (at + end) s)
@@ -84,7 +84,7 @@ module _ (s : List ℕ) (at : ℕ) (o : Outcome) (h : at ≤ length s) (e : o �
           (ap (λ (r : Reading). after (moved at t) r)
           (skip (suc at) (pred end) (drop (suc at) s) (omega (arith, length-drop (suc at) s)) ∙ rw (drop-drop (pred end) (suc at) s, j)))
 
-  read-last : (t : Token) (end : ℕ) → o ≡ read t end → isLast (t .kind) ≡ true → rest at s ≡ ended (moved at t ∷ [])
+  pub read-last : (t : Token) (end : ℕ) → o ≡ read t end → isLast (t .kind) ≡ true → rest at s ≡ ended (moved at t ∷ [])
   unfolding readFrom tokenIn
   read-last t end q l = go (decLe (length s) at)
     where
@@ -94,7 +94,7 @@ module _ (s : List ℕ) (at : ℕ) (o : Outcome) (h : at ≤ length s) (e : o �
           rw (drop-of-length-le s m, z, add-zero at)
       go (no m) = next (omega arith) ∙ rw (q, l)
 
-  read-no : (number place : ℕ) → o ≡ refused number place → rest at s ≡ refusedAt number (at + place)
+  pub read-no : (number place : ℕ) → o ≡ refused number place → rest at s ≡ refusedAt number (at + place)
   unfolding isRead
   read-no number place q = go (decLe (length s) at)
     where

@@ -1,5 +1,6 @@
 -- Document 01, "Text and tokens", and refusals 1 to 3; what the answers of the code say; what its inner functions promise.
 pub mod Kinds
 pub mod Text
+pub mod Refusals
 pub mod Answers
 pub mod Inner

@@ -5,6 +5,7 @@ use Prim.Native.Nat.{ℕ, zero, suc, _+_, _*_, _≤_, _<_}
 use native.Mathlib.Omega.{arith}
 use lib.ListN.{length, take, getD, replicate, length-replicate}
 use lib.Dec.{ltb}
+use lib.Seq.{length-take-le}
 use borrow.Author.Tests.{lt-ltb}
 use Rattle.token.specs.Text.{Reading, tokensOf, TEXT-LIMIT}
 use Rattle.token.specs.Answers.{Summary, summaryOf, summed}
@@ -130,30 +131,19 @@ module _ (src kinds values places : List ℕ) (answer : Tokens) (d : Fronted src
     cut-blank l z h = ap (λ (k : List ℕ). take (firstToken + n) k) z ∙ (take-zeros (firstToken + n) (length l) h ∙ ap (λ (k : ℕ). replicate k 0) (sym tokens-long))
 
     pub cut-blanks :
-        (found goes means opens written offsets marks : List ℕ) → Zeros found × Zeros goes × Zeros means × Zeros opens × Zeros written × Zeros offsets × Zeros marks
-        → (firstToken + n ≤ length found) × (firstToken + n ≤ length goes) × (firstToken + n ≤ length means) × (firstToken + n ≤ length opens) × (firstToken + n ≤ length written)
-        × (firstToken + n ≤ length offsets) × (firstToken + n ≤ length marks)
-        → Blanks (allTokens src) (take (firstToken + n) found) (take (firstToken + n) goes) (take (firstToken + n) means) (take (firstToken + n) opens) (take (firstToken + n) written) (take (firstToken + n) offsets) (take (firstToken + n) marks)
-    cut-blanks found goes means opens written offsets marks z h = record {
-      no-found = cut-blank found (z .0) (h .0);
-      no-goes = cut-blank goes (z .1) (h .1);
-      no-means = cut-blank means (z .2) (h .2);
-      no-opens = cut-blank opens (z .3) (h .3);
-      no-written = cut-blank written (z .4) (h .4);
-      no-offsets = cut-blank offsets (z .5) (h .5);
-      no-marks = cut-blank marks (z .6) (h .6);
-    }
+        (found goes means : List ℕ) → Zeros found × Zeros goes × Zeros means → (firstToken + n ≤ length found) × (firstToken + n ≤ length goes) × (firstToken + n ≤ length means)
+        → Blanks (allTokens src) (take (firstToken + n) found) (take (firstToken + n) goes) (take (firstToken + n) means)
+    cut-blanks found goes means z h = record { no-found = cut-blank found (z .0) (h .0); no-goes = cut-blank goes (z .1) (h .1); no-means = cut-blank means (z .2) (h .2) }
 
     pub text-read :
-        (found goes means opens written offsets marks out out′ : List ℕ) (a : Answer)
-        → Blanks (allTokens src) found goes means opens written offsets marks
-        → ((ts : List Token) → take (firstToken + n) kinds ≡ kindsOf ts → take (firstToken + n) values ≡ valuesOf ts → take (firstToken + n) places ≡ placesOf ts → Small ts
-        → Blanks ts found goes means opens written offsets marks → Gives (inRoom (length out) (afterTokens ts (program (take (firstToken + n) kinds) firstToken))) out out′ a)
+        (found goes means out out′ : List ℕ) (a : Answer) → Blanks (allTokens src) found goes means
+        → (let ts = allTokens src in take (firstToken + n) kinds ≡ kindsOf ts → take (firstToken + n) values ≡ valuesOf ts → take (firstToken + n) places ≡ placesOf ts → Small ts
+        → Blanks ts found goes means → Gives (inRoom (length out) (afterTokens ts (program (take (firstToken + n) kinds) firstToken))) out out′ a)
         → Gives (translate src (length out)) out out′ a
     unfolding translate translated
-    text-read found goes means opens written offsets marks out out′ a b g =
+    text-read found goes means out out′ a b g =
         rw (all-read src answer (d .is) n e)
-        (rw (d .kinds-are n e) at (g (allTokens src) (d .kinds-are n e) (d .values-are n e) (d .places-are n e) (small-text src) b))
+        (rw (d .kinds-are n e) at (g (d .kinds-are n e) (d .values-are n e) (d .places-are n e) (small-text src) b))
 
 -- number, place, length and buffer in one
 pub as-one : {a : T.Answer} {before after : List ℕ} {r : Answer} → Gives a before after r → outcome r after ≡ defined a before
@@ -166,67 +156,61 @@ too-long src out h = rw (lt-ltb TEXT-LIMIT (length src) h) (record { number-is =
 
 -- ── room ──
 
-pub lent-fewer : (n m : ℕ) (first second third fourth ends literals : List ℕ) → n ≤ m → Lent m first second third fourth ends literals → Lent n first second third fourth ends literals
-lent-fewer n m first second third fourth ends literals h l = record {
-  few = omega (arith, l .few);
-  first-long = omega (arith, l .first-long);
-  second-long = omega (arith, l .second-long);
-  first-short = l .first-short;
-  third-long = omega (arith, l .third-long);
-  fourth-long = omega (arith, l .fourth-long);
-  ends-long = omega (arith, l .ends-long);
-  ends-zero = l .ends-zero;
-  literals-long = omega (arith, l .literals-long);
-  literals-short = l .literals-short;
-}
-
--- what the tokens are lent, cut to their number
+-- what is lent, cut to so many tokens
 pub cut-lent :
-    (k m : ℕ) (kinds values tape means under first second third fourth ends literals : List ℕ) → firstToken ≤ m → m ≤ k → Lent k first second third fourth ends literals
-    → m ≡ length (take m kinds) → m ≡ length (take m values) → m ≡ length (take m tape) → m ≡ length (take m means) → m ≡ length (take m under)
-    → (Lent (length (take m kinds)) first second third fourth ends literals) × (firstToken ≤ length (take m kinds)) × (length (take m kinds) ≤ length (take m tape))
-    × (length (take m tape) ≤ length (take m kinds)) × (length (take m values) ≤ length first) × (length (take m values) ≤ length second) × (length (take m means) ≤ length (take m under))
-cut-lent k m kinds values tape means under first second third fourth ends literals f h l a b c d e =
-    (lent-fewer (length (take m kinds)) k first second third fourth ends literals (omega arith) l, omega arith, omega arith, omega arith, omega (arith, l .first-long), omega (arith, l .second-long), omega arith)
+    (src : List ℕ) (m : ℕ) (kinds values tape opens written means under offsets work : List ℕ) → tokensOf src .number ≡ 0 → firstToken ≤ m → m ≤ 65536
+    → (m ≤ length kinds) × (m ≤ length values) × (m ≤ length tape) × (m ≤ length opens) × (m ≤ length written) × (m ≤ length means) × (m ≤ length under) × (m ≤ length offsets)
+    → 2 * m ≤ length work → length work ≤ 4294967296
+    → (tokensOf src .number ≡ 0) × (firstToken ≤ length (take m kinds)) × (length (take m kinds) ≡ length (take m values)) × (length (take m tape) ≡ length (take m values))
+    × Lent (length (take m values)) (take m opens) (take m written) (take m means) (take m under) (take m offsets) work
+cut-lent src m kinds values tape opens written means under offsets work z f few (a, b, c, d, e, g, h, i) w s =
+    let k = cut kinds a in
+    let v = cut values b in
+    let t = cut tape c in
+    let o = cut opens d in
+    let r = cut written e in
+    let n = cut means g in
+    let u = cut under h in
+    let p = cut offsets i in (
+      z,
+      omega arith,
+      omega arith,
+      omega arith,
+      record {
+        few = omega arith;
+        opens-long = omega arith;
+        written-long = omega arith;
+        under-long = omega arith;
+        offsets-long = omega arith;
+        work-long = omega arith;
+        work-short = s;
+      },
+    )
+  where
+    cut : (l : List ℕ) → m ≤ length l → length (take m l) ≡ m
+    cut l q = length-take-le m l q
 
--- lists of zeros, N entries each and twice as many literals, are room for a text of n bytes
-pub rooms : (n N : ℕ) → n ≤ 32768 → n + 35 ≤ N → N ≤ 65536
-    → (let l : List ℕ = replicate N 0 in Rooms n l l l l l l l l l l l l l l l l l (replicate (2 * N) 0))
+-- lists of zeros, N entries each and one of twice as many, are room for a text of n bytes
+pub rooms : (n N : ℕ) → n ≤ 32768 → n + 18 ≤ N → N ≤ 65536 → (let l : List ℕ = replicate N 0 in Rooms n l l l l l l l l l l (replicate (2 * N) 0))
 rooms n N h k q =
     let e = length-replicate {A = ℕ} N 0 in
     let m = length-replicate {A = ℕ} (2 * N) 0 in
     let z : Zeros (replicate N 0) = ap (λ (i : ℕ). replicate i 0) (sym e) in
     record {
       short = h;
-      lent = record {
-        few = omega arith;
-        first-long = omega arith;
-        second-long = omega arith;
-        first-short = omega arith;
-        third-long = omega arith;
-        fourth-long = omega arith;
-        ends-long = omega arith;
-        ends-zero = z;
-        literals-long = omega arith;
-        literals-short = omega arith;
-      };
       for-kinds = omega arith;
       for-values = omega arith;
-      for-places = omega arith;
       for-tape = omega arith;
       for-found = omega arith;
       for-goes = omega arith;
-      for-means = omega arith;
-      for-under = omega arith;
       for-opens = omega arith;
       for-written = omega arith;
+      for-means = omega arith;
+      for-under = omega arith;
       for-offsets = omega arith;
-      for-marks = omega arith;
+      for-work = omega arith;
+      work-short = omega arith;
       no-found = z;
       no-goes = z;
       no-means = z;
-      no-opens = z;
-      no-written = z;
-      no-offsets = z;
-      no-marks = z;
     }

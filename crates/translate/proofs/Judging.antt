@@ -134,7 +134,9 @@ module _ (ts : List Token) (x : Statement) (kinds values found tape : List ℕ) 
 
       few : meantIn ts x .bases ≤ length tape
       unfolding meant
-      few = rw (t .tape-is) (few-opened (kindsOf ts) (valuesOf ts) (named ts x .found) x (standard n))
+      few =
+          let h : meantIn ts x .bases ≤ 0 + length (tapeStatement x []) = few-opened (kindsOf ts) (valuesOf ts) (named ts x .found) x (standard n) in
+          rw (t .tape-is) (omega (arith, h))
 
       shown : Shown (tablesIn ts x) kinds values found means′ opens′ written′
       shown = record {

@@ -4,8 +4,8 @@ use mathlib.Core.List.{List, [], _∷_, _++_}
 use Prim.Native.Nat.{ℕ, _+_, _*_, _≤_, _<_}
 use native.Mathlib.Omega.{arith}
 use native.Mathlib.Numerals.{add-one}
-use lib.ListN.{length, drop, getD, set, drop-of-length-le}
-use lib.Seq.{sets}
+use lib.ListN.{length, take, drop, getD, set, replicate, drop-of-length-le, length-replicate, replicate-append-replicate}
+use lib.Seq.{sets, take-all, take-suc-set}
 use Rattle.base.specs.Numbers.{numberFrom, bytesOf, stored}
 use Rattle.base.proofs.Numbers.{length-bytesOf}
 use Rattle.base.proofs.Parts.{drop-turn, sets-append}
@@ -39,6 +39,19 @@ module _ (vs image : List ℕ) (start i : ℕ) where
   pub words-end : {z : List ℕ} → length vs ≤ i → sets image (start + 4 * i) (words (drop i vs)) ≡ z → image ≡ z
   unfolding words
   words-end h q = sym (ap (λ (ds : List ℕ). sets image (start + 4 * i) (words ds)) (drop-of-length-le vs h)) ∙ q
+
+-- ── zeros, one after the other ──
+
+pub zeros-turn : (l : List ℕ) (i : ℕ) → i < length l → take i l ≡ replicate i 0 → take (i + 1) (set l i 0) ≡ replicate (i + 1) 0
+zeros-turn l i h e =
+    ap (λ (n : ℕ). take n (set l i 0)) (add-one i)
+    ∙ (take-suc-set l i 0 h ∙ (ap (λ (k : List ℕ). k ++ (0 ∷ [])) e ∙ replicate-append-replicate i 1 0))
+
+pub zeros-end : (l before : List ℕ) (i : ℕ) → length l ≤ i → i ≤ length before → length l ≡ length before → take i l ≡ replicate i 0 → l ≡ replicate (length before) 0
+zeros-end l before i h k e z = let n : i ≡ length before = omega arith in sym (take-all i l h) ∙ (z ∙ ap (λ (j : ℕ). replicate j 0) n)
+
+pub zeros-again : (l : List ℕ) (n : ℕ) → l ≡ replicate n 0 → l ≡ replicate (length l) 0
+zeros-again l n e = e ∙ ap (λ (j : ℕ). replicate j 0) (sym (ap length e ∙ length-replicate {A = ℕ} n 0))
 
 -- ── the names in front ──
 

@@ -36,6 +36,10 @@ module _ (s : List ℕ) (answer : Tokens) (is : summaryOf answer ≡ summed (tok
       let q = count-is ∙ ap (λ (r : Reading). length (r .tokens)) (all-read-from s all-read) in
       omega arith
 
+  -- with the names in front they have room where there is an entry for each byte and 18 more
+  pub fits-in : {N : ℕ} → length s + 18 ≤ N → firstToken + n ≤ N
+  fits-in h = omega (arith, few-read)
+
   pub short-read : length s ≤ TEXT-LIMIT
   short-read = not-too-long s all-read
 

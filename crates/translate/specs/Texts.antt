@@ -23,6 +23,7 @@ use Rattle.kinds.specs.Kinds.{rulesOf}
 use Rattle.tables.specs.Packed.{meaningsOf, setsOf}
 use Rattle.translator.specs.Layout.{placeCells, offsetOf}
 use Rattle.translator.specs.Translate.{kindsOf, valuesOf, placeAt, named, labelled, meant, tablesOf}
+use Rattle.made.specs.Making.{endOf}
 use Rattle.translate.specs.declared.Judged.{Judged}
 
 -- ── the tokens ──
@@ -56,14 +57,11 @@ pub record Text (ts : List Token) (x : Statement) (values tape : List ℕ) : Typ
 abbrev pub Blank : List Token → List ℕ → Type 0
 Blank ts l = l ≡ replicate (length ts) 0
 
-pub record Blanks (ts : List Token) (found goes means opens written offsets marks : List ℕ) : Type 0 where
+-- what is to be filled by token
+pub record Blanks (ts : List Token) (found goes means : List ℕ) : Type 0 where
   pub no-found : Blank ts found
   pub no-goes : Blank ts goes
   pub no-means : Blank ts means
-  pub no-opens : Blank ts opens
-  pub no-written : Blank ts written
-  pub no-offsets : Blank ts offsets
-  pub no-marks : Blank ts marks
 
 -- which declaration each name and which label each GOTO means, and the rules that are broken by them
 pub record Bound (ts : List Token) (x : Statement) (found goes : List ℕ) (b : Broken) : Type 0 where
@@ -87,44 +85,46 @@ pub record Settled (ts : List Token) (x : Statement) (means under opens written 
   pub offsets-are : (t : ℕ) → getD offsets t 0 ≡ offsetOf (placeCells (meantIn ts x .bases) (meantIn ts x .cells) .placed) t
   pub broken-is : r .broken ≡ (others ⊕ rulesOf (tablesIn ts x) x) ⊕ placeCells (meantIn ts x .bases) (meantIn ts x .cells) .broken
 
+-- where the cells of segments 1 to 3 end
+pub record Ended (ends : List ℕ) (r : Judged) : Type 0 where
+  pub cells-is : r .cells ≡ endOf ends 1
+  pub two-is : r .two ≡ endOf ends 2
+  pub three-is : r .three ≡ endOf ends 3
+
 -- ── room ──
 
 abbrev pub Zeros : List ℕ → Type 0
 Zeros l = l ≡ replicate (length l) 0
 
--- what is lent for a tape of at most n events: two stacks of names, two of numbers, the ends of segments and the literals
-pub record Lent (n : ℕ) (first second third fourth ends literals : List ℕ) : Type 0 where
+-- a list that has served is left as zeros
+abbrev pub Cleared : (before after : List ℕ) → Type 0
+Cleared before after = after ≡ replicate (length before) 0
+
+-- what is lent for n tokens, to be worked in and filled
+pub record Lent (n : ℕ) (opens written means under offsets work : List ℕ) : Type 0 where
   pub few : n ≤ 65536
-  pub first-long : firstToken + n ≤ length first
-  pub second-long : firstToken + n ≤ length second
-  pub first-short : length first ≤ 4294967296
-  pub third-long : n + 2 ≤ length third
-  pub fourth-long : n + 2 ≤ length fourth
-  pub ends-long : n + 2 ≤ length ends
-  pub ends-zero : Zeros ends
-  pub literals-long : 2 * n + 2 ≤ length literals
-  pub literals-short : length literals ≤ 4294967296
+  pub opens-long : length opens ≡ n
+  pub written-long : length written ≡ n
+  pub under-long : length means ≤ length under
+  pub offsets-long : length offsets ≡ n
+  pub work-long : 2 * n ≤ length work
+  pub work-short : length work ≤ 4294967296
 
 -- what is lent for a text of n bytes
-pub record Rooms (n : ℕ) (kinds values places tape first second third fourth found goes means under opens written ends offsets marks literals : List ℕ) : Type 0 where
+pub record Rooms (n : ℕ) (kinds values tape found goes opens written means under offsets work : List ℕ) : Type 0 where
   pub short : n ≤ 32768
-  pub lent : Lent (n + 18) first second third fourth ends literals
   pub for-kinds : n + 18 ≤ length kinds
   pub for-values : n + 18 ≤ length values
-  pub for-places : n + 18 ≤ length places
   pub for-tape : n + 18 ≤ length tape
   pub for-found : n + 18 ≤ length found
   pub for-goes : n + 18 ≤ length goes
-  pub for-means : n + 18 ≤ length means
-  pub for-under : n + 18 ≤ length under
   pub for-opens : n + 18 ≤ length opens
   pub for-written : n + 18 ≤ length written
+  pub for-means : n + 18 ≤ length means
+  pub for-under : n + 18 ≤ length under
   pub for-offsets : n + 18 ≤ length offsets
-  pub for-marks : n + 18 ≤ length marks
+  pub for-work : 2 * (n + 18) ≤ length work
+  pub work-short : length work ≤ 4294967296
   pub no-found : Zeros found
   pub no-goes : Zeros goes
   pub no-means : Zeros means
-  pub no-opens : Zeros opens
-  pub no-written : Zeros written
-  pub no-offsets : Zeros offsets
-  pub no-marks : Zeros marks

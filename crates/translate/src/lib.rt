@@ -6,6 +6,7 @@ ghost use Prim.Native.Nat.{ℕ, _+_, _*_, _≤_, _<_, min};
 ghost use lib.ListN.{length, getD, replicate};
 ghost use lib.Seq.{sets};
 ghost use Rattle.token.specs.declared.Token.{Token};
+ghost use Rattle.token.specs.Text.{isLast, tokensOf};
 ghost use Rattle.grammar.specs.Tree.{Statement};
 ghost use Rattle.grammar.specs.Grammar.{program};
 ghost use Rattle.names.specs.Search.{inFront, firstToken};
@@ -14,12 +15,13 @@ ghost use Rattle.translator.specs.Translate.{kindsOf, valuesOf, accepted, inRoo
 ghost use Rattle.objtext.specs.Object.{objectText};
 ghost use Rattle.frames.specs.Frames.{lengthFor};
 ghost use Rattle.translate.specs.Answers.{Gives, outcome, defined};
-ghost use Rattle.translate.specs.Texts.{placesOf, Fronted, Small, Text, Blank, Blanks, Bound, Settled, Lent, Rooms};
+ghost use Rattle.translate.specs.Texts.{allTokens, placesOf, Fronted, Small, Text, Blank, Blanks, Bound, Settled, Ended, Cleared, Lent, Rooms};
 ghost use Rattle.made.specs.Making.{endOf, endOfFirst, objectCut, objectAlong, madeAlong};
 use arrays::get;
 use arrays::key;
 use names::Broken;
 use names::join;
+use token::Next;
 use token::Tokens;
 
 // The bytes written; or a refusal's number and place.
@@ -87,9 +89,32 @@ fn read(src: &[u8], kinds: &mut [u8], values: &mut [u64], places: &mut [u32]) ->
     )
 }
 
+// ── lists in turn ──
+
+// A list that has served is lent again, as zeros.
+fn clear(a: &mut [u32])
+    ensures { λ _. ⌜ now (a .exit) ≡ replicate (length (now (a .entry))) 0 ⌝ }
+{
+    let mut i: usize = 0;
+    while i < a.len() {
+        a[i] = 0;
+        i += 1;
+    }
+}
+
+fn clear_wide(a: &mut [u64])
+    ensures { λ _. ⌜ now (a .exit) ≡ replicate (length (now (a .entry))) 0 ⌝ }
+{
+    let mut i: usize = 0;
+    while i < a.len() {
+        a[i] = 0;
+        i += 1;
+    }
+}
+
 // ── the rules ──
 
-// Which declaration each name and which label each GOTO means; the broken rules.
+// Which declaration each name and which label each GOTO means; the broken rules. Two lists are worked in, and left as zeros.
 fn bind(
     tape: &[u32],
     values: &[u64],
@@ -98,75 +123,23 @@ fn bind(
     found: &mut [u32],
     goes: &mut [u32],
 ) -> Broken
-    requires { ⌜ (17 + length (now tape) ≤ length (now first)) × (17 + length (now tape) ≤ length (now second)) × (length (now values) ≤ length (now first)) × (length (now values) ≤ length (now second)) × (length (now first) ≤ 4294967296) ⌝ }
-    ensures { λ r. ⌜ ((ts : List Token) (x : Statement) → Text ts x (now (values .entry)) (now (tape .entry)) → Blank ts (now (found .entry)) → Blank ts (now (goes .entry)) → Bound ts x (now (found .exit)) (now (goes .exit)) r) ⌝ }
+    requires { ⌜ (17 + length (now tape) ≤ length (now values)) × (length (now first) ≡ length (now values)) × (length (now second) ≡ length (now values)) × (length (now values) ≤ 65536) ⌝ }
+    ensures { λ r. ⌜ (Cleared (now (first .entry)) (now (first .exit)) × Cleared (now (second .entry)) (now (second .exit))) × ((ts : List Token) (x : Statement) → Text ts x (now (values .entry)) (now (tape .entry)) → Blank ts (now (found .entry)) → Blank ts (now (goes .entry)) → Bound ts x (now (found .exit)) (now (goes .exit)) r) ⌝ }
 {
     let n = search::names(tape, values, first, second, found);
     let l = labels::labels(tape, values, first, second, goes);
+    clear(first);
+    clear(second);
     join(n.broken, l.broken)
 }
 
-// The broken rule that is answered, and how many base declarations there are.
+// The broken rule that is answered, how many base declarations there are, and where the cells of segments 1 to 3 end.
 struct Judged {
     broken: Broken,
     bases: usize,
-}
-
-fn settle(
-    tape: &[u32],
-    kinds: &[u8],
-    values: &[u64],
-    found: &[u32],
-    means: &mut [u64],
-    under: &mut [u64],
-    opens: &mut [u32],
-    written: &mut [u32],
-    third: &mut [u64],
-    fourth: &mut [u64],
-    ends: &mut [u64],
-    offsets: &mut [u64],
-    others: Broken,
-) -> Judged
-    requires { ⌜ (length (now tape) < 67108864) × (length (now tape) + 2 ≤ length (now third)) × (length (now tape) + 2 ≤ length (now fourth)) × (length (now means) ≤ length (now under)) × (length (now tape) + 2 ≤ length (now ends)) × (now ends ≡ replicate (length (now ends)) 0) ⌝ }
-    ensures { λ r. ⌜ ((ts : List Token) (x : Statement) → Text ts x (now (values .entry)) (now (tape .entry)) → now (kinds .entry) ≡ kindsOf ts → now (found .entry) ≡ named ts x .found → Blank ts (now (means .entry)) → Blank ts (now (opens .entry)) → Blank ts (now (written .entry)) → Blank ts (now (offsets .entry)) → Settled ts x (now (means .exit)) (now (under .exit)) (now (opens .exit)) (now (written .exit)) (now (ends .exit)) (now (offsets .exit)) others r) ⌝ }
-{
-    let bases = meanings::meanings(
-        tape,
-        kinds,
-        values,
-        found,
-        means,
-        under,
-        opens,
-        written,
-        third,
-        fourth,
-    );
-    let ruled = judge::judge(
-        tape,
-        kinds,
-        values,
-        found,
-        means,
-        opens,
-        written,
-        third,
-        fourth,
-        others,
-    );
-    let placed = layout::layout(tape, means, under, ends, offsets);
-    Judged {
-        broken: join(ruled, placed),
-        bases,
-    }
-}
-
-// ── the segments ──
-
-fn least(a: usize, b: usize) -> usize
-    ensures { λ r. ⌜ r ≡ min a b ⌝ }
-{
-    if a < b { a } else { b }
+    cells: usize,
+    two: usize,
+    three: usize,
 }
 
 fn end_of(ends: &[u64], k: usize) -> usize
@@ -178,6 +151,67 @@ fn end_of(ends: &[u64], k: usize) -> usize
     } else {
         SEGMENT_LIMIT
     }
+}
+
+// What is settled along the tape: the lists of offsets and of ends serve meanings and rules as stacks before.
+fn settle(
+    tape: &[u32],
+    kinds: &[u8],
+    values: &[u64],
+    found: &[u32],
+    means: &mut [u64],
+    under: &mut [u64],
+    opens: &mut [u32],
+    written: &mut [u32],
+    offsets: &mut [u64],
+    ends: &mut [u64],
+    others: Broken,
+) -> Judged
+    requires { ⌜ (length (now tape) ≤ 65536) × (length (now tape) + 2 ≤ length (now offsets)) × (length (now tape) + 2 ≤ length (now ends)) × (length (now means) ≤ length (now under)) ⌝ }
+    ensures { λ r. ⌜ Ended (now (ends .exit)) r × ((ts : List Token) (x : Statement) → Text ts x (now (values .entry)) (now (tape .entry)) → now (kinds .entry) ≡ kindsOf ts → now (found .entry) ≡ named ts x .found → Blank ts (now (means .entry)) → Blank ts (now (opens .entry)) → Blank ts (now (written .entry)) → length (now (offsets .entry)) ≡ length ts → Settled ts x (now (means .exit)) (now (under .exit)) (now (opens .exit)) (now (written .exit)) (now (ends .exit)) (now (offsets .exit)) others r) ⌝ }
+{
+    let bases = meanings::meanings(
+        tape,
+        kinds,
+        values,
+        found,
+        means,
+        under,
+        opens,
+        written,
+        offsets,
+        ends,
+    );
+    let ruled = judge::judge(
+        tape,
+        kinds,
+        values,
+        found,
+        means,
+        opens,
+        written,
+        offsets,
+        ends,
+        others,
+    );
+    clear_wide(offsets);
+    clear_wide(ends);
+    let placed = layout::layout(tape, means, under, ends, offsets);
+    Judged {
+        broken: join(ruled, placed),
+        bases,
+        cells: end_of(ends, 1),
+        two: end_of(ends, 2),
+        three: end_of(ends, 3),
+    }
+}
+
+// ── the segments ──
+
+fn least(a: usize, b: usize) -> usize
+    ensures { λ r. ⌜ r ≡ min a b ⌝ }
+{
+    if a < b { a } else { b }
 }
 
 // The literals, one behind the other.
@@ -248,20 +282,20 @@ fn deliver(
     means: &[u64],
     under: &[u64],
     offsets: &[u64],
-    ends: &[u64],
     code: &[u8],
     literals: &[u64],
     start: usize,
-    bases: usize,
+    s: Judged,
     out: &mut [u8],
 ) -> Answer
-    requires { ⌜ (length (now code) ≤ 4096) × (start + 4 * length (now literals) ≤ 4096) ⌝ }
-    ensures { λ r. ⌜ Gives (inRoom (length (now (out .entry))) (accepted (objectText (objectAlong (now (values .entry)) (now (means .entry)) (now (under .entry)) (now (offsets .entry)) (now (tape .entry)) bases (now (ends .entry)) start (now (code .entry)) (now (literals .entry)))))) (now (out .entry)) (now (out .exit)) r ⌝ }
+    requires { ⌜ (length (now code) ≤ 4096) × (start + 4 * length (now literals) ≤ 4096) × (s .cells ≤ 4096) × (s .two ≤ 4096) × (s .three ≤ 4096) ⌝ }
+    ensures { λ r. ⌜ ((ends : List ℕ) → Ended ends s → Gives (inRoom (length (now (out .entry))) (accepted (objectText (objectAlong (now (values .entry)) (now (means .entry)) (now (under .entry)) (now (offsets .entry)) (now (tape .entry)) (s .bases) ends start (now (code .entry)) (now (literals .entry)))))) (now (out .entry)) (now (out .exit)) r) ⌝ }
 {
-    let cells = end_of(ends, 1);
+    let cells = s.cells;
     let last = end_of_first(cells, start, literals.len());
-    let two = end_of(ends, 2);
-    let three = end_of(ends, 3);
+    let two = s.two;
+    let three = s.three;
+    let bases = s.bases;
     let needed = frames::text_length(code.len(), last, bases, two, three);
     if out.len() < needed {
         return Answer::Refused(16, needed);
@@ -295,17 +329,16 @@ fn make(
     under: &[u64],
     opens: &[u32],
     offsets: &[u64],
-    ends: &[u64],
     marks: &mut [u32],
     literals: &mut [u64],
-    bases: usize,
+    s: Judged,
     out: &mut [u8],
 ) -> Answer
-    requires { ⌜ (length (now tape) ≤ 67108864) × (2 * length (now tape) + 2 ≤ length (now literals)) × (length (now literals) ≤ 4294967296) ⌝ }
-    ensures { λ r. ⌜ Gives (madeAlong (now (kinds .entry)) (now (values .entry)) (now (found .entry)) (now (goes .entry)) (now (means .entry)) (now (under .entry)) (now (opens .entry)) (now (offsets .entry)) (now (ends .entry)) (now (marks .entry)) (now (tape .entry)) bases (length (now (out .entry)))) (now (out .entry)) (now (out .exit)) r ⌝ }
+    requires { ⌜ (length (now tape) ≤ 65536) × (2 * length (now tape) + 2 ≤ length (now literals)) × (length (now literals) ≤ 4294967296) × (s .cells ≤ 4096) × (s .two ≤ 4096) × (s .three ≤ 4096) ⌝ }
+    ensures { λ r. ⌜ ((ends : List ℕ) → Ended ends s → Gives (madeAlong (now (kinds .entry)) (now (values .entry)) (now (found .entry)) (now (goes .entry)) (now (means .entry)) (now (under .entry)) (now (opens .entry)) (now (offsets .entry)) ends (now (marks .entry)) (now (tape .entry)) (s .bases) (length (now (out .entry)))) (now (out .entry)) (now (out .exit)) r) ⌝ }
 {
     let mut image = [0u8; SEGMENT_LIMIT];
-    let start = layout::round_up(4, end_of(ends, 1) as u64);
+    let start = layout::round_up(4, s.cells as u64);
     code::places(
         tape,
         kinds,
@@ -348,43 +381,81 @@ fn make(
         means,
         under,
         offsets,
-        ends,
         &image[..size],
         &literals[..count],
         from,
-        bases,
+        s,
         out,
     )
 }
 
 // ── the groups ──
 
+fn is_last(kind: u8) -> bool
+    ensures { λ r. ⌜ r ≡ isLast kind ⌝ }
+{
+    (kind == token::kinds::AT) | (kind == token::kinds::END_OF_TEXT)
+}
+
+// The place of a token of a text that was read, which is read again as far as that.
+fn place_in(src: &[u8], wanted: usize) -> usize
+    requires { ⌜ tokensOf (now src) .number ≡ 0 ⌝ }
+    ensures { λ r. ⌜ r ≡ getD (placesOf (tokensOf (now (src .entry)) .tokens)) wanted 0 ⌝ }
+{
+    let mut at: usize = 0;
+    let mut n: usize = 0;
+    loop {
+        let next = token::next_token(&src[at..]);
+        match next {
+            Next::Token(t, end) => {
+                let kind = t.kind;
+                let place = t.place;
+                if n == wanted {
+                    return at + place;
+                }
+                if is_last(kind) {
+                    return 0;
+                }
+                n += 1;
+                at += end;
+            }
+            Next::NoToken(place) => return 0,
+            Next::OutOfRange(place) => return 0,
+        }
+    }
+}
+
+// The names in front have no place.
+fn place_of(src: &[u8], t: usize) -> usize
+    requires { ⌜ tokensOf (now src) .number ≡ 0 ⌝ }
+    ensures { λ r. ⌜ r ≡ getD (placesOf (allTokens (now (src .entry)))) t 0 ⌝ }
+{
+    if t < FIRST_TOKEN {
+        return 0;
+    }
+    place_in(src, t - FIRST_TOKEN)
+}
+
 // The rest of the groups, of a program that is on the tape: 6 to 13, then 14, 15, 16.
 fn translate_tape(
+    src: &[u8],
     tape: &[u32],
     kinds: &[u8],
     values: &[u64],
-    places: &[u32],
-    first: &mut [u32],
-    second: &mut [u32],
-    third: &mut [u64],
-    fourth: &mut [u64],
     found: &mut [u32],
     goes: &mut [u32],
-    means: &mut [u64],
-    under: &mut [u64],
     opens: &mut [u32],
     written: &mut [u32],
-    ends: &mut [u64],
+    means: &mut [u64],
+    under: &mut [u64],
     offsets: &mut [u64],
-    marks: &mut [u32],
-    literals: &mut [u64],
+    work: &mut [u64],
     out: &mut [u8],
 ) -> Answer
-    requires { ⌜ (Lent (length (now tape)) (now first) (now second) (now third) (now fourth) (now ends) (now literals)) × (length (now values) ≤ length (now first)) × (length (now values) ≤ length (now second)) × (length (now means) ≤ length (now under)) ⌝ }
-    ensures { λ r. ⌜ ((ts : List Token) (x : Statement) → Text ts x (now (values .entry)) (now (tape .entry)) → now (kinds .entry) ≡ kindsOf ts → now (places .entry) ≡ placesOf ts → Blanks ts (now (found .entry)) (now (goes .entry)) (now (means .entry)) (now (opens .entry)) (now (written .entry)) (now (offsets .entry)) (now (marks .entry)) → Gives (inRoom (length (now (out .entry))) (judge ts (make ts x))) (now (out .entry)) (now (out .exit)) r) ⌝ }
+    requires { ⌜ (tokensOf (now src) .number ≡ 0) × (17 + length (now tape) ≤ length (now values)) × Lent (length (now values)) (now opens) (now written) (now means) (now under) (now offsets) (now work) ⌝ }
+    ensures { λ r. ⌜ (let ts = allTokens (now (src .entry)) in (x : Statement) → Text ts x (now (values .entry)) (now (tape .entry)) → now (kinds .entry) ≡ kindsOf ts → Blanks ts (now (found .entry)) (now (goes .entry)) (now (means .entry)) → Gives (inRoom (length (now (out .entry))) (judge ts (make ts x))) (now (out .entry)) (now (out .exit)) r) ⌝ }
 {
-    let others = bind(tape, values, first, second, found, goes);
+    let others = bind(tape, values, opens, written, found, goes);
     let s = settle(
         tape,
         kinds,
@@ -394,18 +465,17 @@ fn translate_tape(
         under,
         opens,
         written,
-        third,
-        fourth,
-        ends,
         offsets,
+        work,
         others,
     );
     let broken = s.broken;
     let number = broken.number;
     let at = broken.at;
     if number != 0 {
-        return Answer::Refused(number, get(places, at));
+        return Answer::Refused(number, place_of(src, at));
     }
+    clear(written);
     make(
         tape,
         kinds,
@@ -416,38 +486,31 @@ fn translate_tape(
         under,
         opens,
         offsets,
-        ends,
-        marks,
-        literals,
-        s.bases,
+        written,
+        work,
+        s,
         out,
     )
 }
 
 // The tokens: 4 and 5, then the rest.
 fn translate_tokens(
+    src: &[u8],
     kinds: &[u8],
     values: &[u64],
-    places: &[u32],
     tape: &mut [u32],
-    first: &mut [u32],
-    second: &mut [u32],
-    third: &mut [u64],
-    fourth: &mut [u64],
     found: &mut [u32],
     goes: &mut [u32],
+    places: &mut [u32],
+    written: &mut [u32],
     means: &mut [u64],
     under: &mut [u64],
-    opens: &mut [u32],
-    written: &mut [u32],
-    ends: &mut [u64],
     offsets: &mut [u64],
-    marks: &mut [u32],
-    literals: &mut [u64],
+    work: &mut [u64],
     out: &mut [u8],
 ) -> Answer
-    requires { ⌜ (Lent (length (now kinds)) (now first) (now second) (now third) (now fourth) (now ends) (now literals)) × (17 ≤ length (now kinds)) × (length (now kinds) ≤ length (now tape)) × (length (now tape) ≤ length (now kinds)) × (length (now values) ≤ length (now first)) × (length (now values) ≤ length (now second)) × (length (now means) ≤ length (now under)) ⌝ }
-    ensures { λ r. ⌜ ((ts : List Token) → now (kinds .entry) ≡ kindsOf ts → now (values .entry) ≡ valuesOf ts → now (places .entry) ≡ placesOf ts → Small ts → Blanks ts (now (found .entry)) (now (goes .entry)) (now (means .entry)) (now (opens .entry)) (now (written .entry)) (now (offsets .entry)) (now (marks .entry)) → Gives (inRoom (length (now (out .entry))) (afterTokens ts (program (now (kinds .entry)) firstToken))) (now (out .entry)) (now (out .exit)) r) ⌝ }
+    requires { ⌜ (tokensOf (now src) .number ≡ 0) × (17 ≤ length (now kinds)) × (length (now kinds) ≡ length (now values)) × (length (now tape) ≡ length (now values)) × Lent (length (now values)) (now places) (now written) (now means) (now under) (now offsets) (now work) ⌝ }
+    ensures { λ r. ⌜ (let ts = allTokens (now (src .entry)) in now (kinds .entry) ≡ kindsOf ts → now (values .entry) ≡ valuesOf ts → now (places .entry) ≡ placesOf ts → Small ts → Blanks ts (now (found .entry)) (now (goes .entry)) (now (means .entry)) → Gives (inRoom (length (now (out .entry))) (afterTokens ts (program (now (kinds .entry)) firstToken))) (now (out .entry)) (now (out .exit)) r) ⌝ }
 {
     let p = parse::program(kinds, FIRST_TOKEN, tape);
     let number = p.number;
@@ -457,77 +520,58 @@ fn translate_tokens(
         return Answer::Refused(number as usize, get(places, at));
     }
     translate_tape(
+        src,
         &tape[..size],
         kinds,
         values,
-        places,
-        first,
-        second,
-        third,
-        fourth,
         found,
         goes,
+        places,
+        written,
         means,
         under,
-        opens,
-        written,
-        ends,
         offsets,
-        marks,
-        literals,
+        work,
         out,
     )
 }
 
-// The text: 1 to 3, then the rest, in lists by token with room for any text of its length.
+// The text: 1 to 3, then the rest, in lists by token with room for any text of its length. The list of opened segments holds the places at first.
 fn translate_in(
     src: &[u8],
     kinds: &mut [u8],
     values: &mut [u64],
-    places: &mut [u32],
     tape: &mut [u32],
-    first: &mut [u32],
-    second: &mut [u32],
-    third: &mut [u64],
-    fourth: &mut [u64],
     found: &mut [u32],
     goes: &mut [u32],
-    means: &mut [u64],
-    under: &mut [u64],
     opens: &mut [u32],
     written: &mut [u32],
-    ends: &mut [u64],
+    means: &mut [u64],
+    under: &mut [u64],
     offsets: &mut [u64],
-    marks: &mut [u32],
-    literals: &mut [u64],
+    work: &mut [u64],
     out: &mut [u8],
 ) -> Answer
-    requires { ⌜ Rooms (length (now src)) (now kinds) (now values) (now places) (now tape) (now first) (now second) (now third) (now fourth) (now found) (now goes) (now means) (now under) (now opens) (now written) (now ends) (now offsets) (now marks) (now literals) ⌝ }
+    requires { ⌜ Rooms (length (now src)) (now kinds) (now values) (now tape) (now found) (now goes) (now opens) (now written) (now means) (now under) (now offsets) (now work) ⌝ }
     ensures { λ r. ⌜ Gives (translation (now (src .entry)) (length (now (out .entry)))) (now (out .entry)) (now (out .exit)) r ⌝ }
 {
-    let tokens = read(src, kinds, values, places);
+    let tokens = read(src, kinds, values, opens);
     match tokens {
         Tokens::Read(n) => {
             let m = FIRST_TOKEN + n;
             translate_tokens(
+                src,
                 &kinds[..m],
                 &values[..m],
-                &places[..m],
                 &mut tape[..m],
-                first,
-                second,
-                third,
-                fourth,
                 &mut found[..m],
                 &mut goes[..m],
-                &mut means[..m],
-                &mut under[..m],
                 &mut opens[..m],
                 &mut written[..m],
-                ends,
+                &mut means[..m],
+                &mut under[..m],
                 &mut offsets[..m],
-                &mut marks[..m],
-                literals,
+                work,
                 out,
             )
         }
@@ -544,8 +588,8 @@ const SHORT: usize = 1024;
 
 const MIDDLING: usize = 8192;
 
-// Beside a token at each byte: the end, the names in front, and as many entries again in the search's lists.
-const MORE: usize = 35;
+// Beside a token at each byte: the end, and the names in front.
+const MORE: usize = 18;
 
 fn short(src: &[u8], out: &mut [u8]) -> Answer
     requires { ⌜ length (now src) ≤ 1024 ⌝ }
@@ -553,42 +597,28 @@ fn short(src: &[u8], out: &mut [u8]) -> Answer
 {
     let mut kinds = [0u8; SHORT + MORE];
     let mut values = [0u64; SHORT + MORE];
-    let mut places = [0u32; SHORT + MORE];
     let mut tape = [0u32; SHORT + MORE];
-    let mut first = [0u32; SHORT + MORE];
-    let mut second = [0u32; SHORT + MORE];
-    let mut third = [0u64; SHORT + MORE];
-    let mut fourth = [0u64; SHORT + MORE];
     let mut found = [0u32; SHORT + MORE];
     let mut goes = [0u32; SHORT + MORE];
-    let mut means = [0u64; SHORT + MORE];
-    let mut under = [0u64; SHORT + MORE];
     let mut opens = [0u32; SHORT + MORE];
     let mut written = [0u32; SHORT + MORE];
-    let mut ends = [0u64; SHORT + MORE];
+    let mut means = [0u64; SHORT + MORE];
+    let mut under = [0u64; SHORT + MORE];
     let mut offsets = [0u64; SHORT + MORE];
-    let mut marks = [0u32; SHORT + MORE];
-    let mut literals = [0u64; 2 * (SHORT + MORE)];
+    let mut work = [0u64; 2 * (SHORT + MORE)];
     translate_in(
         src,
         &mut kinds,
         &mut values,
-        &mut places,
         &mut tape,
-        &mut first,
-        &mut second,
-        &mut third,
-        &mut fourth,
         &mut found,
         &mut goes,
-        &mut means,
-        &mut under,
         &mut opens,
         &mut written,
-        &mut ends,
+        &mut means,
+        &mut under,
         &mut offsets,
-        &mut marks,
-        &mut literals,
+        &mut work,
         out,
     )
 }
@@ -599,42 +629,28 @@ fn middling(src: &[u8], out: &mut [u8]) -> Answer
 {
     let mut kinds = [0u8; MIDDLING + MORE];
     let mut values = [0u64; MIDDLING + MORE];
-    let mut places = [0u32; MIDDLING + MORE];
     let mut tape = [0u32; MIDDLING + MORE];
-    let mut first = [0u32; MIDDLING + MORE];
-    let mut second = [0u32; MIDDLING + MORE];
-    let mut third = [0u64; MIDDLING + MORE];
-    let mut fourth = [0u64; MIDDLING + MORE];
     let mut found = [0u32; MIDDLING + MORE];
     let mut goes = [0u32; MIDDLING + MORE];
-    let mut means = [0u64; MIDDLING + MORE];
-    let mut under = [0u64; MIDDLING + MORE];
     let mut opens = [0u32; MIDDLING + MORE];
     let mut written = [0u32; MIDDLING + MORE];
-    let mut ends = [0u64; MIDDLING + MORE];
+    let mut means = [0u64; MIDDLING + MORE];
+    let mut under = [0u64; MIDDLING + MORE];
     let mut offsets = [0u64; MIDDLING + MORE];
-    let mut marks = [0u32; MIDDLING + MORE];
-    let mut literals = [0u64; 2 * (MIDDLING + MORE)];
+    let mut work = [0u64; 2 * (MIDDLING + MORE)];
     translate_in(
         src,
         &mut kinds,
         &mut values,
-        &mut places,
         &mut tape,
-        &mut first,
-        &mut second,
-        &mut third,
-        &mut fourth,
         &mut found,
         &mut goes,
-        &mut means,
-        &mut under,
         &mut opens,
         &mut written,
-        &mut ends,
+        &mut means,
+        &mut under,
         &mut offsets,
-        &mut marks,
-        &mut literals,
+        &mut work,
         out,
     )
 }
@@ -645,49 +661,37 @@ fn long(src: &[u8], out: &mut [u8]) -> Answer
 {
     let mut kinds = [0u8; TEXT_LIMIT + MORE];
     let mut values = [0u64; TEXT_LIMIT + MORE];
-    let mut places = [0u32; TEXT_LIMIT + MORE];
     let mut tape = [0u32; TEXT_LIMIT + MORE];
-    let mut first = [0u32; TEXT_LIMIT + MORE];
-    let mut second = [0u32; TEXT_LIMIT + MORE];
-    let mut third = [0u64; TEXT_LIMIT + MORE];
-    let mut fourth = [0u64; TEXT_LIMIT + MORE];
     let mut found = [0u32; TEXT_LIMIT + MORE];
     let mut goes = [0u32; TEXT_LIMIT + MORE];
-    let mut means = [0u64; TEXT_LIMIT + MORE];
-    let mut under = [0u64; TEXT_LIMIT + MORE];
     let mut opens = [0u32; TEXT_LIMIT + MORE];
     let mut written = [0u32; TEXT_LIMIT + MORE];
-    let mut ends = [0u64; TEXT_LIMIT + MORE];
+    let mut means = [0u64; TEXT_LIMIT + MORE];
+    let mut under = [0u64; TEXT_LIMIT + MORE];
     let mut offsets = [0u64; TEXT_LIMIT + MORE];
-    let mut marks = [0u32; TEXT_LIMIT + MORE];
-    let mut literals = [0u64; 2 * (TEXT_LIMIT + MORE)];
+    let mut work = [0u64; 2 * (TEXT_LIMIT + MORE)];
     translate_in(
         src,
         &mut kinds,
         &mut values,
-        &mut places,
         &mut tape,
-        &mut first,
-        &mut second,
-        &mut third,
-        &mut fourth,
         &mut found,
         &mut goes,
-        &mut means,
-        &mut under,
         &mut opens,
         &mut written,
-        &mut ends,
+        &mut means,
+        &mut under,
         &mut offsets,
-        &mut marks,
-        &mut literals,
+        &mut work,
         out,
     )
 }
 
-// The object text of a source, laid at the front of a buffer: number, place and length, and the buffer, are the definition's.
-pub fn translate(src: &[u8], out: &mut [u8]) -> Answer
-    ensures { λ r. ⌜ outcome r (now (out .exit)) ≡ defined (translation (now (src .entry)) (length (now (out .entry)))) (now (out .entry)) ⌝ }
+// By length. A function that calls itself takes none with large arrays into its own frame: so each of the three has a frame of its own, and a short text
+// needs little stack.
+fn sized(src: &[u8], out: &mut [u8]) -> Answer
+    requires { ⌜ length (now src) ≤ 32768 ⌝ }
+    ensures { λ r. ⌜ Gives (translation (now (src .entry)) (length (now (out .entry)))) (now (out .entry)) (now (out .exit)) r ⌝ }
 {
     if src.len() <= SHORT {
         return short(src, out);
@@ -697,6 +701,16 @@ pub fn translate(src: &[u8], out: &mut [u8]) -> Answer
     }
     if src.len() <= TEXT_LIMIT {
         return long(src, out);
+    }
+    sized(&src[..TEXT_LIMIT], out)
+}
+
+// The object text of a source, laid at the front of a buffer: number, place and length, and the buffer, are the definition's.
+pub fn translate(src: &[u8], out: &mut [u8]) -> Answer
+    ensures { λ r. ⌜ outcome r (now (out .exit)) ≡ defined (translation (now (src .entry)) (length (now (out .entry)))) (now (out .entry)) ⌝ }
+{
+    if src.len() <= TEXT_LIMIT {
+        return sized(src, out);
     }
     Answer::Refused(1, TEXT_LIMIT)
 }

@@ -5,4 +5,5 @@ pub mod Layout
 pub mod Bytes
 pub mod Image
 pub mod Translate
+pub mod Rows
 pub mod Worked

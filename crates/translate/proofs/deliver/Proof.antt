@@ -4,23 +4,20 @@ use borrow.Author.Needs.{needs}
 use Rattle.translate.proofs.deliver.Statement.{statement}
 use Rattle.translate.proofs.deliver.Tie as tie
 
-end-of-requires : tie.Need-end-of-requires
-end-of-requires c κs = search needs
-
 end-of-first-requires : tie.Need-end-of-first-requires
 end-of-first-requires c κs = search needs
-
-end-of-requires-2 : tie.Need-end-of-requires-2
-end-of-requires-2 c κs = search needs
-
-end-of-requires-3 : tie.Need-end-of-requires-3
-end-of-requires-3 c κs = search needs
 
 text-length-requires : tie.Need-text-length-requires
 text-length-requires c κs = search needs
 
 returns : tie.Need-returns
-returns c = short-room (c .before .before .before .before .before .before .before .before .before .before .before .before .before .before .before .args .values .now) (c .before .before .before .before .before .before .before .before .before .before .before .before .before .before .before .args .means .now) (c .before .before .before .before .before .before .before .before .before .before .before .before .before .before .before .args .under .now) (c .before .before .before .before .before .before .before .before .before .before .before .before .before .before .before .args .offsets .now) (c .before .before .before .before .before .before .before .before .before .before .before .before .before .before .before .args .tape .now) _ _ (c .before .before .before .before .before .before .before .before .before .before .before .before .before .before .before .args .code .now) (c .before .before .before .before .before .before .before .before .before .before .before .before .before .before .before .args .literals .now) (c .before .before .before .before .before .before .before .before .before .before .before .before .before .before .before .args .ends .now) _ _ _ _ (c .before .before .before .before .before .end-of .ensures .0) (c .before .before .before .before .end-of-first .ensures .0) (c .before .before .before .end-of2 .ensures .0) (c .before .before .end-of3 .ensures .0) (c .before .before .before .before .end-of-first .ensures .1, c .before .before .before .end-of2 .ensures .1, c .before .before .end-of3 .ensures .1) _ (c .before .text-length .ensures) _ (c .if1 .taken)
+returns c =
+    let at-text-length = c .before in
+    let at-end-of-first = at-text-length .before in
+    let start = at-end-of-first .before .before .before .before .before .before .before .before .before in
+    λ ends w. short-room (start .args .values .now) (start .args .means .now) (start .args .under .now) (start .args .offsets .now) (start .args .tape .now) _ _
+    (start .args .code .now) (start .args .literals .now) ends _ _ _ _ (w .cells-is) (at-end-of-first .end-of-first .ensures .0) (w .two-is) (w .three-is)
+    (at-end-of-first .end-of-first .ensures .1, start .pre .3, start .pre .4) _ (at-text-length .text-length .ensures) _ (c .if1 .taken)
 
 write-requires : tie.Need-write-requires
 write-requires c κs = search needs
@@ -29,16 +26,21 @@ same-length : tie.Need-same-length
 same-length c = search needs
 
 returns-2 : tie.Need-returns-2
-returns-2 c = enough-room (c .before .before .before .before .before .before .before .before .before .before .before .before .before .before .before .before .before .before .before .args .values .now) (c .before .before .before .before .before .before .before .before .before .before .before .before .before .before .before .before .before .before .before .args .means .now) (c .before .before .before .before .before .before .before .before .before .before .before .before .before .before .before .before .before .before .before .args .under .now) (c .before .before .before .before .before .before .before .before .before .before .before .before .before .before .before .before .before .before .before .args .offsets .now) (c .before .before .before .before .before .before .before .before .before .before .before .before .before .before .before .before .before .before .before .args .tape .now) _ _ (c .before .before .before .before .before .before .before .before .before .before .before .before .before .before .before .before .before .before .before .args .code .now) (c .before .before .before .before .before .before .before .before .before .before .before .before .before .before .before .before .before .before .before .args .literals .now) (c .before .before .before .before .before .before .before .before .before .before .before .before .before .before .before .before .before .before .before .args .ends .now) _ _ _ _ (c .before .before .before .before .before .before .before .before .before .end-of .ensures .0) (c .before .before .before .before .before .before .before .before .end-of-first .ensures .0) (c .before .before .before .before .before .before .before .end-of2 .ensures .0) (c .before .before .before .before .before .before .end-of3 .ensures .0) (c .before .before .before .before .before .before .before .before .end-of-first .ensures .1, c .before .before .before .before .before .before .before .end-of2 .ensures .1, c .before .before .before .before .before .before .end-of3 .ensures .1) _ (c .before .before .before .before .before .text-length .ensures) _ _ (c .before .before .before .before .if1 .left) (c .before .before .write .ensures)
+returns-2 c =
+    let at-write = c .before .before in
+    let at-if1 = at-write .before .before in
+    let at-text-length = at-if1 .before in
+    let at-end-of-first = at-text-length .before in
+    let start = at-end-of-first .before .before .before .before .before .before .before .before .before in
+    λ ends w. enough-room (start .args .values .now) (start .args .means .now) (start .args .under .now) (start .args .offsets .now) (start .args .tape .now) _ _
+    (start .args .code .now) (start .args .literals .now) ends _ _ _ _ (w .cells-is) (at-end-of-first .end-of-first .ensures .0) (w .two-is) (w .three-is)
+    (at-end-of-first .end-of-first .ensures .1, start .pre .3, start .pre .4) _ (at-text-length .text-length .ensures) _ _ (at-if1 .if1 .left) (at-write .write .ensures)
 
 pub deliver-spec : {M : Type 1} → statement M
 deliver-spec =
     tie.close
     (tie.spec
-    end-of-requires
     end-of-first-requires
-    end-of-requires-2
-    end-of-requires-3
     text-length-requires
     returns
     write-requires

@@ -41,7 +41,11 @@ loop-less : tie.Need-loop-less Inv-loop μ-loop
 loop-less c = search needs
 
 loop-again : tie.Need-loop-again Inv-loop μ-loop
-loop-again c = (search needs, search needs, rw (c .before .before .lay .ensures) (words-turn _ _ _ _ _ (c .before .before .before .before .before .loop-test .taken) refl (c .before .before .before .before .before .before .loop .inv .2)))
+loop-again c =
+    let at-lay = c .before .before in
+    let at-loop-test = at-lay .before .before .before in
+    let at-loop = at-loop-test .before in
+    (search needs, search needs, rw (at-lay .lay .ensures) (words-turn _ _ _ _ _ (at-loop-test .loop-test .taken) refl (at-loop .loop .inv .2)))
 
 same-length : tie.Need-same-length Inv-loop μ-loop
 same-length c = search needs

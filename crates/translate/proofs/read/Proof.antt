@@ -47,7 +47,13 @@ same-length-3 : tie.Need-same-length-3
 same-length-3 c = search needs
 
 returns : tie.Need-returns
-returns c = fronted-all _ (c .before .before .before .before .before .before .before .before .before .before .before .before .before .before .before .before .before .before .before .before .before .before .before .before .args .kinds .now) (c .before .before .before .before .before .before .before .before .before .before .before .before .before .before .before .before .before .before .before .before .before .before .before .before .args .values .now) (c .before .before .before .before .before .before .before .before .before .before .before .before .before .before .before .before .before .before .before .before .before .before .before .before .args .places .now) _ _ _ _ _ _ _ (c .before .before .before .before .before .before .before .before .before .before .before .before .before .before .before .before .before .before .before .before .before .before .before .before .pre .0) (c .before .before .before .before .before .before .before .before .before .before .before .before .before .before .before .before .before .before .before .before .before .before .before .before .pre .1) (c .before .before .before .before .before .before .before .before .before .before .before .before .before .before .before .before .before .before .before .before .before .before .before .before .pre .2) (c .before .before .before .before .before .before .before .before .before .before .before .before .before .before .before .before .put-front .kept .0) (c .before .before .before .before .before .before .before .before .before .before .before .before .before .before .before .before .put-front .kept .1 .0) (c .before .before .before .before .before .before .before .before .before .before .before .before .before .before .before .before .put-front .kept .1 .1 .0) (c .before .before .before .before .before .before .before .before .before .before .before .before .before .before .before .before .put-front .ensures .0) (c .before .before .before .before .before .before .before .before .before .before .before .before .before .before .before .before .put-front .ensures .1) (c .before .before .before .before .before .before .before .before .before .before .before .before .before .before .before .before .put-front .ensures .2) (c .before .before .before .before .before .before .read-tokens .ensures)
+returns c =
+    let at-read-tokens = c .before .before .before .before .before .before in
+    let at-put-front = at-read-tokens .before .before .before .before .before .before .before .before .before .before in
+    let start = at-put-front .before .before .before .before .before .before .before .before in
+    fronted-all _ (start .args .kinds .now) (start .args .values .now) (start .args .places .now) _ _ _ _ _ _ _ (start .pre .0) (start .pre .1) (start .pre .2)
+    (at-put-front .put-front .kept .0) (at-put-front .put-front .kept .1 .0) (at-put-front .put-front .kept .1 .1 .0) (at-put-front .put-front .ensures .0)
+    (at-put-front .put-front .ensures .1) (at-put-front .put-front .ensures .2) (at-read-tokens .read-tokens .ensures)
 
 pub read-spec : {M : Type 1} → statement M
 read-spec =

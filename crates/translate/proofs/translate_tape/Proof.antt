@@ -1,108 +1,199 @@
 -- `translate_tape` finds, settles, and makes where no rule is broken: groups 6 to 16 of a program on the tape. Assumes nothing.
+use Prim.Native.Nat.{ℕ}
+use mathlib.Core.Path.{refl, ap, _∙_}
 use native.Mathlib.Omega.{arith}
+use lib.ListN.{replicate}
+use Rattle.translate.specs.Texts.{allTokens, placesOf}
+use Rattle.translate.proofs.Judging.{values-long}
 use Rattle.translate.proofs.Groups.{rule-broken, none-broken}
 use borrow.Author.Needs.{needs}
 use Rattle.translate.proofs.translate_tape.Statement.{statement}
 use Rattle.translate.proofs.translate_tape.Tie as tie
 
 bind-requires : tie.Need-bind-requires
-bind-requires c κs = search needs
+bind-requires c κs =
+    let back = c .before .before .before .before .before .before .before .before .before .before .before .before .before .before .before in
+    let start = back .before .before in
+    let l = start .pre .2 in (start .pre .1, l .opens-long, l .written-long, l .few)
 
 settle-requires : tie.Need-settle-requires
-settle-requires c κs = let l = c .before .before .before .before .before .before .before .before .before .before .before .before .before .before .before .before .before .before .before .before .before .before .before .before .before .before .before .before .before .before .before .before .before .before .before .before .before .before .before .before .before .pre .0 in (omega (arith, l .few), l .third-long, l .fourth-long, c .before .before .before .before .before .before .before .before .before .before .before .before .before .before .before .before .before .before .before .before .before .before .before .before .before .before .before .before .before .before .before .before .before .before .before .before .before .before .before .before .before .pre .3, l .ends-long, l .ends-zero)
+settle-requires c κs =
+    let back = c .before .before .before .before .before .before .before .before .before .before .before .before .before .before .before in
+    let back2 = back .before .before .before .before .before .before .before .before .before .before .before .before .before .before .before in
+    let start = back2 .before .before .before in
+    let l = start .pre .2 in (omega (arith, start .pre .1, l .few), omega (arith, start .pre .1, l .offsets-long), omega (arith, start .pre .1, l .work-long), l .under-long)
 
-get-requires : tie.Need-get-requires
-get-requires c κs = search needs
+place-of-requires : tie.Need-place-of-requires
+place-of-requires c κs =
+    let back = c .before .before .before .before .before .before .before .before .before .before .before .before .before .before .before in
+    let back2 = back .before .before .before .before .before .before .before .before .before .before .before .before .before .before .before in
+    let back3 = back2 .before .before .before .before .before .before .before .before .before .before .before .before .before .before .before in
+    let start = back3 .before .before .before in
+    start .pre .0
 
 same-length : tie.Need-same-length
-same-length c = c .before .before .before .before .before .before .before .before .before .before .before .before .before .before .before .before .before .before .before .before .before .before .before .before .before .before .before .before .before .before .before .before .before .before .before .before .before .bind .kept .1 .1 .0
+same-length c =
+    let back = c .before .before .before .before .before .before .before .before .before .before .before .before .before .before .before in
+    let back2 = back .before .before .before .before .before .before .before .before .before .before .before .before .before .before .before in
+    let at-bind = back2 .before in
+    at-bind .bind .kept .1 .1 .1 .1 .0
 
 same-length-2 : tie.Need-same-length-2
-same-length-2 c = c .before .before .before .before .before .before .before .before .before .before .before .before .before .before .before .before .before .before .before .before .before .before .before .before .before .before .before .before .before .before .before .before .before .before .before .before .before .bind .kept .1 .1 .1 .0
+same-length-2 c =
+    let back = c .before .before .before .before .before .before .before .before .before .before .before .before .before .before .before in
+    let back2 = back .before .before .before .before .before .before .before .before .before .before .before .before .before .before .before in
+    let at-bind = back2 .before in
+    at-bind .bind .kept .1 .1 .1 .1 .1 .0
 
 same-length-3 : tie.Need-same-length-3
-same-length-3 c = search needs
+same-length-3 c =
+    let at-settle = c .before .before .before .before .before .before .before .before .before .before .before .before .before .before .before in
+    let back = at-settle .before .before .before .before .before .before .before .before .before .before .before .before .before .before .before in
+    let at-bind = back .before in
+    at-settle .settle .kept .1 .1 .1 .1 .1 .1 .0 ∙ at-bind .bind .kept .1 .1 .0
 
 same-length-4 : tie.Need-same-length-4
-same-length-4 c = search needs
+same-length-4 c =
+    let at-settle = c .before .before .before .before .before .before .before .before .before .before .before .before .before .before .before in
+    let back = at-settle .before .before .before .before .before .before .before .before .before .before .before .before .before .before .before in
+    let at-bind = back .before in
+    at-settle .settle .kept .1 .1 .1 .1 .1 .1 .1 .0 ∙ at-bind .bind .kept .1 .1 .1 .0
 
 same-length-5 : tie.Need-same-length-5
-same-length-5 c = search needs
+same-length-5 c =
+    let at-settle = c .before .before .before .before .before .before .before .before .before .before .before .before .before .before .before in
+    at-settle .settle .kept .1 .1 .1 .1 .0
 
 same-length-6 : tie.Need-same-length-6
-same-length-6 c = search needs
+same-length-6 c =
+    let at-settle = c .before .before .before .before .before .before .before .before .before .before .before .before .before .before .before in
+    at-settle .settle .kept .1 .1 .1 .1 .1 .0
 
 same-length-7 : tie.Need-same-length-7
-same-length-7 c = search needs
+same-length-7 c =
+    let at-settle = c .before .before .before .before .before .before .before .before .before .before .before .before .before .before .before in
+    at-settle .settle .kept .1 .1 .1 .1 .1 .1 .1 .1 .0
 
 same-length-8 : tie.Need-same-length-8
-same-length-8 c = search needs
-
-same-length-9 : tie.Need-same-length-9
-same-length-9 c = search needs
-
-same-length-10 : tie.Need-same-length-10
-same-length-10 c = search needs
-
-same-length-11 : tie.Need-same-length-11
-same-length-11 c = search needs
-
-same-length-12 : tie.Need-same-length-12
-same-length-12 c = search needs
+same-length-8 c =
+    let at-settle = c .before .before .before .before .before .before .before .before .before .before .before .before .before .before .before in
+    at-settle .settle .kept .1 .1 .1 .1 .1 .1 .1 .1 .1 .0
 
 returns : tie.Need-returns
-returns c = λ ts x t ek ep bs. let b = c .before .before .before .before .before .before .before .before .before .before .before .before .before .before .before .before .before .before .before .before .before .before .before .before .before .before .before .before .before .before .before .before .before .before .before .before .before .bind .ensures ts x t (bs .no-found) (bs .no-goes) in let s = c .before .before .before .before .before .before .before .before .before .before .before .before .before .before .before .before .before .before .before .settle .ensures ts x t ek (b .found-is) (bs .no-means) (bs .no-opens) (bs .no-written) (bs .no-offsets) in rule-broken ts x _ _ t _ _ _ _ _ _ _ _ _ _ b s _ _ _ ep (c .get .ensures .0) (c .before .if1 .taken)
+returns c =
+    let at-if1 = c .before in
+    let at-settle = at-if1 .before .before .before .before .before .before .before .before .before .before .before .before .before .before in
+    let back = at-settle .before .before .before .before .before .before .before .before .before .before .before .before .before .before .before in
+    let at-bind = back .before in
+    let back2 = at-bind .before .before .before .before .before .before .before .before .before .before .before .before .before .before .before in
+    let start = back2 .before .before .before in
+    λ x t ek bs. let b = at-bind .bind .ensures .1 (allTokens (start .args .src .now)) x t (bs .no-found) (bs .no-goes) in let v = values-long (allTokens (start .args .src .now))
+    x _ _ t in let l = start .pre .2 in let s = at-settle .settle .ensures .1 (allTokens (start .args .src .now)) x t ek (b .found-is) (bs .no-means) (at-bind .bind .ensures .0 .0
+    ∙ ap (λ (n : ℕ). replicate n 0) (l .opens-long ∙ v)) (at-bind .bind .ensures .0 .1 ∙ ap (λ (n : ℕ). replicate n 0) (l .written-long ∙ v)) (l .offsets-long ∙ v)
+    in rule-broken (allTokens (start .args .src .now)) x _ _ t _ _ _ _ _ _ _ _ _ _ b s _ (placesOf (allTokens (start .args .src .now))) _ refl (c .place-of .ensures)
+    (at-if1 .if1 .taken)
+
+clear-requires : tie.Need-clear-requires
+clear-requires c κs = search needs
 
 make-requires : tie.Need-make-requires
-make-requires c κs = let l = c .before .before .before .before .before .before .before .before .before .before .before .before .before .before .before .before .before .before .before .before .before .before .before .before .before .before .before .before .before .before .before .before .before .before .before .before .before .before .before .before .before .before .before .before .before .before .before .before .before .before .before .before .before .before .before .before .before .before .before .before .before .before .before .before .before .before .before .before .before .before .pre .0 in (omega (arith, l .few), l .literals-long, l .literals-short)
+make-requires c κs =
+    let back = c .before .before .before .before .before .before .before .before .before .before .before .before .before .before .before in
+    let at-settle = back .before .before .before .before .before .before .before .before .before .before .before .before in
+    let back2 = at-settle .before .before .before .before .before .before .before .before .before .before .before .before .before .before .before in
+    let back3 = back2 .before .before .before .before .before .before .before .before .before .before .before .before .before .before .before in
+    let start = back3 .before .before .before .before in
+    let l = start .pre .2 in let e = at-settle .settle .ensures .0 in (
+      omega (arith, start .pre .1, l .few),
+      omega (arith, start .pre .1, l .work-long, at-settle .settle .kept .1 .1 .1 .1 .1 .1 .1 .1 .1 .0),
+      omega (arith, l .work-short, at-settle .settle .kept .1 .1 .1 .1 .1 .1 .1 .1 .1 .0),
+      omega (arith, e .cells-is),
+      omega (arith, e .two-is),
+      omega (arith, e .three-is),
+    )
+
+same-length-9 : tie.Need-same-length-9
+same-length-9 c =
+    let back = c .before .before .before .before .before .before .before .before .before .before .before .before .before .before .before in
+    let back2 = back .before .before .before .before .before .before .before .before .before .before .before .before .before .before .before in
+    let back3 = back2 .before .before .before .before .before .before .before .before .before .before .before .before .before .before .before in
+    let at-bind = back3 .before .before .before .before .before in
+    at-bind .bind .kept .1 .1 .1 .1 .0
+
+same-length-10 : tie.Need-same-length-10
+same-length-10 c =
+    let back = c .before .before .before .before .before .before .before .before .before .before .before .before .before .before .before in
+    let back2 = back .before .before .before .before .before .before .before .before .before .before .before .before .before .before .before in
+    let back3 = back2 .before .before .before .before .before .before .before .before .before .before .before .before .before .before .before in
+    let at-bind = back3 .before .before .before .before .before in
+    at-bind .bind .kept .1 .1 .1 .1 .1 .0
+
+same-length-11 : tie.Need-same-length-11
+same-length-11 c =
+    let back = c .before .before .before .before .before .before .before .before .before .before .before .before .before .before .before in
+    let back2 = back .before .before .before .before .before .before .before .before .before .before .before .before .before .before .before in
+    let at-settle = back2 .before .before .before .before in
+    let back3 = at-settle .before .before .before .before .before .before .before .before .before .before .before .before .before .before .before in
+    let at-bind = back3 .before in
+    at-settle .settle .kept .1 .1 .1 .1 .1 .1 .0 ∙ at-bind .bind .kept .1 .1 .0
+
+same-length-12 : tie.Need-same-length-12
+same-length-12 c =
+    let at-make = c .before .before .before .before .before .before in
+    let at-clear = at-make .before .before .before .before .before .before .before .before .before .before .before .before in
+    let back = at-clear .before .before .before .before .before .before .before .before .before .before .before .before .before .before .before in
+    let at-settle = back .before in
+    let back2 = at-settle .before .before .before .before .before .before .before .before .before .before .before .before .before .before .before in
+    let at-bind = back2 .before in
+    at-make .make .kept .1 .1 .1 .1 .1 .1 .1 .1 .1 .0 ∙ (at-clear .clear .kept .0 ∙ (at-settle .settle .kept .1 .1 .1 .1 .1 .1 .1 .0 ∙ at-bind .bind .kept .1 .1 .1 .0))
 
 same-length-13 : tie.Need-same-length-13
-same-length-13 c = c .before .before .before .before .before .before .before .before .before .before .before .before .before .before .before .before .before .before .before .before .before .before .before .before .before .before .before .before .before .before .before .before .before .before .before .before .before .before .before .before .before .before .before .before .before .before .before .before .before .before .before .before .before .bind .kept .1 .1 .0
+same-length-13 c =
+    let back = c .before .before .before .before .before .before .before .before .before .before .before .before .before .before .before in
+    let back2 = back .before .before .before .before .before .before .before .before .before .before .before .before .before .before .before in
+    let at-settle = back2 .before .before .before .before in
+    at-settle .settle .kept .1 .1 .1 .1 .0
 
 same-length-14 : tie.Need-same-length-14
-same-length-14 c = c .before .before .before .before .before .before .before .before .before .before .before .before .before .before .before .before .before .before .before .before .before .before .before .before .before .before .before .before .before .before .before .before .before .before .before .before .before .before .before .before .before .before .before .before .before .before .before .before .before .before .before .before .before .bind .kept .1 .1 .1 .0
+same-length-14 c =
+    let back = c .before .before .before .before .before .before .before .before .before .before .before .before .before .before .before in
+    let back2 = back .before .before .before .before .before .before .before .before .before .before .before .before .before .before .before in
+    let at-settle = back2 .before .before .before .before in
+    at-settle .settle .kept .1 .1 .1 .1 .1 .0
 
 same-length-15 : tie.Need-same-length-15
-same-length-15 c = search needs
+same-length-15 c =
+    let back = c .before .before .before .before .before .before .before .before .before .before .before .before .before .before .before in
+    let back2 = back .before .before .before .before .before .before .before .before .before .before .before .before .before .before .before in
+    let at-settle = back2 .before .before .before .before in
+    at-settle .settle .kept .1 .1 .1 .1 .1 .1 .1 .1 .0
 
 same-length-16 : tie.Need-same-length-16
-same-length-16 c = search needs
+same-length-16 c =
+    let at-make = c .before .before .before .before .before .before in
+    let back = at-make .before .before .before .before .before .before .before .before .before .before .before .before .before .before .before in
+    let at-settle = back .before .before .before .before .before .before .before .before .before .before .before .before .before in
+    at-make .make .kept .1 .1 .1 .1 .1 .1 .1 .1 .1 .1 .0 ∙ at-settle .settle .kept .1 .1 .1 .1 .1 .1 .1 .1 .1 .0
 
 same-length-17 : tie.Need-same-length-17
-same-length-17 c = c .before .before .before .before .before .before .before .before .before .before .before .before .before .before .before .before .before .before .before .before .before .before .before .before .before .before .before .before .before .before .before .before .before .before .before .before .before .before .before .before .before .before .before .before .before .before .before .before .before .before .before .before .before .bind .kept .1 .1 .1 .1 .0
-
-same-length-18 : tie.Need-same-length-18
-same-length-18 c = c .before .before .before .before .before .before .before .before .before .before .before .before .before .before .before .before .before .before .before .before .before .before .before .before .before .before .before .before .before .before .before .before .before .before .before .before .before .before .before .before .before .before .before .before .before .before .before .before .before .before .before .before .before .bind .kept .1 .1 .1 .1 .1 .0
-
-same-length-19 : tie.Need-same-length-19
-same-length-19 c = search needs
-
-same-length-20 : tie.Need-same-length-20
-same-length-20 c = search needs
-
-same-length-21 : tie.Need-same-length-21
-same-length-21 c = search needs
-
-same-length-22 : tie.Need-same-length-22
-same-length-22 c = search needs
-
-same-length-23 : tie.Need-same-length-23
-same-length-23 c = search needs
-
-same-length-24 : tie.Need-same-length-24
-same-length-24 c = search needs
-
-same-length-25 : tie.Need-same-length-25
-same-length-25 c = search needs
-
-same-length-26 : tie.Need-same-length-26
-same-length-26 c = search needs
-
-same-length-27 : tie.Need-same-length-27
-same-length-27 c = search needs
+same-length-17 c = c .before .before .before .before .before .before .make .kept .1 .1 .1 .1 .1 .1 .1 .1 .1 .1 .1 .1 .0
 
 returns-2 : tie.Need-returns-2
-returns-2 c = λ ts x t ek ep bs. let b = c .before .before .before .before .before .before .before .before .before .before .before .before .before .before .before .before .before .before .before .before .before .before .before .before .before .before .before .before .before .before .before .before .before .before .before .before .before .before .before .before .before .before .before .before .before .before .before .before .before .before .before .before .before .bind .ensures ts x t (bs .no-found) (bs .no-goes) in let s = c .before .before .before .before .before .before .before .before .before .before .before .before .before .before .before .before .before .before .before .before .before .before .before .before .before .before .before .before .before .before .before .before .before .before .before .settle .ensures ts x t ek (b .found-is) (bs .no-means) (bs .no-opens) (bs .no-written) (bs .no-offsets) in none-broken ts x _ _ t _ _ _ _ _ _ _ _ _ _ b s (c .before .before .before .before .before .before .before .before .before .before .before .before .before .before .before .before .before .before .before .before .before .before .before .before .before .before .before .before .before .before .before .before .before .before .before .before .before .before .before .before .before .before .before .before .before .before .before .before .before .before .before .before .before .before .before .before .before .before .before .before .before .before .before .before .before .before .before .before .before .before .before .before .before .before .before .before .before .args .kinds .now) (c .before .before .before .before .before .before .before .before .before .before .before .before .before .before .before .before .before .before .before .before .before .before .before .before .before .before .before .before .before .before .before .before .before .before .before .before .before .before .before .before .before .before .before .before .before .before .before .before .before .before .before .before .before .before .before .before .before .before .before .before .before .before .before .before .before .before .before .before .before .before .before .before .before .before .before .before .before .args .marks .now) (c .before .before .before .before .before .before .before .before .before .before .before .before .before .before .before .before .before .before .before .before .before .before .before .before .before .before .before .before .before .before .before .before .before .before .before .before .before .before .before .before .before .before .before .before .before .before .before .before .before .before .before .before .before .before .before .before .before .before .before .before .before .before .before .before .before .before .before .before .before .before .before .before .before .before .before .before .before .args .out .now) _ _ ek (bs .no-marks) (c .before .before .before .before .before .before .before .before .before .before .before .before .before .before .before .before .before .if1 .left) (c .before .before .before .before .before .before .make .ensures)
+returns-2 c =
+    let at-make = c .before .before .before .before .before .before in
+    let at-clear = at-make .before .before .before .before .before .before .before .before .before .before .before .before in
+    let at-if1 = at-clear .before .before in
+    let at-settle = at-if1 .before .before .before .before .before .before .before .before .before .before .before .before .before .before in
+    let back = at-settle .before .before .before .before .before .before .before .before .before .before .before .before .before .before .before in
+    let at-bind = back .before in
+    let back2 = at-bind .before .before .before .before .before .before .before .before .before .before .before .before .before .before .before in
+    let start = back2 .before .before .before in
+    λ x t ek bs. let b = at-bind .bind .ensures .1 (allTokens (start .args .src .now)) x t (bs .no-found) (bs .no-goes) in let v = values-long (allTokens (start .args .src .now))
+    x _ _ t in let l = start .pre .2 in let s = at-settle .settle .ensures .1 (allTokens (start .args .src .now)) x t ek (b .found-is) (bs .no-means) (at-bind .bind .ensures .0 .0
+    ∙ ap (λ (n : ℕ). replicate n 0) (l .opens-long ∙ v)) (at-bind .bind .ensures .0 .1 ∙ ap (λ (n : ℕ). replicate n 0) (l .written-long ∙ v)) (l .offsets-long ∙ v)
+    in none-broken (allTokens (start .args .src .now)) x _ _ t _ _ _ _ _ _ _ _ _ _ b s (start .args .kinds .now) _ (start .args .out .now) _ _ ek (at-clear .clear .ensures
+    ∙ ap (λ (n : ℕ). replicate n 0) (at-settle .settle .kept .1 .1 .1 .1 .1 .1 .1 .0 ∙ (at-bind .bind .kept .1 .1 .1 .0 ∙ (l .written-long ∙ v)))) (at-if1 .if1 .left)
+    (at-make .make .ensures _ (at-settle .settle .ensures .0))
 
 pub translate-tape-spec : {M : Type 1} → statement M
 translate-tape-spec =
@@ -110,7 +201,7 @@ translate-tape-spec =
     (tie.spec
     bind-requires
     settle-requires
-    get-requires
+    place-of-requires
     same-length
     same-length-2
     same-length-3
@@ -119,25 +210,16 @@ translate-tape-spec =
     same-length-6
     same-length-7
     same-length-8
+    returns
+    clear-requires
+    make-requires
     same-length-9
     same-length-10
     same-length-11
     same-length-12
-    returns
-    make-requires
     same-length-13
     same-length-14
     same-length-15
     same-length-16
     same-length-17
-    same-length-18
-    same-length-19
-    same-length-20
-    same-length-21
-    same-length-22
-    same-length-23
-    same-length-24
-    same-length-25
-    same-length-26
-    same-length-27
     returns-2)

@@ -31,31 +31,78 @@ fill-requires-3 : tie.Need-fill-requires-3
 fill-requires-3 c κs = search needs
 
 array-share-prefix-first : tie.Need-array-share-prefix-first
-array-share-prefix-first c = omega (arith, c .before .before .before .before .before .before .before .before .before .before .before .before .before .before .before .before .before .before .before .before .before .pre .2, (c .before .before .before .before .before .before .before .before .lay-literals .kept .0 ∙ (c .before .before .before .before .before .before .before .before .before .before .before .fill .kept .1 .1 .1 .1 .1 .1 .0 ∙ zeros-long)))
+array-share-prefix-first c =
+    let at-lay-literals = c .before .before .before .before .before .before .before .before in
+    let at-fill = at-lay-literals .before .before .before in
+    let start = at-fill .before .before .before .before .before .before .before .before .before .before in
+    omega (arith, start .pre .2, (at-lay-literals .lay-literals .kept .0 ∙ (at-fill .fill .kept .1 .1 .1 .1 .1 .1 .0 ∙ zeros-long)))
 
 slice-aggregate-write-object : tie.Need-slice-aggregate-write-object
-slice-aggregate-write-object c = cut-long _ 4096 _ (c .before .before .before .before .before .before .before .before .before .before .before .before .before .before .before .before .before .before .before .before .before .before .pre .2) (c .before .before .before .before .before .before .before .before .before .lay-literals .kept .0 ∙ (c .before .before .before .before .before .before .before .before .before .before .before .before .fill .kept .1 .1 .1 .1 .1 .1 .0 ∙ zeros-long))
+slice-aggregate-write-object c =
+    let at-lay-literals = c .before .before .before .before .before .before .before .before .before in
+    let at-fill = at-lay-literals .before .before .before in
+    let start = at-fill .before .before .before .before .before .before .before .before .before .before in
+    cut-long _ 4096 _ (start .pre .2) (at-lay-literals .lay-literals .kept .0 ∙ (at-fill .fill .kept .1 .1 .1 .1 .1 .1 .0 ∙ zeros-long))
 
 array-share-prefix-second : tie.Need-array-share-prefix-second
-array-share-prefix-second c = omega (arith, c .before .before .before .before .before .before .before .before .before .before .before .before .before .before .before .before .before .before .before .before .before .before .pre .3, (c .before .before .before .before .before .before .fill2 .kept .1 .1 .1 .1 .1 .1 .0 ∙ zeros-long))
+array-share-prefix-second c =
+    let at-fill2 = c .before .before .before .before .before .before in
+    let back = at-fill2 .before .before .before .before .before .before .before .before .before .before .before .before .before .before .before in
+    let start = back .before in
+    omega (arith, start .pre .3, (at-fill2 .fill2 .kept .1 .1 .1 .1 .1 .1 .0 ∙ zeros-long))
 
 slice-aggregate-write-object-2 : tie.Need-slice-aggregate-write-object-2
-slice-aggregate-write-object-2 c = cut-long _ 4096 _ (c .before .before .before .before .before .before .before .before .before .before .before .before .before .before .before .before .before .before .before .before .before .before .before .pre .3) (c .before .before .before .before .before .before .before .fill2 .kept .1 .1 .1 .1 .1 .1 .0 ∙ zeros-long)
+slice-aggregate-write-object-2 c =
+    let at-fill2 = c .before .before .before .before .before .before .before in
+    let back = at-fill2 .before .before .before .before .before .before .before .before .before .before .before .before .before .before .before in
+    let start = back .before in
+    cut-long _ 4096 _ (start .pre .3) (at-fill2 .fill2 .kept .1 .1 .1 .1 .1 .1 .0 ∙ zeros-long)
 
 array-share-prefix-third : tie.Need-array-share-prefix-third
-array-share-prefix-third c = omega (arith, c .before .before .before .before .before .before .before .before .before .before .before .before .before .before .before .before .before .before .before .before .before .before .before .pre .4, (c .before .before .before .before .fill3 .kept .1 .1 .1 .1 .1 .1 .0 ∙ zeros-long))
+array-share-prefix-third c =
+    let at-fill3 = c .before .before .before .before in
+    let back = at-fill3 .before .before .before .before .before .before .before .before .before .before .before .before .before .before .before in
+    let start = back .before .before .before .before in
+    omega (arith, start .pre .4, (at-fill3 .fill3 .kept .1 .1 .1 .1 .1 .1 .0 ∙ zeros-long))
 
 slice-aggregate-write-object-3 : tie.Need-slice-aggregate-write-object-3
-slice-aggregate-write-object-3 c = cut-long _ 4096 _ (c .before .before .before .before .before .before .before .before .before .before .before .before .before .before .before .before .before .before .before .before .before .before .before .before .pre .4) (c .before .before .before .before .before .fill3 .kept .1 .1 .1 .1 .1 .1 .0 ∙ zeros-long)
+slice-aggregate-write-object-3 c =
+    let at-fill3 = c .before .before .before .before .before in
+    let back = at-fill3 .before .before .before .before .before .before .before .before .before .before .before .before .before .before .before in
+    let start = back .before .before .before .before in
+    cut-long _ 4096 _ (start .pre .4) (at-fill3 .fill3 .kept .1 .1 .1 .1 .1 .1 .0 ∙ zeros-long)
 
 write-object-requires : tie.Need-write-object-requires
-write-object-requires c κs = write-fits (c .before .before .before .before .before .before .before .before .before .before .before .before .before .before .before .before .before .before .before .before .before .before .before .before .args .code .now) (c .before .before .before .before .before .before .before .before .before .before .before .lay-literals .last .0) (c .before .before .before .before .before .before .before .before .fill2 .last .1 .1 .1 .1 .1 .1 .0) (c .before .before .before .before .before .fill3 .last .1 .1 .1 .1 .1 .1 .0) (c .before .before .before .before .before .before .before .before .before .before .before .before .before .before .before .before .before .before .before .before .before .before .before .before .args .out .now) (c .before .before .before .before .before .before .before .before .before .before .before .before .before .before .before .before .before .before .before .before .before .before .before .before .args .bases) (c .before .before .before .before .before .before .before .before .before .before .before .before .before .before .before .before .before .before .before .before .before .before .before .before .args .last) (c .before .before .before .before .before .before .before .before .before .before .before .before .before .before .before .before .before .before .before .before .before .before .before .before .args .two) (c .before .before .before .before .before .before .before .before .before .before .before .before .before .before .before .before .before .before .before .before .before .before .before .before .args .three) (c .before .before .before .before .before .before .before .before .before .before .before .before .before .before .before .before .before .before .before .before .before .before .before .before .pre .0, cut-long (c .before .before .before .before .before .before .before .before .before .before .before .before .before .before .before .before .before .before .before .before .before .before .before .before .args .last) 4096 _ (c .before .before .before .before .before .before .before .before .before .before .before .before .before .before .before .before .before .before .before .before .before .before .before .before .pre .2) (c .before .before .before .before .before .before .before .before .before .before .before .lay-literals .kept .0 ∙ (c .before .before .before .before .before .before .before .before .before .before .before .before .before .before .fill .kept .1 .1 .1 .1 .1 .1 .0 ∙ zeros-long)), cut-long (c .before .before .before .before .before .before .before .before .before .before .before .before .before .before .before .before .before .before .before .before .before .before .before .before .args .two) 4096 _ (c .before .before .before .before .before .before .before .before .before .before .before .before .before .before .before .before .before .before .before .before .before .before .before .before .pre .3) (c .before .before .before .before .before .before .before .before .fill2 .kept .1 .1 .1 .1 .1 .1 .0 ∙ zeros-long), cut-long (c .before .before .before .before .before .before .before .before .before .before .before .before .before .before .before .before .before .before .before .before .before .before .before .before .args .three) 4096 _ (c .before .before .before .before .before .before .before .before .before .before .before .before .before .before .before .before .before .before .before .before .before .before .before .before .pre .4) (c .before .before .before .before .before .fill3 .kept .1 .1 .1 .1 .1 .1 .0 ∙ zeros-long)) (c .before .before .before .before .before .before .before .before .before .before .before .before .before .before .before .before .before .before .before .before .before .before .before .before .pre .2, c .before .before .before .before .before .before .before .before .before .before .before .before .before .before .before .before .before .before .before .before .before .before .before .before .pre .3, c .before .before .before .before .before .before .before .before .before .before .before .before .before .before .before .before .before .before .before .before .before .before .before .before .pre .4) (c .before .before .before .before .before .before .before .before .before .before .before .before .before .before .before .before .before .before .before .before .before .before .before .before .pre .5)
+write-object-requires c κs =
+    let at-fill3 = c .before .before .before .before .before in
+    let at-fill2 = at-fill3 .before .before .before in
+    let at-lay-literals = at-fill2 .before .before .before in
+    let at-fill = at-lay-literals .before .before .before in
+    let start = at-fill .before .before .before .before .before .before .before .before .before .before in
+    write-fits (start .args .code .now) (at-lay-literals .lay-literals .last .0) (at-fill2 .fill2 .last .1 .1 .1 .1 .1 .1 .0) (at-fill3 .fill3 .last .1 .1 .1 .1 .1 .1 .0)
+    (start .args .out .now) (start .args .bases) (start .args .last) (start .args .two) (start .args .three) (
+      start .pre .0,
+      cut-long (start .args .last) 4096 _
+          (start .pre .2) (at-lay-literals .lay-literals .kept .0 ∙ (at-fill .fill .kept .1 .1 .1 .1 .1 .1 .0 ∙ zeros-long)),
+      cut-long (start .args .two) 4096 _ (start .pre .3)
+          (at-fill2 .fill2 .kept .1 .1 .1 .1 .1 .1 .0 ∙ zeros-long),
+      cut-long (start .args .three) 4096 _ (start .pre .4) (at-fill3 .fill3 .kept .1 .1 .1 .1 .1 .1 .0 ∙
+          zeros-long),
+    ) (start .pre .2, start .pre .3, start .pre .4) (start .pre .5)
 
 same-length : tie.Need-same-length
 same-length c = search needs
 
 returns : tie.Need-returns
-returns c = written (c .before .before .before .before .before .before .before .before .before .before .before .before .before .before .before .before .before .before .before .before .before .before .before .before .before .before .before .args .values .now) (c .before .before .before .before .before .before .before .before .before .before .before .before .before .before .before .before .before .before .before .before .before .before .before .before .before .before .before .args .means .now) (c .before .before .before .before .before .before .before .before .before .before .before .before .before .before .before .before .before .before .before .before .before .before .before .before .before .before .before .args .under .now) (c .before .before .before .before .before .before .before .before .before .before .before .before .before .before .before .before .before .before .before .before .before .before .before .before .before .before .before .args .offsets .now) (c .before .before .before .before .before .before .before .before .before .before .before .before .before .before .before .before .before .before .before .before .before .before .before .before .before .before .before .args .tape .now) _ _ _ _ _ _ _ _ _ _ _ _ _ _ _ _ _ (c .before .before .before .before .before .before .before .before .before .before .before .before .before .before .before .before .before .fill .ensures) (c .before .before .before .before .before .before .before .before .before .before .before .before .before .before .lay-literals .ensures) (c .before .before .before .before .before .before .before .before .before .before .before .fill2 .ensures) (c .before .before .before .before .before .before .before .before .fill3 .ensures) (c .before .before .write-object .ensures)
+returns c =
+    let at-write-object = c .before .before in
+    let at-fill3 = at-write-object .before .before .before .before .before .before in
+    let at-fill2 = at-fill3 .before .before .before in
+    let at-lay-literals = at-fill2 .before .before .before in
+    let at-fill = at-lay-literals .before .before .before in
+    let start = at-fill .before .before .before .before .before .before .before .before .before .before in
+    written (start .args .values .now) (start .args .means .now) (start .args .under .now) (start .args .offsets .now) (start .args .tape .now) _ _ _ _ _ _ _ _ _ _ _
+    _ _ _ _ _ _ (at-fill .fill .ensures) (at-lay-literals .lay-literals .ensures) (at-fill2 .fill2 .ensures) (at-fill3 .fill3 .ensures) (at-write-object .write-object .ensures)
 
 pub write-spec : {M : Type 1} → statement M
 write-spec =

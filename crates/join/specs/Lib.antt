@@ -1,0 +1,4 @@
+pub mod Writes
+pub mod Points
+pub mod Operands
+pub mod Programs

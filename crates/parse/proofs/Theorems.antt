@@ -1,0 +1,28 @@
+-- What a caller of `grammatical` may rely on: no second verdict fits its contract. Assumes nothing.
+use mathlib.Core.Path.{_≡_, refl, sym, ap, _∙_}
+use lib.Dec.{eqb}
+use Rattle.base.specs.Choose.{choose}
+use Rattle.parse.specs.declared.Verdict.{Verdict}
+use Rattle.parse.specs.declared.Verdict.the-variants as S
+use Rattle.parse.specs.Programs.{Judged, verdictOf}
+
+verdictBack : Judged → Verdict
+verdictBack j =
+    choose (eqb (j .number) 0) S.Program
+    (choose (eqb (j .number) 1) S.TooLong
+    (choose (eqb (j .number) 2) (S.NoToken (j .place))
+    (choose (eqb (j .number) 3) (S.OutOfRange (j .place))
+    (choose (eqb (j .number) 4) (S.Unexpected (j .place)) (S.TooDeep (j .place))))))
+
+verdict-back : (v : Verdict) → verdictBack (verdictOf v) ≡ v
+unfolding verdictBack
+verdict-back S.Program = refl
+verdict-back S.TooLong = refl
+verdict-back (S.NoToken place) = refl
+verdict-back (S.OutOfRange place) = refl
+verdict-back (S.Unexpected place) = refl
+verdict-back (S.TooDeep place) = refl
+
+-- verdicts that say the same are the same
+pub one-verdict : (v w : Verdict) → verdictOf v ≡ verdictOf w → v ≡ w
+one-verdict v w e = sym (verdict-back v) ∙ ap verdictBack e ∙ verdict-back w

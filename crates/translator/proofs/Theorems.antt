@@ -1,0 +1,57 @@
+-- What a reader of document 01's "Numbers answered" may rely on, over `translate source room`: the page to read first. Each is proved by citation. Assumes nothing.
+use mathlib.Core.Path.{_≡_, refl, subst}
+use mathlib.Core.Logic.{_↔_}
+use mathlib.Core.List.{List}
+use Prim.Native.Nat.{ℕ, _<_, _≤_}
+use native.Mathlib.Omega.{arith}
+use lib.ListN.{length}
+use Rattle.names.specs.declared.Broken.{Broken}
+use Rattle.names.specs.Broken.{_⊕_}
+use Rattle.names.proofs.Least.{LeastOf, join-least}
+use Rattle.objtext.specs.Object.{Segment, Object, objectText}
+use Rattle.translator.specs.Image.{segments}
+use Rattle.translator.specs.Translate.{Answer, accepted, refused, numberOf, lengthOf, make, translate}
+use Rattle.translator.specs.Rows.{Given}
+use Rattle.translator.proofs.Answers.{acceptance, fits-room, room-only}
+use Rattle.translator.proofs.Objects.{accepted-object}
+use Rattle.translator.proofs.Rows.{row-answered, row-given, number-some, text-some}
+
+-- "Inside a group the smallest place wins, then the smaller number": of broken rules that are joined the least is answered
+pub least : (a b : Broken) → LeastOf a b (a ⊕ b)
+least a b = join-least a b
+
+module _ (source : List ℕ) (room : ℕ) where
+  -- "given exactly when": the answer is that of a row of the table (`Rows`), and of no other. "Groups in order: 1; 2, 3; 4, 5; 6 to 13; 14; 15; 16."
+  pub given-exactly : (a : Answer) → translate source room ≡ a ↔ Given source room a
+  given-exactly a = (λ e. subst (Given source room) e (row-given source room), row-answered source room a)
+
+  -- no refusal has the number of an acceptance, and no object text is empty: so number, place and length tell the answer
+  pub refusal-number : (n p : ℕ) → translate source room ≡ refused n p → 0 < n
+  refusal-number n p e = number-some source room n p e
+
+  pub object-length : (t : List ℕ) → translate source room ≡ accepted t → 0 < length t
+  object-length t e = text-some source room t e
+
+  -- an answer with number 0 and length 0 is none
+  pub not-both : numberOf (translate source room) ≡ 0 → lengthOf (translate source room) ≡ 0 → ⊥
+  not-both = go (translate source room) refl
+    where
+      go : (a : Answer) → translate source room ≡ a → numberOf a ≡ 0 → lengthOf a ≡ 0 → ⊥
+      go (accepted t) e n l = omega (arith, object-length t e)
+      go (refused n p) e z l = omega (arith, refusal-number n p e)
+
+  -- "bytes written": an object text that is accepted fits the buffer, and the room counts for nothing else
+  pub object-fits : (t : List ℕ) → translate source room ≡ accepted t → length t ≤ room
+  unfolding translate
+  object-fits t e = fits-room _ room t e .1
+
+  pub other-room : (wider : ℕ) (t : List ℕ) → translate source room ≡ accepted t → length t ≤ wider → translate source wider ≡ accepted t
+  other-room wider t e h = room-only source room wider t e h
+
+  -- what is accepted is the text of an object, of the form that the runner takes
+  pub object-form : (t : List ℕ) → translate source room ≡ accepted t → (gs : List Segment) × Object gs × (objectText gs ≡ t)
+  unfolding translate
+  object-form t e =
+      let a = acceptance source t (fits-room _ room t e .0) in
+      let m = make (a .tokens) (a .tree) in
+      (segments (m .bases) (m .layout) (m .instructions), accepted-object source t a, a .made)

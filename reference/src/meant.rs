@@ -1,0 +1,406 @@
+//! What a text means, instruction by instruction, for the watcher of runs: where each instruction stands, what it names,
+//! which registers it may write and where control goes from it. Read off the tree by document 01's "Code", with neither
+//! opcodes nor masks nor displacements.
+
+use crate::grammar::*;
+use crate::kinds::{meaning, meanings, only, Meaning, RegisterSet};
+use crate::labels::labels;
+use crate::layout::{layout, next_multiple, Layout, Place, FIRST_DATA, TABLE_LENGTH};
+use crate::names::{names, Found};
+use crate::slips::Slip;
+use crate::token::{tokens, Kind, Token};
+use crate::violations::Violations;
+use std::collections::{HashMap, HashSet};
+use std::ops::Range;
+
+/// A set of condition codes.
+pub type Codes = &'static [u64];
+
+/// What an operand in storage is by the text.
+#[derive(Clone, Copy, PartialEq, Eq, Debug)]
+pub enum Named {
+    /// A cell, or the element of an array.
+    Cell(Place),
+    /// A number, which is one of the literals.
+    Number(u32),
+    /// The table's entry of a segment.
+    Entry(usize),
+}
+
+#[derive(Clone, Copy, PartialEq, Eq, Debug)]
+pub struct InStorage {
+    pub named: Named,
+    /// In bytes: 4, or 2 for a short cell.
+    pub size: usize,
+    /// What is named is only where an index register counts from.
+    pub indexed: bool,
+    pub stored: bool,
+}
+
+#[derive(Clone, Copy, PartialEq, Eq, Debug)]
+pub enum Does {
+    OnRegisters,
+    WithOperand(InStorage),
+    /// Goes to a point (None where the text names no label there is) unless the condition code is one of these.
+    Branch {
+        unless: Codes,
+        to: Option<usize>,
+    },
+    /// Calls the procedure of this number.
+    Call(usize),
+    /// Returns from the procedure of this number.
+    Return(usize),
+    End,
+}
+
+#[derive(Clone, Copy, Debug)]
+pub struct Written {
+    /// Where it begins in the program.
+    pub offset: usize,
+    pub length: usize,
+    pub does: Does,
+    /// All registers that it may write.
+    pub writes: RegisterSet,
+}
+
+#[derive(Clone, Copy, Debug)]
+pub struct Body {
+    /// Where it begins in the program.
+    pub offset: usize,
+    pub register: u8,
+}
+
+/// A data segment: its length, and the cells, which alone are writable.
+#[derive(Clone, PartialEq, Eq, Debug)]
+pub struct Extent {
+    pub length: usize,
+    pub cells: Range<usize>,
+}
+
+pub struct Meant {
+    pub written: Vec<Written>,
+    /// The number of the instruction that begins at each offset.
+    pub at: HashMap<usize, usize>,
+    /// The offset of each point that is branched to.
+    pub points: Vec<usize>,
+    pub procedures: Vec<Body>,
+    /// Segments 1 and further.
+    pub data: Vec<Extent>,
+    /// Where the literals lie in segment 1.
+    pub literals: Range<usize>,
+}
+
+impl Meant {
+    /// The instruction that begins at an offset.
+    pub fn instruction(&self, offset: usize) -> Option<&Written> {
+        self.at.get(&offset).map(|&number| &self.written[number])
+    }
+
+    /// The program's length.
+    pub fn length(&self) -> usize {
+        self.written.last().map_or(0, |last| last.offset + last.length)
+    }
+}
+
+/// What an accepted text means; None if it is no program.
+pub fn meant(text: &[u8]) -> Option<Meant> {
+    let tokens = &tokens(text).ok()?;
+    let program = &program(tokens).ok()?;
+    let mut ignored = Violations::new(tokens);
+    let found = &names(program, tokens, &mut ignored);
+    let labels = &labels(program, tokens, Slip::None, &mut ignored);
+    let layout = &layout(program, tokens, &mut ignored);
+    let meanings = &meanings(program, tokens, found, Slip::None, &mut ignored);
+    let mut reader = Reader {
+        tokens,
+        found,
+        labels,
+        layout,
+        meanings,
+        offset: 0,
+        written: Vec::new(),
+        points: Vec::new(),
+        of_labels: HashMap::new(),
+        of_names: HashMap::new(),
+        procedures: Vec::new(),
+    };
+    reader.block(program);
+    reader.add(2, Does::End, 0);
+    let Reader { written, points, procedures, .. } = reader;
+    let at = written.iter().enumerate().map(|(number, one)| (one.offset, number)).collect();
+    let literals = literals(&written, layout);
+    let data = extents(layout, &literals);
+    Some(Meant { written, at, points, procedures, data, literals })
+}
+
+/// "Each distinct 32-bit value that an instruction takes from storage as a number is one 4-byte literal, ... from the
+/// next multiple of 4 after segment 1's cells."
+fn literals(written: &[Written], layout: &Layout) -> Range<usize> {
+    let numbers: HashSet<u32> = written.iter().filter_map(|one| number(one.does)).collect();
+    let from = next_multiple(layout.ends[FIRST_DATA], 4);
+    from..from + 4 * numbers.len()
+}
+
+fn number(does: Does) -> Option<u32> {
+    match does {
+        Does::WithOperand(InStorage { named: Named::Number(value), .. }) => Some(value),
+        _ => None,
+    }
+}
+
+/// "Segment 1 ends with its last literal; with none, with its last cell, or at 16. Segments 2 and 3 end with their last
+/// cell, or at 0."
+fn extents(layout: &Layout, literals: &Range<usize>) -> Vec<Extent> {
+    let extent = |segment: usize| {
+        let (from, end) = (if segment == FIRST_DATA { TABLE_LENGTH } else { 0 }, layout.ends[segment]);
+        let length = if segment == FIRST_DATA && !literals.is_empty() { literals.end } else { end };
+        Extent { length, cells: from..end }
+    };
+    (FIRST_DATA..=layout.last).map(extent).collect()
+}
+
+/// The codes in which a relation holds: 0 equal, 1 less, 2 greater; in state 3 only OVERFLOW does.
+fn holds_in(relation: Kind) -> Codes {
+    match relation {
+        Kind::Equal => &[0],
+        Kind::NotEqual => &[1, 2],
+        Kind::Less => &[1],
+        Kind::LessEqual => &[0, 1],
+        Kind::GreaterEqual => &[0, 2],
+        Kind::Greater => &[2],
+        _ => &[3],
+    }
+}
+
+struct Reader<'a> {
+    tokens: &'a [Token],
+    found: &'a [Found],
+    labels: &'a [Option<TokenNo>],
+    layout: &'a Layout,
+    meanings: &'a [Meaning],
+    offset: usize,
+    written: Vec<Written>,
+    points: Vec<usize>,
+    /// The points of labels, by the token that sets them.
+    of_labels: HashMap<TokenNo, usize>,
+    /// The procedures, by the token that declares them.
+    of_names: HashMap<TokenNo, usize>,
+    procedures: Vec<Body>,
+}
+
+impl Reader<'_> {
+    fn add(&mut self, length: usize, does: Does, writes: RegisterSet) {
+        self.written.push(Written { offset: self.offset, length, does, writes });
+        self.offset += length;
+    }
+
+    fn point(&mut self) -> usize {
+        self.points.push(self.offset);
+        self.points.len() - 1
+    }
+
+    fn set(&mut self, point: usize) {
+        self.points[point] = self.offset;
+    }
+
+    fn go(&mut self, point: usize) {
+        self.add(4, Does::Branch { unless: &[], to: Some(point) }, 0);
+    }
+
+    fn label(&mut self, token: TokenNo) -> usize {
+        if let Some(&point) = self.of_labels.get(&token) {
+            return point;
+        }
+        let point = self.point();
+        self.of_labels.insert(token, point);
+        point
+    }
+
+    fn meaning(&self, name: TokenNo) -> Meaning {
+        meaning(self.found, self.meanings, name)
+    }
+
+    fn register(&self, name: TokenNo) -> u8 {
+        match self.meaning(name) {
+            Meaning::Register(register) => register,
+            _ => 0,
+        }
+    }
+
+    fn block(&mut self, block: &Block) {
+        for declaration in &block.declarations {
+            match declaration {
+                Declaration::Registers(_) | Declaration::Cells(_) => {}
+                Declaration::Base(name) => self.base(*name),
+                Declaration::Procedure(procedure) => self.procedure(procedure),
+            }
+        }
+        for item in &block.items {
+            match item {
+                Item::Statement(statement) => self.statement(statement),
+                Item::Label(token) => {
+                    let point = self.label(*token);
+                    self.set(point);
+                }
+            }
+        }
+    }
+
+    /// "Base declaration for segment k: `58 r0 E0`, 4k."
+    fn base(&mut self, name: TokenNo) {
+        let segment = self.layout.bases[name].unwrap_or(FIRST_DATA);
+        let entry = InStorage { named: Named::Entry(segment), size: 4, indexed: false, stored: false };
+        self.add(4, Does::WithOperand(entry), only(self.register(name)));
+    }
+
+    /// "Procedure: branch around, body, `07 Fr`."
+    fn procedure(&mut self, procedure: &Procedure) {
+        let around = self.point();
+        self.go(around);
+        let number = self.procedures.len();
+        self.procedures.push(Body { offset: self.offset, register: self.register(procedure.register) });
+        self.of_names.insert(procedure.name, number);
+        self.statement(&procedure.body);
+        self.add(2, Does::Return(number), 0);
+        self.set(around);
+    }
+
+    fn statement(&mut self, statement: &Statement) {
+        match statement {
+            Statement::Assignment(assignment) => self.assignment(assignment),
+            Statement::Call(name) => self.call(*name),
+            Statement::Block(block) => self.block(block),
+            Statement::Goto(name) => {
+                let to = self.labels[*name].map(|label| self.label(label));
+                self.add(4, Does::Branch { unless: &[], to }, 0);
+            }
+            Statement::Null => {}
+            Statement::If { condition, then, otherwise, .. } => {
+                let on_false = self.condition(condition);
+                self.statement(then);
+                if let Some(otherwise) = otherwise {
+                    let past = self.point();
+                    self.go(past);
+                    self.set(on_false);
+                    self.statement(otherwise);
+                    self.set(past);
+                } else {
+                    self.set(on_false);
+                }
+            }
+            Statement::While { condition, body, .. } => {
+                let again = self.point();
+                let past = self.condition(condition);
+                self.statement(body);
+                self.go(again);
+                self.set(past);
+            }
+            Statement::For { assignment, step, limit, body, .. } => self.for_statement(assignment, *step, limit, body),
+        }
+    }
+
+    /// "Call: `45 r0` to the body."
+    fn call(&mut self, name: TokenNo) {
+        if let Found::Declared(token) = self.found[name] {
+            if let Some(&procedure) = self.of_names.get(&token) {
+                self.add(4, Does::Call(procedure), only(self.procedures[procedure].register));
+            }
+        }
+    }
+
+    /// "FOR: assignment; compare with limit; exit branch, mask 2, or 4 if the step is negative; statement; 5A of the
+    /// step; branch to the compare."
+    fn for_statement(&mut self, assignment: &Assignment, step: TokenNo, limit: &Operand, body: &Statement) {
+        self.assignment(assignment);
+        let again = self.point();
+        self.operand(limit, 0);
+        let unless: Codes = if self.tokens[step].signed() < 0 { &[0, 2, 3] } else { &[0, 1, 3] };
+        let past = self.point();
+        self.add(4, Does::Branch { unless, to: Some(past) }, 0);
+        self.statement(body);
+        self.number(step, only(self.register(assignment.target.name)));
+        self.go(again);
+        self.set(past);
+    }
+
+    /// A compare, if there is one, and the branch on false, whose point is still to be set.
+    fn condition(&mut self, condition: &Condition) -> usize {
+        let relation = match condition {
+            Condition::State(relation) => *relation,
+            Condition::Comparison { relation, operand, .. } => {
+                self.operand(operand, 0);
+                *relation
+            }
+        };
+        let on_false = self.point();
+        let unless = holds_in(self.tokens[relation].kind);
+        self.add(4, Does::Branch { unless, to: Some(on_false) }, 0);
+        on_false
+    }
+
+    fn assignment(&mut self, assignment: &Assignment) {
+        let target = match self.meaning(assignment.target.name) {
+            Meaning::Register(target) => target,
+            _ => return self.designator(&assignment.target, true, 0),
+        };
+        let writes = only(target);
+        // "a cell or number is loaded first, then the instruction names the target twice"
+        self.operand(&assignment.first, writes);
+        if assignment.sign.is_some() && self.in_storage(&assignment.first) {
+            self.add(2, Does::OnRegisters, writes);
+        }
+        for link in &assignment.chain {
+            match self.tokens[link.operator].kind {
+                Kind::Shll | Kind::Shrl | Kind::Shla | Kind::Shra => self.add(4, Does::OnRegisters, writes),
+                Kind::Times if !self.is_short(&link.operand) => {
+                    self.operand(&link.operand, writes | only(target.max(1) - 1));
+                }
+                _ => self.operand(&link.operand, writes),
+            }
+        }
+    }
+
+    fn is_short(&self, operand: &Operand) -> bool {
+        match operand {
+            Operand::Number(_) => false,
+            Operand::Designator(designator) => {
+                matches!(self.meaning(designator.name), Meaning::Cell { short: true, .. })
+            }
+        }
+    }
+
+    fn in_storage(&self, operand: &Operand) -> bool {
+        match operand {
+            Operand::Number(_) => true,
+            Operand::Designator(designator) => matches!(self.meaning(designator.name), Meaning::Cell { .. }),
+        }
+    }
+
+    /// One instruction that takes the operand.
+    fn operand(&mut self, operand: &Operand, writes: RegisterSet) {
+        match operand {
+            Operand::Number(number) => self.number(*number, writes),
+            Operand::Designator(designator) => self.designator(designator, false, writes),
+        }
+    }
+
+    fn number(&mut self, number: TokenNo, writes: RegisterSet) {
+        let named = Named::Number(self.tokens[number].value);
+        self.add(4, Does::WithOperand(InStorage { named, size: 4, indexed: false, stored: false }), writes);
+    }
+
+    /// "A subscript is a byte offset"; "An array name alone is its first element."
+    fn designator(&mut self, designator: &Designator, stored: bool, writes: RegisterSet) {
+        match (self.meaning(designator.name), self.found[designator.name]) {
+            (Meaning::Cell { short, .. }, Found::Declared(token)) => {
+                let Place { segment, offset } = self.layout.cells[token].expect("every cell has a place");
+                let subscript = designator.subscript.map_or(0, |subscript| self.tokens[subscript].value as usize);
+                let named = Named::Cell(Place { segment, offset: offset + subscript });
+                let size = if short { 2 } else { 4 };
+                let indexed = designator.index.is_some();
+                self.add(4, Does::WithOperand(InStorage { named, size, indexed, stored }), writes);
+            }
+            _ => self.add(2, Does::OnRegisters, writes),
+        }
+    }
+}
