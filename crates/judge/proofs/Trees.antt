@@ -150,7 +150,8 @@ module _ (f : Tables) where
     -- ── entries ──
 
     -- a cell, whose values are still to come
-    turn-item : (m : Option ℕ) (w : Width) (y : Item) (c : Context) (k : Block) (p : Place) (b : Broken) (s : Bool) (n room g : ℕ) (x : Broken) → entrySuits (itemed m w y) c → Opens c s n g → b ≡ x ⊕ pending c room
+    turn-item : (m : Option ℕ) (w : Width) (y : Item) (c : Context) (k : Block) (p : Place) (b : Broken) (s : Bool) (n room g : ℕ) (x : Broken) → entrySuits (itemed m w y) c
+        → Opens c s n g → b ≡ x ⊕ pending c room
         → At (after (entry (itemed m w y)) (within k ∷ p)) (declaring m w (y .numbers)) (ruleEvent f (entry (itemed m w y)) (within k ∷ p) b) (step E.ITEM (y .name) (at (within k ∷ p) s n room g x))
     unfolding judgeEvent heldAfter cellsAfter targetAfter eventRule declarationRule ruleEvent layerAt formAt
     turn-item m w y (declaring m′ w′ ts) k p b s n room g x q o e =
@@ -336,7 +337,8 @@ module _ (f : Tables) where
 
     -- ── along the tape ──
 
-    turn : (e : Event) (p : Place) (c : Context) (b : Broken) (j : Judging) → Stands kinds e p 0 → Suits e c → At p c b j → At (after e p) (contextAfter e c) (ruleEvent f e p b) (step (opOf e) (tokenOf e) j)
+    turn : (e : Event) (p : Place) (c : Context) (b : Broken) (j : Judging) → Stands kinds e p 0 → Suits e c → At p c b j
+        → At (after e p) (contextAfter e c) (ruleEvent f e p b) (step (opOf e) (tokenOf e) j)
     turn e p c b j z q a = rw (a .is) (go e z q)
       where
         go : (e : Event) → Stands kinds e p 0 → Suits e c

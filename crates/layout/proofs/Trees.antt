@@ -99,7 +99,8 @@ module _ (kinds values found : List ℕ) where
           ∙ (quiet (opOf e) (tokenOf e) m h
           ∙ (ap (λ (ts : List ℕ). onValues f ts m) (sym u) ∙ (k (subst (λ (ds : List Filled). All Right ds) same r) ∙ ap made (sym same))))
 
-      turn-entry : (d : Entry) (p : Place) (c : Context) (s : Meant) (m : S) → entrySuits d c → Made p c s m → Made (after (entry d) p) (contextAfter (entry d) c) (step (entry d) p s) (f (opOf (entry d)) (tokenOf (entry d)) m)
+      turn-entry : (d : Entry) (p : Place) (c : Context) (s : Meant) (m : S) → entrySuits d c → Made p c s m
+          → Made (after (entry d) p) (contextAfter (entry d) c) (step (entry d) p s) (f (opOf (entry d)) (tokenOf (entry d)) m)
       unfolding meanEvent addCell formAt
       turn-entry (named r) p c s m q k = apart (entry (named r)) p c s m (refl, refl) (complete-none c q) refl k
       turn-entry (celled none w) p c s m q k =
@@ -112,7 +113,8 @@ module _ (kinds values found : List ℕ) where
       turn-entry (valued t) p (declaring n w (u ∷ ts)) s m q k = λ r. ap (λ (v : ℕ). onValues f ts (f E.VALUE v m)) (sym q) ∙ k r
       turn-entry (based n) p c s m q k = apart (entry (based n)) p c s m (refl, refl) (complete-none c q) refl k
 
-      turn : (e : Event) (p : Place) (c : Context) (s : Meant) (m : S) → Stands kinds e p 0 → Suits e c → Made p c s m → Made (after e p) (contextAfter e c) (step e p s) (f (opOf e) (tokenOf e) m)
+      turn : (e : Event) (p : Place) (c : Context) (s : Meant) (m : S) → Stands kinds e p 0 → Suits e c → Made p c s m
+          → Made (after e p) (contextAfter e c) (step e p s) (f (opOf e) (tokenOf e) m)
       turn (edge x) p c s m z q k = apart (edge x) p c s m (apart-layer (edge x) refl) (complete-none c q) refl k
       turn (route x) p c s m z q k = apart (route x) p c s m (apart-layer (route x) refl) (complete-none c q) refl k
       turn (entry x) p c s m z q k = turn-entry x p c s m q k

@@ -117,13 +117,15 @@ module _ (kinds values found : List ℕ) where
   abbrev Settles : Place → Meant → Meant → Type 0
   Settles p s t = (baseIn found t p ≡ baseIn found s p) × (outerIn t p ≡ outerIn s p)
 
-  settle : (own : ℕ) (owners : List ℕ) (p : Place) (s t : Meant) (form target : ℕ) (x : Meaning-walk) → Settles p s t → x ≡ walkFrom own owners p s form target t → x ≡ walkFrom own owners p t form target t
+  settle : (own : ℕ) (owners : List ℕ) (p : Place) (s t : Meant) (form target : ℕ) (x : Meaning-walk) → Settles p s t → x ≡ walkFrom own owners p s form target t
+      → x ≡ walkFrom own owners p t form target t
   settle own owners p s t form target x g e =
       e ∙ ap₂ (λ (b : Based) (bs : List Based). record { within = record { own = own; owners = owners; base = b; outer = bs }; form = form; target = target; meant = tabled t }) (sym (g .0)) (sym (g .1))
 
   -- ── edges and routes ──
 
-  turn-edge : (x : Edge) (p : Place) (c : Context) (s : Meant) (form target : ℕ) → EdgeFits x p → Settles p s (meanAt (edge x) p s) → (i j : ℕ) → isEvent kinds (edge x) i j → Next (edge x) p c s form target
+  turn-edge : (x : Edge) (p : Place) (c : Context) (s : Meant) (form target : ℕ) → EdgeFits x p → Settles p s (meanAt (edge x) p s) → (i j : ℕ) → isEvent kinds (edge x) i j
+      → Next (edge x) p c s form target
   unfolding D.meanEvent meanEvent withinAfter formAfter targetAfter declaredAfter writtenAfter formAt writeText
   turn-edge (opened t ls) p c s form target f g i j h = (form, target, refl, tt)
   turn-edge (closed t) (within b ∷ p) c s form target f g i j h = (form, target, refl, tt)
@@ -147,7 +149,8 @@ module _ (kinds values found : List ℕ) where
     counted : (n : ℕ) (w : Width) (i j : ℕ) → isEvent kinds (entry (celled (some n) w)) i j → low (getD values n 0) ≡ getD values n 0
     counted n w i j h = low-is _ (small n (rw (h .1 .1 .0) (h .1 .1 .1)))
 
-    turn-entry : (d : Entry) (p : Place) (c : Context) (s : Meant) (form target : ℕ) → InBlock p → Settles p s (meanAt (entry d) p s) → (i j : ℕ) → isEvent kinds (entry d) i j → j ≤ length (s .opens)
+    turn-entry : (d : Entry) (p : Place) (c : Context) (s : Meant) (form target : ℕ) → InBlock p → Settles p s (meanAt (entry d) p s) → (i j : ℕ) → isEvent kinds (entry d) i j
+        → j ≤ length (s .opens)
         → entrySuits d c → Opens c s form target → Next (entry d) p c s form target
     unfolding D.meanEvent meanEvent withinAfter formAfter targetAfter declaredAfter writtenAfter formAt openBase write addCell low isRegister
     turn-entry (named r) (within b ∷ p) c s form target f g i j h l q o =
@@ -231,7 +234,8 @@ module _ (kinds values found : List ℕ) where
   abbrev aimedAt : Designator → Place → Meant → ℕ → Meaning-walk
   aimedAt d p s form = tell p s form (targetOf (meaningIn found s (d .name))) (writeTarget (ownIn p) (targetOf (meaningIn found s (d .name))) (tabled s))
 
-  aim-is : (op : ℕ) (d : Designator) (p : Place) (s t : Meant) (form : ℕ) (x : Meaning-walk) → t ≡ targetWrites (meaningIn found s (d .name)) (λ r. r) (ownIn p) s → Settles p s t → t .means ≡ s .means
+  aim-is : (op : ℕ) (d : Designator) (p : Place) (s t : Meant) (form : ℕ) (x : Meaning-walk) → t ≡ targetWrites (meaningIn found s (d .name)) (λ r. r) (ownIn p) s → Settles p s t
+      → t .means ≡ s .means
       → x ≡ aimedAt d p s form
       → (form′ : ℕ) × (target′ : ℕ) × (x ≡ walk p t form′ target′) × (target′ ≡ targetOf (meaningIn found t (d .name)))
   aim-is op d p s t form x u g k e =
@@ -300,7 +304,8 @@ module _ (kinds values found : List ℕ) where
         go (phrase y) x q o g = turn-phrase y p c s form target g _ _ (x .stands .is) q o
         go (mark y) x q o g = (form, target, unheeded y (walk p s form target), tt)
 
-    turn : (e : Event) (p : Place) (c : Context) (s : Meant) (m : Meaning-walk) → Placed kinds N e p → Suits e c → At N p c s m → At N (after e p) (contextAfter e c) (meanAt e p s) (step (opOf e) (tokenOf e) m)
+    turn : (e : Event) (p : Place) (c : Context) (s : Meant) (m : Meaning-walk) → Placed kinds N e p → Suits e c → At N p c s m
+        → At N (after e p) (contextAfter e c) (meanAt e p s) (step (opOf e) (tokenOf e) m)
     turn e p c s m x q (form, target, h, o, l) =
         let (form′, target′, k, u) = next e p c s form target x (sym l) q o in
         (form′, target′, ap (step (opOf e) (tokenOf e)) h ∙ k, u, event-long kinds values found e p s .of-opens ∙ l)

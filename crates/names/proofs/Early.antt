@@ -102,7 +102,8 @@ module _ (kinds keys : List ℕ) where
       use-early (uses e) (namesIn (after e p)) (declareNames keys (declares e) (namesIn p) s) (event-uses e p i x l a)
       (subst (λ (found : List ℕ). Early found) (sym (declare-keeps kinds keys (declares e) (namesIn p) s)) k)
 
-  pub found-early : (es : List Event) (p : Place) (i j : ℕ) → Text kinds es p i j → firstToken ≤ i → Earlier kinds i p → (s : Named) → Early (s .found) → Early (along (nameEvent keys) es p s .found)
+  pub found-early : (es : List Event) (p : Place) (i j : ℕ) → Text kinds es p i j → firstToken ≤ i → Earlier kinds i p → (s : Named) → Early (s .found)
+      → Early (along (nameEvent keys) es p s .found)
   unfolding Text along
   found-early [] p i j h l a s k = k
   found-early (e ∷ es) p i j (x, h) l a s k =
