@@ -5,6 +5,8 @@ use mathlib.Core.List.{List}
 use Prim.Native.Nat.{ℕ, _<_, _≤_}
 use native.Mathlib.Omega.{arith}
 use lib.ListN.{length}
+use Rattle.token.specs.declared.Token.{Token}
+use Rattle.grammar.specs.Tree.{Statement}
 use Rattle.names.specs.declared.Broken.{Broken}
 use Rattle.names.specs.Broken.{_⊕_}
 use Rattle.names.proofs.Least.{LeastOf, join-least}
@@ -14,14 +16,20 @@ use Rattle.translator.specs.Translate.{Answer, accepted, refused, number
 use Rattle.translator.specs.Rows.{Given}
 use Rattle.translator.proofs.Answers.{acceptance, fits-room, room-only}
 use Rattle.translator.proofs.Objects.{accepted-object}
+use Rattle.translator.proofs.Numbers.{make-ruled}
 use Rattle.translator.proofs.Rows.{row-answered, row-given, number-some, text-some}
 
 -- "Inside a group the smallest place wins, then the smaller number": of broken rules that are joined the least is answered
 pub least : (a b : Broken) → LeastOf a b (a ⊕ b)
 least a b = join-least a b
 
+-- and each has a number from 6 to 13, so that a number belongs to one row of the table
+pub rules-6-to-13 : (ts : List Token) (x : Statement) → (make ts x .broken .number ≡ 0 → ⊥) → (6 ≤ make ts x .broken .number) × (make ts x .broken .number ≤ 13)
+rules-6-to-13 ts x n = make-ruled ts x .told n
+
 module _ (source : List ℕ) (room : ℕ) where
-  -- "given exactly when": the answer is that of a row of the table (`Rows`), and of no other. "Groups in order: 1; 2, 3; 4, 5; 6 to 13; 14; 15; 16."
+  -- "given exactly when": a refusal n at p is answered exactly when row n of the table (`Rows`) says so, and a text is accepted exactly when none does. "Groups in order: 1;
+  -- 2, 3; 4, 5; 6 to 13; 14; 15; 16."
   pub given-exactly : (a : Answer) → translate source room ≡ a ↔ Given source room a
   given-exactly a = (λ e. subst (Given source room) e (row-given source room), row-answered source room a)
 

@@ -1,9 +1,12 @@
--- Document 01, "Numbers answered": the table with its groups, a constructor a row. A row has what its line of the table says, over the source, and that the groups
--- before it let the source pass. That `translate` answers exactly so is shown in proofs/Theorems.
+-- Document 01, "Numbers answered": the table with its groups, over the source. A row has what its line of the table says, and that the groups before it let the source
+-- pass. That `translate` answers exactly so is shown in proofs/Theorems.
 use mathlib.Core.Path.{_≡_}
 use mathlib.Core.List.{List, _++_}
-use Prim.Native.Nat.{ℕ, suc, _<_, _≤_}
+use mathlib.Core.Bool.{_&&_}
+use Prim.Native.Nat.{ℕ, _<_, _≤_}
+use lib.Dec.{eqb, leb}
 use lib.ListN.{length}
+use Rattle.base.specs.Choose.{choose}
 use Rattle.token.specs.declared.Token.{Token}
 use Rattle.token.specs.Text.{TEXT-LIMIT, tokensOf}
 use Rattle.token.specs.Refusals.{TwoAt, ThreeAt}
@@ -45,28 +48,74 @@ pub record Fits (source : List ℕ) (ts : List Token) (x : Statement) : Type 0 w
 abbrev pub objectOf : List Token → Statement → List ℕ
 objectOf ts x = objectText (segments (make ts x .bases) (make ts x .layout) (make ts x .instructions))
 
--- ── the table ──
+-- ── what each row asks, and its place ──
 
-pub data Given (source : List ℕ) (room : ℕ) : Answer → Type 0 where
-  -- "1: source over 32,768 bytes … 32,768"
-  row-1 : TEXT-LIMIT < length source → Given source room (refused 1 TEXT-LIMIT)
-  -- "2: byte in no token, unclosed comment … its first byte"
-  row-2 : (p : ℕ) → TwoAt source p → Given source room (refused 2 p)
-  -- "3: number out of range … token"
-  row-3 : (p : ℕ) → ThreeAt source p → Given source room (refused 3 p)
-  -- "4: no program begins with the tokens up to here … token, or text length"
-  row-4 : (ts : List Token) (t : ℕ) → Tokens source ts → FourAt (kindsOf ts) firstToken t → Given source room (refused 4 (placeAt ts t))
-  -- "5: BEGIN, IF, WHILE, FOR or PROCEDURE inside 64 such constructs … token"
-  row-5 : (ts : List Token) (t : ℕ) → Tokens source ts → FiveAt (kindsOf ts) firstToken t → Given source room (refused 5 (placeAt ts t))
-  -- 6 to 13: "the smallest place wins, then the smaller number", as the broken rules are joined
-  rows-6-to-13 : (ts : List Token) (x : Statement) (n : ℕ) → Program source ts x → make ts x .broken .number ≡ suc n
-      → Given source room (refused (suc n) (placeAt ts (make ts x .broken .at)))
-  -- "14: program over 4,096 bytes … 0"
-  row-14 : (ts : List Token) (x : Statement) → Keeps source ts x → segmentLimit < sizes (make ts x .instructions) → Given source room (refused 14 0)
-  -- "15: literals end past 4,096 … 0"
-  row-15 : (ts : List Token) (x : Statement) → Keeps source ts x → sizes (make ts x .instructions) ≤ segmentLimit → segmentLimit < literalsEnd (make ts x .layout)
-      → Given source room (refused 15 0)
-  -- "16: buffer shorter than the object text … length needed"
-  row-16 : (ts : List Token) (x : Statement) → Fits source ts x → room < length (objectOf ts x) → Given source room (refused 16 (length (objectOf ts x)))
-  -- "Accepted is 0, place 0, bytes written": none of these
-  accepts : (ts : List Token) (x : Statement) → Fits source ts x → length (objectOf ts x) ≤ room → Given source room (accepted (objectOf ts x))
+-- 4 or 5 at a token
+pub record TokenAt (source : List ℕ) (Is : List ℕ → ℕ → ℕ → Type 0) (p : ℕ) : Type 0 where
+  pub ts : List Token
+  pub token : ℕ
+  pub tokens : Tokens source ts
+  pub is : Is (kindsOf ts) firstToken token
+  pub place : placeAt ts token ≡ p
+
+-- 6 to 13: "the smallest place wins, then the smaller number", as the broken rules are joined
+pub record BrokenAt (source : List ℕ) (n p : ℕ) : Type 0 where
+  pub ts : List Token
+  pub x : Statement
+  pub program : Program source ts x
+  pub number : make ts x .broken .number ≡ n
+  pub place : placeAt ts (make ts x .broken .at) ≡ p
+
+pub record ProgramLong (source : List ℕ) (p : ℕ) : Type 0 where
+  pub ts : List Token
+  pub x : Statement
+  pub keeps : Keeps source ts x
+  pub long : segmentLimit < sizes (make ts x .instructions)
+  pub place : p ≡ 0
+
+pub record LiteralsLong (source : List ℕ) (p : ℕ) : Type 0 where
+  pub ts : List Token
+  pub x : Statement
+  pub keeps : Keeps source ts x
+  pub program-fits : sizes (make ts x .instructions) ≤ segmentLimit
+  pub long : segmentLimit < literalsEnd (make ts x .layout)
+  pub place : p ≡ 0
+
+pub record BufferShort (source : List ℕ) (room p : ℕ) : Type 0 where
+  pub ts : List Token
+  pub x : Statement
+  pub fits : Fits source ts x
+  pub short : room < length (objectOf ts x)
+  pub place : length (objectOf ts x) ≡ p
+
+pub record Accepts (source : List ℕ) (room : ℕ) (text : List ℕ) : Type 0 where
+  pub ts : List Token
+  pub x : Statement
+  pub fits : Fits source ts x
+  pub room-is : length (objectOf ts x) ≤ room
+  pub text-is : objectOf ts x ≡ text
+
+-- ── the table: "given exactly when", and the place ──
+
+abbrev pub Row : (source : List ℕ) (room n p : ℕ) → Type 0
+Row source room n p =
+    -- "1: source over 32,768 bytes … 32,768"
+    choose (eqb n 1) ((TEXT-LIMIT < length source) × (p ≡ TEXT-LIMIT))
+    -- "2: byte in no token, unclosed comment … its first byte"; "3: number out of range … token"
+    (choose (eqb n 2) (TwoAt source p)
+    (choose (eqb n 3) (ThreeAt source p)
+    -- "4: no program begins with the tokens up to here … token, or text length"
+    (choose (eqb n 4) (TokenAt source FourAt p)
+    -- "5: BEGIN, IF, WHILE, FOR or PROCEDURE inside 64 such constructs … token"
+    (choose (eqb n 5) (TokenAt source FiveAt p)
+    (choose (leb 6 n && leb n 13) (BrokenAt source n p)
+    -- "14: program over 4,096 bytes … 0"; "15: literals end past 4,096 … 0"; "16: buffer shorter than the object text … length needed"
+    (choose (eqb n 14) (ProgramLong source p)
+    (choose (eqb n 15) (LiteralsLong source p)
+    (choose (eqb n 16) (BufferShort source room p)
+    ⊥))))))))
+
+-- "Accepted is 0, place 0, bytes written": none of these
+abbrev pub Given : (source : List ℕ) (room : ℕ) → Answer → Type 0
+Given source room (accepted text) = Accepts source room text
+Given source room (refused n p) = Row source room n p
