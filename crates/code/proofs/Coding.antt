@@ -11,18 +11,20 @@ use lib.Seq.{sets, length-take-le, take-suc-set, getD-take}
 use borrow.Author.Tests.{eqb-true, eqb-false, eq-eqb, ne-eqb}
 use Rattle.base.specs.Lists.{member}
 use Rattle.base.specs.Runs.{runLen, indexOf}
+use Rattle.base.specs.Walk.{fold}
+use Rattle.base.proofs.Walk.{fold-turn, fold-end}
 use Rattle.base.proofs.Tests.{cases}
 use Rattle.translator.specs.Instructions.{literal}
 use Rattle.translator.specs.Layout.{needs}
 use Rattle.translator.specs.Bytes.{twoBytes, fourBytes}
 use Rattle.emit.specs.declared.Code.{Code}
-use Rattle.emit.specs.declared.Code.the-variants.{Nothing, Two, Four, Literal}
-use Rattle.emit.specs.Codes.{codeSize, madeSize}
-use Rattle.emit.proofs.Tables.{index-on, index-stop, index-end}
-use Rattle.emit.specs.declared.Made.{Made}
+use Rattle.emit.specs.declared.Code.the-variants.{Two, Four, Literal}
+use Rattle.emit.specs.declared.Codes.{Codes}
 use Rattle.emit.specs.declared.Writing.{Writing}
-use Rattle.emit.specs.Events.{writingAfter, madeBy}
-use Rattle.code.specs.Coding.{bytesIn, Laid, laidOf, codeBytes, literalsAfter, layCode, layMade, Coding, codingOf, codeEvent, stopCode, codeAlong}
+use Rattle.emit.specs.Codes.{listOf, blank, codeSize, stopCode}
+use Rattle.emit.specs.Events.{writingAfter, codesBy}
+use Rattle.emit.proofs.Tables.{index-on, index-stop, index-end}
+use Rattle.code.specs.Coding.{bytesIn, Laid, laidOf, codeBytes, literalsAfter, layCode, layAll, Coding, codingOf, codeEvent, codeAlong}
 use Rattle.code.specs.Places.{noWriting}
 use Rattle.tape.specs.Pass.{pass}
 
@@ -112,45 +114,18 @@ module _ (v : ℕ) where
 
 -- ── an instruction ──
 
-module _ (start at : ℕ) (image seen : List ℕ) (c : Code) (next : ℕ) (n : next ≡ at + codeSize c) where
-  pub lay-nothing : c ≡ Nothing → laidOf next image seen ≡ layCode start c (laidOf at image seen)
+module _ (start at : ℕ) (image seen : List ℕ) (c : Code) where
+  pub lay-two : {image′ : List ℕ} (op r s : ℕ) → c ≡ Two op r s → image′ ≡ sets image at (bytesIn (twoBytes op r s))
+      → laidOf (at + codeSize c) image′ seen ≡ layCode start c (laidOf at image seen)
   unfolding layCode codeBytes literalsAfter
-  lay-nothing e = rw (n, e)
+  lay-two op r s e q = rw (q, e)
 
-  pub lay-two : {image′ : List ℕ} (op r s : ℕ) → c ≡ Two op r s → image′ ≡ sets image at (bytesIn (twoBytes op r s)) → laidOf next image′ seen ≡ layCode start c (laidOf at image seen)
+  pub lay-four : {image′ : List ℕ} (op r x b d : ℕ) → c ≡ Four op r x b d → image′ ≡ sets image at (bytesIn (fourBytes op r x b d))
+      → laidOf (at + codeSize c) image′ seen ≡ layCode start c (laidOf at image seen)
   unfolding layCode codeBytes literalsAfter
-  lay-two op r s e q = rw (n, q, e)
-
-  pub lay-four : {image′ : List ℕ} (op r x b d : ℕ) → c ≡ Four op r x b d → image′ ≡ sets image at (bytesIn (fourBytes op r x b d)) → laidOf next image′ seen ≡ layCode start c (laidOf at image seen)
-  unfolding layCode codeBytes literalsAfter
-  lay-four op r x b d e q = rw (n, q, e)
+  lay-four op r x b d e q = rw (q, e)
 
   pub lay-literal : {image′ after : List ℕ} (op r v place : ℕ) → c ≡ Literal op r v → after ≡ needs (literal v) seen → place ≡ indexOf v after
-      → image′ ≡ sets image at (bytesIn (fourBytes op r 0 14 (start + 4 * place))) → laidOf next image′ after ≡ layCode start c (laidOf at image seen)
+      → image′ ≡ sets image at (bytesIn (fourBytes op r 0 14 (start + 4 * place))) → laidOf (at + codeSize c) image′ after ≡ layCode start c (laidOf at image seen)
   unfolding layCode codeBytes literalsAfter
-  lay-literal op r v place e a p q = rw (n, q, p, a, e)
-
--- ── an event ──
-
-pub made-laid : (start at z next : ℕ) (m : Made) (s : Laid) {image seen image′ seen′ : List ℕ} → z ≡ codeSize (m .first) → next ≡ at + madeSize m
-    → ((n : ℕ) → n ≡ at + codeSize (m .first) → laidOf n image seen ≡ layCode start (m .first) s)
-    → ((n : ℕ) → n ≡ at + z + codeSize (m .second) → laidOf n image′ seen′ ≡ layCode start (m .second) (laidOf (at + z) image seen)) → laidOf next image′ seen′ ≡ layMade start m s
-unfolding layMade
-made-laid start at z next m s ez en e1 e2 = e2 next (omega (arith, ez, en)) ∙ ap (layCode start (m .second)) (e1 (at + z) (omega (arith, ez)))
-
-pub code-is :
-    (start : ℕ) (kinds values found goes means bases opens offsets marks : List ℕ) (op t : ℕ) (w : Writing) (l : Laid) {l′ : Laid} {w′ : Writing} {m : Made}
-    → m ≡ madeBy kinds values found goes means bases opens offsets marks op t w → l′ ≡ layMade start m l → w′ ≡ writingAfter values found means bases offsets op t w
-    → codingOf l′ w′ ≡ codeEvent start kinds values found goes means bases opens offsets marks op t (codingOf l w)
-unfolding codeEvent
-code-is start kinds values found goes means bases opens offsets marks op t w l em el ew = rw (el, ew, em)
-
--- the last instruction behind all that the tape gives
-pub stop-laid :
-    (start : ℕ) (kinds values found goes means bases opens offsets marks image₀ tape : List ℕ) (p : ℕ) (image seen : List ℕ) (w : Writing) {image′ seen′ : List ℕ}
-    → codingOf (laidOf p image seen) w ≡ pass (codeEvent start kinds values found goes means bases opens offsets marks) (codingOf (laidOf 0 image₀ []) noWriting) tape
-    → ((n : ℕ) → n ≡ p + codeSize (Two 0x0a 0 0) → laidOf n image′ seen′ ≡ layCode start (Two 0x0a 0 0) (laidOf p image seen))
-    → laidOf (p + 2) image′ seen′ ≡ codeAlong start kinds values found goes means bases opens offsets marks image₀ tape
-unfolding codeAlong stopCode codeSize
-stop-laid start kinds values found goes means bases opens offsets marks image₀ tape p image seen w e h =
-    h (p + 2) refl ∙ ap (λ (c : Coding). layCode start (Two 0x0a 0 0) (c .laid)) e
+  lay-literal op r v place e a p q = rw (q, p, a, e)

@@ -5,15 +5,17 @@ use mathlib.Core.Bool.{true}
 use mathlib.Core.List.{List, _∷_}
 use Prim.Native.Nat.{ℕ, _+_, _-_, _/_, _%_}
 use native.Mathlib.Omega.{arith}
-use lib.Dec.{eqb, leb, ltb}
+use lib.Dec.{eqb}
 use lib.ListN.{getD, set}
-use borrow.Author.Tests.{eqb-true, ne-eqb, leb-true}
-use Rattle.base.proofs.Tests.{cases, by-test}
+use Rattle.base.specs.Lists.{member}
+use Rattle.base.proofs.Lists.{each}
+use Rattle.base.proofs.Tests.{by-test}
 use Rattle.grammar.specs.Tree.{Operand, Assignment, Condition}
 use Rattle.grammar.specs.Derives.{isOperand, isCondition, isAssignment}
 use Rattle.grammar.specs.Pinned.{headOf}
 use Rattle.grammar.proofs.Pinned.{pinned-operand}
 use Rattle.tape.specs.Events as E
+use Rattle.tape.specs.Numbers.{familyAt, formAt}
 use Rattle.tape.specs.Tape.{event, tapeOperand, tapeCondition, tapeAssignment}
 use Rattle.tape.specs.Pass.{pass}
 use Rattle.tape.proofs.Pass.{pass-event}
@@ -24,25 +26,18 @@ use Rattle.translator.specs.Instructions.{sizes}
 use Rattle.translator.specs.Core.{exitMask, toRegister, assignmentOf, compareWith, testOf, maskOf, controlOf}
 use Rattle.emit.specs.declared.Use.{Use}
 use Rattle.emit.specs.declared.Writing.{Writing}
-use Rattle.emit.specs.Codes.{heldIn, madeSize}
+use Rattle.emit.specs.Codes.{codeSizes, heldIn}
 use Rattle.emit.specs.Along.{targetWriting, controlWriting}
 use Rattle.emit.proofs.Operands.{Small, shapeOf, by-shape, operand-tape, register-at}
-use Rattle.emit.proofs.Sizes.{codeSizes, sizes-append, made-sizes, coded-sizes, tested-size}
-use Rattle.emit.proofs.Walks.{unmarked, made, after, Walk, limit-makes, assignment-walked, control-walked, condition-walked}
+use Rattle.emit.proofs.Sizes.{sizes-append, coded-sizes, tested-size}
+use Rattle.emit.proofs.Walks.{unmarking, made, after, Walk, limit-makes, assignment-walked, control-walked, condition-walked}
 use Rattle.code.specs.Places.{markLimit, markClosing, markAfter, Placing, placingOf, placeEvent}
 use Rattle.code.proofs.Placing.{place-is}
 
-unmarked-stays : (op t from to : ℕ) (aim : Use) (marks : List ℕ) → unmarked op ≡ true → marks ≡ markAfter op t from to aim marks
+unmarked-stays : (family t from to : ℕ) (aim : Use) (marks : List ℕ) → member family unmarking ≡ true → marks ≡ markAfter family t from to aim marks
 unfolding markAfter markClosing
-unmarked-stays op t from to aim marks q =
-    let bare : eqb op E.BARE ≡ true → marks ≡ markAfter op t from to aim marks = λ e. rw (eqb-true op E.BARE e) in
-    cases (leb E.TARGET op)
-    (λ a.
-    let l = leb-true E.TARGET op a in
-    cases (ltb op E.LIMIT)
-    (λ b. rw (ne-eqb op E.LABEL (λ e. omega arith), ne-eqb op E.PROCEDURE (λ e. omega arith), ne-eqb op E.END-PROCEDURE (λ e. omega arith), b))
-    (λ b. bare (rw (a, b) at q)))
-    (λ a. bare (rw a at q))
+unmarked-stays family t from to aim marks q =
+    each (λ (x : ℕ). marks ≡ markAfter x t from to aim marks) unmarking (refl, (refl, (refl, (refl, (refl, (refl, (refl, (refl, (refl, tt))))))))) family q
 
 low-register : (m : ℕ) → low (registerIn m) ≡ registerIn m
 unfolding registerIn numberIn
@@ -51,52 +46,52 @@ low-register m = by-test (λ (x : ℕ). low x ≡ x) (eqb (m % 8) 1) (low (m / 8
 -- two tokens behind its STEP's number v
 limit-marked :
     (l : Operand) (v p to r : ℕ) (aim : Use) (ms : List ℕ) → headOf l ≡ v + 2 → low (heldIn aim) ≡ r
-    → set (set ms v p) (v + 1) r ≡ markAfter ((E.LIMIT + shapeOf l) % E.EVENTS) (headOf l) p to aim ms
-unfolding markAfter markLimit
+    → set (set ms v p) (v + 1) r ≡ markAfter (familyAt ((E.LIMIT + shapeOf l) % E.EVENTS)) (headOf l) p to aim ms
+unfolding formAt markAfter markLimit
 limit-marked l v p to r aim ms e s =
     let at : headOf l - 2 ≡ v = omega arith in
     let next : headOf l - 1 ≡ v + 1 = omega arith in
     let here : set (set ms v p) (v + 1) r ≡ markLimit (headOf l) p aim ms = rw (s, at, next) in
-    here ∙ by-shape (λ x. markLimit (headOf l) p aim ms ≡ markAfter ((E.LIMIT + x) % E.EVENTS) (headOf l) p to aim ms) refl refl refl refl refl l
+    here ∙ by-shape (λ x. markLimit (headOf l) p aim ms ≡ markAfter (familyAt ((E.LIMIT + x) % E.EVENTS)) (headOf l) p to aim ms) refl refl refl refl refl l
 
-module _ (f : Tables) (means bases offsets : List ℕ) where
+module _ (f : Tables) (means under offsets : List ℕ) where
   abbrev pub place : (p : ℕ) → Writing → (marks tape : List ℕ) → Placing
-  place p w ms tape = pass (placeEvent (f .kinds) (f .values) (f .found) (f .goes) means bases (f .opens) offsets) (placingOf p w ms) tape
+  place p w ms tape = pass (placeEvent (f .kinds) (f .values) (f .found) (f .goes) means under (f .opens) offsets) (placingOf p w ms) tape
 
   -- an event, by the size of what it makes, the assignment and the addresses after it
   pub event-placed :
       (op t p z : ℕ) (w : Writing) (ms : List ℕ) {w′ : Writing} {ms′ : List ℕ} (k : List ℕ)
-      → z ≡ madeSize (made f means bases offsets ms (op % E.EVENTS) t w) → ms′ ≡ markAfter (op % E.EVENTS) t p (p + z) (w .aim) ms
-      → w′ ≡ after f means bases offsets ms (op % E.EVENTS) t w → place p w ms (event op t ∷ k) ≡ place (p + z) w′ ms′ k
+      → z ≡ codeSizes (made f means under offsets ms (op % E.EVENTS) t w) → ms′ ≡ markAfter (familyAt (op % E.EVENTS)) t p (p + z) (w .aim) ms
+      → w′ ≡ after f means under offsets ms (op % E.EVENTS) t w → place p w ms (event op t ∷ k) ≡ place (p + z) w′ ms′ k
   event-placed op t p z w ms k ez ek ew =
-      let step = placeEvent (f .kinds) (f .values) (f .found) (f .goes) means bases (f .opens) offsets in
+      let step = placeEvent (f .kinds) (f .values) (f .found) (f .goes) means under (f .opens) offsets in
       pass-event step op t (placingOf p w ms) k
-      ∙ sym (ap (λ (x : Placing). pass step x k) (place-is (f .kinds) (f .values) (f .found) (f .goes) means bases (f .opens) offsets ms (op % E.EVENTS) t p w refl ez ek ew))
+      ∙ sym (ap (λ (x : Placing). pass step x k) (place-is (f .kinds) (f .values) (f .found) (f .goes) means under (f .opens) offsets ms (op % E.EVENTS) t p w refl ez ek ew))
 
-  placing : (ms : List ℕ) → Walk f means bases offsets ms ℕ Placing
+  placing : (ms : List ℕ) → Walk f means under offsets ms ℕ Placing
   placing ms = record {
     emit = λ cs p. p + codeSizes cs;
     run = λ p w k. place p w ms k;
     emit-none = λ p. omega arith;
     emit-both = λ a b p. omega (arith, sizes-append a b);
-    on = λ op t q p w k. event-placed op t p _ w ms k (made-sizes _) (unmarked-stays (op % E.EVENTS) t p _ (w .aim) ms q) refl;
+    on = λ op t q p w k. event-placed op t p _ w ms k refl (unmarked-stays (familyAt (op % E.EVENTS)) t p _ (w .aim) ms q) refl;
   }
 
-  module _ (table : f .means ≡ meaningsOf means bases) (small : Small f) where
+  module _ (table : f .means ≡ meaningsOf means under) (small : Small f) where
     pub assignment-placed :
         (a : Assignment) (i j : ℕ) → isAssignment (f .kinds) a i j → (p : ℕ) (w : Writing) (ms k : List ℕ)
-        → place p w ms (tapeAssignment E.TARGET a k) ≡ place (p + sizes (assignmentOf f a)) (targetWriting (f .values) (f .found) means bases offsets a) ms k
+        → place p w ms (tapeAssignment E.TARGET a k) ≡ place (p + sizes (assignmentOf f a)) (targetWriting (f .values) (f .found) means under offsets a) ms k
     unfolding placing
     assignment-placed a i j h p w ms k =
-        assignment-walked f means bases offsets ms table small (placing ms) a i j h p w k
-        ∙ ap (λ (n : ℕ). place (p + n) (targetWriting (f .values) (f .found) means bases offsets a) ms k) (coded-sizes offsets (assignmentOf f a))
+        assignment-walked f means under offsets ms table small (placing ms) a i j h p w k
+        ∙ ap (λ (n : ℕ). place (p + n) (targetWriting (f .values) (f .found) means under offsets a) ms k) (coded-sizes offsets (assignmentOf f a))
 
     pub control-placed :
         (a : Assignment) (i j : ℕ) → isAssignment (f .kinds) a i j → (p : ℕ) (w : Writing) (ms k : List ℕ)
         → place p w ms (tapeAssignment E.CONTROL a k) ≡ place (p + sizes (toRegister f (controlOf f a) a)) (controlWriting (f .found) means a) ms k
     unfolding placing
     control-placed a i j h p w ms k =
-        control-walked f means bases offsets ms table small (placing ms) a i j h p w k
+        control-walked f means under offsets ms table small (placing ms) a i j h p w k
         ∙ ap (λ (n : ℕ). place (p + n) (controlWriting (f .found) means a) ms k) (coded-sizes offsets (toRegister f (controlOf f a) a))
 
     pub condition-placed :
@@ -104,7 +99,7 @@ module _ (f : Tables) (means bases offsets : List ℕ) where
         → place p w ms (tapeCondition c k) ≡ place (p + (sizes (testOf f c) + 4)) w ms k
     unfolding placing
     condition-placed c i j h p w ms k =
-        condition-walked f means bases offsets ms table small (placing ms) c i j h p w k
+        condition-walked f means under offsets ms table small (placing ms) c i j h p w k
         ∙ ap (λ (n : ℕ). place (p + n) w ms k) (tested-size offsets (testOf f c) (maskOf f c) (getD ms (i - 1) 0))
 
     pub limit-placed :
@@ -113,12 +108,12 @@ module _ (f : Tables) (means bases offsets : List ℕ) where
         ≡ place (p + (sizes (compareWith f (controlOf f a) l) + 4)) w (set (set ms v p) (v + 1) (controlOf f a)) k
     unfolding controlWriting heldIn
     limit-placed a l v j h p w e ms k =
-        let (m, u) = limit-makes f means bases offsets ms table small v l j h w in
+        let (m, u) = limit-makes f means under offsets ms table small v l j h w in
         let n = a .target .name in
         let q : heldIn (w .aim) ≡ registerIn (packedAt (f .found) means n) = ap (λ (x : Writing). heldIn (x .aim)) e in
-        let r : heldIn (w .aim) ≡ controlOf f a = q ∙ register-at f means bases table n in
-        let s : low (heldIn (w .aim)) ≡ controlOf f a = ap low q ∙ (low-register (packedAt (f .found) means n) ∙ register-at f means bases table n) in
+        let r : heldIn (w .aim) ≡ controlOf f a = q ∙ register-at f means under table n in
+        let s : low (heldIn (w .aim)) ≡ controlOf f a = ap low q ∙ (low-register (packedAt (f .found) means n) ∙ register-at f means under table n) in
         ap (place p w ms) (operand-tape E.LIMIT l k)
         ∙ event-placed (E.LIMIT + shapeOf l) (headOf l) p (sizes (compareWith f (controlOf f a) l) + 4) w ms k
-        (sym (sym (made-sizes _) ∙ (ap codeSizes m ∙ (tested-size offsets (compareWith f (heldIn (w .aim)) l) (exitMask (valueAt f v)) (getD ms (v - 1) 0) ∙ ap (λ (x : ℕ). sizes (compareWith f x l) + 4) r))))
+        (sym (ap codeSizes m ∙ (tested-size offsets (compareWith f (heldIn (w .aim)) l) (exitMask (valueAt f v)) (getD ms (v - 1) 0) ∙ ap (λ (x : ℕ). sizes (compareWith f x l) + 4) r)))
         (limit-marked l v p _ (controlOf f a) (w .aim) ms (pinned-operand (f .kinds) l (v + 2) j h .0) s) (sym u)

@@ -11,6 +11,7 @@ use lib.ListN.{length, length-map}
 use lib.Seq.{sets}
 use Rattle.base.specs.Walk.{fold}
 use Rattle.base.proofs.Parts.{sets-append}
+use Rattle.base.proofs.Walk.{fold-append}
 use Rattle.base.specs.Choose.{if_then_else_}
 use Rattle.base.specs.Lists.{_∈_, member}
 use Rattle.base.specs.Runs.{runLen, indexOf}
@@ -25,52 +26,29 @@ use Rattle.translator.specs.Bytes.{encode, encodeAll, fourBytes, displacement}
 use Rattle.translator.proofs.Sizes.{length-encode}
 use Rattle.translator.proofs.Literals.{Grows, grows-same, literals-grow, literal-place}
 use Rattle.emit.specs.declared.Code.{Code}
-use Rattle.emit.specs.declared.Code.the-variants.{Nothing, Two, Four, Literal}
-use Rattle.emit.specs.declared.Made.{Made}
 use Rattle.emit.specs.declared.Writing.{Writing}
-use Rattle.emit.specs.Codes.{codeSize}
-use Rattle.emit.specs.Events.{writingAfter, madeBy}
-use Rattle.emit.specs.Along.{codesIn, codesOf, along, codeAt, codeFor}
+use Rattle.emit.specs.Codes.{listOf, codeSize}
+use Rattle.emit.specs.Events.{writingAfter, codesBy}
+use Rattle.emit.specs.Along.{along, codeAt, codeFor}
 use Rattle.code.specs.Places.{noWriting}
-use Rattle.code.specs.Coding.{bytesIn, Laid, laidOf, codeBytes, literalsAfter, layCode, layMade, Coding, codingOf, codeEvent, stopCode, codeAlong}
+use Rattle.code.specs.Coding.{bytesIn, Laid, laidOf, codeBytes, literalsAfter, layCode, layAll, Coding, codingOf, codeEvent, codeAlong}
 
 module _ (start : ℕ) where
-  -- one instruction behind the other
-  abbrev pub layAll : List Code → Laid → Laid
-  layAll [] s = s
-  layAll (c ∷ cs) s = layAll cs (layCode start c s)
+  lay-append : (cs ds : List Code) (s : Laid) → layAll start (cs ++ ds) s ≡ layAll start ds (layAll start cs s)
+  lay-append cs ds s = fold-append _ s cs ds
 
-  lay-append : (cs ds : List Code) (s : Laid) → layAll (cs ++ ds) s ≡ layAll ds (layAll cs s)
-  lay-append [] ds s = refl
-  lay-append (c ∷ cs) ds s = lay-append cs ds (layCode start c s)
-
-  -- nothing is laid of no instruction
-  lay-in : (c : Code) (s : Laid) → layCode start c s ≡ layAll (codesIn c) s
-  unfolding layCode codeSize codeBytes literalsAfter
-  lay-in Nothing s = let e : s .at + 0 ≡ s .at = omega arith in ap (λ (n : ℕ). laidOf n (s .image) (s .literals)) e
-  lay-in (Two op r x) s = refl
-  lay-in (Four op r x b d) s = refl
-  lay-in (Literal op r v) s = refl
-
-  lay-made : (m : Made) (s : Laid) → layMade start m s ≡ layAll (codesOf m) s
-  unfolding layMade codesOf
-  lay-made m s =
-      lay-in (m .second) (layCode start (m .first) s) ∙ (ap (layAll (codesIn (m .second))) (lay-in (m .first) s) ∙ sym (lay-append (codesIn (m .first)) (codesIn (m .second)) s))
-
-  module _ (kinds values found goes means bases opens offsets marks : List ℕ) where
+  module _ (kinds values found goes means under opens offsets marks : List ℕ) where
     abbrev step : ℕ → ℕ → Coding → Coding
-    step = codeEvent start kinds values found goes means bases opens offsets marks
+    step = codeEvent start kinds values found goes means under opens offsets marks
 
     pub laid-along : (tape : List ℕ) (s : Laid) (w : Writing)
-        → pass step (codingOf s w) tape .laid ≡ layAll (along kinds values found goes means bases opens offsets marks w tape) s
+        → pass step (codingOf s w) tape .laid ≡ layAll start (along kinds values found goes means under opens offsets marks w tape) s
     unfolding pass fold onEvent along codeEvent
     laid-along [] s w = refl
     laid-along (e ∷ es) s w =
-        let m = madeBy kinds values found goes means bases opens offsets marks (e % E.EVENTS) (e / E.EVENTS) w in
-        let v = writingAfter values found means bases offsets (e % E.EVENTS) (e / E.EVENTS) w in
-        laid-along es (layMade start m s) v
-        ∙ (ap (layAll (along kinds values found goes means bases opens offsets marks v es)) (lay-made m s)
-        ∙ sym (lay-append (codesOf m) (along kinds values found goes means bases opens offsets marks v es) s))
+        let cs = listOf (codesBy kinds values found goes means under opens offsets marks (e % E.EVENTS) (e / E.EVENTS) w) in
+        let v = writingAfter values found means under offsets (e % E.EVENTS) (e / E.EVENTS) w in
+        laid-along es (layAll start cs s) v ∙ sym (lay-append cs (along kinds values found goes means under opens offsets marks v es) s)
 
 -- ── the definition's instructions ──
 
@@ -129,7 +107,7 @@ module _ (l : Layout) (place : ℕ → ℕ) (right : (t : ℕ) → place t ≡ o
 
   laid-list : (is : List Instruction) (at : ℕ) (image seen : List ℕ) → AllPlaced is seen
       → layAll start (map (codeFor place) is) (laidOf at image seen) ≡ laidOf (at + sizes is) (sets image at (bytesIn (encodeAll l is))) (literalsFrom seen is)
-  unfolding encodeAll literalsFrom
+  unfolding encodeAll literalsFrom fold
   laid-list [] at image seen h = let e : at + 0 ≡ at = omega arith in laid-same at (at + 0) image image seen seen (sym e) refl refl
   laid-list (i ∷ is) at image seen h =
       let bs = bytesIn (encode l i) in
@@ -161,15 +139,15 @@ module _ (l : Layout) (place : ℕ → ℕ) (right : (t : ℕ) → place t ≡ o
   map-end (j ∷ is) i = ap (λ (cs : List Code). codeFor place j ∷ cs) (map-end is i)
 
   -- the whole text: the code pass on a tape along which the definition's instructions stand lays their bytes, and their literals are the layout's
-  pub laid-instructions : (kinds values found goes means bases opens offsets marks image tape : List ℕ) (c : Core)
-      → along kinds values found goes means bases opens offsets marks noWriting tape ≡ map (codeFor place) (code [] [] c 0) → literalsFrom [] (instructions c) ≡ l .literals
-      → codeAlong start kinds values found goes means bases opens offsets marks image tape
+  pub laid-instructions : (kinds values found goes means under opens offsets marks image tape : List ℕ) (c : Core)
+      → along kinds values found goes means under opens offsets marks noWriting tape ≡ map (codeFor place) (code [] [] c 0) → literalsFrom [] (instructions c) ≡ l .literals
+      → codeAlong start kinds values found goes means under opens offsets marks image tape
       ≡ laidOf (sizes (instructions c)) (sets image 0 (bytesIn (encodeAll l (instructions c)))) (l .literals)
-  unfolding codeAlong stopCode instructions codeFor
-  laid-instructions kinds values found goes means bases opens offsets marks image tape c e q =
+  unfolding codeAlong instructions codeFor layCode fold
+  laid-instructions kinds values found goes means under opens offsets marks image tape c e q =
       let is = code [] [] c 0 in
       let s = laidOf 0 image [] in
-      ap (layCode start (codeFor place stop)) (laid-along start kinds values found goes means bases opens offsets marks tape s noWriting ∙ ap (λ (cs : List Code). layAll start cs s) e)
+      ap (layCode start (codeFor place stop)) (laid-along start kinds values found goes means under opens offsets marks tape s noWriting ∙ ap (λ (cs : List Code). layAll start cs s) e)
       ∙ (sym (lay-append start (map (codeFor place) is) (codeFor place stop ∷ []) s)
       ∙ (ap (λ (cs : List Code). layAll start cs s) (sym (map-end is stop))
       ∙ (laid-list (is ++ (stop ∷ [])) 0 image [] (placed-all (is ++ (stop ∷ [])) [] q) ∙ laid-same _ _ _ _ _ _ (omega arith) refl q)))

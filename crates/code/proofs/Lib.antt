@@ -1,6 +1,7 @@
 -- Laws of addresses and code along a tape.
 pub mod Placing
 pub mod Coding
+pub mod Holding
 pub mod Laying
 pub mod Expressions
 pub mod Declarations

@@ -13,7 +13,7 @@ use Rattle.tape.specs.Tape.{event, tapeCondition, tapeDeclaration, tapeStatemen
 use Rattle.tables.specs.Packed.{meaningsOf}
 use Rattle.kinds.specs.Meaning.{registerOf}
 use Rattle.kinds.specs.Tables.{Tables, valueAt, meaningAt}
-use Rattle.translator.specs.Instructions.{Instruction, rr, rx, branch, link, entry, literal, sizes, opcode, loadRow, addRow, always}
+use Rattle.translator.specs.Instructions.{Instruction, rr, rx, branch, link, entry, literal, sizes, opcode, loadRow, addRow, returnOp, always}
 use Rattle.translator.specs.Core.{returnOf, toRegister, compareWith, testOf, maskOf, controlOf, coreStatement, coreBody, coreItems}
 use Rattle.translator.specs.Code.{Mark, sizeOf, own, markAt, code}
 use Rattle.emit.specs.declared.Code.{Code}
@@ -69,12 +69,12 @@ module _ (f : Tables) (marks : List ℕ) where
     AgreeItems ls ps (label l is) p = AgreeItems ls ps is p
     AgreeItems ls ps (item x is) p = Agree ls ps x p × AgreeItems ls ps is (p + sizeOf (coreStatement f x))
 
-module _ (f : Tables) (means bases offsets : List ℕ) where
+module _ (f : Tables) (means under offsets : List ℕ) where
   -- ── the assignment that is written after a tree's tape ──
 
   unfoldable mutual
     pub leaves : Statement → Writing → Writing
-    leaves (assign a) w = targetWriting (f .values) (f .found) means bases offsets a
+    leaves (assign a) w = targetWriting (f .values) (f .found) means under offsets a
     leaves (call n) w = w
     leaves (block t b) w = leavesBody b w
     leaves (goto t n) w = w
@@ -96,45 +96,45 @@ module _ (f : Tables) (means bases offsets : List ℕ) where
 
 -- ── the instructions ──
 
-module _ (f : Tables) (means bases offsets marks : List ℕ) where
+module _ (f : Tables) (means under offsets marks : List ℕ) where
   -- instructions along a tape, and what follows them
-  record Made (all : List Code) (is : List Instruction) (rest : List Code) : Type 0 where
-    made : all ≡ coded offsets is ++ rest
+  record Begins (all : List Code) (is : List Instruction) (rest : List Code) : Type 0 where
+    begins : all ≡ coded offsets is ++ rest
 
   coded-append : (is js : List Instruction) (k : List Code) → coded offsets (is ++ js) ++ k ≡ coded offsets is ++ (coded offsets js ++ k)
   coded-append [] js k = refl
   coded-append (i ∷ is) js k = ap (λ (l : List Code). codeFor (offsetAt offsets) i ∷ l) (coded-append is js k)
 
-  none-made : (k : List Code) → Made k [] k
-  none-made k = record { made = refl }
+  none-begins : (k : List Code) → Begins k [] k
+  none-begins k = record { begins = refl }
 
-  one-made : (i : Instruction) (k : List Code) → Made (codeFor (offsetAt offsets) i ∷ k) (i ∷ []) k
-  one-made i k = record { made = refl }
+  one-begins : (i : Instruction) (k : List Code) → Begins (codeFor (offsetAt offsets) i ∷ k) (i ∷ []) k
+  one-begins i k = record { begins = refl }
 
-  then-made : {all rest k : List Code} {is js : List Instruction} → Made all is rest → Made rest js k → Made all (is ++ js) k
-  then-made {is = is} {js = js} e g = record { made = e .made ∙ (ap (λ (l : List Code). coded offsets is ++ l) (g .made) ∙ sym (coded-append is js _)) }
+  then-begins : {all rest k : List Code} {is js : List Instruction} → Begins all is rest → Begins rest js k → Begins all (is ++ js) k
+  then-begins {is = is} {js = js} e g = record { begins = e .begins ∙ (ap (λ (l : List Code). coded offsets is ++ l) (g .begins) ∙ sym (coded-append is js _)) }
 
   -- after or before events that make none
-  after-none : {all rest k : List Code} {is : List Instruction} → all ≡ rest → Made rest is k → Made all is k
-  after-none e g = record { made = e ∙ g .made }
+  after-none : {all rest k : List Code} {is : List Instruction} → all ≡ rest → Begins rest is k → Begins all is k
+  after-none e g = record { begins = e ∙ g .begins }
 
-  before-none : {all rest k : List Code} {is : List Instruction} → Made all is rest → rest ≡ k → Made all is k
-  before-none {is = is} e g = record { made = e .made ∙ ap (λ (l : List Code). coded offsets is ++ l) g }
+  before-none : {all rest k : List Code} {is : List Instruction} → Begins all is rest → rest ≡ k → Begins all is k
+  before-none {is = is} e g = record { begins = e .begins ∙ ap (λ (l : List Code). coded offsets is ++ l) g }
 
   -- an address in other words
-  by-address : {all rest : List Code} (is : ℕ → List Instruction) {q r : ℕ} → q ≡ r → Made all (is q) rest → Made all (is r) rest
-  by-address {all} {rest} is e g = subst (λ (q : ℕ). Made all (is q) rest) e g
+  by-address : {all rest : List Code} (is : ℕ → List Instruction) {q r : ℕ} → q ≡ r → Begins all (is q) rest → Begins all (is r) rest
+  by-address {all} {rest} is e g = subst (λ (q : ℕ). Begins all (is q) rest) e g
 
   abbrev along-it : Writing → List ℕ → List Code
-  along-it w k = go f means bases offsets marks w k
+  along-it w k = go f means under offsets marks w k
 
-  event-made : (op t : ℕ) (w : Writing) (k : List ℕ) (is : List Instruction) → Adds f means bases offsets marks op t w is → Made (along-it w (event op t ∷ k)) is (along-it w k)
-  event-made op t w k is h = record { made = along-makes f means bases offsets marks op t w k h }
+  event-begins : (op t : ℕ) (w : Writing) (k : List ℕ) (is : List Instruction) → Adds f means under offsets marks op t w is → Begins (along-it w (event op t ∷ k)) is (along-it w k)
+  event-begins op t w k is h = record { begins = along-makes f means under offsets marks op t w k h }
 
   -- ── events that make none ──
 
   idle-event : (op : ℕ) → member op idle ≡ true → (t : ℕ) (w : Writing) (k : List ℕ) → along-it w (event op t ∷ k) ≡ along-it w k
-  idle-event op h t w k = along-makes f means bases offsets marks op t w k (idle-adds f means bases offsets marks op h t w)
+  idle-event op h t w k = along-makes f means under offsets marks op t w k (idle-adds f means under offsets marks op h t w)
 
   idle-declaring : (w : Writing) (t : ℕ) (k : List ℕ) → All (λ (op : ℕ). along-it w (event op t ∷ k) ≡ along-it w k) declaring
   idle-declaring w t k =
@@ -145,78 +145,78 @@ module _ (f : Tables) (means bases offsets marks : List ℕ) where
 
   -- ── statements ──
 
-  module _ (table : f .means ≡ meaningsOf means bases) (small : Small f) where
+  module _ (table : f .means ≡ meaningsOf means under) (small : Small f) where
     tested : (c : Condition) (t i j q : ℕ) → t ≡ i → isCondition (f .kinds) c (i + 1) j → getD marks t 0 ≡ q → (w : Writing) (k : List ℕ)
-        → Made (along-it w (tapeCondition c k)) (testOf f c) (codeFor (offsetAt offsets) (branch (maskOf f c) q) ∷ along-it w k)
-    tested c t i j q e h g w k = record { made = condition-coded f means bases offsets marks table small c t j q (rw e h) g w k }
+        → Begins (along-it w (tapeCondition c k)) (testOf f c) (codeFor (offsetAt offsets) (branch (maskOf f c) q) ∷ along-it w k)
+    tested c t i j q e h g w k = record { begins = condition-coded f means under offsets marks table small c t j q (rw e h) g w k }
 
     mutual
       unfolding isStatement tapeStatement tapeDeclaration coreStatement code leaves Agree codeFor
 
-      statement-made : (x : Statement) (i j : ℕ) → isStatement (f .kinds) x i j → (ls ps : List Mark) (p : ℕ) → Agree f marks ls ps x p → (w : Writing) (k : List ℕ)
-          → Made (along-it w (tapeStatement x k)) (code ls ps (coreStatement f x) p) (along-it (leaves f means bases offsets x w) k)
-      statement-made (assign a) i j h ls ps p g w k = record { made = assignment-coded f means bases offsets marks table small a i j h w k }
-      statement-made (call n) i j h ls ps p g w k =
-          by-address (λ (q : ℕ). link (returnOf (meaningAt f n)) q ∷ []) g (event-made E.CALL n w k _ (call-adds f means bases offsets marks table n w))
-      statement-made (block t b) i j h ls ps p g w k =
-          after-none (idle-event E.BLOCK refl t w _) (before-none (body-made b _ _ (h .2) ls ps p g w _) (idle-event E.END-BLOCK refl t _ k))
-      statement-made (goto t n) i j h ls ps p g w k =
-          by-address (λ (q : ℕ). branch always q ∷ []) g (event-made E.GOTO n w k _ (goto-adds f means bases offsets marks n w))
-      statement-made null i j h ls ps p g w k = none-made _
-      statement-made (ifThen t c x) i j h ls ps p g w k =
-          then-made (tested c t _ _ _ (h .0) (h .2 .1) (g .0) w _)
-          (then-made (one-made (branch _ _) _) (before-none (statement-made x _ _ (h .2 .2 .1) ls ps _ (g .1) w _) (idle-event E.END-IF refl t _ k)))
-      statement-made (ifElse t c x e y) i j h ls ps p g w k =
-          let w′ = leaves f means bases offsets x w in
-          then-made (tested c t _ _ _ (h .0) (h .2 .1) (g .0) w _)
-          (then-made (one-made (branch _ _) _)
-          (then-made (statement-made x _ _ (h .2 .2 .1 .1 .1) ls ps _ (g .2) w _)
-          (then-made (by-address (λ (q : ℕ). branch always q ∷ []) (g .1) (event-made E.ELSE t w′ _ _ (else-adds f means bases offsets marks t w′)))
-          (before-none (statement-made y _ _ (h .2 .2 .1 .2 .2) ls ps _ (g .3) w′ _) (idle-event E.END-ELSE refl t _ k)))))
-      statement-made (while t c x) i j h ls ps p g w k =
-          let w′ = leaves f means bases offsets x w in
+      statement-begins : (x : Statement) (i j : ℕ) → isStatement (f .kinds) x i j → (ls ps : List Mark) (p : ℕ) → Agree f marks ls ps x p → (w : Writing) (k : List ℕ)
+          → Begins (along-it w (tapeStatement x k)) (code ls ps (coreStatement f x) p) (along-it (leaves f means under offsets x w) k)
+      statement-begins (assign a) i j h ls ps p g w k = record { begins = assignment-coded f means under offsets marks table small a i j h w k }
+      statement-begins (call n) i j h ls ps p g w k =
+          by-address (λ (q : ℕ). link (returnOf (meaningAt f n)) q ∷ []) g (event-begins E.CALL n w k _ (call-adds f means under offsets marks table n w))
+      statement-begins (block t b) i j h ls ps p g w k =
+          after-none (idle-event E.BLOCK refl t w _) (before-none (body-begins b _ _ (h .2) ls ps p g w _) (idle-event E.END-BLOCK refl t _ k))
+      statement-begins (goto t n) i j h ls ps p g w k =
+          by-address (λ (q : ℕ). branch always q ∷ []) g (event-begins E.GOTO n w k _ (goto-adds f means under offsets marks n w))
+      statement-begins null i j h ls ps p g w k = none-begins _
+      statement-begins (ifThen t c x) i j h ls ps p g w k =
+          then-begins (tested c t _ _ _ (h .0) (h .2 .1) (g .0) w _)
+          (then-begins (one-begins (branch _ _) _) (before-none (statement-begins x _ _ (h .2 .2 .1) ls ps _ (g .1) w _) (idle-event E.END-IF refl t _ k)))
+      statement-begins (ifElse t c x e y) i j h ls ps p g w k =
+          let w′ = leaves f means under offsets x w in
+          then-begins (tested c t _ _ _ (h .0) (h .2 .1) (g .0) w _)
+          (then-begins (one-begins (branch _ _) _)
+          (then-begins (statement-begins x _ _ (h .2 .2 .1 .1 .1) ls ps _ (g .2) w _)
+          (then-begins (by-address (λ (q : ℕ). branch always q ∷ []) (g .1) (event-begins E.ELSE t w′ _ _ (else-adds f means under offsets marks t w′)))
+          (before-none (statement-begins y _ _ (h .2 .2 .1 .2 .2) ls ps _ (g .3) w′ _) (idle-event E.END-ELSE refl t _ k)))))
+      statement-begins (while t c x) i j h ls ps p g w k =
+          let w′ = leaves f means under offsets x w in
           after-none (idle-event E.WHILE refl t w _)
-          (then-made (tested c t _ _ _ (h .0) (h .2 .1) (g .0) w _)
-          (then-made (one-made (branch _ _) _)
-          (then-made (statement-made x _ _ (h .2 .2 .1) ls ps _ (g .2) w _)
-          (by-address (λ (q : ℕ). branch always q ∷ []) (g .1) (event-made E.END-WHILE t w′ k _ (end-while-adds f means bases offsets marks t w′))))))
-      statement-made (for t a v l x) i j h ls ps p g w k =
+          (then-begins (tested c t _ _ _ (h .0) (h .2 .1) (g .0) w _)
+          (then-begins (one-begins (branch _ _) _)
+          (then-begins (statement-begins x _ _ (h .2 .2 .1) ls ps _ (g .2) w _)
+          (by-address (λ (q : ℕ). branch always q ∷ []) (g .1) (event-begins E.END-WHILE t w′ k _ (end-while-adds f means under offsets marks t w′))))))
+      statement-begins (for t a v l x) i j h ls ps p g w k =
           let e : v ≡ h .2 .0 + 1 = h .2 .2 .1 .0 in
           let w′ = controlWriting (f .found) means a in
-          let w″ = leaves f means bases offsets x w′ in
+          let w″ = leaves f means under offsets x w′ in
           let end = h .2 .2 .1 .2 .1 .0 in
-          then-made {is = toRegister f (controlOf f a) a} (record { made = control-coded f means bases offsets marks table small a _ _ (h .2 .1) w _ })
-          (then-made {is = compareWith f (controlOf f a) l}
-          (record { made = limit-coded f means bases offsets marks table small a l v end _ (subst (λ (q : ℕ). isOperand (f .kinds) l q end) (omega arith) (h .2 .2 .1 .2 .1 .1)) w′ refl (g .0) (omega arith) _ })
-          (then-made (one-made (branch _ _) _)
-          (then-made (statement-made x _ _ (h .2 .2 .1 .2 .1 .2 .1) ls ps _ (g .3) w′ _)
+          then-begins {is = toRegister f (controlOf f a) a} (record { begins = control-coded f means under offsets marks table small a _ _ (h .2 .1) w _ })
+          (then-begins {is = compareWith f (controlOf f a) l}
+          (record { begins = limit-coded f means under offsets marks table small a l v end _ (subst (λ (q : ℕ). isOperand (f .kinds) l q end) (omega arith) (h .2 .2 .1 .2 .1 .1)) w′ refl (g .0) (omega arith) _ })
+          (then-begins (one-begins (branch _ _) _)
+          (then-begins (statement-begins x _ _ (h .2 .2 .1 .2 .1 .2 .1) ls ps _ (g .3) w′ _)
           (by-address (λ (q : ℕ). rx (opcode addRow 1) (controlOf f a) (literal (valueAt f v)) ∷ branch always q ∷ []) (g .1)
           (by-address (λ (r : ℕ). rx (opcode addRow 1) r (literal (valueAt f v)) ∷ branch always (getD marks v 0) ∷ []) (g .2)
-          (event-made E.END-FOR v w″ k _ (end-for-adds f means bases offsets marks v w″)))))))
+          (event-begins E.END-FOR v w″ k _ (end-for-adds f means under offsets marks v w″)))))))
 
-      body-made : (b : Body) (i j : ℕ) → isBody (f .kinds) b i j → (ls ps : List Mark) (p : ℕ) → AgreeBody f marks ls ps b p → (w : Writing) (k : List ℕ)
-          → Made (along-it w (tapeBody b k)) (code ls ps (coreBody f b) p) (along-it (leavesBody f means bases offsets b w) k)
-      body-made (declare (registers rs) b) i j h ls ps p g w k = after-none (registers-out (along-it w) (idle-declaring w) rs _) (body-made b _ _ (h .2 .1) ls ps p g w k)
-      body-made (declare (cells c s is) b) i j h ls ps p g w k =
-          after-none (cells-out (along-it w) (idle-declaring w) c s is _) (body-made b _ _ (h .2 .1) ls ps p g w k)
-      body-made (declare (base n) b) i j h ls ps p g w k =
-          then-made (event-made E.BASE n w _ (rx (opcode loadRow 1) (registerOf (meaningAt f n)) (entry (getD (f .opens) n 0)) ∷ []) (base-adds f means bases offsets marks table n w)) (body-made b _ _ (h .2 .1) ls ps _ g w k)
-      body-made (procedure n r x b) i j h ls ps p g w k =
+      body-begins : (b : Body) (i j : ℕ) → isBody (f .kinds) b i j → (ls ps : List Mark) (p : ℕ) → AgreeBody f marks ls ps b p → (w : Writing) (k : List ℕ)
+          → Begins (along-it w (tapeBody b k)) (code ls ps (coreBody f b) p) (along-it (leavesBody f means under offsets b w) k)
+      body-begins (declare (registers rs) b) i j h ls ps p g w k = after-none (registers-out (along-it w) (idle-declaring w) rs _) (body-begins b _ _ (h .2 .1) ls ps p g w k)
+      body-begins (declare (cells c s is) b) i j h ls ps p g w k =
+          after-none (cells-out (along-it w) (idle-declaring w) c s is _) (body-begins b _ _ (h .2 .1) ls ps p g w k)
+      body-begins (declare (base n) b) i j h ls ps p g w k =
+          then-begins (event-begins E.BASE n w _ (rx (opcode loadRow 1) (registerOf (meaningAt f n)) (entry (getD (f .opens) n 0)) ∷ []) (base-adds f means under offsets marks table n w)) (body-begins b _ _ (h .2 .1) ls ps _ g w k)
+      body-begins (procedure n r x b) i j h ls ps p g w k =
           let e : n + 2 ≡ r = omega (arith, h .1 .1 .0, h .1 .1 .2 .1 .0) in
-          let w′ = leaves f means bases offsets x w in
-          then-made (by-address (λ (q : ℕ). branch always q ∷ []) (g .0) (event-made E.PROCEDURE n w _ _ (procedure-adds f means bases offsets marks n w)))
-          (then-made (statement-made x _ _ (h .1 .1 .2 .1 .2 .1 .1) [] _ _ (g .1) w _)
-          (then-made (by-address (λ (q : ℕ). rr 0x07 15 (registerOf (meaningAt f q)) ∷ []) e (event-made E.END-PROCEDURE n w′ _ _ (end-procedure-adds f means bases offsets marks table n w′)))
-          (body-made b _ _ (h .2 .1) ls _ _ (g .2) w′ k)))
-      body-made (items is) i j h ls ps p g w k = items-made is i j h _ ps p g w k
+          let w′ = leaves f means under offsets x w in
+          then-begins (by-address (λ (q : ℕ). branch always q ∷ []) (g .0) (event-begins E.PROCEDURE n w _ _ (procedure-adds f means under offsets marks n w)))
+          (then-begins (statement-begins x _ _ (h .1 .1 .2 .1 .2 .1 .1) [] _ _ (g .1) w _)
+          (then-begins (by-address (λ (q : ℕ). rr returnOp always (registerOf (meaningAt f q)) ∷ []) e (event-begins E.END-PROCEDURE n w′ _ _ (end-procedure-adds f means under offsets marks table n w′)))
+          (body-begins b _ _ (h .2 .1) ls _ _ (g .2) w′ k)))
+      body-begins (items is) i j h ls ps p g w k = items-begins is i j h _ ps p g w k
 
-      items-made : (is : Items) (i j : ℕ) → isItems (f .kinds) is i j → (ls ps : List Mark) (p : ℕ) → AgreeItems f marks ls ps is p → (w : Writing) (k : List ℕ)
-          → Made (along-it w (tapeItems is k)) (code ls ps (coreItems f is) p) (along-it (leavesItems f means bases offsets is w) k)
-      items-made ended i j h ls ps p g w k = none-made _
-      items-made (label l is) i j h ls ps p g w k = after-none (idle-event E.LABEL refl l w _) (items-made is _ _ (h .2 .1) ls ps p g w k)
-      items-made (item x is) i j h ls ps p g w k =
-          then-made (statement-made x _ _ (h .1) ls ps p (g .0) w _) (items-made is _ _ (h .2 .1) ls ps _ (g .1) _ k)
+      items-begins : (is : Items) (i j : ℕ) → isItems (f .kinds) is i j → (ls ps : List Mark) (p : ℕ) → AgreeItems f marks ls ps is p → (w : Writing) (k : List ℕ)
+          → Begins (along-it w (tapeItems is k)) (code ls ps (coreItems f is) p) (along-it (leavesItems f means under offsets is w) k)
+      items-begins ended i j h ls ps p g w k = none-begins _
+      items-begins (label l is) i j h ls ps p g w k = after-none (idle-event E.LABEL refl l w _) (items-begins is _ _ (h .2 .1) ls ps p g w k)
+      items-begins (item x is) i j h ls ps p g w k =
+          then-begins (statement-begins x _ _ (h .1) ls ps p (g .0) w _) (items-begins is _ _ (h .2 .1) ls ps _ (g .1) _ k)
 
     pub code-statement : (x : Statement) (i j : ℕ) → isStatement (f .kinds) x i j → (ls ps : List Mark) (p : ℕ) → Agree f marks ls ps x p → (w : Writing) (k : List ℕ)
-        → go f means bases offsets marks w (tapeStatement x k) ≡ coded offsets (code ls ps (coreStatement f x) p) ++ go f means bases offsets marks (leaves f means bases offsets x w) k
-    code-statement x i j h ls ps p g w k = statement-made x i j h ls ps p g w k .made
+        → go f means under offsets marks w (tapeStatement x k) ≡ coded offsets (code ls ps (coreStatement f x) p) ++ go f means under offsets marks (leaves f means under offsets x w) k
+    code-statement x i j h ls ps p g w k = statement-begins x i j h ls ps p g w k .begins

@@ -1,18 +1,21 @@
 -- The program's bytes and the literals along a tape. A byte keeps eight bits, and what lies past the image is not laid: positions stay exact.
 use mathlib.Core.List.{List, [], map}
-use Prim.Native.Nat.{ℕ, _+_, _*_, _%_}
+use mathlib.Core.Path.{_≡_}
+use Prim.Native.Nat.{ℕ, _+_, _*_, _%_, _<_, _≤_}
+use lib.ListN.{length, take}
 use lib.Seq.{sets}
 use Rattle.base.specs.Runs.{indexOf}
+use Rattle.base.specs.Walk.{fold}
+use Rattle.kinds.specs.Meanings.{dataBase}
 use Rattle.translator.specs.Instructions.{literal}
 use Rattle.translator.specs.Layout.{needs}
 use Rattle.translator.specs.Bytes.{twoBytes, fourBytes}
 use Rattle.tape.specs.Pass.{pass}
 use Rattle.emit.specs.declared.Code.{Code}
-use Rattle.emit.specs.declared.Code.the-variants.{Nothing, Two, Four, Literal}
-use Rattle.emit.specs.declared.Made.{Made}
+use Rattle.emit.specs.declared.Code.the-variants.{Two, Four, Literal}
 use Rattle.emit.specs.declared.Writing.{Writing}
-use Rattle.emit.specs.Codes.{codeSize}
-use Rattle.emit.specs.Events.{writingAfter, madeBy}
+use Rattle.emit.specs.Codes.{listOf, codeSize, stopCode}
+use Rattle.emit.specs.Events.{writingAfter, codesBy}
 use Rattle.code.specs.Places.{noWriting}
 
 abbrev pub bytesIn : List ℕ → List ℕ
@@ -27,16 +30,18 @@ pub record Laid : Type 0 where
 abbrev pub laidOf : ℕ → List ℕ → List ℕ → Laid
 laidOf at image literals = record { at = at; image = image; literals = literals }
 
+-- with the first n of a list as literals
+abbrev pub laidBy : (at n : ℕ) (image literals : List ℕ) → Laid
+laidBy at n image literals = laidOf at image (take n literals)
+
 -- the bytes of an instruction; literals stand from `start`
 unfoldable pub codeBytes : (start : ℕ) (literals : List ℕ) → Code → List ℕ
-codeBytes start literals Nothing = []
 codeBytes start literals (Two op r s) = twoBytes op r s
 codeBytes start literals (Four op r x b d) = fourBytes op r x b d
-codeBytes start literals (Literal op r v) = fourBytes op r 0 14 (start + 4 * indexOf v literals)
+codeBytes start literals (Literal op r v) = fourBytes op r 0 (dataBase .register) (start + 4 * indexOf v literals)
 
 -- "Each distinct 32-bit value … is one 4-byte literal, in the order in which the code first needs it"
 unfoldable pub literalsAfter : Code → List ℕ → List ℕ
-literalsAfter Nothing seen = seen
 literalsAfter (Two op r s) seen = seen
 literalsAfter (Four op r x b d) seen = seen
 literalsAfter (Literal op r v) seen = needs (literal v) seen
@@ -48,8 +53,9 @@ layCode start c s = record {
   literals = literalsAfter c (s .literals);
 }
 
-unfoldable pub layMade : (start : ℕ) → Made → Laid → Laid
-layMade start m s = layCode start (m .second) (layCode start (m .first) s)
+-- one instruction behind the other
+abbrev pub layAll : (start : ℕ) → List Code → Laid → Laid
+layAll start cs s = fold (λ (l : Laid) (c : Code). layCode start c l) s cs
 
 pub record Coding : Type 0 where
   pub laid : Laid
@@ -58,17 +64,20 @@ pub record Coding : Type 0 where
 abbrev pub codingOf : Laid → Writing → Coding
 codingOf l w = record { laid = l; writing = w }
 
-unfoldable pub codeEvent : (start : ℕ) (kinds values found goes means bases opens offsets marks : List ℕ) (op t : ℕ) → Coding → Coding
-codeEvent start kinds values found goes means bases opens offsets marks op t s = record {
-  laid = layMade start (madeBy kinds values found goes means bases opens offsets marks op t (s .writing)) (s .laid);
-  writing = writingAfter values found means bases offsets op t (s .writing);
+unfoldable pub codeEvent : (start : ℕ) (kinds values found goes means under opens offsets marks : List ℕ) (op t : ℕ) → Coding → Coding
+codeEvent start kinds values found goes means under opens offsets marks op t s = record {
+  laid = layAll start (listOf (codesBy kinds values found goes means under opens offsets marks op t (s .writing))) (s .laid);
+  writing = writingAfter values found means under offsets op t (s .writing);
 }
 
--- "The last instruction is `0A 00`."
-unfoldable pub stopCode : Code
-stopCode = Two 0x0a 0 0
+-- along a whole tape, over the image as it was lent; "The last instruction is `0A 00`."
+unfoldable pub codeAlong : (start : ℕ) (kinds values found goes means under opens offsets marks : List ℕ) (image tape : List ℕ) → Laid
+codeAlong start kinds values found goes means under opens offsets marks image tape =
+    layCode start stopCode (pass (codeEvent start kinds values found goes means under opens offsets marks) (codingOf (laidOf 0 image []) noWriting) tape .laid)
 
--- along a whole tape, over the image as it was lent
-unfoldable pub codeAlong : (start : ℕ) (kinds values found goes means bases opens offsets marks : List ℕ) (image tape : List ℕ) → Laid
-codeAlong start kinds values found goes means bases opens offsets marks image tape =
-    layCode start stopCode (pass (codeEvent start kinds values found goes means bases opens offsets marks) (codingOf (laidOf 0 image []) noWriting) tape .laid)
+-- What is reached in a room for so many literals: the address always; all else while the room is not full; a full room says that there are as many literals.
+pub record Holds (room at n : ℕ) (image literals : List ℕ) (s : Laid) : Type 0 where
+  pub reached : at ≡ s .at
+  pub inside : n ≤ room
+  pub same : n < room → laidBy at n image literals ≡ s
+  pub full : n ≡ room → room ≤ length (s .literals)

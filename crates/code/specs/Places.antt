@@ -2,39 +2,40 @@
 -- event's instructions.
 use mathlib.Core.List.{List}
 use Prim.Native.Nat.{ℕ, _+_, _-_}
-use lib.Dec.{eqb, ltb}
+use lib.Dec.{eqb}
 use lib.ListN.{set}
 use Rattle.base.specs.Choose.{if_then_else_}
 use Rattle.tape.specs.Events as E
+use Rattle.tape.specs.Numbers.{familyAt}
 use Rattle.tables.specs.Packed.{low}
 use Rattle.tape.specs.Pass.{pass}
 use Rattle.emit.specs.declared.Use.{Use}
 use Rattle.emit.specs.declared.Use.the-variants.{Absent}
 use Rattle.emit.specs.declared.Writing.{Writing}
-use Rattle.emit.specs.Codes.{heldIn, madeSize}
-use Rattle.emit.specs.Events.{writingAfter, madeBy}
+use Rattle.emit.specs.Codes.{listOf, codeSizes, heldIn}
+use Rattle.emit.specs.Events.{writingAfter, codesBy}
 
 -- a FOR's compare, and its control register
 unfoldable pub markLimit : (t from : ℕ) → Use → List ℕ → List ℕ
 markLimit t from aim marks = set (set marks (t - 2) from) (t - 1) (low (heldIn aim))
 
-unfoldable pub markClosing : (op t to : ℕ) → List ℕ → List ℕ
-markClosing op t to marks =
-    if eqb op E.END-FOR then set marks (t - 1) to else
-    if eqb op E.END-ELSE then set marks (t + 1) to else
-    if ltb op E.ELSE then marks else
-    if ltb op E.CALL then set marks t to else
+unfoldable pub markClosing : (family t to : ℕ) → List ℕ → List ℕ
+markClosing family t to marks =
+    if eqb family E.END-FOR then set marks (t - 1) to else
+    if eqb family E.END-ELSE then set marks (t + 1) to else
+    if eqb family E.ELSE then set marks t to else
+    if eqb family E.END-IF then set marks t to else
+    if eqb family E.END-WHILE then set marks t to else
     marks
 
-unfoldable pub markAfter : (op t from to : ℕ) → Use → List ℕ → List ℕ
-markAfter op t from to aim marks =
-    if eqb op E.LABEL then set marks t from else
-    if eqb op E.PROCEDURE then set marks t to else
-    if eqb op E.END-PROCEDURE then set marks (t + 1) to else
-    if ltb op E.LIMIT then marks else
-    if ltb op E.BARE then markLimit t from aim marks else
-    if eqb op E.WHILE then set marks (t + 1) from else
-    markClosing op t to marks
+unfoldable pub markAfter : (family t from to : ℕ) → Use → List ℕ → List ℕ
+markAfter family t from to aim marks =
+    if eqb family E.LABEL then set marks t from else
+    if eqb family E.PROCEDURE then set marks t to else
+    if eqb family E.END-PROCEDURE then set marks (t + 1) to else
+    if eqb family E.LIMIT then markLimit t from aim marks else
+    if eqb family E.WHILE then set marks (t + 1) from else
+    markClosing family t to marks
 
 -- the address, the assignment that is written, and the addresses by token
 pub record Placing : Type 0 where
@@ -45,15 +46,15 @@ pub record Placing : Type 0 where
 abbrev pub placingOf : ℕ → Writing → List ℕ → Placing
 placingOf at w marks = record { at = at; writing = w; marks = marks }
 
-module _ (kinds values found goes means bases opens offsets : List ℕ) where
+module _ (kinds values found goes means under opens offsets : List ℕ) where
   abbrev pub behind : (op t : ℕ) → Placing → ℕ
-  behind op t s = s .at + madeSize (madeBy kinds values found goes means bases opens offsets (s .marks) op t (s .writing))
+  behind op t s = s .at + codeSizes (listOf (codesBy kinds values found goes means under opens offsets (s .marks) op t (s .writing)))
 
   unfoldable pub placeEvent : (op t : ℕ) → Placing → Placing
   placeEvent op t s = record {
     at = behind op t s;
-    writing = writingAfter values found means bases offsets op t (s .writing);
-    marks = markAfter op t (s .at) (behind op t s) (s .writing .aim) (s .marks);
+    writing = writingAfter values found means under offsets op t (s .writing);
+    marks = markAfter (familyAt op) t (s .at) (behind op t s) (s .writing .aim) (s .marks);
   }
 
 -- no assignment is written
@@ -61,6 +62,6 @@ abbrev pub noWriting : Writing
 noWriting = record { aim = Absent; sign = 0 }
 
 -- along a whole tape, over the marks as they were lent
-unfoldable pub placesAlong : (kinds values found goes means bases opens offsets : List ℕ) (marks tape : List ℕ) → Placing
-placesAlong kinds values found goes means bases opens offsets marks tape =
-    pass (placeEvent kinds values found goes means bases opens offsets) (placingOf 0 noWriting marks) tape
+unfoldable pub placesAlong : (kinds values found goes means under opens offsets : List ℕ) (marks tape : List ℕ) → Placing
+placesAlong kinds values found goes means under opens offsets marks tape =
+    pass (placeEvent kinds values found goes means under opens offsets) (placingOf 0 noWriting marks) tape

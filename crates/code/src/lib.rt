@@ -1,35 +1,38 @@
 // Document 01, "Code": where branches go, then the program's bytes and the literals that it needs, each in one loop along the tape.
 ghost use mathlib.Core.Path.{_≡_};
 ghost use Prim.Native.Nat.{ℕ, _+_, _-_, _*_, _%_, _≤_, _<_};
+ghost use Rattle.tape.specs.Events.{TOKEN-LIMIT};
 ghost use lib.ListN.{length, take, set};
 ghost use lib.Seq.{sets};
 ghost use Rattle.base.specs.Runs.{indexOf};
 ghost use Rattle.translator.specs.Instructions.{literal};
 ghost use Rattle.translator.specs.Layout.{needs};
 ghost use Rattle.translator.specs.Bytes.{twoBytes, fourBytes};
-ghost use Rattle.emit.specs.Codes.{codeSize, madeSize};
+ghost use Rattle.emit.specs.Codes.{listOf, codeSize};
 ghost use Rattle.code.specs.Places.{markLimit, markClosing, markAfter, placesAlong};
-ghost use Rattle.code.specs.Coding.{bytesIn, laidOf, layCode, layMade, codeAlong};
-use arrays::key;
+ghost use Rattle.code.specs.Coding.{bytesIn, Laid, laidBy, layCode, layAll, codeAlong, Holds};
 use arrays::put;
 use arrays::put_wide;
 use emit::Code;
-use emit::Made;
+use emit::Codes;
+use emit::DATA_BASE;
+use emit::Named;
 use emit::Use;
 use emit::Writing;
+use emit::before;
 use emit::code_size;
+use emit::codes_of;
+use emit::count;
+use emit::goal_at;
 use emit::held;
-use emit::made_size;
-use emit::make;
-use emit::writing_after;
+use emit::nth;
+use emit::operand;
+use emit::register_at;
+use emit::size;
+use emit::stop;
+use emit::written_after;
 
 // ── addresses ──
-
-fn before(t: usize, n: usize) -> usize
-    ensures { λ r. ⌜ r ≡ t - n ⌝ }
-{
-    if t < n { 0 } else { t - n }
-}
 
 fn mark_limit(t: usize, from: usize, aim: Use, marks: &mut [u32])
     requires { ⌜ from < 4294967296 ⌝ }
@@ -39,54 +42,56 @@ fn mark_limit(t: usize, from: usize, aim: Use, marks: &mut [u32])
     put(marks, before(t, 1), (held(aim) % 4294967296) as usize);
 }
 
-fn mark_closing(op: u32, t: usize, to: usize, marks: &mut [u32])
-    requires { ⌜ (t < 67108864) × (to < 4294967296) ⌝ }
-    ensures { λ _. ⌜ now (marks .exit) ≡ markClosing op t to (now (marks .entry)) ⌝ }
+fn mark_closing(family: u32, t: usize, to: usize, marks: &mut [u32])
+    requires { ⌜ (t < TOKEN-LIMIT) × (to < 4294967296) ⌝ }
+    ensures { λ _. ⌜ now (marks .exit) ≡ markClosing family t to (now (marks .entry)) ⌝ }
 {
-    if op == tape::END_FOR {
+    if family == tape::END_FOR {
         put(marks, before(t, 1), to);
         return;
     }
-    if op == tape::END_ELSE {
+    if family == tape::END_ELSE {
         put(marks, t + 1, to);
         return;
     }
-    if op < tape::ELSE {
+    if family == tape::ELSE {
+        put(marks, t, to);
         return;
     }
-    if op < tape::CALL {
+    if family == tape::END_IF {
+        put(marks, t, to);
+        return;
+    }
+    if family == tape::END_WHILE {
         put(marks, t, to);
     }
 }
 
-fn mark_after(op: u32, t: usize, from: usize, to: usize, aim: Use, marks: &mut [u32])
-    requires { ⌜ (t < 67108864) × (from < 4294967296) × (to < 4294967296) ⌝ }
-    ensures { λ _. ⌜ now (marks .exit) ≡ markAfter op t from to aim (now (marks .entry)) ⌝ }
+fn mark_after(family: u32, t: usize, from: usize, to: usize, aim: Use, marks: &mut [u32])
+    requires { ⌜ (t < TOKEN-LIMIT) × (from < 4294967296) × (to < 4294967296) ⌝ }
+    ensures { λ _. ⌜ now (marks .exit) ≡ markAfter family t from to aim (now (marks .entry)) ⌝ }
 {
-    if op == tape::LABEL {
+    if family == tape::LABEL {
         put(marks, t, from);
         return;
     }
-    if op == tape::PROCEDURE {
+    if family == tape::PROCEDURE {
         put(marks, t, to);
         return;
     }
-    if op == tape::END_PROCEDURE {
+    if family == tape::END_PROCEDURE {
         put(marks, t + 1, to);
         return;
     }
-    if op < tape::LIMIT {
-        return;
-    }
-    if op < tape::BARE {
+    if family == tape::LIMIT {
         mark_limit(t, from, aim, marks);
         return;
     }
-    if op == tape::WHILE {
+    if family == tape::WHILE {
         put(marks, t + 1, from);
         return;
     }
-    mark_closing(op, t, to, marks);
+    mark_closing(family, t, to, marks);
 }
 
 // Where branches go, by token; the length of the program but for its last instruction.
@@ -97,13 +102,13 @@ pub fn places(
     found: &[u32],
     goes: &[u32],
     means: &[u64],
-    bases: &[u64],
+    under: &[u64],
     opens: &[u32],
     offsets: &[u64],
     marks: &mut [u32],
 ) -> usize
     requires { ⌜ length (now tape) ≤ 67108864 ⌝ }
-    ensures { λ r. ⌜ (r ≡ placesAlong (now (kinds .entry)) (now (values .entry)) (now (found .entry)) (now (goes .entry)) (now (means .entry)) (now (bases .entry)) (now (opens .entry)) (now (offsets .entry)) (now (marks .entry)) (now (tape .entry)) .at) × (now (marks .exit) ≡ placesAlong (now (kinds .entry)) (now (values .entry)) (now (found .entry)) (now (goes .entry)) (now (means .entry)) (now (bases .entry)) (now (opens .entry)) (now (offsets .entry)) (now (marks .entry)) (now (tape .entry)) .marks) ⌝ }
+    ensures { λ r. ⌜ (r ≡ placesAlong (now (kinds .entry)) (now (values .entry)) (now (found .entry)) (now (goes .entry)) (now (means .entry)) (now (under .entry)) (now (opens .entry)) (now (offsets .entry)) (now (marks .entry)) (now (tape .entry)) .at) × (now (marks .exit) ≡ placesAlong (now (kinds .entry)) (now (values .entry)) (now (found .entry)) (now (goes .entry)) (now (means .entry)) (now (under .entry)) (now (opens .entry)) (now (offsets .entry)) (now (marks .entry)) (now (tape .entry)) .marks) ⌝ }
 {
     let mut p: usize = 0;
     let mut w = Writing {
@@ -115,24 +120,24 @@ pub fn places(
         let e = tape[i];
         let op = tape::op(e);
         let t = tape::token(e);
-        let m = make(
-            op,
-            t,
+        let family = tape::family(op);
+        let u = operand(values, found, means, under, offsets, tape::form(op), t);
+        let register = register_at(found, means, family, t);
+        let goal = goal_at(found, goes, opens, family, t);
+        let m = codes_of(
             kinds,
             values,
-            found,
-            goes,
-            means,
-            bases,
-            opens,
-            offsets,
             marks,
+            family,
+            t,
             w,
+            u,
+            Named { register, goal },
         );
-        let q = p + made_size(m);
+        let q = p + size(m);
         let aim = w.aim;
-        mark_after(op, t, p, q, aim, marks);
-        w = writing_after(op, t, values, found, means, bases, offsets, w);
+        mark_after(family, t, p, q, aim, marks);
+        w = written_after(family, w, u, register);
         p = q;
         i += 1;
     }
@@ -198,58 +203,71 @@ fn enter(literals: &mut [u64], count: usize, place: usize, v: u64) -> usize
     count
 }
 
-// Lays an instruction; the number of literals then.
+// The same, as long as there is room.
+fn enter_in_room(literals: &mut [u64], count: usize, place: usize, v: u64) -> usize
+    requires { ⌜ (count ≤ length (now literals)) × (place ≡ indexOf v (take count (now literals))) × (place ≤ count) ⌝ }
+    ensures { λ r. ⌜ (count < length (now (literals .entry)) → (take r (now (literals .exit)) ≡ needs (literal v) (take count (now (literals .entry)))) × (place ≡ indexOf v (take r (now (literals .exit))))) × (count ≡ length (now (literals .entry)) → r ≡ count) × (r ≤ count + 1) ⌝ }
+{
+    if count < literals.len() {
+        return enter(literals, count, place, v);
+    }
+    count
+}
+
+// Lays an instruction at p behind n literals; the number of literals then.
 fn lay_code(
     image: &mut [u8],
     literals: &mut [u64],
-    count: usize,
     start: u64,
-    at: usize,
+    p: usize,
+    n: usize,
     c: Code,
 ) -> usize
-    requires { ⌜ (count < length (now literals)) × (length (now literals) ≤ 4294967296) × (start < 1099511627776) × (at < 4294967296) ⌝ }
-    ensures { λ r. ⌜ ((next : ℕ) → next ≡ at + codeSize c → laidOf next (now (image .exit)) (take r (now (literals .exit))) ≡ layCode start c (laidOf at (now (image .entry)) (take count (now (literals .entry))))) × (r ≤ count + 1) ⌝ }
+    requires { ⌜ (n ≤ length (now literals)) × (length (now literals) ≤ 4294967296) × (start < 1099511627776) × (p < 4294967296) ⌝ }
+    ensures { λ r. ⌜ (n < length (now (literals .entry)) → laidBy (p + codeSize c) r (now (image .exit)) (now (literals .exit)) ≡ layCode start c (laidBy p n (now (image .entry)) (now (literals .entry)))) × (n ≡ length (now (literals .entry)) → r ≡ n) × (r ≤ n + 1) ⌝ }
 {
     match c {
-        Code::Nothing => count,
         Code::Two(op, r, s) => {
-            lay_two(image, at, op, r, s);
-            count
+            lay_two(image, p, op, r, s);
+            n
         }
         Code::Four(op, r, x, b, d) => {
-            lay_four(image, at, op, r, x, b, d);
-            count
+            lay_four(image, p, op, r, x, b, d);
+            n
         }
         Code::Literal(op, r, v) => {
-            let place = find(literals, count, v);
-            lay_four(image, at, op, r, 0, 14, start + 4 * place as u64);
-            enter(literals, count, place, v)
+            let place = find(literals, n, v);
+            lay_four(image, p, op, r, 0, DATA_BASE, start + 4 * place as u64);
+            enter_in_room(literals, n, place, v)
         }
     }
 }
 
-// Lays the instructions of an event; the number of literals then.
-fn lay_made(
-    image: &mut [u8],
-    literals: &mut [u64],
-    count: usize,
-    start: u64,
-    at: usize,
-    m: Made,
-) -> usize
-    requires { ⌜ (count + 1 < length (now literals)) × (length (now literals) ≤ 4294967296) × (start < 1099511627776) × (at + 4 < 4294967296) ⌝ }
-    ensures { λ r. ⌜ ((next : ℕ) → next ≡ at + madeSize m → laidOf next (now (image .exit)) (take r (now (literals .exit))) ≡ layMade start m (laidOf at (now (image .entry)) (take count (now (literals .entry))))) × (r ≤ count + 2) ⌝ }
-{
-    let a = m.first;
-    let b = m.second;
-    let n = lay_code(image, literals, count, start, at, a);
-    lay_code(image, literals, n, start, at + code_size(a), b)
-}
-
-// The program's length, and the number of its literals.
-pub struct Ended {
+// How far a program goes, and how many literals it has, up to the room for them.
+pub struct Reached {
     pub length: usize,
     pub literals: usize,
+}
+
+// Lays the instructions of an event, one behind the other.
+fn lay_codes(image: &mut [u8], literals: &mut [u64], start: u64, from: Reached, m: Codes) -> Reached
+    requires { ⌜ (from .literals ≤ length (now literals)) × (length (now literals) ≤ 4294967296) × (start < 1099511627776) × (from .length + 8 < 4294967296) ⌝ }
+    ensures { λ r. ⌜ ((s : Laid) → Holds (length (now (literals .entry))) (from .length) (from .literals) (now (image .entry)) (now (literals .entry)) s → Holds (length (now (literals .entry))) (r .length) (r .literals) (now (image .exit)) (now (literals .exit)) (layAll start (listOf m) s)) × (r .literals ≤ from .literals + 2) × (r .literals ≤ length (now (literals .entry))) × (r .length ≤ from .length + 8) ⌝ }
+{
+    let last = count(m);
+    let mut p: usize = from.length;
+    let mut n: usize = from.literals;
+    let mut k: usize = 0;
+    while k < last {
+        let c = nth(m, k);
+        n = lay_code(image, literals, start, p, n, c);
+        p += code_size(c);
+        k += 1;
+    }
+    Reached {
+        length: p,
+        literals: n,
+    }
 }
 
 // The program's bytes in its image, and the literals that it needs.
@@ -260,19 +278,21 @@ pub fn write_code(
     found: &[u32],
     goes: &[u32],
     means: &[u64],
-    bases: &[u64],
+    under: &[u64],
     opens: &[u32],
     offsets: &[u64],
     marks: &[u32],
     start: u64,
     image: &mut [u8],
     literals: &mut [u64],
-) -> Ended
-    requires { ⌜ (length (now tape) ≤ 67108864) × (2 * length (now tape) + 2 ≤ length (now literals)) × (length (now literals) ≤ 4294967296) × (start < 1099511627776) ⌝ }
-    ensures { λ r. ⌜ laidOf (r .length) (now (image .exit)) (take (r .literals) (now (literals .exit))) ≡ codeAlong start (now (kinds .entry)) (now (values .entry)) (now (found .entry)) (now (goes .entry)) (now (means .entry)) (now (bases .entry)) (now (opens .entry)) (now (offsets .entry)) (now (marks .entry)) (now (image .entry)) (now (tape .entry)) ⌝ }
+) -> Reached
+    requires { ⌜ (length (now tape) ≤ 67108864) × (length (now literals) ≤ 4294967296) × (start < 1099511627776) ⌝ }
+    ensures { λ r. ⌜ Holds (length (now (literals .entry))) (r .length) (r .literals) (now (image .exit)) (now (literals .exit)) (codeAlong start (now (kinds .entry)) (now (values .entry)) (now (found .entry)) (now (goes .entry)) (now (means .entry)) (now (under .entry)) (now (opens .entry)) (now (offsets .entry)) (now (marks .entry)) (now (image .entry)) (now (tape .entry))) × (r .literals ≤ 2 * length (now (tape .entry)) + 1) ⌝ }
 {
-    let mut p: usize = 0;
-    let mut count: usize = 0;
+    let mut at = Reached {
+        length: 0,
+        literals: 0,
+    };
     let mut w = Writing {
         aim: Use::Absent,
         sign: 0,
@@ -282,28 +302,29 @@ pub fn write_code(
         let e = tape[i];
         let op = tape::op(e);
         let t = tape::token(e);
-        let m = make(
-            op,
-            t,
+        let family = tape::family(op);
+        let u = operand(values, found, means, under, offsets, tape::form(op), t);
+        let register = register_at(found, means, family, t);
+        let goal = goal_at(found, goes, opens, family, t);
+        let m = codes_of(
             kinds,
             values,
-            found,
-            goes,
-            means,
-            bases,
-            opens,
-            offsets,
             marks,
+            family,
+            t,
             w,
+            u,
+            Named { register, goal },
         );
-        count = lay_made(image, literals, count, start, p, m);
-        p += made_size(m);
-        w = writing_after(op, t, values, found, means, bases, offsets, w);
+        at = lay_codes(image, literals, start, at, m);
+        w = written_after(family, w, u, register);
         i += 1;
     }
-    let n = lay_code(image, literals, count, start, p, Code::Two(0x0a, 0, 0));
-    Ended {
-        length: p + 2,
+    let p = at.length;
+    let n = lay_code(image, literals, start, p, at.literals, stop());
+    let end = p + 2;
+    Reached {
+        length: end,
         literals: n,
     }
 }

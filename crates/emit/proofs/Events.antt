@@ -7,15 +7,16 @@ use lib.ListN.{getD}
 use Rattle.base.specs.Lists.{member}
 use Rattle.base.proofs.Lists.{each}
 use Rattle.tape.specs.Events as E
+use Rattle.tape.specs.Numbers.{formAt}
 use Rattle.kinds.specs.Meaning.{registerOf}
 use Rattle.kinds.specs.Tables.{Tables, valueAt, meaningAt}
 use Rattle.tables.specs.Packed.{meaningsOf}
-use Rattle.translator.specs.Instructions.{Instruction, rr, rx, branch, link, literal, entry, opcode, loadRow, addRow, always}
+use Rattle.translator.specs.Instructions.{Instruction, rr, rx, branch, link, literal, entry, opcode, loadRow, addRow, returnOp, always}
 use Rattle.translator.specs.Core.{returnOf}
 use Rattle.emit.specs.declared.Writing.{Writing}
-use Rattle.emit.specs.Codes.{returnCode, linkCode, baseCode}
-use Rattle.emit.specs.Events.{writingAfter, declaredCode, stepCode, closingCode, madeBy}
-use Rattle.emit.specs.Along.{codesOf, codeFor}
+use Rattle.emit.specs.Codes.{listOf, applyCode, isAbsent, applyThen, returnCode, linkCode, baseCode}
+use Rattle.emit.specs.Events.{registerAt, goalAt, writtenAfter, stepCodes, otherCodes, codesOf, writingAfter, codesBy}
+use Rattle.emit.specs.Along.{codeFor}
 use Rattle.emit.proofs.Operands.{register-at, return-at}
 use Rattle.emit.proofs.Written.{coded}
 use Rattle.emit.proofs.Walks.{Makes}
@@ -26,13 +27,13 @@ idle =
     E.BLOCK ∷ E.END-BLOCK ∷ E.REGISTER ∷ E.SINGLE-FULL ∷ E.SINGLE-SHORT ∷ E.ARRAY-FULL ∷ E.ARRAY-SHORT ∷ E.ITEM ∷ E.VALUE ∷ E.LABEL ∷ E.WHILE ∷ E.END-ELSE
     ∷ E.END-IF ∷ []
 
-module _ (f : Tables) (means bases offsets marks : List ℕ) where
+module _ (f : Tables) (means under offsets marks : List ℕ) where
   -- the definition's instructions, and the assignment that is written stays
   abbrev pub Adds : (op t : ℕ) → Writing → List Instruction → Type 0
-  Adds op t w is = Makes f means bases offsets marks op t w (coded offsets is) w
+  Adds op t w is = Makes f means under offsets marks op t w (coded offsets is) w
 
   pub idle-adds : (op : ℕ) → member op idle ≡ true → (t : ℕ) (w : Writing) → Adds op t w []
-  unfolding codesOf madeBy declaredCode closingCode writingAfter
+  unfolding listOf formAt registerAt goalAt otherCodes codesOf codesBy writtenAfter writingAfter
   idle-adds op h t w =
       each (λ x. Adds x t w []) idle
       ((refl, refl), ((refl, refl), ((refl, refl), ((refl, refl), ((refl, refl), ((refl, refl), ((refl, refl), ((refl, refl), ((refl, refl), ((refl, refl), ((refl, refl), ((refl, refl), ((refl, refl), tt)))))))))))))
@@ -40,36 +41,36 @@ module _ (f : Tables) (means bases offsets marks : List ℕ) where
 
   -- around a procedure
   pub procedure-adds : (n : ℕ) (w : Writing) → Adds E.PROCEDURE n w (branch always (getD marks (n + 1) 0) ∷ [])
-  unfolding codesOf codeFor madeBy declaredCode writingAfter
+  unfolding listOf codeFor formAt registerAt goalAt otherCodes codesOf codesBy writtenAfter writingAfter
   procedure-adds n w = (refl, refl)
 
   pub else-adds : (t : ℕ) (w : Writing) → Adds E.ELSE t w (branch always (getD marks (t + 1) 0) ∷ [])
-  unfolding codesOf codeFor madeBy closingCode writingAfter
+  unfolding listOf codeFor formAt registerAt goalAt otherCodes codesOf codesBy writtenAfter writingAfter
   else-adds t w = (refl, refl)
 
   pub end-while-adds : (t : ℕ) (w : Writing) → Adds E.END-WHILE t w (branch always (getD marks (t + 1) 0) ∷ [])
-  unfolding codesOf codeFor madeBy closingCode writingAfter
+  unfolding listOf codeFor formAt registerAt goalAt otherCodes codesOf codesBy writtenAfter writingAfter
   end-while-adds t w = (refl, refl)
 
   pub end-for-adds : (v : ℕ) (w : Writing)
       → Adds E.END-FOR v w (rx (opcode addRow 1) (getD marks (v + 1) 0) (literal (valueAt f v)) ∷ branch always (getD marks v 0) ∷ [])
-  unfolding codesOf codeFor madeBy stepCode writingAfter
+  unfolding listOf codeFor stepCodes applyThen isAbsent applyCode formAt registerAt goalAt otherCodes codesOf codesBy writtenAfter writingAfter
   end-for-adds v w = (refl, refl)
 
   pub goto-adds : (n : ℕ) (w : Writing) → Adds E.GOTO n w (branch always (getD marks (getD (f .goes) n 0) 0) ∷ [])
-  unfolding codesOf codeFor madeBy closingCode writingAfter
+  unfolding listOf codeFor formAt registerAt goalAt otherCodes codesOf codesBy writtenAfter writingAfter
   goto-adds n w = (refl, refl)
 
-  module _ (table : f .means ≡ meaningsOf means bases) where
+  module _ (table : f .means ≡ meaningsOf means under) where
     pub base-adds : (n : ℕ) (w : Writing) → Adds E.BASE n w (rx (opcode loadRow 1) (registerOf (meaningAt f n)) (entry (getD (f .opens) n 0)) ∷ [])
-    unfolding codesOf codeFor madeBy declaredCode writingAfter opcode
-    base-adds n w = (ap (λ (r : ℕ). baseCode r (getD (f .opens) n 0) ∷ []) (register-at f means bases table n), refl)
+    unfolding listOf codeFor formAt registerAt goalAt otherCodes codesOf codesBy writtenAfter writingAfter
+    base-adds n w = (ap (λ (r : ℕ). baseCode r (getD (f .opens) n 0) ∷ []) (register-at f means under table n), refl)
 
     -- the return register stands two tokens behind the procedure's name
-    pub end-procedure-adds : (n : ℕ) (w : Writing) → Adds E.END-PROCEDURE n w (rr 0x07 15 (registerOf (meaningAt f (n + 2))) ∷ [])
-    unfolding codesOf codeFor madeBy declaredCode writingAfter
-    end-procedure-adds n w = (ap (λ (r : ℕ). returnCode r ∷ []) (register-at f means bases table (n + 2)), refl)
+    pub end-procedure-adds : (n : ℕ) (w : Writing) → Adds E.END-PROCEDURE n w (rr returnOp always (registerOf (meaningAt f (n + 2))) ∷ [])
+    unfolding listOf codeFor formAt registerAt goalAt otherCodes codesOf codesBy writtenAfter writingAfter
+    end-procedure-adds n w = (ap (λ (r : ℕ). returnCode r ∷ []) (register-at f means under table (n + 2)), refl)
 
     pub call-adds : (n : ℕ) (w : Writing) → Adds E.CALL n w (link (returnOf (meaningAt f n)) (getD marks (getD (f .found) n 0) 0) ∷ [])
-    unfolding codesOf codeFor madeBy closingCode writingAfter
-    call-adds n w = (ap (λ (r : ℕ). linkCode r (getD marks (getD (f .found) n 0) 0) ∷ []) (return-at f means bases table n), refl)
+    unfolding listOf codeFor formAt registerAt goalAt otherCodes codesOf codesBy writtenAfter writingAfter
+    call-adds n w = (ap (λ (r : ℕ). linkCode r (getD marks (getD (f .found) n 0) 0) ∷ []) (return-at f means under table n), refl)

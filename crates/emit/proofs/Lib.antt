@@ -1,5 +1,7 @@
 -- Laws of the instructions of events, and of trees.
 pub mod Tables
+pub mod Lists
+pub mod Knowing
 pub mod Operands
 pub mod Written
 pub mod Sizes

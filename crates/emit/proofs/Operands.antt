@@ -85,19 +85,19 @@ abbrev pub amountOf : Tables → Operand → ℕ
 amountOf f (number t) = valueAt f t
 amountOf f (place d) = 0
 
-module _ (f : Tables) (means bases offsets : List ℕ) where
+module _ (f : Tables) (means under offsets : List ℕ) where
   abbrev pub placed : Designator → Use
-  placed d = placeIn (f .values) (f .found) means bases offsets (shape d) (d .name)
+  placed d = placeIn (f .values) (f .found) means under offsets (shape d) (d .name)
 
   abbrev pub used : Operand → Use
-  used a = useIn (f .values) (f .found) means bases offsets (shapeOf a) (headOf a)
+  used a = useIn (f .values) (f .found) means under offsets (shapeOf a) (headOf a)
 
-module _ (f : Tables) (means bases : List ℕ) (table : f .means ≡ meaningsOf means bases) where
+module _ (f : Tables) (means under : List ℕ) (table : f .means ≡ meaningsOf means under) where
   abbrev baseAt : ℕ → Based
-  baseAt n = basedIn (getD bases (getD (f .found) n 0) 0)
+  baseAt n = basedIn (getD under (getD (f .found) n 0) 0)
 
   meaning-is : (n : ℕ) → meaningAt f n ≡ unpacked (getD (f .found) n 0) (packedAt (f .found) means n) (baseAt n)
-  meaning-is n = ap (λ (ms : List Meaning). getD ms (getD (f .found) n 0) nothing) table ∙ meaning-at means bases (getD (f .found) n 0)
+  meaning-is n = ap (λ (ms : List Meaning). getD ms (getD (f .found) n 0) nothing) table ∙ meaning-at means under (getD (f .found) n 0)
 
   pub register-at : (n : ℕ) → registerIn (packedAt (f .found) means n) ≡ registerOf (meaningAt f n)
   register-at n = sym (ap registerOf (meaning-is n) ∙ register-is (getD (f .found) n 0) (packedAt (f .found) means n) (baseAt n))
@@ -137,11 +137,11 @@ module _ (f : Tables) (means bases : List ℕ) (table : f .means ≡ meaningsOf 
         (P : Meaning → C.Use → Use → Type 0)
         → P nothing absent Absent → ((r : ℕ) → P (routine r) absent Absent) → ((r : ℕ) → P (register r) (held r) (Held r))
         → ((c : Cell) (o x : ℕ) → P (cell c) (stored (c .width) (element c o x)) (stands offsets c o x))
-        → (d : Designator) (i j : ℕ) → isDesignator (f .kinds) d i j → P (meaningAt f (d .name)) (useOf f (place d)) (placed f means bases offsets d)
+        → (d : Designator) (i j : ℕ) → isDesignator (f .kinds) d i j → P (meaningAt f (d .name)) (useOf f (place d)) (placed f means under offsets d)
     unfolding isDesignator useOf placeIn placeBy elementIn basedIn
     by-place P unmeant routed in-register in-cell d i j h =
         rw (meaning-is (d .name))
-        (by-sort (λ (x : Meaning). P x (useBy f x d) (placed f means bases offsets d)) at m (baseAt (d .name))
+        (by-sort (λ (x : Meaning). P x (useBy f x d) (placed f means under offsets d)) at m (baseAt (d .name))
         (λ e. rw e (in-register (numberIn m)))
         (λ e g. rw (e, eqb-true (m % 8) 2 g) (routed (numberIn m)))
         (λ e g q. rw (e, q, short-is m, subscript-is (d .name) (d .subscript) (d .index) i j h, index-is (d .name) (d .subscript) (d .index) i j h)
@@ -159,7 +159,7 @@ module _ (f : Tables) (means bases : List ℕ) (table : f .means ≡ meaningsOf 
         (P : (source amount : ℕ) (long : Bool) → C.Use → Use → Type 0)
         → P 0 0 false absent Absent → ((r : ℕ) → P r 0 true (held r) (Held r)) → ((v : ℕ) → P 0 v true (stored full (literal v)) (Number v))
         → ((c : Cell) (o x : ℕ) → P 0 0 (isFull (c .width)) (stored (c .width) (element c o x)) (stands offsets c o x))
-        → (a : Operand) (i j : ℕ) → isOperand (f .kinds) a i j → P (sourceOf f a) (amountOf f a) (longOperand (f .found) (f .means) a) (useOf f a) (used f means bases offsets a)
+        → (a : Operand) (i j : ℕ) → isOperand (f .kinds) a i j → P (sourceOf f a) (amountOf f a) (longOperand (f .found) (f .means) a) (useOf f a) (used f means under offsets a)
     unfolding isOperand useOf useIn
     by-use P unmeant in-register literally in-cell (number t) i j h = literally (valueAt f t)
     by-use P unmeant in-register literally in-cell (place d) i j h =

@@ -1,35 +1,18 @@
--- The sizes of instructions: those of an event together, and of the definition's. Assumes nothing.
+-- The sizes of instructions: of lists of them, and of the definition's. Assumes nothing.
 use mathlib.Core.Path.{_≡_, refl, ap, ap₂, _∙_}
 use mathlib.Core.List.{List, [], _∷_, _++_}
 use Prim.Native.Nat.{ℕ, _+_}
 use native.Mathlib.Omega.{arith}
 use Rattle.translator.specs.Instructions.{element, literal, entry, Instruction, rr, rx, shift, branch, link, stop, size, sizes}
 use Rattle.emit.specs.declared.Code.{Code}
-use Rattle.emit.specs.declared.Code.the-variants.{Nothing, Two, Four, Literal}
-use Rattle.emit.specs.declared.Made.{Made}
-use Rattle.emit.specs.Codes.{codeSize, madeSize}
-use Rattle.emit.specs.Along.{codesIn, codesOf, codeFor}
+use Rattle.emit.specs.Codes.{codeSize, codeSizes}
+use Rattle.emit.specs.Along.{codeFor}
 use Rattle.emit.proofs.Operands.{offsetAt}
 use Rattle.emit.proofs.Written.{coded, tested}
-
-abbrev pub codeSizes : List Code → ℕ
-codeSizes [] = 0
-codeSizes (c ∷ cs) = codeSize c + codeSizes cs
 
 pub sizes-append : (a b : List Code) → codeSizes (a ++ b) ≡ codeSizes a + codeSizes b
 sizes-append [] b = omega arith
 sizes-append (c ∷ a) b = omega (arith, sizes-append a b)
-
-code-sizes : (c : Code) → codeSizes (codesIn c) ≡ codeSize c
-unfolding codeSize
-code-sizes Nothing = refl
-code-sizes (Two op r s) = refl
-code-sizes (Four op r x b d) = refl
-code-sizes (Literal op r v) = refl
-
-pub made-sizes : (m : Made) → codeSizes (codesOf m) ≡ madeSize m
-unfolding codesOf
-made-sizes m = sizes-append (codesIn (m .first)) (codesIn (m .second)) ∙ ap₂ (λ (x y : ℕ). x + y) (code-sizes (m .first)) (code-sizes (m .second))
 
 size-is : (place : ℕ → ℕ) (i : Instruction) → codeSize (codeFor place i) ≡ size i
 unfolding codeSize codeFor

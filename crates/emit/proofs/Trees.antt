@@ -18,27 +18,27 @@ use Rattle.translator.specs.Core.{exitMask, toRegister, assignmentOf, compareWi
 use Rattle.emit.specs.declared.Code.{Code}
 use Rattle.emit.specs.declared.Writing.{Writing}
 use Rattle.emit.specs.Codes.{heldIn}
-use Rattle.emit.specs.Along.{codesOf, along, codeFor, targetWriting, controlWriting}
+use Rattle.emit.specs.Along.{along, codeFor, targetWriting, controlWriting}
 use Rattle.emit.proofs.Operands.{Small, offsetAt, shapeOf, operand-tape, register-at}
 use Rattle.emit.proofs.Written.{coded}
 use Rattle.emit.proofs.Walks.{made, after, Makes, Walk, limit-makes, assignment-walked, control-walked, condition-walked}
 
-module _ (f : Tables) (means bases offsets marks : List ℕ) where
+module _ (f : Tables) (means under offsets marks : List ℕ) where
   abbrev pub go : Writing → List ℕ → List Code
-  go w tape = along (f .kinds) (f .values) (f .found) (f .goes) means bases (f .opens) offsets marks w tape
+  go w tape = along (f .kinds) (f .values) (f .found) (f .goes) means under (f .opens) offsets marks w tape
 
   pub along-event :
       (op t : ℕ) (w : Writing) (k : List ℕ)
-      → go w (event op t ∷ k) ≡ codesOf (made f means bases offsets marks (op % E.EVENTS) t w) ++ go (after f means bases offsets marks (op % E.EVENTS) t w) k
+      → go w (event op t ∷ k) ≡ made f means under offsets marks (op % E.EVENTS) t w ++ go (after f means under offsets marks (op % E.EVENTS) t w) k
   unfolding along
   along-event op t w k = rw (event-op op t, event-token op t)
 
   pub along-makes :
-      (op t : ℕ) (w : Writing) (k : List ℕ) {cs : List Code} {w′ : Writing} → Makes f means bases offsets marks op t w cs w′ → go w (event op t ∷ k) ≡ cs ++ go w′ k
+      (op t : ℕ) (w : Writing) (k : List ℕ) {cs : List Code} {w′ : Writing} → Makes f means under offsets marks op t w cs w′ → go w (event op t ∷ k) ≡ cs ++ go w′ k
   along-makes op t w k (e, g) = along-event op t w k ∙ ap₂ (λ (cs : List Code) (x : Writing). cs ++ go x k) e g
 
   -- behind instructions that there are already
-  coding : Walk f means bases offsets marks (List Code) (List Code)
+  coding : Walk f means under offsets marks (List Code) (List Code)
   coding = record {
     emit = λ cs s. s ++ cs;
     run = λ s w k. s ++ go w k;
@@ -47,20 +47,20 @@ module _ (f : Tables) (means bases offsets marks : List ℕ) where
     on = λ op t q s w k. ap (λ (x : List Code). s ++ x) (along-event op t w k) ∙ sym (append-assoc s _ _);
   }
 
-  module _ (table : f .means ≡ meaningsOf means bases) (small : Small f) where
+  module _ (table : f .means ≡ meaningsOf means under) (small : Small f) where
     -- ── assignments, conditions and limits ──
 
     pub assignment-coded :
         (a : Assignment) (i j : ℕ) → isAssignment (f .kinds) a i j → (w : Writing) (k : List ℕ)
-        → go w (tapeAssignment E.TARGET a k) ≡ coded offsets (assignmentOf f a) ++ go (targetWriting (f .values) (f .found) means bases offsets a) k
+        → go w (tapeAssignment E.TARGET a k) ≡ coded offsets (assignmentOf f a) ++ go (targetWriting (f .values) (f .found) means under offsets a) k
     unfolding coding
-    assignment-coded a i j h w k = assignment-walked f means bases offsets marks table small coding a i j h [] w k
+    assignment-coded a i j h w k = assignment-walked f means under offsets marks table small coding a i j h [] w k
 
     pub control-coded :
         (a : Assignment) (i j : ℕ) → isAssignment (f .kinds) a i j → (w : Writing) (k : List ℕ)
         → go w (tapeAssignment E.CONTROL a k) ≡ coded offsets (toRegister f (controlOf f a) a) ++ go (controlWriting (f .found) means a) k
     unfolding coding
-    control-coded a i j h w k = control-walked f means bases offsets marks table small coding a i j h [] w k
+    control-coded a i j h w k = control-walked f means under offsets marks table small coding a i j h [] w k
 
     pub condition-coded :
         (c : Condition) (t j to : ℕ) → isCondition (f .kinds) c (t + 1) j → getD marks t 0 ≡ to → (w : Writing) (k : List ℕ)
@@ -68,7 +68,7 @@ module _ (f : Tables) (means bases offsets marks : List ℕ) where
     unfolding coding
     condition-coded c t j to h e w k =
         let q : t + 1 - 1 ≡ t = omega arith in
-        condition-walked f means bases offsets marks table small coding c (t + 1) j h [] w k ∙ rw (q, e) (append-assoc (coded offsets (testOf f c)) _ (go w k))
+        condition-walked f means under offsets marks table small coding c (t + 1) j h [] w k ∙ rw (q, e) (append-assoc (coded offsets (testOf f c)) _ (go w k))
 
     pub limit-coded :
         (a : Assignment) (l : Operand) (v j to : ℕ) → isOperand (f .kinds) l (v + 2) j → (w : Writing) → w ≡ controlWriting (f .found) means a
@@ -77,7 +77,7 @@ module _ (f : Tables) (means bases offsets marks : List ℕ) where
         ≡ coded offsets (compareWith f (controlOf f a) l) ++ (codeFor (offsetAt offsets) (branch (exitMask (valueAt f v)) to) ∷ go w k)
     unfolding controlWriting heldIn
     limit-coded a l v j to h w e g _ k =
-        let r : heldIn (w .aim) ≡ controlOf f a = ap (λ (x : Writing). heldIn (x .aim)) e ∙ register-at f means bases table (a .target .name) in
+        let r : heldIn (w .aim) ≡ controlOf f a = ap (λ (x : Writing). heldIn (x .aim)) e ∙ register-at f means under table (a .target .name) in
         ap (go w) (operand-tape E.LIMIT l k)
-        ∙ (along-makes (E.LIMIT + shapeOf l) (headOf l) w k (limit-makes f means bases offsets marks table small v l j h w)
+        ∙ (along-makes (E.LIMIT + shapeOf l) (headOf l) w k (limit-makes f means under offsets marks table small v l j h w)
         ∙ rw (r, g) (append-assoc (coded offsets (compareWith f (controlOf f a) l)) _ (go w k)))

@@ -1,17 +1,18 @@
 -- A walk along a tape that takes in the instructions of each event: over an assignment and over a condition it takes in the definition's instructions with
 -- the places of cells. `along` is such a walk, and so is the pass of addresses, but where it sets an address. Assumes nothing.
 use mathlib.Core.Path.{_≡_, refl, sym, ap, ap₂, _∙_}
-use mathlib.Core.Bool.{Bool, true, _&&_, _||_}
+use mathlib.Core.Bool.{Bool, true}
 use mathlib.Core.List.{List, [], _∷_, _++_}
 use Prim.Native.Nat.{ℕ, _+_, _-_, _%_}
 use native.Mathlib.Omega.{arith}
-use lib.Dec.{eqb, leb, ltb}
 use lib.ListN.{getD}
+use Rattle.base.specs.Lists.{member}
 use Rattle.grammar.specs.Tree.{Designator, Operand, Sign, plain, abs, neg, negAbs, Term, Assignment, Condition, compared, bare}
 use Rattle.grammar.specs.Derives.{isOperand, isCondition, areTerms, isAssignment}
 use Rattle.grammar.specs.Pinned.{headOf}
 use Rattle.grammar.proofs.Pinned.{pinned-operand}
 use Rattle.tape.specs.Events as E
+use Rattle.tape.specs.Numbers.{familyAt, formAt}
 use Rattle.tape.specs.Tape.{event, shape, tapeDesignator, tapeOperand, tapeCondition, tapeSign, tapeEach, tapeTerm, tapeAssignment}
 use Rattle.kinds.specs.Meaning.{registerOf}
 use Rattle.kinds.specs.Tables.{Tables, kindAt, valueAt, meaningAt}
@@ -19,29 +20,39 @@ use Rattle.tables.specs.Packed.{meaningsOf, registerIn, packedAt}
 use Rattle.translator.specs.Instructions.{compareRow, falseMask}
 use Rattle.translator.specs.Core.{exitMask, toRegister, assignmentOf, compareWith, testOf, maskOf, controlOf}
 use Rattle.emit.specs.declared.Use.{Use}
-use Rattle.emit.specs.declared.Use.the-variants.{Held}
+use Rattle.emit.specs.declared.Use.the-variants.{Absent, Held, Number, Stored}
 use Rattle.emit.specs.declared.Code.{Code}
-use Rattle.emit.specs.declared.Made.{Made}
 use Rattle.emit.specs.declared.Writing.{Writing}
-use Rattle.emit.specs.Codes.{applyCode, oneCode, twoCodes, heldIn, firstCode, nextCode, branchCode}
-use Rattle.emit.specs.Events.{placeIn, useIn, writingAfter, assignedCode, comparedCode, limitCode, madeBy}
-use Rattle.emit.specs.Along.{codesIn, codesOf, codeFor, signEvent, targetWriting, controlWriting}
+use Rattle.emit.specs.Codes.{listOf, applyCode, isAbsent, applyCodes, applyThen, heldIn, firstCodes, nextCodes, branchCode}
+use Rattle.emit.specs.Events.{placeIn, useIn, registerAt, goalAt, writtenAfter, comparedCodes, bareCodes, limitCodes, otherCodes, codesOf, writingAfter, codesBy}
+use Rattle.emit.specs.Along.{codeFor, signEvent, targetWriting, controlWriting}
 use Rattle.emit.proofs.Operands.{Small, shapeOf, by-form, by-shape, operand-tape, register-at, placed, used}
-use Rattle.emit.proofs.Written.{coded, tested, one-code, chainCodes, assignedCodes, apply-is, register-assigned, target-assigned}
+use Rattle.emit.proofs.Written.{coded, tested, chainCodes, assignedCodes, apply-is, register-assigned, target-assigned}
 
--- an event that sets no address
+-- the events that set no address
+abbrev pub unmarking : List ℕ
+unmarking = E.TARGET ∷ E.CONTROL ∷ E.ABS ∷ E.NEG ∷ E.NEG-ABS ∷ E.FIRST ∷ E.TERM ∷ E.COMPARED ∷ E.BARE ∷ []
+
 abbrev pub unmarked : ℕ → Bool
-unmarked op = (leb E.TARGET op && ltb op E.LIMIT) || eqb op E.BARE
+unmarked op = member (familyAt op) unmarking
+
+-- an instruction of the code table, and another behind it
+then-list : (row r : ℕ) (u : Use) (c : Code) → listOf (applyThen row r u c) ≡ listOf (applyCodes row r u) ++ (c ∷ [])
+unfolding listOf applyCodes applyThen isAbsent
+then-list row r Absent c = refl
+then-list row r (Held s) c = refl
+then-list row r (Number v) c = refl
+then-list row r (Stored short x b d) c = refl
 
 abbrev writingOf : Use → ℕ → Writing
 writingOf aim sign = record { aim = aim; sign = sign }
 
-module _ (f : Tables) (means bases offsets marks : List ℕ) where
-  abbrev pub made : (op t : ℕ) → Writing → Made
-  made op t w = madeBy (f .kinds) (f .values) (f .found) (f .goes) means bases (f .opens) offsets marks op t w
+module _ (f : Tables) (means under offsets marks : List ℕ) where
+  abbrev pub made : (op t : ℕ) → Writing → List Code
+  made op t w = listOf (codesBy (f .kinds) (f .values) (f .found) (f .goes) means under (f .opens) offsets marks op t w)
 
   abbrev pub after : (op t : ℕ) → Writing → Writing
-  after op t w = writingAfter (f .values) (f .found) means bases offsets op t w
+  after op t w = writingAfter (f .values) (f .found) means under offsets op t w
 
   -- emit takes instructions into a state; run goes on from a state and the assignment that is written
   pub record Walk (S X : Type 0) : Type 0 where
@@ -50,86 +61,86 @@ module _ (f : Tables) (means bases offsets marks : List ℕ) where
     pub emit-none : (s : S) → emit [] s ≡ s
     pub emit-both : (a b : List Code) (s : S) → emit (a ++ b) s ≡ emit b (emit a s)
     pub on : (op t : ℕ) → unmarked (op % E.EVENTS) ≡ true → (s : S) (w : Writing) (k : List ℕ)
-        → run s w (event op t ∷ k) ≡ run (emit (codesOf (made (op % E.EVENTS) t w)) s) (after (op % E.EVENTS) t w) k
+        → run s w (event op t ∷ k) ≡ run (emit (made (op % E.EVENTS) t w) s) (after (op % E.EVENTS) t w) k
 
   -- ── what an event makes, and the assignment that is written after it ──
 
   abbrev pub Makes : (op t : ℕ) → Writing → List Code → Writing → Type 0
-  Makes op t w cs w′ = (codesOf (made (op % E.EVENTS) t w) ≡ cs) × (after (op % E.EVENTS) t w ≡ w′)
+  Makes op t w cs w′ = (made (op % E.EVENTS) t w ≡ cs) × (after (op % E.EVENTS) t w ≡ w′)
 
   abbrev Does : (op t : ℕ) → Writing → List Code → Writing → Type 0
   Does op t w cs w′ = (unmarked (op % E.EVENTS) ≡ true) × Makes op t w cs w′
 
   -- with the shape n of its token's operand
   abbrev at : (n t : ℕ) → Use
-  at n t = useIn (f .values) (f .found) means bases offsets n t
+  at n t = useIn (f .values) (f .found) means under offsets n t
 
   -- the register that a FOR's target names
   abbrev controlled : Designator → Use
   controlled d = Held (registerIn (packedAt (f .found) means (d .name)))
 
-  target-does : (d : Designator) (w : Writing) → Does (E.TARGET + shape d) (d .name) w [] (writingOf (placed f means bases offsets d) 0)
-  unfolding codesOf madeBy writingAfter
+  target-does : (d : Designator) (w : Writing) → Does (E.TARGET + shape d) (d .name) w [] (writingOf (placed f means under offsets d) 0)
+  unfolding listOf formAt useIn otherCodes codesOf codesBy writtenAfter writingAfter
   target-does d w =
-      by-form (λ n. Does (E.TARGET + n) (d .name) w [] (writingOf (placeIn (f .values) (f .found) means bases offsets n (d .name)) 0))
+      by-form (λ n. Does (E.TARGET + n) (d .name) w [] (writingOf (placeIn (f .values) (f .found) means under offsets n (d .name)) 0))
       (refl, (refl, refl)) (refl, (refl, refl)) (refl, (refl, refl)) (refl, (refl, refl)) d
 
   control-does : (d : Designator) (w : Writing) → Does (E.CONTROL + shape d) (d .name) w [] (writingOf (controlled d) 0)
-  unfolding codesOf madeBy writingAfter
+  unfolding listOf formAt registerAt otherCodes codesOf codesBy writtenAfter writingAfter
   control-does d w =
       by-form (λ n. Does (E.CONTROL + n) (d .name) w [] (writingOf (controlled d) 0)) (refl, (refl, refl)) (refl, (refl, refl)) (refl, (refl, refl)) (refl, (refl, refl)) d
 
-  first-does : (a : Operand) (w : Writing) → Does (E.FIRST + shapeOf a) (headOf a) w (codesOf (firstCode (w .aim) (w .sign) (used f means bases offsets a))) w
-  unfolding madeBy assignedCode writingAfter
+  first-does : (a : Operand) (w : Writing) → Does (E.FIRST + shapeOf a) (headOf a) w (listOf (firstCodes (w .aim) (w .sign) (used f means under offsets a))) w
+  unfolding formAt codesOf codesBy writtenAfter writingAfter
   first-does a w =
-      by-shape (λ n. Does (E.FIRST + n) (headOf a) w (codesOf (firstCode (w .aim) (w .sign) (at n (headOf a)))) w)
+      by-shape (λ n. Does (E.FIRST + n) (headOf a) w (listOf (firstCodes (w .aim) (w .sign) (at n (headOf a)))) w)
       (refl, (refl, refl)) (refl, (refl, refl)) (refl, (refl, refl)) (refl, (refl, refl)) (refl, (refl, refl)) a
 
   -- the operator's kind stands before the operand
   term-does :
       (o : ℕ) (a : Operand) (w : Writing) → headOf a - 1 ≡ o
-      → Does (E.TERM + shapeOf a) (headOf a) w (codesIn (nextCode (w .aim) (kindAt f o) (used f means bases offsets a))) w
-  unfolding madeBy assignedCode writingAfter
+      → Does (E.TERM + shapeOf a) (headOf a) w (listOf (nextCodes (w .aim) (kindAt f o) (used f means under offsets a))) w
+  unfolding formAt codesOf codesBy writtenAfter writingAfter
   term-does o a w e =
-      let p = by-shape (λ n. Does (E.TERM + n) (headOf a) w (codesOf (oneCode (nextCode (w .aim) (kindAt f (headOf a - 1)) (at n (headOf a))))) w)
+      let p = by-shape (λ n. Does (E.TERM + n) (headOf a) w (listOf (nextCodes (w .aim) (kindAt f (headOf a - 1)) (at n (headOf a)))) w)
       (refl, (refl, refl)) (refl, (refl, refl)) (refl, (refl, refl)) (refl, (refl, refl)) (refl, (refl, refl)) a in
-      (p .0, (p .1 .0 ∙ (one-code _ ∙ ap (λ (x : ℕ). codesIn (nextCode (w .aim) (kindAt f x) (used f means bases offsets a))) e), p .1 .1))
+      (p .0, (p .1 .0 ∙ ap (λ (x : ℕ). listOf (nextCodes (w .aim) (kindAt f x) (used f means under offsets a))) e, p .1 .1))
 
-  module _ (table : f .means ≡ meaningsOf means bases) (small : Small f) where
+  module _ (table : f .means ≡ meaningsOf means under) (small : Small f) where
     compare-is :
         (r mask to : ℕ) (a : Operand) (i j : ℕ) → isOperand (f .kinds) a i j
-        → codesOf (twoCodes (applyCode compareRow r (used f means bases offsets a)) (branchCode mask to)) ≡ tested offsets (compareWith f r a) mask to
-    unfolding codesOf codeFor compareWith
-    compare-is r mask to a i j h = ap (λ (x : List Code). x ++ (branchCode mask to ∷ [])) (apply-is f means bases offsets table small a i j h compareRow r)
+        → listOf (applyThen compareRow r (used f means under offsets a) (branchCode mask to)) ≡ tested offsets (compareWith f r a) mask to
+    unfolding codeFor compareWith
+    compare-is r mask to a i j h = then-list compareRow r (used f means under offsets a) (branchCode mask to) ∙ ap (λ (x : List Code). x ++ (branchCode mask to ∷ [])) (apply-is f means under offsets table small a i j h compareRow r)
 
     compared-does :
         (n r to : ℕ) (a : Operand) (i j : ℕ) → isOperand (f .kinds) a i j → headOf a - 2 ≡ n → headOf a - 1 ≡ r → getD marks (headOf a - 3) 0 ≡ to → (w : Writing)
         → Does (E.COMPARED + shapeOf a) (headOf a) w (tested offsets (compareWith f (registerOf (meaningAt f n)) a) (falseMask (kindAt f r)) to) w
-    unfolding madeBy comparedCode writingAfter
+    unfolding formAt registerAt comparedCodes codesOf codesBy writtenAfter writingAfter
     compared-does n r to a i j h en er et w =
         let p =
         by-shape
         (λ x. Does (E.COMPARED + x) (headOf a) w
-        (codesOf
-        (twoCodes (applyCode compareRow (registerIn (packedAt (f .found) means (headOf a - 2))) (at x (headOf a)))
+        (listOf
+        (applyThen compareRow (registerIn (packedAt (f .found) means (headOf a - 2))) (at x (headOf a))
         (branchCode (falseMask (kindAt f (headOf a - 1))) (getD marks (headOf a - 3) 0))))
         w)
         (refl, (refl, refl)) (refl, (refl, refl)) (refl, (refl, refl)) (refl, (refl, refl)) (refl, (refl, refl)) a in
-        (p .0, (p .1 .0 ∙ rw (en, er, et, register-at f means bases table n) (compare-is (registerOf (meaningAt f n)) (falseMask (kindAt f r)) to a i j h), p .1 .1))
+        (p .0, (p .1 .0 ∙ rw (en, er, et, register-at f means under table n) (compare-is (registerOf (meaningAt f n)) (falseMask (kindAt f r)) to a i j h), p .1 .1))
 
     bare-does : (r to : ℕ) → getD marks (r - 1) 0 ≡ to → (w : Writing) → Does E.BARE r w (tested offsets [] (falseMask (kindAt f r)) to) w
-    unfolding codesOf madeBy writingAfter codeFor
+    unfolding listOf formAt bareCodes codesOf codesBy writtenAfter writingAfter codeFor
     bare-does r to e w = (refl, (rw e, refl))
 
     pub limit-makes :
         (v : ℕ) (l : Operand) (j : ℕ) → isOperand (f .kinds) l (v + 2) j → (w : Writing)
         → Makes (E.LIMIT + shapeOf l) (headOf l) w (tested offsets (compareWith f (heldIn (w .aim)) l) (exitMask (valueAt f v)) (getD marks (v - 1) 0)) w
-    unfolding madeBy limitCode writingAfter
+    unfolding formAt limitCodes codesOf codesBy writtenAfter writingAfter
     limit-makes v l j h w =
         let p =
         by-shape
         (λ x. Makes (E.LIMIT + x) (headOf l) w
-        (codesOf (twoCodes (applyCode compareRow (heldIn (w .aim)) (at x (headOf l))) (branchCode (exitMask (valueAt f (headOf l - 2))) (getD marks (headOf l - 3) 0))))
+        (listOf (applyThen compareRow (heldIn (w .aim)) (at x (headOf l)) (branchCode (exitMask (valueAt f (headOf l - 2))) (getD marks (headOf l - 3) 0))))
         w)
         (refl, refl) (refl, refl) (refl, refl) (refl, refl) (refl, refl) l in
         let e = pinned-operand (f .kinds) l (v + 2) j h .0 in
@@ -148,7 +159,7 @@ module _ (f : Tables) (means bases offsets marks : List ℕ) where
       quietly op t s w k {w′} p = via op t s w k p ∙ ap (λ (x : S). walk .run x w′ k) (walk .emit-none s)
 
       sign : (g : Sign) (u : Use) (s : S) (k : List ℕ) → walk .run s (writingOf u 0) (tapeSign g k) ≡ walk .run s (writingOf u (signEvent g)) k
-      unfolding tapeSign codesOf madeBy writingAfter
+      unfolding tapeSign listOf formAt otherCodes codesOf codesBy writtenAfter writingAfter
       sign plain u s k = refl
       sign (abs t) u s k = quietly E.ABS t s (writingOf u 0) k (refl, (refl, refl))
       sign (neg t) u s k = quietly E.NEG t s (writingOf u 0) k (refl, (refl, refl))
@@ -159,7 +170,7 @@ module _ (f : Tables) (means bases offsets marks : List ℕ) where
       operand op a s w k p = ap (walk .run s w) (operand-tape op a k) ∙ via (op + shapeOf a) (headOf a) s w k p
 
       chain : (ts : List Term) (i j : ℕ) → areTerms (f .kinds) ts i j → (s : S) (w : Writing) (k : List ℕ)
-          → walk .run s w (tapeEach tapeTerm ts k) ≡ walk .run (walk .emit (chainCodes f means bases offsets (w .aim) ts) s) w k
+          → walk .run s w (tapeEach tapeTerm ts k) ≡ walk .run (walk .emit (chainCodes f means under offsets (w .aim) ts) s) w k
       unfolding areTerms tapeEach chainCodes
       chain [] i j h s w k = sym (ap (λ (x : S). walk .run x w k) (walk .emit-none s))
       chain (t ∷ ts) i j (e, q, (m, h, hs)) s w k =
@@ -172,7 +183,7 @@ module _ (f : Tables) (means bases offsets marks : List ℕ) where
           (op : ℕ) (aimed : Designator → Use) → ((d : Designator) (w : Writing) → Does (op + shape d) (d .name) w [] (writingOf (aimed d) 0))
           → (a : Assignment) (i j : ℕ) → isAssignment (f .kinds) a i j → (s : S) (w : Writing) (k : List ℕ)
           → walk .run s w (tapeAssignment op a k)
-          ≡ walk .run (walk .emit (assignedCodes f means bases offsets (aimed (a .target)) a) s) (writingOf (aimed (a .target)) (signEvent (a .sign))) k
+          ≡ walk .run (walk .emit (assignedCodes f means under offsets (aimed (a .target)) a) s) (writingOf (aimed (a .target)) (signEvent (a .sign))) k
       unfolding isAssignment tapeAssignment tapeDesignator assignedCodes
       assignment op aimed does a i j (m, h, (b, (n, hs, (p, ho, ht)))) s w k =
           let w′ = writingOf (aimed (a .target)) (signEvent (a .sign)) in
@@ -184,12 +195,12 @@ module _ (f : Tables) (means bases offsets marks : List ℕ) where
       pub assignment-walked :
           (a : Assignment) (i j : ℕ) → isAssignment (f .kinds) a i j → (s : S) (w : Writing) (k : List ℕ)
           → walk .run s w (tapeAssignment E.TARGET a k)
-          ≡ walk .run (walk .emit (coded offsets (assignmentOf f a)) s) (targetWriting (f .values) (f .found) means bases offsets a) k
+          ≡ walk .run (walk .emit (coded offsets (assignmentOf f a)) s) (targetWriting (f .values) (f .found) means under offsets a) k
       unfolding targetWriting
       assignment-walked a i j h s w k =
-          assignment E.TARGET (placed f means bases offsets) target-does a i j h s w k
-          ∙ ap (λ (cs : List Code). walk .run (walk .emit cs s) (targetWriting (f .values) (f .found) means bases offsets a) k)
-          (target-assigned f means bases offsets table small a i j h)
+          assignment E.TARGET (placed f means under offsets) target-does a i j h s w k
+          ∙ ap (λ (cs : List Code). walk .run (walk .emit cs s) (targetWriting (f .values) (f .found) means under offsets a) k)
+          (target-assigned f means under offsets table small a i j h)
 
       pub control-walked :
           (a : Assignment) (i j : ℕ) → isAssignment (f .kinds) a i j → (s : S) (w : Writing) (k : List ℕ)
@@ -200,7 +211,7 @@ module _ (f : Tables) (means bases offsets marks : List ℕ) where
           let r = registerIn (packedAt (f .found) means (a .target .name)) in
           assignment E.CONTROL controlled control-does a i j h s w k
           ∙ ap (λ (cs : List Code). walk .run (walk .emit cs s) (controlWriting (f .found) means a) k)
-          (register-assigned f means bases offsets table small r a i j h ∙ ap (λ (x : ℕ). coded offsets (toRegister f x a)) (register-at f means bases table (a .target .name)))
+          (register-assigned f means under offsets table small r a i j h ∙ ap (λ (x : ℕ). coded offsets (toRegister f x a)) (register-at f means under table (a .target .name)))
 
       -- IF or WHILE stands before it
       pub condition-walked :

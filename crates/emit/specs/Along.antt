@@ -6,46 +6,36 @@ use Rattle.tape.specs.Events as E
 use Rattle.tape.specs.Tape.{shape}
 use Rattle.tables.specs.Packed.{registerIn, packedAt}
 use Rattle.kinds.specs.Meaning.{Cell, Based}
+use Rattle.kinds.specs.Meanings.{dataBase}
 use Rattle.translator.specs.Instructions.{Datum, element, literal, entry, Instruction, rr, rx, shift, branch, link, stop}
 use Rattle.emit.specs.declared.Use.the-variants.{Held}
 use Rattle.emit.specs.declared.Code.{Code}
-use Rattle.emit.specs.declared.Code.the-variants.{Nothing, Two, Four, Literal}
-use Rattle.emit.specs.declared.Made.{Made}
+use Rattle.emit.specs.declared.Code.the-variants.{Two, Four, Literal}
 use Rattle.emit.specs.declared.Writing.{Writing}
-use Rattle.emit.specs.Events.{placeIn, writingAfter, madeBy}
-
--- ── the instructions that there are ──
-
-abbrev pub codesIn : Code → List Code
-codesIn Nothing = []
-codesIn (Two op r s) = Two op r s ∷ []
-codesIn (Four op r x b d) = Four op r x b d ∷ []
-codesIn (Literal op r v) = Literal op r v ∷ []
-
-unfoldable pub codesOf : Made → List Code
-codesOf m = codesIn (m .first) ++ codesIn (m .second)
+use Rattle.emit.specs.Codes.{listOf, branchCode, linkCode, stopCode}
+use Rattle.emit.specs.Events.{placeIn, writingAfter, codesBy}
 
 -- along a tape, with the assignment that is written
-unfoldable pub along : (kinds values found goes means bases opens offsets marks : List ℕ) → Writing → List ℕ → List Code
-along kinds values found goes means bases opens offsets marks w [] = []
-along kinds values found goes means bases opens offsets marks w (e ∷ es) =
-    codesOf (madeBy kinds values found goes means bases opens offsets marks (e % E.EVENTS) (e / E.EVENTS) w)
-    ++ along kinds values found goes means bases opens offsets marks (writingAfter values found means bases offsets (e % E.EVENTS) (e / E.EVENTS) w) es
+unfoldable pub along : (kinds values found goes means under opens offsets marks : List ℕ) → Writing → List ℕ → List Code
+along kinds values found goes means under opens offsets marks w [] = []
+along kinds values found goes means under opens offsets marks w (e ∷ es) =
+    listOf (codesBy kinds values found goes means under opens offsets marks (e % E.EVENTS) (e / E.EVENTS) w)
+    ++ along kinds values found goes means under opens offsets marks (writingAfter values found means under offsets (e % E.EVENTS) (e / E.EVENTS) w) es
 
 -- ── the definition's instructions, with the places of cells ──
 
 abbrev pub codeAt : (place : ℕ → ℕ) (op r : ℕ) → Datum → Code
 codeAt place op r (element c o x) = Four op r x (c .base .register) (place (c .name) + o)
 codeAt place op r (literal v) = Literal op r v
-codeAt place op r (entry k) = Four op r 0 14 (4 * k)
+codeAt place op r (entry k) = Four op r 0 (dataBase .register) (4 * k)
 
 unfoldable pub codeFor : (place : ℕ → ℕ) → Instruction → Code
 codeFor place (rr op r s) = Two op r s
 codeFor place (rx op r a) = codeAt place op r a
 codeFor place (shift op r s n) = Four op r 0 s n
-codeFor place (branch m t) = Four 0x47 m 0 15 t
-codeFor place (link r t) = Four 0x45 r 0 15 t
-codeFor place stop = Two 0x0a 0 0
+codeFor place (branch m t) = branchCode m t
+codeFor place (link r t) = linkCode r t
+codeFor place stop = stopCode
 
 -- ── the assignment that is written after its tape ──
 
@@ -56,9 +46,9 @@ signEvent (abs t) = E.ABS
 signEvent (neg t) = E.NEG
 signEvent (negAbs t) = E.NEG-ABS
 
-unfoldable pub targetWriting : (values found means bases offsets : List ℕ) → Assignment → Writing
-targetWriting values found means bases offsets a =
-    record { aim = placeIn values found means bases offsets (shape (a .target)) (a .target .name); sign = signEvent (a .sign) }
+unfoldable pub targetWriting : (values found means under offsets : List ℕ) → Assignment → Writing
+targetWriting values found means under offsets a =
+    record { aim = placeIn values found means under offsets (shape (a .target)) (a .target .name); sign = signEvent (a .sign) }
 
 unfoldable pub controlWriting : (found means : List ℕ) → Assignment → Writing
 controlWriting found means a = record { aim = Held (registerIn (packedAt found means (a .target .name))); sign = signEvent (a .sign) }

@@ -1,5 +1,7 @@
 -- Instructions as the code pass lays them: with their displacements, but for a literal, whose place is found when it is laid. Operands as instructions name them.
+-- The instructions of an event are a list.
 use mathlib.Core.Bool.{Bool, true, false}
+use mathlib.Core.List.{List, [], _∷_}
 use Prim.Native.Nat.{ℕ, _+_, _-_, _*_}
 use lib.Dec.{eqb}
 use Rattle.base.specs.Choose.{if_then_else_}
@@ -7,43 +9,79 @@ use Rattle.base.specs.Lists.{member}
 use Rattle.token.specs.Kinds as K
 use Rattle.tape.specs.Events as E
 use Rattle.kinds.specs.Rules.{shifts}
-use Rattle.translator.specs.Instructions.{opcode, rowOf, loadRow, timesRow, storeRow, shiftCode}
+use Rattle.kinds.specs.Meanings.{dataBase}
+use Rattle.translator.specs.Instructions.{opcode, rowOf, loadRow, timesRow, storeRow, absOp, negOp, negAbsOp, branchOp, linkOp, returnOp, stopOp, shiftCode, always}
+use Rattle.translator.specs.Bytes.{programBase}
 use Rattle.emit.specs.declared.Use.{Use}
 use Rattle.emit.specs.declared.Use.the-variants.{Absent, Held, Number, Stored}
 use Rattle.emit.specs.declared.Code.{Code}
-use Rattle.emit.specs.declared.Code.the-variants.{Nothing, Two, Four, Literal}
-use Rattle.emit.specs.declared.Made.{Made}
+use Rattle.emit.specs.declared.Code.the-variants.{Two, Four, Literal}
+use Rattle.emit.specs.declared.Codes.{Codes}
+use Rattle.emit.specs.declared.Codes.the-variants.{None, One, Both}
+
+-- ── lists ──
+
+unfoldable pub listOf : Codes → List Code
+listOf None = []
+listOf (One c) = c ∷ []
+listOf (Both c d) = c ∷ d ∷ []
+
+-- what stands for an instruction where there is none
+abbrev pub blank : Code
+blank = Two 0 0 0
+
+-- "Two bytes", "Four bytes"
+unfoldable pub codeSize : Code → ℕ
+codeSize (Two op r s) = 2
+codeSize (Four op r x b d) = 4
+codeSize (Literal op r v) = 4
+
+abbrev pub codeSizes : List Code → ℕ
+codeSizes [] = 0
+codeSizes (c ∷ cs) = codeSize c + codeSizes cs
+
+-- ── the code table at an operand ──
 
 abbrev pub columnOf : Bool → ℕ
 columnOf short = if short then 2 else 1
 
 -- the instruction of a row of the code table at register r
 unfoldable pub applyCode : (row r : ℕ) → Use → Code
-applyCode row r Absent = Nothing
+applyCode row r Absent = blank
 applyCode row r (Held s) = Two (opcode row 0) r s
 applyCode row r (Number v) = Literal (opcode row 1) r v
 applyCode row r (Stored short x b d) = Four (opcode row (columnOf short)) r x b d
 
-abbrev pub oneCode : Code → Made
-oneCode c = record { first = c; second = Nothing }
+unfoldable pub isAbsent : Use → Bool
+isAbsent Absent = true
+isAbsent (Held s) = false
+isAbsent (Number v) = false
+isAbsent (Stored short x b d) = false
 
-abbrev pub twoCodes : Code → Code → Made
-twoCodes c d = record { first = c; second = d }
+-- none for an operand that there is not
+unfoldable pub applyCodes : (row r : ℕ) → Use → Codes
+applyCodes row r u = if isAbsent u then None else One (applyCode row r u)
+
+-- and another behind it
+unfoldable pub applyThen : (row r : ℕ) → Use → Code → Codes
+applyThen row r u c = if isAbsent u then One c else Both (applyCode row r u) c
+
+-- ── assignments ──
 
 -- "ABS 10, NEG 13, NEG ABS 11", by the sign's event
 unfoldable pub signCode : ℕ → ℕ
-signCode sign = if eqb sign E.ABS then 0x10 else if eqb sign E.NEG then 0x13 else 0x11
+signCode sign = if eqb sign E.ABS then absOp else if eqb sign E.NEG then negOp else negAbsOp
 
 -- "a cell or number is loaded first, then the instruction names the target twice."
-unfoldable pub signedCode : (op r : ℕ) → Use → Made
-signedCode op r Absent = oneCode Nothing
-signedCode op r (Held s) = oneCode (Two op r s)
-signedCode op r (Number v) = twoCodes (applyCode loadRow r (Number v)) (Two op r r)
-signedCode op r (Stored short x b d) = twoCodes (applyCode loadRow r (Stored short x b d)) (Two op r r)
+unfoldable pub signedCodes : (op r : ℕ) → Use → Codes
+signedCodes op r Absent = None
+signedCodes op r (Held s) = One (Two op r s)
+signedCodes op r (Number v) = applyThen loadRow r (Number v) (Two op r r)
+signedCodes op r (Stored short x b d) = applyThen loadRow r (Stored short x b d) (Two op r r)
 
 -- no sign is 0
-unfoldable pub loadCode : (sign r : ℕ) → Use → Made
-loadCode sign r u = if eqb sign 0 then oneCode (applyCode loadRow r u) else signedCode (signCode sign) r u
+unfoldable pub loadCodes : (sign r : ℕ) → Use → Codes
+loadCodes sign r u = if eqb sign 0 then applyCodes loadRow r u else signedCodes (signCode sign) r u
 
 -- the register that an operand is; 0 where it is none
 unfoldable pub heldIn : Use → ℕ
@@ -70,47 +108,43 @@ unfoldable pub productRegister : ℕ → Use → ℕ
 productRegister r u = if isLongUse u then (r - 1) else r
 
 -- "`89 r0 00 n`, or by register `89 r0 s0 00`"
-unfoldable pub termCode : (kind r : ℕ) → Use → Code
-termCode kind r u =
-    if member kind shifts then Four (shiftCode kind) r 0 (heldIn u) (amountIn u) else
-    if eqb kind K.TIMES then applyCode timesRow (productRegister r u) u else
-    applyCode (rowOf kind) r u
+unfoldable pub termCodes : (kind r : ℕ) → Use → Codes
+termCodes kind r u =
+    if member kind shifts then One (Four (shiftCode kind) r 0 (heldIn u) (amountIn u)) else
+    if eqb kind K.TIMES then applyCodes timesRow (productRegister r u) u else
+    applyCodes (rowOf kind) r u
 
 -- an assignment's first operand: loaded into a register target, or the register that is stored in a cell target
-unfoldable pub firstCode : (aim : Use) (sign : ℕ) → Use → Made
-firstCode Absent sign u = oneCode Nothing
-firstCode (Held r) sign u = loadCode sign r u
-firstCode (Number v) sign u = oneCode Nothing
-firstCode (Stored short x b d) sign u = oneCode (applyCode storeRow (heldIn u) (Stored short x b d))
+unfoldable pub firstCodes : (aim : Use) (sign : ℕ) → Use → Codes
+firstCodes Absent sign u = None
+firstCodes (Held r) sign u = loadCodes sign r u
+firstCodes (Number v) sign u = None
+firstCodes (Stored short x b d) sign u = applyCodes storeRow (heldIn u) (Stored short x b d)
 
-unfoldable pub nextCode : (aim : Use) (kind : ℕ) → Use → Code
-nextCode Absent kind u = Nothing
-nextCode (Held r) kind u = termCode kind r u
-nextCode (Number v) kind u = Nothing
-nextCode (Stored short x b d) kind u = Nothing
+unfoldable pub nextCodes : (aim : Use) (kind : ℕ) → Use → Codes
+nextCodes Absent kind u = None
+nextCodes (Held r) kind u = termCodes kind r u
+nextCodes (Number v) kind u = None
+nextCodes (Stored short x b d) kind u = None
 
--- "Branch `47 m0` to a displacement from 15"; "Call: `45 r0` to the body."
+-- ── the others ──
+
+-- "Branch `47 m0` to a displacement from 15"
 abbrev pub branchCode : (mask to : ℕ) → Code
-branchCode mask to = Four 0x47 mask 0 15 to
+branchCode mask to = Four branchOp mask 0 programBase to
 
+-- "Call: `45 r0` to the body."
 abbrev pub linkCode : (r to : ℕ) → Code
-linkCode r to = Four 0x45 r 0 15 to
+linkCode r to = Four linkOp r 0 programBase to
 
 -- "Base declaration for segment k: `58 r0 E0`, 4k."
 abbrev pub baseCode : (r k : ℕ) → Code
-baseCode r k = Four 0x58 r 0 14 (4 * k)
+baseCode r k = Four (opcode loadRow 1) r 0 (dataBase .register) (4 * k)
 
 -- "Procedure: … `07 Fr`."
 abbrev pub returnCode : ℕ → Code
-returnCode r = Two 0x07 15 r
+returnCode r = Two returnOp always r
 
--- ── sizes ──
-
-unfoldable pub codeSize : Code → ℕ
-codeSize Nothing = 0
-codeSize (Two op r s) = 2
-codeSize (Four op r x b d) = 4
-codeSize (Literal op r v) = 4
-
-abbrev pub madeSize : Made → ℕ
-madeSize m = codeSize (m .first) + codeSize (m .second)
+-- "The last instruction is `0A 00`."
+abbrev pub stopCode : Code
+stopCode = Two stopOp 0 0

@@ -3,20 +3,21 @@
 -- and at the token before it behind the loop, at the token after it the control register.
 use mathlib.Core.List.{List}
 use Prim.Native.Nat.{ℕ, _+_, _-_, _/_, _%_}
-use lib.Dec.{eqb, leb, ltb}
+use lib.Dec.{eqb, leb}
 use lib.ListN.{getD}
 use Rattle.base.specs.Choose.{if_then_else_}
 use Rattle.tape.specs.Events as E
+use Rattle.tape.specs.Numbers.{familyAt, formAt}
 use Rattle.tables.specs.Packed.{low, numberIn, registerIn, packedAt}
-use Rattle.translator.specs.Instructions.{opcode, addRow, compareRow, falseMask, always}
+use Rattle.translator.specs.Instructions.{addRow, compareRow, falseMask, always}
 use Rattle.translator.specs.Core.{exitMask}
 use Rattle.emit.specs.declared.Use.{Use}
 use Rattle.emit.specs.declared.Use.the-variants.{Absent, Held, Number, Stored}
-use Rattle.emit.specs.declared.Code.{Code}
-use Rattle.emit.specs.declared.Code.the-variants.{Nothing, Literal}
-use Rattle.emit.specs.declared.Made.{Made}
+use Rattle.emit.specs.declared.Codes.{Codes}
+use Rattle.emit.specs.declared.Codes.the-variants.{None, One}
+use Rattle.emit.specs.declared.Named.{Named}
 use Rattle.emit.specs.declared.Writing.{Writing}
-use Rattle.emit.specs.Codes.{applyCode, oneCode, twoCodes, heldIn, firstCode, nextCode, branchCode, linkCode, baseCode, returnCode}
+use Rattle.emit.specs.Codes.{applyThen, heldIn, firstCodes, nextCodes, branchCode, linkCode, baseCode, returnCode}
 
 -- ── operands ──
 
@@ -32,85 +33,105 @@ indexIn found means shape t =
     0
 
 -- an element of the cell that is declared at token d, with the packed meaning m
-unfoldable pub elementIn : (bases offsets : List ℕ) (d m subscript index : ℕ) → Use
-elementIn bases offsets d m subscript index = Stored (eqb (m % 2) 1) index (getD bases d 0 / 4294967296) (low (getD offsets d 0) + low subscript)
+unfoldable pub elementIn : (under offsets : List ℕ) (d m subscript index : ℕ) → Use
+elementIn under offsets d m subscript index = Stored (eqb (m % 2) 1) index (getD under d 0 / 4294967296) (low (getD offsets d 0) + low subscript)
 
-module _ (values found means bases offsets : List ℕ) where
-  -- by the packed meaning m of its declaration at token d
-  unfoldable pub placeBy : (d m shape t : ℕ) → Use
-  placeBy d m shape t =
-      if eqb (m % 8) 1 then Held (numberIn m) else
-      if leb 4 (m % 8) then elementIn bases offsets d m (subscriptIn values shape t) (indexIn found means shape t) else
-      Absent
+-- what is declared at token d, by its packed meaning m
+unfoldable pub placeBy : (under offsets : List ℕ) (d m subscript index : ℕ) → Use
+placeBy under offsets d m subscript index =
+    if eqb (m % 8) 1 then Held (numberIn m) else
+    if leb 4 (m % 8) then elementIn under offsets d m subscript index else
+    Absent
 
+module _ (values found means under offsets : List ℕ) where
   unfoldable pub placeIn : (shape t : ℕ) → Use
-  placeIn shape t = placeBy (getD found t 0) (getD means (getD found t 0) 0) shape t
+  placeIn shape t = placeBy under offsets (getD found t 0) (packedAt found means t) (subscriptIn values shape t) (indexIn found means shape t)
 
   -- a number has shape 4
   unfoldable pub useIn : (shape t : ℕ) → Use
   useIn shape t = if eqb shape 4 then Number (getD values t 0) else placeIn shape t
 
-  -- ── assignments ──
-
-  unfoldable pub writingAfter : (op t : ℕ) → Writing → Writing
-  writingAfter op t w =
-      if ltb op E.TARGET then w else
-      if ltb op E.CONTROL then record { aim = placeIn (op - E.TARGET) t; sign = 0 } else
-      if ltb op E.ABS then record { aim = Held (registerIn (packedAt found means t)); sign = 0 } else
-      if ltb op E.FIRST then record { aim = w .aim; sign = op } else
-      w
-
--- ── the others ──
+-- ── what an event names ──
 
 -- the return register of the procedure that is called
 unfoldable pub returnIn : ℕ → ℕ
 returnIn m = if eqb (m % 8) 2 then numberIn m else 0
 
--- declarations
-unfoldable pub declaredCode : (found means opens marks : List ℕ) (op t : ℕ) → Code
-declaredCode found means opens marks op t =
-    if eqb op E.BASE then baseCode (registerIn (packedAt found means t)) (getD opens t 0) else
-    if eqb op E.PROCEDURE then branchCode always (getD marks (t + 1) 0) else
-    if eqb op E.END-PROCEDURE then returnCode (registerIn (packedAt found means (t + 2))) else
-    Nothing
+-- the register: of a procedure two tokens behind its name, of a compare two before its operand, of a call the procedure's; else what the name itself means
+unfoldable pub registerAt : (found means : List ℕ) (family t : ℕ) → ℕ
+registerAt found means family t =
+    if eqb family E.END-PROCEDURE then registerIn (packedAt found means (t + 2)) else
+    if eqb family E.COMPARED then registerIn (packedAt found means (t - 2)) else
+    if eqb family E.CALL then returnIn (packedAt found means t) else
+    registerIn (packedAt found means t)
 
-module _ (kinds values found means bases offsets : List ℕ) where
-  -- an assignment's operands: the first, and those behind their operators
-  unfoldable pub assignedCode : (op t : ℕ) → Writing → Made
-  assignedCode op t w =
-      if ltb op E.TERM then firstCode (w .aim) (w .sign) (useIn values found means bases offsets (op - E.FIRST) t) else
-      oneCode (nextCode (w .aim) (getD kinds (t - 1) 0) (useIn values found means bases offsets (op - E.TERM) t))
+-- where it leads: the segment of a base, the procedure of a call, the label of a GOTO
+unfoldable pub goalAt : (found goes opens : List ℕ) (family t : ℕ) → ℕ
+goalAt found goes opens family t =
+    if eqb family E.BASE then getD opens t 0 else
+    if eqb family E.CALL then getD found t 0 else
+    getD goes t 0
 
-  -- "IF and WHILE branch on false"
-  unfoldable pub comparedCode : (marks : List ℕ) (shape t : ℕ) → Made
-  comparedCode marks shape t =
-      twoCodes (applyCode compareRow (registerIn (packedAt found means (t - 2))) (useIn values found means bases offsets shape t))
-      (branchCode (falseMask (getD kinds (t - 1) 0)) (getD marks (t - 3) 0))
+-- ── the assignment that is written ──
+
+abbrev pub signing : ℕ → Writing → Writing
+signing sign w = record { aim = w .aim; sign = sign }
+
+unfoldable pub writtenAfter : (family : ℕ) → Writing → Use → (register : ℕ) → Writing
+writtenAfter family w u r =
+    if eqb family E.TARGET then record { aim = u; sign = 0 } else
+    if eqb family E.CONTROL then record { aim = Held r; sign = 0 } else
+    if eqb family E.ABS then signing family w else
+    if eqb family E.NEG then signing family w else
+    if eqb family E.NEG-ABS then signing family w else
+    w
+
+-- ── the instructions ──
+
+-- "IF and WHILE branch on false"
+unfoldable pub comparedCodes : (kinds marks : List ℕ) (r t : ℕ) → Use → Codes
+comparedCodes kinds marks r t u = applyThen compareRow r u (branchCode (falseMask (getD kinds (t - 1) 0)) (getD marks (t - 3) 0))
+
+unfoldable pub bareCodes : (kinds marks : List ℕ) (t : ℕ) → Codes
+bareCodes kinds marks t = One (branchCode (falseMask (getD kinds t 0)) (getD marks (t - 1) 0))
 
 -- "compare with limit; exit branch"
-unfoldable pub limitCode : (values found means bases offsets marks : List ℕ) (aim : Use) (shape t : ℕ) → Made
-limitCode values found means bases offsets marks aim shape t =
-    twoCodes (applyCode compareRow (heldIn aim) (useIn values found means bases offsets shape t)) (branchCode (exitMask (getD values (t - 2) 0)) (getD marks (t - 3) 0))
+unfoldable pub limitCodes : (values marks : List ℕ) (aim : Use) (t : ℕ) → Use → Codes
+limitCodes values marks aim t u = applyThen compareRow (heldIn aim) u (branchCode (exitMask (getD values (t - 2) 0)) (getD marks (t - 3) 0))
 
 -- "5A of the step; branch to the compare"
-unfoldable pub stepCode : (values marks : List ℕ) (t : ℕ) → Made
-stepCode values marks t = twoCodes (Literal (opcode addRow 1) (getD marks (t + 1) 0) (getD values t 0)) (branchCode always (getD marks t 0))
+unfoldable pub stepCodes : (values marks : List ℕ) (t : ℕ) → Codes
+stepCodes values marks t = applyThen addRow (getD marks (t + 1) 0) (Number (getD values t 0)) (branchCode always (getD marks t 0))
 
-unfoldable pub closingCode : (found goes means marks : List ℕ) (op t : ℕ) → Code
-closingCode found goes means marks op t =
-    if eqb op E.ELSE then branchCode always (getD marks (t + 1) 0) else
-    if eqb op E.END-WHILE then branchCode always (getD marks (t + 1) 0) else
-    if eqb op E.CALL then linkCode (returnIn (packedAt found means t)) (getD marks (getD found t 0) 0) else
-    if eqb op E.GOTO then branchCode always (getD marks (getD goes t 0) 0) else
-    Nothing
+-- declarations, ends of statements, calls and GOTOs
+unfoldable pub otherCodes : (marks : List ℕ) (family t : ℕ) → Named → Codes
+otherCodes marks family t n =
+    if eqb family E.BASE then One (baseCode (n .register) (n .goal)) else
+    if eqb family E.PROCEDURE then One (branchCode always (getD marks (t + 1) 0)) else
+    if eqb family E.END-PROCEDURE then One (returnCode (n .register)) else
+    if eqb family E.ELSE then One (branchCode always (getD marks (t + 1) 0)) else
+    if eqb family E.END-WHILE then One (branchCode always (getD marks (t + 1) 0)) else
+    if eqb family E.CALL then One (linkCode (n .register) (getD marks (n .goal) 0)) else
+    if eqb family E.GOTO then One (branchCode always (getD marks (n .goal) 0)) else
+    None
 
-unfoldable pub madeBy : (kinds values found goes means bases opens offsets marks : List ℕ) (op t : ℕ) → Writing → Made
-madeBy kinds values found goes means bases opens offsets marks op t w =
-    if ltb op E.TARGET then oneCode (declaredCode found means opens marks op t) else
-    if ltb op E.FIRST then oneCode Nothing else
-    if ltb op E.COMPARED then assignedCode kinds values found means bases offsets op t w else
-    if ltb op E.LIMIT then comparedCode kinds values found means bases offsets marks (op - E.COMPARED) t else
-    if ltb op E.BARE then limitCode values found means bases offsets marks (w .aim) (op - E.LIMIT) t else
-    if eqb op E.BARE then oneCode (branchCode (falseMask (getD kinds t 0)) (getD marks (t - 1) 0)) else
-    if eqb op E.END-FOR then stepCode values marks t else
-    oneCode (closingCode found goes means marks op t)
+unfoldable pub codesOf : (kinds values marks : List ℕ) (family t : ℕ) → Writing → Use → Named → Codes
+codesOf kinds values marks family t w u n =
+    if eqb family E.FIRST then firstCodes (w .aim) (w .sign) u else
+    if eqb family E.TERM then nextCodes (w .aim) (getD kinds (t - 1) 0) u else
+    if eqb family E.COMPARED then comparedCodes kinds marks (n .register) t u else
+    if eqb family E.LIMIT then limitCodes values marks (w .aim) t u else
+    if eqb family E.BARE then bareCodes kinds marks t else
+    if eqb family E.END-FOR then stepCodes values marks t else
+    otherCodes marks family t n
+
+-- ── by the lists ──
+
+unfoldable pub writingAfter : (values found means under offsets : List ℕ) (op t : ℕ) → Writing → Writing
+writingAfter values found means under offsets op t w =
+    writtenAfter (familyAt op) w (useIn values found means under offsets (formAt op) t) (registerAt found means (familyAt op) t)
+
+unfoldable pub codesBy : (kinds values found goes means under opens offsets marks : List ℕ) (op t : ℕ) → Writing → Codes
+codesBy kinds values found goes means under opens offsets marks op t w =
+    codesOf kinds values marks (familyAt op) t w (useIn values found means under offsets (formAt op) t)
+    (record { register = registerAt found means (familyAt op) t; goal = goalAt found goes opens (familyAt op) t })

@@ -1,14 +1,16 @@
 // Document 01, "Code": the instructions of each event of a tape, by the tables of a text.
 ghost use mathlib.Core.Path.{_≡_};
+ghost use mathlib.Core.List.{[], _∷_};
 ghost use Prim.Native.Nat.{_+_, _-_, _*_, _≤_, _<_};
-ghost use lib.ListN.{length};
+ghost use Rattle.tape.specs.Events.{TOKEN-LIMIT};
+ghost use lib.ListN.{length, getD};
 ghost use Rattle.base.specs.Lists.{member};
 ghost use Rattle.base.specs.Runs.{indexOf};
 ghost use Rattle.kinds.specs.Rules.{shifts};
 ghost use Rattle.translator.specs.Instructions.{opcode as opcodeOf, rowOf, shiftCode, falseMask};
 ghost use Rattle.translator.specs.Core.{exitMask};
-ghost use Rattle.emit.specs.Codes.{columnOf, applyCode, oneCode, twoCodes, signCode, signedCode, loadCode, heldIn, amountIn, isLongUse, productRegister, termCode, firstCode, nextCode, branchCode, linkCode, baseCode, codeSize, madeSize};
-ghost use Rattle.emit.specs.Events.{subscriptIn, indexIn, elementIn, placeBy, placeIn, useIn, writingAfter, returnIn, declaredCode, assignedCode, comparedCode, limitCode, stepCode, closingCode, madeBy};
+ghost use Rattle.emit.specs.Codes.{listOf, blank as blankCode, codeSize, codeSizes, columnOf, applyCode, isAbsent, applyCodes, applyThen, signCode, signedCodes, loadCodes, heldIn, amountIn, isLongUse, productRegister, termCodes, firstCodes, nextCodes, branchCode, linkCode, baseCode, returnCode, stopCode};
+ghost use Rattle.emit.specs.Events.{subscriptIn, indexIn, elementIn, placeBy, placeIn, useIn, returnIn, registerAt, goalAt, signing as signingOf, writtenAfter, comparedCodes, bareCodes, limitCodes, stepCodes, otherCodes, codesOf};
 use arrays::get;
 use arrays::key;
 use arrays::kind;
@@ -24,19 +26,25 @@ pub enum Use {
     Stored(bool, u64, u64, u64),
 }
 
-// An instruction to be laid: none; of two bytes: opcode, r, s; of four: opcode, r, index, base, displacement; one that takes a number from storage: opcode, r,
-// the number.
+// An instruction to be laid: of two bytes: opcode, r, s; of four: opcode, r, index, base, displacement; one that takes a number from storage: opcode, r, the
+// number.
 pub enum Code {
-    Nothing,
     Two(u64, u64, u64),
     Four(u64, u64, u64, u64, u64),
     Literal(u64, u64, u64),
 }
 
-// The instructions of an event.
-pub struct Made {
-    pub first: Code,
-    pub second: Code,
+// The instructions of an event, in order. Who reads them counts them and takes one after the other, so that only `count` and `nth` know how many there can be.
+pub enum Codes {
+    None,
+    One(Code),
+    Both(Code, Code),
+}
+
+// What an event names: a register, and where it leads: the segment of a base, the procedure of a call, the label of a GOTO.
+pub struct Named {
+    pub register: u64,
+    pub goal: usize,
 }
 
 // The assignment that is written: its target, and its sign's event, 0 for none.
@@ -91,11 +99,34 @@ const FALSE_MASKS: [u8; 7] = [7, 9, 11, 3, 5, 13, 14];
 const SHIFTS: [u8; 4] = [0x89, 0x88, 0x8b, 0x8a];
 
 // The kinds of the tokens that the tables' entries stand for, in the tables' order.
-const ROW_KINDS: [u8; 9] = [34, 40, 41, 42, 38, 39, 24, 25, 26];
+const ROW_KINDS: [u8; 9] = [
+    token::kinds::BECOMES,
+    token::kinds::PLUS,
+    token::kinds::MINUS,
+    token::kinds::TIMES,
+    token::kinds::ADD_LOGICAL,
+    token::kinds::SUBTRACT_LOGICAL,
+    token::kinds::AND,
+    token::kinds::OR,
+    token::kinds::XOR,
+];
 
-const CONDITION_KINDS: [u8; 7] = [43, 37, 44, 35, 36, 45, 33];
+const CONDITION_KINDS: [u8; 7] = [
+    token::kinds::EQUAL,
+    token::kinds::UNEQUAL,
+    token::kinds::LESS,
+    token::kinds::AT_MOST,
+    token::kinds::AT_LEAST,
+    token::kinds::MORE,
+    token::kinds::OVERFLOW,
+];
 
-const SHIFT_KINDS: [u8; 4] = [29, 30, 31, 32];
+const SHIFT_KINDS: [u8; 4] = [
+    token::kinds::SHLL,
+    token::kinds::SHRL,
+    token::kinds::SHLA,
+    token::kinds::SHRA,
+];
 
 const LOAD: usize = 0;
 
@@ -107,7 +138,29 @@ const COMPARE: usize = 9;
 
 const STORE: usize = 10;
 
+// "ABS 10, NEG 13, NEG ABS 11"
+const ABS: u64 = 0x10;
+
+const NEG: u64 = 0x13;
+
+const NEG_ABS: u64 = 0x11;
+
+// "Branch `47 m0`"; "Call: `45 r0`"; "`07 Fr`"; "The last instruction is `0A 00`."
+const BRANCH: u64 = 0x47;
+
+const LINK: u64 = 0x45;
+
+const RETURN: u64 = 0x07;
+
+const STOP: u64 = 0x0a;
+
+// "always is mask 15"
 const ALWAYS: u64 = 15;
+
+// "Program base is register 15. Data base is 14"
+const PROGRAM_BASE: u64 = 15;
+
+pub const DATA_BASE: u64 = 14;
 
 fn wide(b: u8) -> u64
     ensures { λ r. ⌜ (r ≡ b) × (r < 256) ⌝ }
@@ -183,30 +236,52 @@ fn exit_mask(step: u64) -> u64
 
 // ── instructions ──
 
-fn none() -> Made
-    ensures { λ r. ⌜ r ≡ oneCode Code.Nothing ⌝ }
+pub fn count(m: Codes) -> usize
+    ensures { λ r. ⌜ (r ≡ length (listOf m)) × (r ≤ 2) ⌝ }
 {
-    Made {
-        first: Code::Nothing,
-        second: Code::Nothing,
+    match m {
+        Codes::None => 0,
+        Codes::One(_) => 1,
+        Codes::Both(_, _) => 2,
     }
 }
 
-fn one(c: Code) -> Made
-    ensures { λ r. ⌜ r ≡ oneCode c ⌝ }
+fn blank() -> Code
+    ensures { λ c. ⌜ c ≡ blankCode ⌝ }
 {
-    Made {
-        first: c,
-        second: Code::Nothing,
-    }
+    Code::Two(0, 0, 0)
 }
 
-fn two(c: Code, d: Code) -> Made
-    ensures { λ r. ⌜ r ≡ twoCodes c d ⌝ }
+// The only one, or none.
+fn only(k: usize, c: Code) -> Code
+    ensures { λ r. ⌜ r ≡ getD (c ∷ []) k blankCode ⌝ }
 {
-    Made {
-        first: c,
-        second: d,
+    if k == 0 {
+        return c;
+    }
+    blank()
+}
+
+// The first, the second, or none.
+fn pick(k: usize, c: Code, d: Code) -> Code
+    ensures { λ r. ⌜ r ≡ getD (c ∷ d ∷ []) k blankCode ⌝ }
+{
+    if k == 0 {
+        return c;
+    }
+    if k == 1 {
+        return d;
+    }
+    blank()
+}
+
+pub fn nth(m: Codes, k: usize) -> Code
+    ensures { λ c. ⌜ c ≡ getD (listOf m) k blankCode ⌝ }
+{
+    match m {
+        Codes::None => blank(),
+        Codes::One(c) => only(k, c),
+        Codes::Both(c, d) => pick(k, c, d),
     }
 }
 
@@ -225,11 +300,44 @@ fn apply(row: usize, r: u64, u: Use) -> Code
     ensures { λ c. ⌜ c ≡ applyCode row r u ⌝ }
 {
     match u {
-        Use::Absent => Code::Nothing,
+        Use::Absent => blank(),
         Use::Held(s) => Code::Two(opcode(row, 0), r, s),
         Use::Number(v) => Code::Literal(opcode(row, 1), r, v),
         Use::Stored(short, x, b, d) => Code::Four(opcode(row, column_of(short)), r, x, b, d),
     }
+}
+
+fn is_absent(u: Use) -> bool
+    ensures { λ r. ⌜ r ≡ isAbsent u ⌝ }
+{
+    match u {
+        Use::Absent => true,
+        Use::Held(_) => false,
+        Use::Number(_) => false,
+        Use::Stored(_, _, _, _) => false,
+    }
+}
+
+// None for an operand that there is not.
+fn applied(row: usize, r: u64, u: Use) -> Codes
+    requires { ⌜ row < 11 ⌝ }
+    ensures { λ m. ⌜ m ≡ applyCodes row r u ⌝ }
+{
+    if is_absent(u) {
+        return Codes::None;
+    }
+    Codes::One(apply(row, r, u))
+}
+
+// And another behind it.
+fn apply_then(row: usize, r: u64, u: Use, c: Code) -> Codes
+    requires { ⌜ row < 11 ⌝ }
+    ensures { λ m. ⌜ m ≡ applyThen row r u c ⌝ }
+{
+    if is_absent(u) {
+        return Codes::One(c);
+    }
+    Codes::Both(apply(row, r, u), c)
 }
 
 // "ABS 10, NEG 13, NEG ABS 11", by the sign's event.
@@ -237,33 +345,35 @@ fn sign_code(sign: u32) -> u64
     ensures { λ r. ⌜ r ≡ signCode sign ⌝ }
 {
     if sign == tape::ABS {
-        return 0x10;
+        return ABS;
     }
     if sign == tape::NEG {
-        return 0x13;
+        return NEG;
     }
-    0x11
+    NEG_ABS
 }
 
-fn signed(op: u64, r: u64, u: Use) -> Made
-    ensures { λ m. ⌜ m ≡ signedCode op r u ⌝ }
+fn signed(op: u64, r: u64, u: Use) -> Codes
+    ensures { λ m. ⌜ m ≡ signedCodes op r u ⌝ }
 {
     match u {
-        Use::Absent => none(),
-        Use::Held(s) => one(Code::Two(op, r, s)),
-        Use::Number(v) => two(apply(LOAD, r, Use::Number(v)), Code::Two(op, r, r)),
-        Use::Stored(short, x, b, d) => two(
-            apply(LOAD, r, Use::Stored(short, x, b, d)),
+        Use::Absent => Codes::None,
+        Use::Held(s) => Codes::One(Code::Two(op, r, s)),
+        Use::Number(v) => apply_then(LOAD, r, Use::Number(v), Code::Two(op, r, r)),
+        Use::Stored(short, x, b, d) => apply_then(
+            LOAD,
+            r,
+            Use::Stored(short, x, b, d),
             Code::Two(op, r, r),
         ),
     }
 }
 
-fn load(sign: u32, r: u64, u: Use) -> Made
-    ensures { λ m. ⌜ m ≡ loadCode sign r u ⌝ }
+fn load(sign: u32, r: u64, u: Use) -> Codes
+    ensures { λ m. ⌜ m ≡ loadCodes sign r u ⌝ }
 {
     if sign == 0 {
-        return one(apply(LOAD, r, u));
+        return applied(LOAD, r, u);
     }
     signed(sign_code(sign), r, u)
 }
@@ -317,37 +427,37 @@ fn product_register(r: u64, u: Use) -> u64
     r
 }
 
-fn term(k: u8, r: u64, u: Use) -> Code
-    ensures { λ c. ⌜ c ≡ termCode k r u ⌝ }
+fn term(k: u8, r: u64, u: Use) -> Codes
+    ensures { λ m. ⌜ m ≡ termCodes k r u ⌝ }
 {
     if is_shift(k) {
-        return Code::Four(shift_code(k), r, 0, held(u), amount(u));
+        return Codes::One(Code::Four(shift_code(k), r, 0, held(u), amount(u)));
     }
     if k == token::kinds::TIMES {
-        return apply(TIMES, product_register(r, u), u);
+        return applied(TIMES, product_register(r, u), u);
     }
-    apply(row_of(k), r, u)
+    applied(row_of(k), r, u)
 }
 
-fn first(aim: Use, sign: u32, u: Use) -> Made
-    ensures { λ m. ⌜ m ≡ firstCode aim sign u ⌝ }
+fn first(aim: Use, sign: u32, u: Use) -> Codes
+    ensures { λ m. ⌜ m ≡ firstCodes aim sign u ⌝ }
 {
     match aim {
-        Use::Absent => none(),
+        Use::Absent => Codes::None,
         Use::Held(r) => load(sign, r, u),
-        Use::Number(_) => none(),
-        Use::Stored(short, x, b, d) => one(apply(STORE, held(u), Use::Stored(short, x, b, d))),
+        Use::Number(_) => Codes::None,
+        Use::Stored(short, x, b, d) => applied(STORE, held(u), Use::Stored(short, x, b, d)),
     }
 }
 
-fn next(aim: Use, k: u8, u: Use) -> Code
-    ensures { λ c. ⌜ c ≡ nextCode aim k u ⌝ }
+fn next(aim: Use, k: u8, u: Use) -> Codes
+    ensures { λ m. ⌜ m ≡ nextCodes aim k u ⌝ }
 {
     match aim {
-        Use::Absent => Code::Nothing,
+        Use::Absent => Codes::None,
         Use::Held(r) => term(k, r, u),
-        Use::Number(_) => Code::Nothing,
-        Use::Stored(_, _, _, _) => Code::Nothing,
+        Use::Number(_) => Codes::None,
+        Use::Stored(_, _, _, _) => Codes::None,
     }
 }
 
@@ -357,25 +467,30 @@ pub fn code_size(c: Code) -> usize
     ensures { λ r. ⌜ (r ≡ codeSize c) × (r ≤ 4) ⌝ }
 {
     match c {
-        Code::Nothing => 0,
         Code::Two(_, _, _) => 2,
         Code::Four(_, _, _, _, _) => 4,
         Code::Literal(_, _, _) => 4,
     }
 }
 
-pub fn made_size(m: Made) -> usize
-    ensures { λ r. ⌜ (r ≡ madeSize m) × (r ≤ 8) ⌝ }
+// Of all instructions of an event.
+pub fn size(m: Codes) -> usize
+    ensures { λ r. ⌜ (r ≡ codeSizes (listOf m)) × (r ≤ 8) ⌝ }
 {
-    let a = m.first;
-    let b = m.second;
-    code_size(a) + code_size(b)
+    let n = count(m);
+    let mut k: usize = 0;
+    let mut size: usize = 0;
+    while k < n {
+        size += code_size(nth(m, k));
+        k += 1;
+    }
+    size
 }
 
 // ── operands ──
 
 fn subscript(values: &[u64], shape: u32, t: usize) -> u64
-    requires { ⌜ t < 67108864 ⌝ }
+    requires { ⌜ t < TOKEN-LIMIT ⌝ }
     ensures { λ r. ⌜ r ≡ subscriptIn (now (values .entry)) shape t ⌝ }
 {
     if shape % 2 == 1 {
@@ -385,7 +500,7 @@ fn subscript(values: &[u64], shape: u32, t: usize) -> u64
 }
 
 fn index(found: &[u32], means: &[u64], shape: u32, t: usize) -> u64
-    requires { ⌜ t < 67108864 ⌝ }
+    requires { ⌜ t < TOKEN-LIMIT ⌝ }
     ensures { λ r. ⌜ r ≡ indexIn (now (found .entry)) (now (means .entry)) shape t ⌝ }
 {
     if shape == 2 {
@@ -397,43 +512,26 @@ fn index(found: &[u32], means: &[u64], shape: u32, t: usize) -> u64
     0
 }
 
-fn element(bases: &[u64], offsets: &[u64], d: usize, m: u64, subscript: u64, index: u64) -> Use
-    ensures { λ r. ⌜ r ≡ elementIn (now (bases .entry)) (now (offsets .entry)) d m subscript index ⌝ }
+fn element(under: &[u64], offsets: &[u64], d: usize, m: u64, subscript: u64, index: u64) -> Use
+    ensures { λ r. ⌜ r ≡ elementIn (now (under .entry)) (now (offsets .entry)) d m subscript index ⌝ }
 {
     Use::Stored(
         m % 2 == 1,
         index,
-        key(bases, d) / 4294967296,
+        key(under, d) / 4294967296,
         key(offsets, d) % 4294967296 + subscript % 4294967296,
     )
 }
 
-fn place_by(
-    values: &[u64],
-    found: &[u32],
-    means: &[u64],
-    bases: &[u64],
-    offsets: &[u64],
-    d: usize,
-    m: u64,
-    shape: u32,
-    t: usize,
-) -> Use
-    requires { ⌜ t < 67108864 ⌝ }
-    ensures { λ r. ⌜ r ≡ placeBy (now (values .entry)) (now (found .entry)) (now (means .entry)) (now (bases .entry)) (now (offsets .entry)) d m shape t ⌝ }
+// What is declared at token d, by its packed meaning m.
+fn place_by(under: &[u64], offsets: &[u64], d: usize, m: u64, subscript: u64, index: u64) -> Use
+    ensures { λ r. ⌜ r ≡ placeBy (now (under .entry)) (now (offsets .entry)) d m subscript index ⌝ }
 {
     if m % 8 == tables::REGISTER {
         return Use::Held(number(m));
     }
     if tables::CELL <= m % 8 {
-        return element(
-            bases,
-            offsets,
-            d,
-            m,
-            subscript(values, shape, t),
-            index(found, means, shape, t),
-        );
+        return element(under, offsets, d, m, subscript, index);
     }
     Use::Absent
 }
@@ -442,83 +540,46 @@ fn place(
     values: &[u64],
     found: &[u32],
     means: &[u64],
-    bases: &[u64],
+    under: &[u64],
     offsets: &[u64],
     shape: u32,
     t: usize,
 ) -> Use
-    requires { ⌜ t < 67108864 ⌝ }
-    ensures { λ r. ⌜ r ≡ placeIn (now (values .entry)) (now (found .entry)) (now (means .entry)) (now (bases .entry)) (now (offsets .entry)) shape t ⌝ }
+    requires { ⌜ t < TOKEN-LIMIT ⌝ }
+    ensures { λ r. ⌜ r ≡ placeIn (now (values .entry)) (now (found .entry)) (now (means .entry)) (now (under .entry)) (now (offsets .entry)) shape t ⌝ }
 {
-    let d = get(found, t);
+    let s = subscript(values, shape, t);
+    let x = index(found, means, shape, t);
     place_by(
-        values,
-        found,
-        means,
-        bases,
+        under,
         offsets,
-        d,
-        key(means, d),
-        shape,
-        t,
+        get(found, t),
+        meaning(found, means, t),
+        s,
+        x,
     )
 }
 
-fn operand(
+// The operand or designator at token t, by its shape.
+pub fn operand(
     values: &[u64],
     found: &[u32],
     means: &[u64],
-    bases: &[u64],
+    under: &[u64],
     offsets: &[u64],
     shape: u32,
     t: usize,
 ) -> Use
-    requires { ⌜ t < 67108864 ⌝ }
-    ensures { λ r. ⌜ r ≡ useIn (now (values .entry)) (now (found .entry)) (now (means .entry)) (now (bases .entry)) (now (offsets .entry)) shape t ⌝ }
+    requires { ⌜ t < TOKEN-LIMIT ⌝ }
+    ensures { λ r. ⌜ r ≡ useIn (now (values .entry)) (now (found .entry)) (now (means .entry)) (now (under .entry)) (now (offsets .entry)) shape t ⌝ }
 {
     if shape == 4 {
         return Use::Number(key(values, t));
     }
-    place(values, found, means, bases, offsets, shape, t)
+    place(values, found, means, under, offsets, shape, t)
 }
 
-// ── events ──
-
-// The target of the assignment that is written, and its sign.
-pub fn writing_after(
-    op: u32,
-    t: usize,
-    values: &[u64],
-    found: &[u32],
-    means: &[u64],
-    bases: &[u64],
-    offsets: &[u64],
-    w: Writing,
-) -> Writing
-    requires { ⌜ t < 67108864 ⌝ }
-    ensures { λ r. ⌜ r ≡ writingAfter (now (values .entry)) (now (found .entry)) (now (means .entry)) (now (bases .entry)) (now (offsets .entry)) op t w ⌝ }
-{
-    if op < tape::TARGET {
-        return w;
-    }
-    if op < tape::CONTROL {
-        return Writing {
-            aim: place(values, found, means, bases, offsets, op - tape::TARGET, t),
-            sign: 0,
-        };
-    }
-    if op < tape::ABS {
-        return Writing {
-            aim: Use::Held(register(meaning(found, means, t))),
-            sign: 0,
-        };
-    }
-    if op < tape::FIRST {
-        let aim = w.aim;
-        return Writing { aim, sign: op };
-    }
-    w
-}
+// ── what an event names ──
 
 fn return_register(m: u64) -> u64
     ensures { λ r. ⌜ r ≡ returnIn m ⌝ }
@@ -529,238 +590,207 @@ fn return_register(m: u64) -> u64
     0
 }
 
+pub fn before(t: usize, n: usize) -> usize
+    ensures { λ r. ⌜ r ≡ t - n ⌝ }
+{
+    if t < n { 0 } else { t - n }
+}
+
+pub fn register_at(found: &[u32], means: &[u64], family: u32, t: usize) -> u64
+    requires { ⌜ t < TOKEN-LIMIT ⌝ }
+    ensures { λ r. ⌜ r ≡ registerAt (now (found .entry)) (now (means .entry)) family t ⌝ }
+{
+    if family == tape::END_PROCEDURE {
+        return register(meaning(found, means, t + 2));
+    }
+    if family == tape::COMPARED {
+        return register(meaning(found, means, before(t, 2)));
+    }
+    if family == tape::CALL {
+        return return_register(meaning(found, means, t));
+    }
+    register(meaning(found, means, t))
+}
+
+pub fn goal_at(found: &[u32], goes: &[u32], opens: &[u32], family: u32, t: usize) -> usize
+    ensures { λ r. ⌜ (r ≡ goalAt (now (found .entry)) (now (goes .entry)) (now (opens .entry)) family t) × (r < 4294967296) ⌝ }
+{
+    if family == tape::BASE {
+        return get(opens, t);
+    }
+    if family == tape::CALL {
+        return get(found, t);
+    }
+    get(goes, t)
+}
+
+// ── the assignment that is written ──
+
+fn signing(sign: u32, w: Writing) -> Writing
+    ensures { λ r. ⌜ r ≡ signingOf sign w ⌝ }
+{
+    let aim = w.aim;
+    Writing { aim, sign }
+}
+
+// Its target and its sign, after an event with the operand u and the register r.
+pub fn written_after(family: u32, w: Writing, u: Use, r: u64) -> Writing
+    ensures { λ v. ⌜ v ≡ writtenAfter family w u r ⌝ }
+{
+    if family == tape::TARGET {
+        return Writing { aim: u, sign: 0 };
+    }
+    if family == tape::CONTROL {
+        return Writing {
+            aim: Use::Held(r),
+            sign: 0,
+        };
+    }
+    if family == tape::ABS {
+        return signing(family, w);
+    }
+    if family == tape::NEG {
+        return signing(family, w);
+    }
+    if family == tape::NEG_ABS {
+        return signing(family, w);
+    }
+    w
+}
+
+// ── the instructions of an event ──
+
 fn branch(mask: u64, to: usize) -> Code
     ensures { λ c. ⌜ c ≡ branchCode mask to ⌝ }
 {
-    Code::Four(0x47, mask, 0, 15, to as u64)
+    Code::Four(BRANCH, mask, 0, PROGRAM_BASE, to as u64)
 }
 
 fn link(r: u64, to: usize) -> Code
     ensures { λ c. ⌜ c ≡ linkCode r to ⌝ }
 {
-    Code::Four(0x45, r, 0, 15, to as u64)
+    Code::Four(LINK, r, 0, PROGRAM_BASE, to as u64)
 }
 
 fn base(r: u64, k: usize) -> Code
     requires { ⌜ k < 4294967296 ⌝ }
     ensures { λ c. ⌜ c ≡ baseCode r k ⌝ }
 {
-    Code::Four(0x58, r, 0, 14, 4 * k as u64)
+    Code::Four(opcode(LOAD, 1), r, 0, DATA_BASE, 4 * k as u64)
 }
 
-fn declared(op: u32, t: usize, found: &[u32], means: &[u64], opens: &[u32], marks: &[u32]) -> Code
-    requires { ⌜ t < 67108864 ⌝ }
-    ensures { λ c. ⌜ c ≡ declaredCode (now (found .entry)) (now (means .entry)) (now (opens .entry)) (now (marks .entry)) op t ⌝ }
+// The last instruction of a program.
+pub fn stop() -> Code
+    ensures { λ c. ⌜ c ≡ stopCode ⌝ }
 {
-    if op == tape::BASE {
-        return base(register(meaning(found, means, t)), get(opens, t));
-    }
-    if op == tape::PROCEDURE {
-        return branch(ALWAYS, get(marks, t + 1));
-    }
-    if op == tape::END_PROCEDURE {
-        return Code::Two(0x07, 15, register(meaning(found, means, t + 2)));
-    }
-    Code::Nothing
+    Code::Two(STOP, 0, 0)
 }
 
-// The instruction that compares register r with an operand.
-fn compare(
-    values: &[u64],
-    found: &[u32],
-    means: &[u64],
-    bases: &[u64],
-    offsets: &[u64],
-    r: u64,
-    shape: u32,
-    t: usize,
-) -> Code
-    requires { ⌜ t < 67108864 ⌝ }
-    ensures { λ c. ⌜ c ≡ applyCode 9 r (useIn (now (values .entry)) (now (found .entry)) (now (means .entry)) (now (bases .entry)) (now (offsets .entry)) shape t) ⌝ }
+// "IF and WHILE branch on false": a register and the operand u are compared.
+fn compared(kinds: &[u8], marks: &[u32], r: u64, t: usize, u: Use) -> Codes
+    ensures { λ m. ⌜ m ≡ comparedCodes (now (kinds .entry)) (now (marks .entry)) r t u ⌝ }
 {
-    apply(
+    let mask = false_mask(kind(kinds, before(t, 1)));
+    apply_then(COMPARE, r, u, branch(mask, get(marks, before(t, 3))))
+}
+
+fn bare(kinds: &[u8], marks: &[u32], t: usize) -> Codes
+    ensures { λ m. ⌜ m ≡ bareCodes (now (kinds .entry)) (now (marks .entry)) t ⌝ }
+{
+    let mask = false_mask(kind(kinds, t));
+    Codes::One(branch(mask, get(marks, before(t, 1))))
+}
+
+// "compare with limit; exit branch": the control register and the operand u.
+fn limit(values: &[u64], marks: &[u32], aim: Use, t: usize, u: Use) -> Codes
+    ensures { λ m. ⌜ m ≡ limitCodes (now (values .entry)) (now (marks .entry)) aim t u ⌝ }
+{
+    let mask = exit_mask(key(values, before(t, 2)));
+    apply_then(
         COMPARE,
+        held(aim),
+        u,
+        branch(mask, get(marks, before(t, 3))),
+    )
+}
+
+// "5A of the step; branch to the compare".
+fn step(values: &[u64], marks: &[u32], t: usize) -> Codes
+    requires { ⌜ t < TOKEN-LIMIT ⌝ }
+    ensures { λ m. ⌜ m ≡ stepCodes (now (values .entry)) (now (marks .entry)) t ⌝ }
+{
+    let r = get(marks, t + 1) as u64;
+    apply_then(
+        ADD,
         r,
-        operand(values, found, means, bases, offsets, shape, t),
-    )
-}
-
-fn before(t: usize, n: usize) -> usize
-    ensures { λ r. ⌜ r ≡ t - n ⌝ }
-{
-    if t < n { 0 } else { t - n }
-}
-
-fn compared(
-    kinds: &[u8],
-    values: &[u64],
-    found: &[u32],
-    means: &[u64],
-    bases: &[u64],
-    offsets: &[u64],
-    marks: &[u32],
-    shape: u32,
-    t: usize,
-) -> Made
-    requires { ⌜ t < 67108864 ⌝ }
-    ensures { λ r. ⌜ r ≡ comparedCode (now (kinds .entry)) (now (values .entry)) (now (found .entry)) (now (means .entry)) (now (bases .entry)) (now (offsets .entry)) (now (marks .entry)) shape t ⌝ }
-{
-    let r = register(meaning(found, means, before(t, 2)));
-    let c = compare(values, found, means, bases, offsets, r, shape, t);
-    two(
-        c,
-        branch(
-            false_mask(kind(kinds, before(t, 1))),
-            get(marks, before(t, 3)),
-        ),
-    )
-}
-
-fn limit(
-    values: &[u64],
-    found: &[u32],
-    means: &[u64],
-    bases: &[u64],
-    offsets: &[u64],
-    marks: &[u32],
-    aim: Use,
-    shape: u32,
-    t: usize,
-) -> Made
-    requires { ⌜ t < 67108864 ⌝ }
-    ensures { λ r. ⌜ r ≡ limitCode (now (values .entry)) (now (found .entry)) (now (means .entry)) (now (bases .entry)) (now (offsets .entry)) (now (marks .entry)) aim shape t ⌝ }
-{
-    let c = compare(values, found, means, bases, offsets, held(aim), shape, t);
-    two(
-        c,
-        branch(
-            exit_mask(key(values, before(t, 2))),
-            get(marks, before(t, 3)),
-        ),
-    )
-}
-
-fn step(values: &[u64], marks: &[u32], t: usize) -> Made
-    requires { ⌜ t < 67108864 ⌝ }
-    ensures { λ r. ⌜ r ≡ stepCode (now (values .entry)) (now (marks .entry)) t ⌝ }
-{
-    two(
-        Code::Literal(opcode(ADD, 1), get(marks, t + 1) as u64, key(values, t)),
+        Use::Number(key(values, t)),
         branch(ALWAYS, get(marks, t)),
     )
 }
 
-fn closing(op: u32, t: usize, found: &[u32], goes: &[u32], means: &[u64], marks: &[u32]) -> Code
-    requires { ⌜ t < 67108864 ⌝ }
-    ensures { λ c. ⌜ c ≡ closingCode (now (found .entry)) (now (goes .entry)) (now (means .entry)) (now (marks .entry)) op t ⌝ }
+// Declarations, ends of statements, calls and GOTOs.
+fn others(marks: &[u32], family: u32, t: usize, n: Named) -> Codes
+    requires { ⌜ (t < TOKEN-LIMIT) × (n .goal < 4294967296) ⌝ }
+    ensures { λ m. ⌜ m ≡ otherCodes (now (marks .entry)) family t n ⌝ }
 {
-    if op == tape::ELSE {
-        return branch(ALWAYS, get(marks, t + 1));
+    let r = n.register;
+    let goal = n.goal;
+    if family == tape::BASE {
+        return Codes::One(base(r, goal));
     }
-    if op == tape::END_WHILE {
-        return branch(ALWAYS, get(marks, t + 1));
+    if family == tape::PROCEDURE {
+        return Codes::One(branch(ALWAYS, get(marks, t + 1)));
     }
-    if op == tape::CALL {
-        return link(
-            return_register(meaning(found, means, t)),
-            get(marks, get(found, t)),
-        );
+    if family == tape::END_PROCEDURE {
+        return Codes::One(Code::Two(RETURN, ALWAYS, r));
     }
-    if op == tape::GOTO {
-        return branch(ALWAYS, get(marks, get(goes, t)));
+    if family == tape::ELSE {
+        return Codes::One(branch(ALWAYS, get(marks, t + 1)));
     }
-    Code::Nothing
+    if family == tape::END_WHILE {
+        return Codes::One(branch(ALWAYS, get(marks, t + 1)));
+    }
+    if family == tape::CALL {
+        return Codes::One(link(r, get(marks, goal)));
+    }
+    if family == tape::GOTO {
+        return Codes::One(branch(ALWAYS, get(marks, goal)));
+    }
+    Codes::None
 }
 
-// An assignment's operand.
-fn assigned(
-    op: u32,
-    t: usize,
+// The instructions of an event, by its operand u and what it names.
+pub fn codes_of(
     kinds: &[u8],
     values: &[u64],
-    found: &[u32],
-    means: &[u64],
-    bases: &[u64],
-    offsets: &[u64],
+    marks: &[u32],
+    family: u32,
+    t: usize,
     w: Writing,
-) -> Made
-    requires { ⌜ (t < 67108864) × (24 ≤ op) ⌝ }
-    ensures { λ r. ⌜ r ≡ assignedCode (now (kinds .entry)) (now (values .entry)) (now (found .entry)) (now (means .entry)) (now (bases .entry)) (now (offsets .entry)) op t w ⌝ }
+    u: Use,
+    n: Named,
+) -> Codes
+    requires { ⌜ (t < TOKEN-LIMIT) × (n .goal < 4294967296) ⌝ }
+    ensures { λ m. ⌜ m ≡ codesOf (now (kinds .entry)) (now (values .entry)) (now (marks .entry)) family t w u n ⌝ }
 {
     let aim = w.aim;
-    if op < tape::TERM {
-        return first(
-            aim,
-            w.sign,
-            operand(values, found, means, bases, offsets, op - tape::FIRST, t),
-        );
+    if family == tape::FIRST {
+        return first(aim, w.sign, u);
     }
-    one(next(
-        aim,
-        kind(kinds, before(t, 1)),
-        operand(values, found, means, bases, offsets, op - tape::TERM, t),
-    ))
-}
-
-// The instructions of an event.
-pub fn make(
-    op: u32,
-    t: usize,
-    kinds: &[u8],
-    values: &[u64],
-    found: &[u32],
-    goes: &[u32],
-    means: &[u64],
-    bases: &[u64],
-    opens: &[u32],
-    offsets: &[u64],
-    marks: &[u32],
-    w: Writing,
-) -> Made
-    requires { ⌜ t < 67108864 ⌝ }
-    ensures { λ r. ⌜ r ≡ madeBy (now (kinds .entry)) (now (values .entry)) (now (found .entry)) (now (goes .entry)) (now (means .entry)) (now (bases .entry)) (now (opens .entry)) (now (offsets .entry)) (now (marks .entry)) op t w ⌝ }
-{
-    if op < tape::TARGET {
-        return one(declared(op, t, found, means, opens, marks));
+    if family == tape::TERM {
+        return next(aim, kind(kinds, before(t, 1)), u);
     }
-    if op < tape::FIRST {
-        return none();
+    if family == tape::COMPARED {
+        return compared(kinds, marks, n.register, t, u);
     }
-    if op < tape::COMPARED {
-        return assigned(op, t, kinds, values, found, means, bases, offsets, w);
+    if family == tape::LIMIT {
+        return limit(values, marks, aim, t, u);
     }
-    if op < tape::LIMIT {
-        return compared(
-            kinds,
-            values,
-            found,
-            means,
-            bases,
-            offsets,
-            marks,
-            op - tape::COMPARED,
-            t,
-        );
+    if family == tape::BARE {
+        return bare(kinds, marks, t);
     }
-    if op < tape::BARE {
-        let aim = w.aim;
-        return limit(
-            values,
-            found,
-            means,
-            bases,
-            offsets,
-            marks,
-            aim,
-            op - tape::LIMIT,
-            t,
-        );
-    }
-    if op == tape::BARE {
-        return one(branch(false_mask(kind(kinds, t)), get(marks, before(t, 1))));
-    }
-    if op == tape::END_FOR {
+    if family == tape::END_FOR {
         return step(values, marks, t);
     }
-    one(closing(op, t, found, goes, means, marks))
+    others(marks, family, t, n)
 }

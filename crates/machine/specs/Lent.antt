@@ -2,15 +2,10 @@
 use mathlib.Core.List.{List}
 use Prim.Native.Nat.{ℕ}
 use Rattle.machine.specs.declared.Next.{Next}
-use Rattle.machine.specs.declared.Ran.{Ran}
 use Rattle.machine.specs.Step.{Cpu, cpu, Turn, Stepped, stepped}
-use Rattle.machine.specs.Run.{Result, result}
 
 abbrev pub turn : Next → List ℕ → Turn
 turn q rs = record { stop = q .stop; cpu = cpu rs (q .code) (q .at) }
 
 abbrev pub ended : ℕ → ℕ → ℕ → Next
 ended stop k a = record { code = k; at = a; stop = stop }
-
-abbrev pub ran : Ran → List ℕ → Result
-ran q s = result (q .stop) (cpu (q .regs) (q .code) (q .at)) (q .count) s

@@ -1,27 +1,25 @@
-// The machine of document 01, "Runner": one instruction, and a run of at most a budget of them. Registers, storage and the limits of the segments are
-// lent, so that no turn moves more than 16 bytes; every opcode has an arm of its own that calls a shared function with a constant.
+// The machine of document 01, "Runner": what its instructions do. Registers, storage and the limits of the segments are lent, so that no turn moves more
+// than 16 bytes.
 ghost use mathlib.Core.Path.{_≡_};
 ghost use mathlib.Core.Bool.{true, _&&_};
 ghost use Prim.Native.Nat.{ℕ, _+_, _*_, _/_, _%_, _^_, _<_, _≤_};
 ghost use lib.Dec.{leb};
 ghost use lib.ListN.{length, getD};
 ghost use Rattle.machine.specs.Space.{room, needed, entry, spaceBy};
-ghost use Rattle.machine.specs.Step.{cpu, completed, went, stepped, applied, shiftedBy, part as partOf, address as addressOf, extended, executed, paired, asked, loadTurn, storeStep, multiplyTurn, multiplyByTurn, branchTurn, branchRegisterTurn, linkTurn, shiftTurn, endStop, shortBy, longBy, step as stepOf};
-ghost use Rattle.machine.specs.Instructions.{shortKind, longKind};
-ghost use Rattle.machine.specs.Run.{run as runOf};
-ghost use Rattle.machine.specs.Lent.{turn, ended, ran};
+ghost use Rattle.machine.specs.Step.{cpu, completed, went, stepped, applied, shiftedBy, part as partOf, address as addressOf, extended, executed, paired, asked, loadTurn, storeStep, multiplyTurn, multiplyByTurn, branchTurn, branchRegisterTurn, linkTurn, shiftTurn, endStop};
+ghost use Rattle.machine.specs.Lent.{turn, ended};
 use alu::Made;
 
 // "Segment k goes to 4096·(k+1)": the room of a segment, and the pages of that size that are needed.
-const ROOM: usize = 4096;
+pub const ROOM: usize = 4096;
 
-const PAGES: usize = 5;
+pub const PAGES: usize = 5;
 
 // "Addresses keep 24 bits".
 const ADDRESSES: usize = 16777216;
 
 // No stop: the instruction was completed.
-const COMPLETED: u32 = 5;
+pub const COMPLETED: u32 = 5;
 
 // What an instruction makes of its first register and its second operand.
 pub enum Fun {
@@ -54,7 +52,7 @@ pub struct Next {
     pub stop: u32,
 }
 
-fn get(regs: &[u32; 16], i: usize) -> u32
+pub fn get(regs: &[u32; 16], i: usize) -> u32
     requires { ⌜ i < 16 ⌝ }
     ensures { λ r. ⌜ r ≡ getD (now (regs .entry)) i 0 ⌝ }
 {
@@ -69,14 +67,14 @@ fn part(regs: &[u32; 16], i: usize) -> usize
     if i == 0 { 0 } else { get(regs, i) as usize }
 }
 
-fn address(regs: &[u32; 16], x: usize, b: usize, d: usize) -> usize
+pub fn address(regs: &[u32; 16], x: usize, b: usize, d: usize) -> usize
     requires { ⌜ (x < 16) × (b < 16) × (d < 4096) ⌝ }
     ensures { λ r. ⌜ (r ≡ addressOf (now (regs .entry)) x b d) × (r < 16777216) ⌝ }
 {
     (part(regs, b) + part(regs, x) + d) % ADDRESSES
 }
 
-fn halt(stop: u32, code: u64, at: u32) -> Next
+pub fn halt(stop: u32, code: u64, at: u32) -> Next
     ensures { λ r. ⌜ r ≡ ended stop code at ⌝ }
 {
     Next {
@@ -125,7 +123,7 @@ fn apply(f: Fun, a: u32, b: u32, code: u64) -> Made
     }
 }
 
-fn execute(f: Fun, regs: &mut [u32; 16], r: usize, b: u32, code: u64, next: u32) -> Next
+pub fn execute(f: Fun, regs: &mut [u32; 16], r: usize, b: u32, code: u64, next: u32) -> Next
     requires { ⌜ r < 16 ⌝ }
     ensures { λ q. ⌜ turn q (now (regs .exit)) ≡ went (executed (cpu (now (regs .entry)) code next) f r b next) ⌝ }
 {
@@ -172,7 +170,7 @@ fn extend(n: usize, v: u32) -> u32
     }
 }
 
-fn load_step(
+pub fn load_step(
     f: Fun,
     n: usize,
     regs: &mut [u32; 16],
@@ -195,7 +193,7 @@ fn load_step(
     halt(2, code, at)
 }
 
-fn store_step(
+pub fn store_step(
     n: usize,
     regs: &[u32; 16],
     r: usize,
@@ -230,7 +228,7 @@ fn pair(regs: &mut [u32; 16], r: usize, b: u32, code: u64, next: u32) -> Next
     go(code, next)
 }
 
-fn multiply_step(regs: &mut [u32; 16], r: usize, x: usize, code: u64, at: u32) -> Next
+pub fn multiply_step(regs: &mut [u32; 16], r: usize, x: usize, code: u64, at: u32) -> Next
     requires { ⌜ (r < 16) × (x < 16) × (at < 2 * room) ⌝ }
     ensures { λ q. ⌜ turn q (now (regs .exit)) ≡ multiplyTurn (cpu (now (regs .entry)) code at) r x ⌝ }
 {
@@ -240,7 +238,7 @@ fn multiply_step(regs: &mut [u32; 16], r: usize, x: usize, code: u64, at: u32) -
     pair(regs, r, get(regs, x), code, at + 2)
 }
 
-fn multiply_word_step(
+pub fn multiply_word_step(
     regs: &mut [u32; 16],
     r: usize,
     w: usize,
@@ -280,7 +278,7 @@ fn is_asked(m: usize, code: u64) -> bool
     m % 2 == 1
 }
 
-fn branch_register_step(regs: &[u32; 16], m: usize, x: usize, code: u64, at: u32) -> Next
+pub fn branch_register_step(regs: &[u32; 16], m: usize, x: usize, code: u64, at: u32) -> Next
     requires { ⌜ (x < 16) × (at < 2 * room) ⌝ }
     ensures { λ q. ⌜ turn q (now (regs .entry)) ≡ branchRegisterTurn (cpu (now (regs .entry)) code at) m x ⌝ }
 {
@@ -293,7 +291,15 @@ fn branch_register_step(regs: &[u32; 16], m: usize, x: usize, code: u64, at: u32
     go(code, at + 2)
 }
 
-fn branch_step(regs: &[u32; 16], m: usize, x: usize, b: usize, d: usize, code: u64, at: u32) -> Next
+pub fn branch_step(
+    regs: &[u32; 16],
+    m: usize,
+    x: usize,
+    b: usize,
+    d: usize,
+    code: u64,
+    at: u32,
+) -> Next
     requires { ⌜ (x < 16) × (b < 16) × (d < 4096) × (at < 2 * room) ⌝ }
     ensures { λ q. ⌜ turn q (now (regs .entry)) ≡ branchTurn (cpu (now (regs .entry)) code at) m x b d ⌝ }
 {
@@ -303,7 +309,7 @@ fn branch_step(regs: &[u32; 16], m: usize, x: usize, b: usize, d: usize, code: u
     go(code, at + 4)
 }
 
-fn link_step(regs: &mut [u32; 16], r: usize, w: usize, code: u64, at: u32) -> Next
+pub fn link_step(regs: &mut [u32; 16], r: usize, w: usize, code: u64, at: u32) -> Next
     requires { ⌜ (r < 16) × (at < 2 * room) × (w < 16777216) ⌝ }
     ensures { λ q. ⌜ turn q (now (regs .exit)) ≡ linkTurn (cpu (now (regs .entry)) code at) r w ⌝ }
 {
@@ -311,7 +317,7 @@ fn link_step(regs: &mut [u32; 16], r: usize, w: usize, code: u64, at: u32) -> Ne
     go(code, w as u32)
 }
 
-fn service_step(rx: u8, code: u64, at: u32) -> Next
+pub fn service_step(rx: u8, code: u64, at: u32) -> Next
     ensures { λ q. ⌜ q ≡ ended (endStop rx) code at ⌝ }
 {
     if rx == 0 {
@@ -339,7 +345,7 @@ fn shifted(f: Shift, a: u32, n: u32, code: u64) -> Made
     }
 }
 
-fn shift_step(
+pub fn shift_step(
     f: Shift,
     regs: &mut [u32; 16],
     r: usize,
@@ -356,312 +362,4 @@ fn shift_step(
     let v = shifted(f, a, n, code);
     regs[r] = v.value;
     go(v.code, at + 4)
-}
-
-fn short(op: u8, rx: u8, regs: &mut [u32; 16], code: u64, at: u32) -> Next
-    requires { ⌜ at < 2 * room ⌝ }
-    ensures { λ q. ⌜ turn q (now (regs .exit)) ≡ shortBy (shortKind op) rx (cpu (now (regs .entry)) code at) ⌝ }
-{
-    let r = (rx / 16) as usize;
-    let x = (rx % 16) as usize;
-    match op {
-        0x07 => branch_register_step(regs, r, x, code, at),
-        0x0A => service_step(rx, code, at),
-        0x10 => execute(Fun::Positive, regs, r, get(regs, x), code, at + 2),
-        0x11 => execute(Fun::Negative, regs, r, get(regs, x), code, at + 2),
-        0x13 => execute(Fun::Complement, regs, r, get(regs, x), code, at + 2),
-        0x14 => execute(Fun::And, regs, r, get(regs, x), code, at + 2),
-        0x16 => execute(Fun::Or, regs, r, get(regs, x), code, at + 2),
-        0x17 => execute(Fun::ExclusiveOr, regs, r, get(regs, x), code, at + 2),
-        0x18 => execute(Fun::Load, regs, r, get(regs, x), code, at + 2),
-        0x19 => execute(Fun::Compare, regs, r, get(regs, x), code, at + 2),
-        0x1A => execute(Fun::Add, regs, r, get(regs, x), code, at + 2),
-        0x1B => execute(Fun::Subtract, regs, r, get(regs, x), code, at + 2),
-        0x1C => multiply_step(regs, r, x, code, at),
-        0x1E => execute(Fun::AddLogical, regs, r, get(regs, x), code, at + 2),
-        0x1F => execute(Fun::SubtractLogical, regs, r, get(regs, x), code, at + 2),
-        _ => halt(4, code, at),
-    }
-}
-
-fn upper(x: u8) -> usize
-    ensures { λ r. ⌜ (r ≡ x / 16) × (r < 16) ⌝ }
-{
-    (x / 16) as usize
-}
-
-fn displacement(bd: u8, d: u8) -> usize
-    ensures { λ r. ⌜ (r ≡ bd % 16 * 256 + d) × (r < 4096) ⌝ }
-{
-    (bd % 16) as usize * 256 + (d as usize)
-}
-
-fn long(
-    op: u8,
-    rx: u8,
-    b: usize,
-    d: usize,
-    end: &[usize; PAGES],
-    from: &[usize; PAGES],
-    to: &[usize; PAGES],
-    regs: &mut [u32; 16],
-    s: &mut [u8],
-    code: u64,
-    at: u32,
-) -> Next
-    requires { ⌜ (b < 16) × (d < 4096) × (at < 2 * room) × (needed ≤ length (now s)) ⌝ }
-    ensures { λ q. ⌜ ((p : ℕ) → stepped (turn q (now (regs .exit))) (now (s .exit)) ≡ longBy (longKind op) (spaceBy p (now (end .entry)) (now (from .entry)) (now (to .entry))) rx b d (cpu (now (regs .entry)) code at) (now (s .entry))) ⌝ }
-{
-    let r = (rx / 16) as usize;
-    let x = (rx % 16) as usize;
-    match op {
-        0x40 => store_step(2, regs, r, address(regs, x, b, d), from, to, s, code, at),
-        0x45 => link_step(regs, r, address(regs, x, b, d), code, at),
-        0x47 => branch_step(regs, r, x, b, d, code, at),
-        0x48 => load_step(
-            Fun::Load,
-            2,
-            regs,
-            r,
-            address(regs, x, b, d),
-            end,
-            s,
-            code,
-            at,
-        ),
-        0x49 => load_step(
-            Fun::Compare,
-            2,
-            regs,
-            r,
-            address(regs, x, b, d),
-            end,
-            s,
-            code,
-            at,
-        ),
-        0x4A => load_step(
-            Fun::Add,
-            2,
-            regs,
-            r,
-            address(regs, x, b, d),
-            end,
-            s,
-            code,
-            at,
-        ),
-        0x4B => load_step(
-            Fun::Subtract,
-            2,
-            regs,
-            r,
-            address(regs, x, b, d),
-            end,
-            s,
-            code,
-            at,
-        ),
-        0x4C => load_step(
-            Fun::MultiplyHalf,
-            2,
-            regs,
-            r,
-            address(regs, x, b, d),
-            end,
-            s,
-            code,
-            at,
-        ),
-        0x50 => store_step(4, regs, r, address(regs, x, b, d), from, to, s, code, at),
-        0x54 => load_step(
-            Fun::And,
-            4,
-            regs,
-            r,
-            address(regs, x, b, d),
-            end,
-            s,
-            code,
-            at,
-        ),
-        0x56 => load_step(
-            Fun::Or,
-            4,
-            regs,
-            r,
-            address(regs, x, b, d),
-            end,
-            s,
-            code,
-            at,
-        ),
-        0x57 => load_step(
-            Fun::ExclusiveOr,
-            4,
-            regs,
-            r,
-            address(regs, x, b, d),
-            end,
-            s,
-            code,
-            at,
-        ),
-        0x58 => load_step(
-            Fun::Load,
-            4,
-            regs,
-            r,
-            address(regs, x, b, d),
-            end,
-            s,
-            code,
-            at,
-        ),
-        0x59 => load_step(
-            Fun::Compare,
-            4,
-            regs,
-            r,
-            address(regs, x, b, d),
-            end,
-            s,
-            code,
-            at,
-        ),
-        0x5A => load_step(
-            Fun::Add,
-            4,
-            regs,
-            r,
-            address(regs, x, b, d),
-            end,
-            s,
-            code,
-            at,
-        ),
-        0x5B => load_step(
-            Fun::Subtract,
-            4,
-            regs,
-            r,
-            address(regs, x, b, d),
-            end,
-            s,
-            code,
-            at,
-        ),
-        0x5C => multiply_word_step(regs, r, address(regs, x, b, d), end, s, code, at),
-        0x5E => load_step(
-            Fun::AddLogical,
-            4,
-            regs,
-            r,
-            address(regs, x, b, d),
-            end,
-            s,
-            code,
-            at,
-        ),
-        0x5F => load_step(
-            Fun::SubtractLogical,
-            4,
-            regs,
-            r,
-            address(regs, x, b, d),
-            end,
-            s,
-            code,
-            at,
-        ),
-        0x88 => shift_step(Shift::RightLogical, regs, r, b, d, code, at),
-        0x89 => shift_step(Shift::LeftLogical, regs, r, b, d, code, at),
-        0x8A => shift_step(Shift::Right, regs, r, b, d, code, at),
-        0x8B => shift_step(Shift::Left, regs, r, b, d, code, at),
-        _ => halt(4, code, at),
-    }
-}
-
-fn step(
-    program: usize,
-    end: &[usize; PAGES],
-    from: &[usize; PAGES],
-    to: &[usize; PAGES],
-    regs: &mut [u32; 16],
-    s: &mut [u8],
-    code: u64,
-    at: u32,
-) -> Next
-    requires { ⌜ (program ≤ room) × (needed ≤ length (now s)) ⌝ }
-    ensures { λ q. ⌜ stepped (turn q (now (regs .exit))) (now (s .exit)) ≡ stepOf (spaceBy program (now (end .entry)) (now (from .entry)) (now (to .entry))) (cpu (now (regs .entry)) code at) (now (s .entry)) ⌝ }
-{
-    let i = at as usize;
-    if i % 2 != 0 {
-        return halt(4, code, at);
-    }
-    if i < ROOM {
-        return halt(4, code, at);
-    }
-    if ROOM + program < i + 2 {
-        return halt(4, code, at);
-    }
-    if s[i] < 64 {
-        return short(s[i], s[i + 1], regs, code, at);
-    }
-    if ROOM + program < i + 4 {
-        return halt(4, code, at);
-    }
-    let b = upper(s[i + 2]);
-    let d = displacement(s[i + 2], s[i + 3]);
-    long(s[i], s[i + 1], b, d, end, from, to, regs, s, code, at)
-}
-
-pub struct Ran {
-    pub stop: u32,
-    pub at: u32,
-    pub code: u64,
-    pub count: u32,
-    pub regs: [u32; 16],
-}
-
-pub fn run(
-    program: usize,
-    end: &[usize; PAGES],
-    from: &[usize; PAGES],
-    to: &[usize; PAGES],
-    given: [u32; 16],
-    first: u64,
-    start: u32,
-    budget: u32,
-    s: &mut [u8],
-) -> Ran
-    requires { ⌜ (program ≤ room) × (needed ≤ length (now s)) ⌝ }
-    ensures { λ q. ⌜ ran q (now (s .exit)) ≡ runOf budget (spaceBy program (now (end .entry)) (now (from .entry)) (now (to .entry))) (cpu given first start) (now (s .entry)) ⌝ }
-{
-    let mut regs = given;
-    let mut code = first;
-    let mut at = start;
-    let mut count: u32 = 0;
-    while count < budget {
-        let q = step(program, end, from, to, &mut regs, s, code, at);
-        code = q.code;
-        at = q.at;
-        if q.stop != COMPLETED {
-            return Ran {
-                stop: q.stop,
-                at: at,
-                code: code,
-                count: count,
-                regs: regs,
-            };
-        }
-        count += 1;
-    }
-    Ran {
-        stop: 0,
-        at: at,
-        code: code,
-        count: count,
-        regs: regs,
-    }
 }

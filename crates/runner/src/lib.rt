@@ -162,7 +162,7 @@ fn started(t: &[u8], count: usize, given: [u32; 16], code: u64, budget: u32, s: 
     let mut regs = given;
     regs[14] = DATA_ORIGIN;
     regs[15] = PROGRAM_ORIGIN;
-    let q = machine::run(
+    let q = run::run(
         objtext::two_at(t, 4),
         &ends,
         &froms,

@@ -5,7 +5,7 @@ use Prim.Native.Nat.{ℕ, _+_, _*_, _/_, _%_}
 use Rattle.base.specs.Runs.{indexOf}
 use Rattle.kinds.specs.Meaning.{Cell, Based}
 use Rattle.kinds.specs.Meanings.{dataBase}
-use Rattle.translator.specs.Instructions.{Datum, element, literal, entry, Instruction, rr, rx, shift, branch, link, stop}
+use Rattle.translator.specs.Instructions.{Datum, element, literal, entry, Instruction, rr, rx, shift, branch, link, stop, branchOp, linkOp, stopOp}
 use Rattle.translator.specs.Layout.{Layout, offsetOf}
 
 -- "Program base is register 15."
@@ -38,9 +38,9 @@ unfoldable pub encode : Layout → Instruction → List ℕ
 encode l (rr op r s) = twoBytes op r s
 encode l (rx op r a) = fourBytes op r (indexRegister a) (baseRegister a) (displacement l a)
 encode l (shift op r s n) = fourBytes op r 0 s n
-encode l (branch m t) = fourBytes 0x47 m 0 programBase t
-encode l (link r t) = fourBytes 0x45 r 0 programBase t
-encode l stop = 0x0a ∷ 0x00 ∷ []
+encode l (branch m t) = fourBytes branchOp m 0 programBase t
+encode l (link r t) = fourBytes linkOp r 0 programBase t
+encode l stop = twoBytes stopOp 0 0
 
 unfoldable pub encodeAll : Layout → List Instruction → List ℕ
 encodeAll l [] = []

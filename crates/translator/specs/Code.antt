@@ -4,7 +4,7 @@ use mathlib.Core.Bool.{Bool, true, false}
 use Prim.Native.Nat.{ℕ, _+_}
 use lib.Dec.{eqb}
 use Rattle.base.specs.Choose.{if_then_else_}
-use Rattle.translator.specs.Instructions.{Instruction, rr, rx, branch, link, stop, entry, literal, sizes, opcode, loadRow, addRow, always}
+use Rattle.translator.specs.Instructions.{Instruction, rr, rx, branch, link, stop, entry, literal, sizes, opcode, loadRow, addRow, returnOp, always}
 use Rattle.translator.specs.Core.{Core, skip, run, seq, mark, scope, jump, call, procedure, base, when, either, loop, count}
 
 -- how many bytes of code a text has
@@ -63,7 +63,7 @@ code ls ps (call n r) p = link r (markAt ps n) ∷ []
 -- "Procedure: branch around, body, `07 Fr`."; "A procedure's name is known in its own body"
 code ls ps (procedure n r a b) p =
     let known : List Mark = record { name = n; at = p + 4 } ∷ ps in
-    branch always (p + (4 + (sizeOf a + 2))) ∷ (code [] known a (p + 4) ++ (rr 0x07 15 r ∷ code ls known b (p + (4 + (sizeOf a + 2)))))
+    branch always (p + (4 + (sizeOf a + 2))) ∷ (code [] known a (p + 4) ++ (rr returnOp always r ∷ code ls known b (p + (4 + (sizeOf a + 2)))))
 -- "Base declaration for segment k: `58 r0 E0`, 4k."
 code ls ps (base r k c) p = rx (opcode loadRow 1) r (entry k) ∷ code ls ps c (p + 4)
 -- "IF and WHILE branch on false, past the true part (and its always-branch) or past the loop."

@@ -13,7 +13,7 @@ use Rattle.grammar.specs.Tree.{Designator, Operand, number, place, Sign, plain,
 use Rattle.kinds.specs.Meaning.{Meaning, nothing, register, cell, routine, Cell, registerOf, longOperand}
 use Rattle.kinds.specs.Tables.{Tables, kindAt, valueAt, meaningAt}
 use Rattle.kinds.specs.Rules.{negative, shifts}
-use Rattle.translator.specs.Instructions.{Datum, element, literal, entry, Instruction, rr, rx, shift, opcode, rowOf, loadRow, compareRow, timesRow, storeRow, column, shiftCode, falseMask}
+use Rattle.translator.specs.Instructions.{Datum, element, literal, entry, Instruction, rr, rx, shift, opcode, rowOf, loadRow, compareRow, timesRow, storeRow, column, absOp, negOp, negAbsOp, shiftCode, falseMask}
 
 -- a label or a procedure is known by the token of its name
 pub data Core : Type 0 where
@@ -58,9 +58,9 @@ signed op r absent = []
 
 abbrev pub load : Sign → ℕ → Use → List Instruction
 load plain r u = apply loadRow r u
-load (abs t) r u = signed 0x10 r u
-load (neg t) r u = signed 0x13 r u
-load (negAbs t) r u = signed 0x11 r u
+load (abs t) r u = signed absOp r u
+load (neg t) r u = signed negOp r u
+load (negAbs t) r u = signed negAbsOp r u
 
 -- "exit branch, mask 2, or 4 if the step is negative"
 abbrev pub exitMask : ℕ → ℕ

@@ -84,6 +84,34 @@ column short = 2
 unfoldable pub opcode : ℕ → ℕ → ℕ
 opcode row col = getD (getD codeTable row []) col 0
 
+-- ── the opcodes of signs, branches, returns and the end ──
+
+-- "ABS 10, NEG 13, NEG ABS 11"
+abbrev pub absOp : ℕ
+absOp = 0x10
+
+abbrev pub negOp : ℕ
+negOp = 0x13
+
+abbrev pub negAbsOp : ℕ
+negAbsOp = 0x11
+
+-- "Branch `47 m0` to a displacement from 15"
+abbrev pub branchOp : ℕ
+branchOp = 0x47
+
+-- "Call: `45 r0` to the body."
+abbrev pub linkOp : ℕ
+linkOp = 0x45
+
+-- "Procedure: branch around, body, `07 Fr`."
+abbrev pub returnOp : ℕ
+returnOp = 0x07
+
+-- "The last instruction is `0A 00`."
+abbrev pub stopOp : ℕ
+stopOp = 0x0a
+
 -- ── "Shifts 89, 88, 8B, 8A for SHLL, SHRL, SHLA, SHRA" ──
 
 abbrev pub shiftTable : List ℕ

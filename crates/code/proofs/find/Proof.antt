@@ -24,7 +24,12 @@ shared-slice-read-if1 : tie.Need-shared-slice-read-if1 Inv-loop μ-loop
 shared-slice-read-if1 c = search needs
 
 returns : tie.Need-returns Inv-loop μ-loop
-returns c = (find-stop (c .before .before .before .before .args .v) (c .before .before .before .before .args .literals .now) (c .before .before .before .before .args .count) (c .before .before .before .before .pre) (c .before .before .before .loop .i) (c .before .before .loop-test .taken) (c .if1 .taken) (c .before .before .before .loop .inv .1), search needs)
+returns c = (
+  find-stop (c .before .before .before .before .args .v) (c .before .before .before .before .args .literals .now) (c .before .before .before .before .args .count)
+      (c .before .before .before .before .pre) (c .before .before .before .loop .i) (c .before .before .loop-test .taken) (c .if1 .taken)
+      (c .before .before .before .loop .inv .1),
+  search needs,
+)
 
 add-i : tie.Need-add-i Inv-loop μ-loop
 add-i c = search needs
@@ -33,10 +38,19 @@ loop-less : tie.Need-loop-less Inv-loop μ-loop
 loop-less c = search needs
 
 loop-again : tie.Need-loop-again Inv-loop μ-loop
-loop-again c = (search needs, find-on (c .before .before .before .before .args .v) (c .before .before .before .before .args .literals .now) (c .before .before .before .before .args .count) (c .before .before .before .before .pre) (c .before .before .before .loop .i) (c .before .before .loop-test .taken) (c .if1 .left) (c .before .before .before .loop .inv .1))
+loop-again c = (
+  search needs,
+  find-on (c .before .before .before .before .args .v) (c .before .before .before .before .args .literals .now) (c .before .before .before .before .args .count)
+      (c .before .before .before .before .pre) (c .before .before .before .loop .i) (c .before .before .loop-test .taken) (c .if1 .left)
+      (c .before .before .before .loop .inv .1),
+)
 
 returns-2 : tie.Need-returns-2 Inv-loop μ-loop
-returns-2 c = (find-end (c .before .before .args .v) (c .before .before .args .literals .now) (c .before .before .args .count) (c .before .before .pre) (c .before .loop .i) (c .loop-test .left) (c .before .loop .inv .1), search needs)
+returns-2 c = (
+  find-end (c .before .before .args .v) (c .before .before .args .literals .now) (c .before .before .args .count) (c .before .before .pre) (c .before .loop .i)
+      (c .loop-test .left) (c .before .loop .inv .1),
+  search needs,
+)
 
 pub find-spec : {M : Type 1} → statement M
 find-spec =

@@ -1,13 +1,11 @@
 -- By the cases of the instruction. Assumes nothing.
+use mathlib.Core.Path.{refl}
 use native.Mathlib.Omega.{arith}
 use lib.ListN.{take}
 use borrow.Author.Needs.{needs}
-use Rattle.code.proofs.Coding.{lay-nothing, lay-two, lay-four, lay-literal}
+use Rattle.code.proofs.Coding.{lay-two, lay-four, lay-literal}
 use Rattle.code.proofs.lay_code.Statement.{statement}
 use Rattle.code.proofs.lay_code.Tie as tie
-
-enum-told : tie.Need-enum-told
-enum-told c = search needs
 
 enum-known-c : tie.Need-enum-known-c
 enum-known-c c = search needs
@@ -36,23 +34,34 @@ add-lay-four c = search needs
 lay-four-requires-2 : tie.Need-lay-four-requires-2
 lay-four-requires-2 c κs = search needs
 
-enter-requires : tie.Need-enter-requires
-enter-requires c κs = search needs
-
-returns : tie.Need-returns
-returns c = (λ next e. lay-nothing (c .before .before .before .before .args .start) (c .before .before .before .before .args .at) (c .before .before .before .before .args .image .now) _ (c .before .before .before .before .args .c) next e (c .enum-told .given .1), omega arith)
+enter-in-room-requires : tie.Need-enter-in-room-requires
+enter-in-room-requires c κs = search needs
 
 same-length : tie.Need-same-length
 same-length c = search needs
 
-returns-2 : tie.Need-returns-2
-returns-2 c = (λ next e. lay-two (c .before .before .before .before .before .before .before .before .before .args .start) (c .before .before .before .before .before .before .before .before .before .args .at) (c .before .before .before .before .before .before .before .before .before .args .image .now) (take (c .before .before .before .before .before .before .before .before .before .args .count) (c .before .before .before .before .before .before .before .before .before .args .literals .now)) (c .before .before .before .before .before .before .before .before .before .args .c) next e _ _ _ (c .before .before .before .before .before .c .given .1) (c .before .before .lay-two .ensures), omega arith)
+returns : tie.Need-returns
+returns c =
+    let a = c .before .before .before .before .before .before .before .before .before .args in (
+      λ h.
+          lay-two (a .start) (a .p) (a .image .now) (take (a .n) (a .literals .now)) (a .c) _ _ _ (c .before .before .before .before .before .c .given .1)
+          (c .before .before .lay-two .ensures),
+      λ e. refl,
+      omega arith,
+    )
 
 same-length-2 : tie.Need-same-length-2
 same-length-2 c = search needs
 
-returns-3 : tie.Need-returns-3
-returns-3 c = (λ next e. lay-four (c .before .before .before .before .before .before .before .before .before .args .start) (c .before .before .before .before .before .before .before .before .before .args .at) (c .before .before .before .before .before .before .before .before .before .args .image .now) (take (c .before .before .before .before .before .before .before .before .before .args .count) (c .before .before .before .before .before .before .before .before .before .args .literals .now)) (c .before .before .before .before .before .before .before .before .before .args .c) next e _ _ _ _ _ (c .before .before .before .before .before .c2 .given .1) (c .before .before .lay-four .ensures), omega arith)
+returns-2 : tie.Need-returns-2
+returns-2 c =
+    let a = c .before .before .before .before .before .before .before .before .before .args in (
+      λ h.
+          lay-four (a .start) (a .p) (a .image .now) (take (a .n) (a .literals .now)) (a .c) _ _ _ _ _ (c .before .before .before .before .before .c2 .given .1)
+          (c .before .before .lay-four .ensures),
+      λ e. refl,
+      omega arith,
+    )
 
 same-length-3 : tie.Need-same-length-3
 same-length-3 c = search needs
@@ -60,14 +69,24 @@ same-length-3 c = search needs
 same-length-4 : tie.Need-same-length-4
 same-length-4 c = search needs
 
-returns-4 : tie.Need-returns-4
-returns-4 c = (λ next e. lay-literal (c .before .before .before .before .before .before .before .before .before .before .before .before .before .before .before .args .start) (c .before .before .before .before .before .before .before .before .before .before .before .before .before .before .before .args .at) (c .before .before .before .before .before .before .before .before .before .before .before .before .before .before .before .args .image .now) (take (c .before .before .before .before .before .before .before .before .before .before .before .before .before .before .before .args .count) (c .before .before .before .before .before .before .before .before .before .before .before .before .before .before .before .args .literals .now)) (c .before .before .before .before .before .before .before .before .before .before .before .before .before .before .before .args .c) next e _ _ _ (c .before .before .before .before .before .before .before .before .find .result) (c .before .before .before .before .before .before .before .before .before .before .before .c3 .given .1) (c .before .before .enter .ensures .0) (c .before .before .enter .ensures .1) (c .before .before .before .before .before .before .lay-four2 .ensures), c .before .before .enter .ensures .2)
+returns-3 : tie.Need-returns-3
+returns-3 c =
+    let a = c .before .before .before .before .before .before .before .before .before .before .before .before .before .before .before .args in
+    let e = c .before .before .enter-in-room .ensures in
+    let q = c .before .before .before .before .before .before .lay-four2 .ensures in (
+      λ h.
+          lay-literal (a .start) (a .p) (a .image .now) (take (a .n) (a .literals .now)) (a .c) _ _ _
+          (c .before .before .before .before .before .before .before .before .find .result)
+          (c .before .before .before .before .before .before .before .before .before .before .before .c3 .given .1)
+          (e .0 h .0) (e .0 h .1) q,
+      e .1,
+      e .2,
+    )
 
 pub lay-code-spec : {M : Type 1} → statement M
 lay-code-spec =
     tie.close
     (tie.spec
-    enum-told
     enum-known-c
     lay-two-requires
     enum-known-c-2
@@ -77,12 +96,11 @@ lay-code-spec =
     mul-lay-four
     add-lay-four
     lay-four-requires-2
-    enter-requires
-    returns
+    enter-in-room-requires
     same-length
-    returns-2
+    returns
     same-length-2
-    returns-3
+    returns-2
     same-length-3
     same-length-4
-    returns-4)
+    returns-3)

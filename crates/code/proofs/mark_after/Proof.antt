@@ -1,5 +1,5 @@
--- By the event, in the order of the events. Assumes nothing.
-use borrow.Author.Tests.{lt-ltb, le-ltb, eq-eqb, ne-eqb}
+-- By the event. Assumes nothing.
+use borrow.Author.Tests.{eq-eqb, ne-eqb}
 use borrow.Author.Needs.{needs}
 use Rattle.code.specs.Places.{markAfter}
 use Rattle.code.proofs.mark_after.Statement.{statement}
@@ -23,7 +23,8 @@ same-length-2 c = search needs
 
 returns-2 : tie.Need-returns-2
 unfolding markAfter
-returns-2 c = rw (ne-eqb _ _ (c .before .before .before .before .before .if1 .left), eq-eqb _ _ (c .before .before .before .before .if2 .taken)) (c .before .before .put2 .ensures)
+returns-2 c =
+    rw (ne-eqb _ _ (c .before .before .before .before .before .if1 .left), eq-eqb _ _ (c .before .before .before .before .if2 .taken)) (c .before .before .put2 .ensures)
 
 add-put : tie.Need-add-put
 add-put c = search needs
@@ -36,11 +37,13 @@ same-length-3 c = search needs
 
 returns-3 : tie.Need-returns-3
 unfolding markAfter
-returns-3 c = rw (ne-eqb _ _ (c .before .before .before .before .before .before .if1 .left), ne-eqb _ _ (c .before .before .before .before .before .if2 .left), eq-eqb _ _ (c .before .before .before .before .if3 .taken)) (c .before .before .put3 .ensures)
-
-returns-4 : tie.Need-returns-4
-unfolding markAfter
-returns-4 c = rw (ne-eqb _ _ (c .before .before .before .if1 .left), ne-eqb _ _ (c .before .before .if2 .left), ne-eqb _ _ (c .before .if3 .left), lt-ltb _ _ (c .if4 .taken))
+returns-3 c =
+    rw (
+      ne-eqb _ _ (c .before .before .before .before .before .before .if1 .left),
+      ne-eqb _ _ (c .before .before .before .before .before .if2 .left),
+      eq-eqb _ _ (c .before .before .before .before .if3 .taken),
+    )
+    (c .before .before .put3 .ensures)
 
 mark-limit-requires : tie.Need-mark-limit-requires
 mark-limit-requires c κs = search needs
@@ -48,9 +51,16 @@ mark-limit-requires c κs = search needs
 same-length-4 : tie.Need-same-length-4
 same-length-4 c = search needs
 
-returns-5 : tie.Need-returns-5
+returns-4 : tie.Need-returns-4
 unfolding markAfter
-returns-5 c = rw (ne-eqb _ _ (c .before .before .before .before .before .before .before .before .if1 .left), ne-eqb _ _ (c .before .before .before .before .before .before .before .if2 .left), ne-eqb _ _ (c .before .before .before .before .before .before .if3 .left), le-ltb _ _ (c .before .before .before .before .before .if4 .left), lt-ltb _ _ (c .before .before .before .before .if5 .taken)) (c .before .before .mark-limit .ensures)
+returns-4 c =
+    rw (
+      ne-eqb _ _ (c .before .before .before .before .before .before .before .if1 .left),
+      ne-eqb _ _ (c .before .before .before .before .before .before .if2 .left),
+      ne-eqb _ _ (c .before .before .before .before .before .if3 .left),
+      eq-eqb _ _ (c .before .before .before .before .if4 .taken),
+    )
+    (c .before .before .mark-limit .ensures)
 
 add-put-2 : tie.Need-add-put-2
 add-put-2 c = search needs
@@ -61,9 +71,17 @@ put-requires-4 c κs = search needs
 same-length-5 : tie.Need-same-length-5
 same-length-5 c = search needs
 
-returns-6 : tie.Need-returns-6
+returns-5 : tie.Need-returns-5
 unfolding markAfter
-returns-6 c = rw (ne-eqb _ _ (c .before .before .before .before .before .before .before .before .before .if1 .left), ne-eqb _ _ (c .before .before .before .before .before .before .before .before .if2 .left), ne-eqb _ _ (c .before .before .before .before .before .before .before .if3 .left), le-ltb _ _ (c .before .before .before .before .before .before .if4 .left), le-ltb _ _ (c .before .before .before .before .before .if5 .left), eq-eqb _ _ (c .before .before .before .before .if6 .taken)) (c .before .before .put4 .ensures)
+returns-5 c =
+    rw (
+      ne-eqb _ _ (c .before .before .before .before .before .before .before .before .if1 .left),
+      ne-eqb _ _ (c .before .before .before .before .before .before .before .if2 .left),
+      ne-eqb _ _ (c .before .before .before .before .before .before .if3 .left),
+      ne-eqb _ _ (c .before .before .before .before .before .if4 .left),
+      eq-eqb _ _ (c .before .before .before .before .if5 .taken),
+    )
+    (c .before .before .put4 .ensures)
 
 mark-closing-requires : tie.Need-mark-closing-requires
 mark-closing-requires c κs = search needs
@@ -71,32 +89,18 @@ mark-closing-requires c κs = search needs
 same-length-6 : tie.Need-same-length-6
 same-length-6 c = search needs
 
-returns-7 : tie.Need-returns-7
+returns-6 : tie.Need-returns-6
 unfolding markAfter
-returns-7 c = rw (ne-eqb _ _ (c .before .before .before .before .before .before .before .before .before .if1 .left), ne-eqb _ _ (c .before .before .before .before .before .before .before .before .if2 .left), ne-eqb _ _ (c .before .before .before .before .before .before .before .if3 .left), le-ltb _ _ (c .before .before .before .before .before .before .if4 .left), le-ltb _ _ (c .before .before .before .before .before .if5 .left), ne-eqb _ _ (c .before .before .before .before .if6 .left)) (c .before .before .mark-closing .ensures)
+returns-6 c =
+    rw (
+      ne-eqb _ _ (c .before .before .before .before .before .before .before .before .if1 .left),
+      ne-eqb _ _ (c .before .before .before .before .before .before .before .if2 .left),
+      ne-eqb _ _ (c .before .before .before .before .before .before .if3 .left),
+      ne-eqb _ _ (c .before .before .before .before .before .if4 .left),
+      ne-eqb _ _ (c .before .before .before .before .if5 .left),
+    )
+    (c .before .before .mark-closing .ensures)
 
 pub mark-after-spec : {M : Type 1} → statement M
-mark-after-spec =
-    tie.close
-    (tie.spec
-    put-requires
-    same-length
-    returns
-    put-requires-2
-    same-length-2
-    returns-2
-    add-put
-    put-requires-3
-    same-length-3
-    returns-3
-    returns-4
-    mark-limit-requires
-    same-length-4
-    returns-5
-    add-put-2
-    put-requires-4
-    same-length-5
-    returns-6
-    mark-closing-requires
-    same-length-6
-    returns-7)
+mark-after-spec = tie.close
+    (tie.spec put-requires same-length returns put-requires-2 same-length-2 returns-2 add-put put-requires-3 same-length-3 returns-3 mark-limit-requires same-length-4 returns-4 add-put-2 put-requires-4 same-length-5 returns-5 mark-closing-requires same-length-6 returns-6)

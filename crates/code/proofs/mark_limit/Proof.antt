@@ -25,7 +25,14 @@ same-length c = search needs
 
 returns : tie.Need-returns
 unfolding markLimit low
-returns c = rw (← (c .before .before .before .before .before .before .before .before .before .before2 .ensures), ← (c .before .before .before .before .before3 .ensures), ← (c .before .before .before .held .ensures), ← (c .before .before .before .before .before .before .before .before .put .ensures)) (c .before .before .put2 .ensures)
+returns c =
+    rw (
+      ← (c .before .before .before .before .before .before .before .before .before .before2 .ensures),
+      ← (c .before .before .before .before .before3 .ensures),
+      ← (c .before .before .before .held .ensures),
+      ← (c .before .before .before .before .before .before .before .before .put .ensures),
+    )
+    (c .before .before .put2 .ensures)
 
 pub mark-limit-spec : {M : Type 1} → statement M
 mark-limit-spec =

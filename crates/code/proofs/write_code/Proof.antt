@@ -1,28 +1,40 @@
--- `write_code` is the pass, and the last instruction. The invariant: the pass over what is left makes the whole; an event takes eight bytes and two literals at most. Assumes nothing.
-use Prim.Native.Nat.{_≤_, _-_, _*_, _+_}
+-- `write_code` is the pass, and the last instruction. The invariant: what is laid holds of a state from which the rest of the tape leads to the whole; an event takes
+-- eight bytes and two literals at most. Assumes nothing.
+use Prim.Native.Nat.{_+_, _-_, _*_, _≤_}
 use mathlib.Core.List.{[]}
-use mathlib.Core.Path.{_≡_, refl, ap, _∙_}
+use mathlib.Core.Path.{_≡_, refl, sym, _∙_}
 use native.Mathlib.Omega.{arith}
-use lib.ListN.{length, drop, take}
+use lib.ListN.{length, drop}
 use borrow.Author.Needs.{needs}
-use Rattle.code.proofs.Coding.{code-is, stop-laid}
+use Rattle.tape.specs.Pass.{pass}
+use Rattle.emit.proofs.Knowing.{codes-known, written-known}
 use Rattle.code.specs.Coding.{laidOf, codingOf, codeEvent}
 use Rattle.code.specs.Places.{noWriting}
-use Rattle.tape.proofs.Pass.{pass-turn, pass-end}
-use Rattle.tape.specs.Pass.{pass}
+use Rattle.code.proofs.Holding.{Coded, holds-first, tape-turn, tape-end}
 use Rattle.code.proofs.write_code.Statement.{statement}
 use Rattle.code.proofs.write_code.Tie as tie
 
 abbrev Inv-loop : tie.InvT-loop
-Inv-loop tape kinds values found goes means bases opens offsets marks start image₀ literals₀ p₀ count₀ w₀ i₀ image literals p count w i =
-    (i ≤ length tape) × (p ≤ 8 * i) × (count ≤ 2 * i) × (length image ≡ length image₀) × (length literals ≡ length literals₀) × (pass (codeEvent start kinds values found goes means bases opens offsets marks) (codingOf (laidOf p image (take count literals)) w) (drop i tape) ≡ pass (codeEvent start kinds values found goes means bases opens offsets marks) (codingOf (laidOf 0 image₀ []) noWriting) tape)
+Inv-loop tape kinds values found goes means under opens offsets marks start image₀ literals₀ at₀ w₀ i₀ image literals at w i =
+    (i ≤ length tape) × (at .length ≤ 8 * i) × (at .literals ≤ 2 * i) × (at .literals ≤ length literals₀) × (length image ≡ length image₀) ×
+    (length literals ≡ length literals₀)
+    × Coded start (length literals₀) kinds values found goes means under opens offsets marks (at .length) (at .literals) image literals w (drop i tape)
+    (pass (codeEvent start kinds values found goes means under opens offsets marks) (codingOf (laidOf 0 image₀ []) noWriting) tape)
 
 abbrev μ-loop : tie.MeasureT-loop
-μ-loop tape kinds values found goes means bases opens offsets marks start image₀ literals₀ p₀ count₀ w₀ i₀ image literals p count w i =
-    length tape - i
+μ-loop tape kinds values found goes means under opens offsets marks start image₀ literals₀ at₀ w₀ i₀ image literals at w i = length tape - i
 
 loop-holds : tie.Need-loop-holds Inv-loop μ-loop
-loop-holds c = (search needs, search needs, search needs, search needs, search needs, refl)
+loop-holds c =
+    let a = c .before .before .before .before .before .before .before .before .before .before .before .before .args in (
+      search needs,
+      search needs,
+      search needs,
+      search needs,
+      refl,
+      refl,
+      record { state = laidOf 0 (a .image .now) []; holds = holds-first (length (a .literals .now)) (a .image .now) (a .literals .now); leads = refl },
+    )
 
 mul-e : tie.Need-mul-e Inv-loop μ-loop
 mul-e c = search needs
@@ -36,44 +48,114 @@ op-requires c κs = search needs
 token-requires : tie.Need-token-requires Inv-loop μ-loop
 token-requires c κs = search needs
 
-make-requires : tie.Need-make-requires Inv-loop μ-loop
-make-requires c κs = omega (arith, c .token .ensures .1)
+family-requires : tie.Need-family-requires Inv-loop μ-loop
+family-requires c κs = search needs
 
-lay-made-requires : tie.Need-lay-made-requires Inv-loop μ-loop
-lay-made-requires c κs = (let b = c .before .before .before .before .before .before .before .loop .inv .1 in let k = c .before .before .before .before .before .before .before .loop .inv .2 in let l = c .before .before .before .before .before .before .before .loop .inv .4 in let h = c .before .before .before .before .before .before .loop-test .taken in let n = c .before .before .before .before .before .before .before .before .before .before .before .before .before .before .before .before .before .before .before .before .pre .0 in let o = c .before .before .before .before .before .before .before .before .before .before .before .before .before .before .before .before .before .before .before .before .pre .1 in let q = c .before .before .before .before .before .before .before .before .before .before .before .before .before .before .before .before .before .before .before .before .pre .2 in (omega arith, omega arith, c .before .before .before .before .before .before .before .before .before .before .before .before .before .before .before .before .before .before .before .before .pre .3, omega arith))
+form-requires : tie.Need-form-requires Inv-loop μ-loop
+form-requires c κs = search needs
 
-made-size-requires : tie.Need-made-size-requires Inv-loop μ-loop
-made-size-requires c κs = search needs
+operand-requires : tie.Need-operand-requires Inv-loop μ-loop
+operand-requires c κs = c .before .before .token .ensures .1
 
-add-p : tie.Need-add-p Inv-loop μ-loop
-add-p c = (let b = c .before .before .before .before .before .before .before .before .before .before .before .before .before .loop .inv .1 in let h = c .before .before .before .before .before .before .before .before .before .before .before .before .loop-test .taken in let n = c .before .before .before .before .before .before .before .before .before .before .before .before .before .before .before .before .before .before .before .before .before .before .before .before .before .before .pre .0 in omega (arith, c .made-size .ensures .1))
+register-at-requires : tie.Need-register-at-requires Inv-loop μ-loop
+register-at-requires c κs = c .before .before .before .token .ensures .1
 
-writing-after-requires : tie.Need-writing-after-requires Inv-loop μ-loop
-writing-after-requires c κs = omega (arith, c .before .before .before .before .before .before .before .before .before .token .ensures .1)
+goal-at-requires : tie.Need-goal-at-requires Inv-loop μ-loop
+goal-at-requires c κs = search needs
+
+codes-of-requires : tie.Need-codes-of-requires Inv-loop μ-loop
+codes-of-requires c κs = (c .before .before .before .before .before .token .ensures .1, c .goal-at .ensures .1)
+
+lay-codes-requires : tie.Need-lay-codes-requires Inv-loop μ-loop
+lay-codes-requires c κs =
+    let l = c .before .before .before .before .before .before .before .before .before .before .before .before .loop .inv in
+    let h = c .before .before .before .before .before .before .before .before .before .before .before .loop-test .taken in
+    let n = c .before .before .before .before .before .before .before .before .before .before .before .before .before .before .before .before .before .before .before
+    .before .before .before .before .before .before .pre in
+    (omega (arith, l .3, l .5), omega (arith, n .1, l .5), n .2, omega (arith, l .1, n .0))
+
+written-after-requires : tie.Need-written-after-requires Inv-loop μ-loop
+written-after-requires c κs = search needs
 
 add-i : tie.Need-add-i Inv-loop μ-loop
-add-i c = (let h = c .before .before .before .before .before .before .before .before .before .before .before .before .before .loop-test .taken in let n = c .before .before .before .before .before .before .before .before .before .before .before .before .before .before .before .before .before .before .before .before .before .before .before .before .before .before .before .pre .0 in omega arith)
+add-i c =
+    let h = c .before .before .before .before .before .before .before .before .before .before .before .before .before .before .before .before .before .loop-test .taken in
+    let n = c .before .before .before .before .before .before .before .before .before .before .before .before .before .before .before .before .before .before .before
+    .before .before .before .before .before .before .before .before .before .before .before .before .pre .0 in
+    omega arith
 
 loop-less : tie.Need-loop-less Inv-loop μ-loop
-loop-less c = (let h = c .before .before .before .before .before .before .before .before .before .before .before .before .before .loop-test .taken in omega arith)
+loop-less c =
+    let h = c .before .before .before .before .before .before .before .before .before .before .before .before .before .before .before .before .before .loop-test .taken in
+    omega arith
 
 loop-again : tie.Need-loop-again Inv-loop μ-loop
-loop-again c = (omega (arith, c .before .before .before .before .before .before .before .before .before .before .before .before .before .loop-test .taken), (let b = c .before .before .before .before .before .before .before .before .before .before .before .before .before .before .loop .inv .1 in omega (arith, c .before .made-size .ensures .1)), (let k = c .before .before .before .before .before .before .before .before .before .before .before .before .before .before .loop .inv .2 in omega (arith, c .before .before .before .before .before .before .lay-made .ensures .1)), (c .before .before .before .before .before .before .lay-made .kept .0) ∙ (c .before .before .before .before .before .before .before .before .before .before .before .before .before .before .loop .inv .3), (c .before .before .before .before .before .before .lay-made .kept .1 .0) ∙ (c .before .before .before .before .before .before .before .before .before .before .before .before .before .before .loop .inv .4), rw (code-is (c .before .before .before .before .before .before .before .before .before .before .before .before .before .before .before .before .before .before .before .before .before .before .before .before .before .before .before .args .start) (c .before .before .before .before .before .before .before .before .before .before .before .before .before .before .before .before .before .before .before .before .before .before .before .before .before .before .before .args .kinds .now) (c .before .before .before .before .before .before .before .before .before .before .before .before .before .before .before .before .before .before .before .before .before .before .before .before .before .before .before .args .values .now) (c .before .before .before .before .before .before .before .before .before .before .before .before .before .before .before .before .before .before .before .before .before .before .before .before .before .before .before .args .found .now) (c .before .before .before .before .before .before .before .before .before .before .before .before .before .before .before .before .before .before .before .before .before .before .before .before .before .before .before .args .goes .now) (c .before .before .before .before .before .before .before .before .before .before .before .before .before .before .before .before .before .before .before .before .before .before .before .before .before .before .before .args .means .now) (c .before .before .before .before .before .before .before .before .before .before .before .before .before .before .before .before .before .before .before .before .before .before .before .before .before .before .before .args .bases .now) (c .before .before .before .before .before .before .before .before .before .before .before .before .before .before .before .before .before .before .before .before .before .before .before .before .before .before .before .args .opens .now) (c .before .before .before .before .before .before .before .before .before .before .before .before .before .before .before .before .before .before .before .before .before .before .before .before .before .before .before .args .offsets .now) (c .before .before .before .before .before .before .before .before .before .before .before .before .before .before .before .before .before .before .before .before .before .before .before .before .before .before .before .args .marks .now) (c .before .before .before .before .before .before .before .before .before .before .before .op .result) (c .before .before .before .before .before .before .before .before .before .before .token .result) (c .before .before .before .before .before .before .before .before .before .before .before .before .before .before .loop .w) (laidOf (c .before .before .before .before .before .before .before .before .before .before .before .before .before .before .loop .p) (c .before .before .before .before .before .before .before .before .before .before .before .before .before .before .loop .image) (take (c .before .before .before .before .before .before .before .before .before .before .before .before .before .before .loop .count) (c .before .before .before .before .before .before .before .before .before .before .before .before .before .before .loop .literals))) (c .before .before .before .before .before .before .before .before .before .make .ensures) (c .before .before .before .before .before .before .lay-made .ensures .0 (c .before .before .before .before .before .before .before .before .before .before .before .before .before .before .loop .p + c .before .made-size .result) (ap (λ z. c .before .before .before .before .before .before .before .before .before .before .before .before .before .before .loop .p + z) (c .before .made-size .ensures .0))) (c .writing-after .ensures)) (pass-turn (codeEvent (c .before .before .before .before .before .before .before .before .before .before .before .before .before .before .before .before .before .before .before .before .before .before .before .before .before .before .before .args .start) (c .before .before .before .before .before .before .before .before .before .before .before .before .before .before .before .before .before .before .before .before .before .before .before .before .before .before .before .args .kinds .now) (c .before .before .before .before .before .before .before .before .before .before .before .before .before .before .before .before .before .before .before .before .before .before .before .before .before .before .before .args .values .now) (c .before .before .before .before .before .before .before .before .before .before .before .before .before .before .before .before .before .before .before .before .before .before .before .before .before .before .before .args .found .now) (c .before .before .before .before .before .before .before .before .before .before .before .before .before .before .before .before .before .before .before .before .before .before .before .before .before .before .before .args .goes .now) (c .before .before .before .before .before .before .before .before .before .before .before .before .before .before .before .before .before .before .before .before .before .before .before .before .before .before .before .args .means .now) (c .before .before .before .before .before .before .before .before .before .before .before .before .before .before .before .before .before .before .before .before .before .before .before .before .before .before .before .args .bases .now) (c .before .before .before .before .before .before .before .before .before .before .before .before .before .before .before .before .before .before .before .before .before .before .before .before .before .before .before .args .opens .now) (c .before .before .before .before .before .before .before .before .before .before .before .before .before .before .before .before .before .before .before .before .before .before .before .before .before .before .before .args .offsets .now) (c .before .before .before .before .before .before .before .before .before .before .before .before .before .before .before .before .before .before .before .before .before .before .before .before .before .before .before .args .marks .now)) (codingOf (laidOf (c .before .before .before .before .before .before .before .before .before .before .before .before .before .before .loop .p) (c .before .before .before .before .before .before .before .before .before .before .before .before .before .before .loop .image) (take (c .before .before .before .before .before .before .before .before .before .before .before .before .before .before .loop .count) (c .before .before .before .before .before .before .before .before .before .before .before .before .before .before .loop .literals))) (c .before .before .before .before .before .before .before .before .before .before .before .before .before .before .loop .w)) (c .before .before .before .before .before .before .before .before .before .before .before .before .before .before .before .before .before .before .before .before .before .before .before .before .before .before .before .args .tape .now) (c .before .before .before .before .before .before .before .before .before .before .before .before .before .before .loop .i) (c .before .before .before .before .before .before .before .before .before .before .before .op .result) (c .before .before .before .before .before .before .before .before .before .before .token .result) (c .before .before .before .before .before .before .before .before .before .before .before .before .before .loop-test .taken) (c .before .before .before .before .before .before .before .before .before .before .before .op .ensures .0) (c .before .before .before .before .before .before .before .before .before .before .token .ensures .0) (c .before .before .before .before .before .before .before .before .before .before .before .before .before .before .loop .inv .5)))
+loop-again c =
+    let a = c .before .before .before .before .before .before .before .before .before .before .before .before .before .before .before .before .before .before .before
+    .before .before .before .before .before .before .before .before .before .before .before .before .args in
+    let l = c .before .before .before .before .before .before .before .before .before .before .before .before .before .before .before .before .before .before .loop in
+    let h = c .before .before .before .before .before .before .before .before .before .before .before .before .before .before .before .before .before .loop-test .taken in
+    let op = c .before .before .before .before .before .before .before .before .before .before .before .before .before .before .before .op in
+    let t = c .before .before .before .before .before .before .before .before .before .before .before .before .before .before .token in
+    let f = c .before .before .before .before .before .before .before .before .before .before .before .before .before .family .ensures in
+    let s = c .before .before .before .before .before .before .before .before .before .before .before .before .form .ensures .0 in
+    let u = c .before .before .before .before .before .before .before .before .before .before .before .operand .ensures in
+    let r = c .before .before .before .before .before .before .before .before .before .before .register-at .ensures in
+    let codes = codes-known (a .kinds .now) (a .values .now) (a .found .now) (a .goes .now) (a .means .now) (a .under .now) (a .opens .now) (a .offsets .now)
+    (a .marks .now) (op .result) (t .result) (l .w) f s u r (c .before .before .before .before .before .before .before .before .before .goal-at .ensures .0)
+    (c .before .before .before .before .before .before .before .before .codes-of .ensures) in
+    let written = written-known (a .kinds .now) (a .values .now) (a .found .now) (a .goes .now) (a .means .now) (a .under .now) (a .opens .now) (a .offsets .now)
+    (a .marks .now) (op .result) (t .result) (l .w) f s u r (c .written-after .ensures) in
+    let laid = c .before .before .before .before .before .lay-codes in
+    let len : length (l .literals) ≡ length (a .literals .now) = l .inv .5 in (
+      omega arith,
+      omega (arith, l .inv .1, laid .ensures .3),
+      omega (arith, l .inv .2, laid .ensures .1),
+      omega (arith, len, laid .ensures .2),
+      laid .kept .0 ∙ l .inv .4,
+      laid .kept .1 .0 ∙ len,
+      tape-turn (a .start) (length (a .literals .now)) (a .kinds .now) (a .values .now) (a .found .now) (a .goes .now) (a .means .now) (a .under .now) (a .opens .now)
+          (a .offsets .now) (a .marks .now) (a .tape .now) (l .i) (op .result) (t .result) _ _ _ _ _ _ _ _
+          (c .before .before .before .before .before .before .before .before .codes-of .result) (l .w) _ _ h (op .ensures .0) (t .ensures .0) codes written len
+          (laid .ensures .0) (l .inv .6),
+    )
+
+stop-requires : tie.Need-stop-requires Inv-loop μ-loop
+stop-requires c κs = search needs
 
 lay-code-requires : tie.Need-lay-code-requires Inv-loop μ-loop
-lay-code-requires c κs = (let b = c .before .before .before .loop .inv .1 in let k = c .before .before .before .loop .inv .2 in let l = c .before .before .before .loop .inv .4 in let j = c .before .before .before .loop .inv .0 in let n = c .before .before .before .before .before .before .before .before .before .before .before .before .before .before .before .before .pre .0 in let o = c .before .before .before .before .before .before .before .before .before .before .before .before .before .before .before .before .pre .1 in let q = c .before .before .before .before .before .before .before .before .before .before .before .before .before .before .before .before .pre .2 in (omega arith, omega arith, c .before .before .before .before .before .before .before .before .before .before .before .before .before .before .before .before .pre .3, omega arith))
+lay-code-requires c κs =
+    let l = c .before .before .before .before .loop .inv in
+    let n = c .before .before .before .before .before .before .before .before .before .before .before .before .before .before .before .before .before .pre in
+    (omega (arith, l .3, l .5), omega (arith, n .1, l .5), n .2, omega (arith, l .1, l .0, n .0))
 
-add-t37 : tie.Need-add-t37 Inv-loop μ-loop
-add-t37 c = (let b = c .before .before .before .before .before .before .before .before .loop .inv .1 in let j = c .before .before .before .before .before .before .before .before .loop .inv .0 in let n = c .before .before .before .before .before .before .before .before .before .before .before .before .before .before .before .before .before .before .before .before .before .pre .0 in omega arith)
+add-end : tie.Need-add-end Inv-loop μ-loop
+add-end c =
+    let l = c .before .before .before .before .before .before .before .before .before .loop .inv in
+    let n = c .before .before .before .before .before .before .before .before .before .before .before .before .before .before .before .before .before .before .before
+    .before .before .before .pre .0 in
+    omega (arith, l .1, l .0)
 
 same-length : tie.Need-same-length Inv-loop μ-loop
-same-length c = (c .before .before .before .before .lay-code .kept .0) ∙ (c .before .before .before .before .before .before .before .before .loop .inv .3)
+same-length c = c .before .before .before .before .lay-code .kept .0 ∙ c .before .before .before .before .before .before .before .before .before .loop .inv .4
 
 same-length-2 : tie.Need-same-length-2 Inv-loop μ-loop
-same-length-2 c = (c .before .before .before .before .lay-code .kept .1 .0) ∙ (c .before .before .before .before .before .before .before .before .loop .inv .4)
+same-length-2 c = c .before .before .before .before .lay-code .kept .1 .0 ∙ c .before .before .before .before .before .before .before .before .before .loop .inv .5
 
 returns : tie.Need-returns Inv-loop μ-loop
-returns c = stop-laid (c .before .before .before .before .before .before .before .before .before .before .before .before .before .before .before .before .before .before .before .before .before .args .start) (c .before .before .before .before .before .before .before .before .before .before .before .before .before .before .before .before .before .before .before .before .before .args .kinds .now) (c .before .before .before .before .before .before .before .before .before .before .before .before .before .before .before .before .before .before .before .before .before .args .values .now) (c .before .before .before .before .before .before .before .before .before .before .before .before .before .before .before .before .before .before .before .before .before .args .found .now) (c .before .before .before .before .before .before .before .before .before .before .before .before .before .before .before .before .before .before .before .before .before .args .goes .now) (c .before .before .before .before .before .before .before .before .before .before .before .before .before .before .before .before .before .before .before .before .before .args .means .now) (c .before .before .before .before .before .before .before .before .before .before .before .before .before .before .before .before .before .before .before .before .before .args .bases .now) (c .before .before .before .before .before .before .before .before .before .before .before .before .before .before .before .before .before .before .before .before .before .args .opens .now) (c .before .before .before .before .before .before .before .before .before .before .before .before .before .before .before .before .before .before .before .before .before .args .offsets .now) (c .before .before .before .before .before .before .before .before .before .before .before .before .before .before .before .before .before .before .before .before .before .args .marks .now) (c .before .before .before .before .before .before .before .before .before .before .before .before .before .before .before .before .before .before .before .before .before .args .image .now) (c .before .before .before .before .before .before .before .before .before .before .before .before .before .before .before .before .before .before .before .before .before .args .tape .now) (c .before .before .before .before .before .before .before .before .loop .p) (c .before .before .before .before .before .before .before .before .loop .image) (take (c .before .before .before .before .before .before .before .before .loop .count) (c .before .before .before .before .before .before .before .before .loop .literals)) (c .before .before .before .before .before .before .before .before .loop .w) (pass-end (codeEvent (c .before .before .before .before .before .before .before .before .before .before .before .before .before .before .before .before .before .before .before .before .before .args .start) (c .before .before .before .before .before .before .before .before .before .before .before .before .before .before .before .before .before .before .before .before .before .args .kinds .now) (c .before .before .before .before .before .before .before .before .before .before .before .before .before .before .before .before .before .before .before .before .before .args .values .now) (c .before .before .before .before .before .before .before .before .before .before .before .before .before .before .before .before .before .before .before .before .before .args .found .now) (c .before .before .before .before .before .before .before .before .before .before .before .before .before .before .before .before .before .before .before .before .before .args .goes .now) (c .before .before .before .before .before .before .before .before .before .before .before .before .before .before .before .before .before .before .before .before .before .args .means .now) (c .before .before .before .before .before .before .before .before .before .before .before .before .before .before .before .before .before .before .before .before .before .args .bases .now) (c .before .before .before .before .before .before .before .before .before .before .before .before .before .before .before .before .before .before .before .before .before .args .opens .now) (c .before .before .before .before .before .before .before .before .before .before .before .before .before .before .before .before .before .before .before .before .before .args .offsets .now) (c .before .before .before .before .before .before .before .before .before .before .before .before .before .before .before .before .before .before .before .before .before .args .marks .now)) (codingOf (laidOf (c .before .before .before .before .before .before .before .before .loop .p) (c .before .before .before .before .before .before .before .before .loop .image) (take (c .before .before .before .before .before .before .before .before .loop .count) (c .before .before .before .before .before .before .before .before .loop .literals))) (c .before .before .before .before .before .before .before .before .loop .w)) (c .before .before .before .before .before .before .before .before .before .before .before .before .before .before .before .before .before .before .before .before .before .args .tape .now) (c .before .before .before .before .before .before .before .before .loop .i) (c .before .before .before .before .before .before .before .loop-test .left) (c .before .before .before .before .before .before .before .before .loop .inv .5)) (c .before .before .before .before .lay-code .ensures .0)
+returns c =
+    let a = c .before .before .before .before .before .before .before .before .before .before .before .before .before .before .before .before .before .before .before
+    .before .before .before .args in
+    let l = c .before .before .before .before .before .before .before .before .before .loop in
+    let laid = c .before .before .before .before .lay-code in
+    let len : length (l .literals) ≡ length (a .literals .now) = l .inv .5 in (
+      tape-end (a .start) (length (a .literals .now)) (a .kinds .now) (a .values .now) (a .found .now) (a .goes .now) (a .means .now) (a .under .now) (a .opens .now)
+          (a .offsets .now) (a .marks .now) (a .tape .now) (a .image .now) (l .i) (l .at .length) (l .at .literals) (laid .result) (l .image) (l .literals) _ _ (l .w)
+          (c .before .before .before .before .before .stop .result) (c .before .before .before .before .before .before .before .before .loop-test .left)
+          (laid .kept .1 .0 ∙ len) (c .before .before .before .before .before .stop .ensures) (λ g. laid .ensures .0 (omega (arith, g, len)))
+          (λ g. laid .ensures .1 (g ∙ sym len)) (laid .ensures .2) (l .inv .6),
+      omega (arith, laid .ensures .2, l .inv .2, l .inv .0),
+    )
 
 pub write-code-spec : {M : Type 1} → statement M
 write-code-spec =
@@ -86,16 +168,20 @@ write-code-spec =
     shared-slice-read-e
     op-requires
     token-requires
-    make-requires
-    lay-made-requires
-    made-size-requires
-    add-p
-    writing-after-requires
+    family-requires
+    form-requires
+    operand-requires
+    register-at-requires
+    goal-at-requires
+    codes-of-requires
+    lay-codes-requires
+    written-after-requires
     add-i
     loop-less
     loop-again
+    stop-requires
     lay-code-requires
-    add-t37
+    add-end
     same-length
     same-length-2
     returns)

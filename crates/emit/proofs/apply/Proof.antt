@@ -7,6 +7,9 @@ use Rattle.emit.proofs.apply.Tie as tie
 enum-told : tie.Need-enum-told
 enum-told c = search needs
 
+blank-requires : tie.Need-blank-requires
+blank-requires c κs = search needs
+
 enum-known-u : tie.Need-enum-known-u
 enum-known-u c = search needs
 
@@ -30,7 +33,7 @@ opcode-requires-3 c κs = search needs
 
 returns : tie.Need-returns
 unfolding applyCode
-returns c = rw (c .enum-told .given .1)
+returns c = rw (c .before .enum-told .given .1) (c .blank .ensures)
 
 returns-2 : tie.Need-returns-2
 unfolding applyCode
@@ -49,6 +52,7 @@ apply-spec =
     tie.close
     (tie.spec
     enum-told
+    blank-requires
     enum-known-u
     opcode-requires
     enum-known-u-2

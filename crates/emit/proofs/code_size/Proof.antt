@@ -1,7 +1,7 @@
 -- By the cases of the instruction. Assumes nothing.
+use borrow.Author.Needs.{needs}
 use mathlib.Core.Path.{refl}
 use native.Mathlib.Omega.{arith}
-use borrow.Author.Needs.{needs}
 use Rattle.emit.specs.Codes.{codeSize}
 use Rattle.emit.proofs.code_size.Statement.{statement}
 use Rattle.emit.proofs.code_size.Tie as tie
@@ -15,9 +15,6 @@ enum-told-2 c = search needs
 enum-told-3 : tie.Need-enum-told-3
 enum-told-3 c = search needs
 
-enum-told-4 : tie.Need-enum-told-4
-enum-told-4 c = search needs
-
 returns : tie.Need-returns
 unfolding codeSize
 returns c = rw (c .enum-told .given .1) (refl, omega arith)
@@ -30,11 +27,5 @@ returns-3 : tie.Need-returns-3
 unfolding codeSize
 returns-3 c = rw (c .enum-told3 .given .1) (refl, omega arith)
 
-returns-4 : tie.Need-returns-4
-unfolding codeSize
-returns-4 c = rw (c .enum-told4 .given .1) (refl, omega arith)
-
 pub code-size-spec : {M : Type 1} → statement M
-code-size-spec =
-    tie.close
-    (tie.spec enum-told enum-told-2 enum-told-3 enum-told-4 returns returns-2 returns-3 returns-4)
+code-size-spec = tie.close (tie.spec enum-told enum-told-2 enum-told-3 returns returns-2 returns-3)

@@ -29,7 +29,8 @@ register-requires-2 c κs = search needs
 
 returns-2 : tie.Need-returns-2
 unfolding indexIn
-returns-2 c = rw (ne-eqb _ _ (c .before .before .before .if1 .left), eq-eqb _ _ (c .before .before .if2 .taken), ← (c .before .meaning2 .ensures)) (c .register2 .ensures .0)
+returns-2 c =
+    rw (ne-eqb _ _ (c .before .before .before .if1 .left), eq-eqb _ _ (c .before .before .if2 .taken), ← (c .before .meaning2 .ensures)) (c .register2 .ensures .0)
 
 returns-3 : tie.Need-returns-3
 unfolding indexIn

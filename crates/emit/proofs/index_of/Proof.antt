@@ -21,7 +21,11 @@ shared-slice-read-if1 : tie.Need-shared-slice-read-if1 Inv-loop μ-loop
 shared-slice-read-if1 c = search needs
 
 returns : tie.Need-returns Inv-loop μ-loop
-returns c = (index-stop (c .before .before .before .before .args .k) (c .before .before .before .before .args .table .now) (c .before .before .before .loop .i) (c .before .before .loop-test .taken) (c .if1 .taken) (c .before .before .before .loop .inv .1), search needs)
+returns c = (
+  index-stop (c .before .before .before .before .args .k) (c .before .before .before .before .args .table .now) (c .before .before .before .loop .i)
+      (c .before .before .loop-test .taken) (c .if1 .taken) (c .before .before .before .loop .inv .1),
+  search needs,
+)
 
 add-i : tie.Need-add-i Inv-loop μ-loop
 add-i c = search needs
@@ -30,10 +34,17 @@ loop-less : tie.Need-loop-less Inv-loop μ-loop
 loop-less c = search needs
 
 loop-again : tie.Need-loop-again Inv-loop μ-loop
-loop-again c = (search needs, index-on (c .before .before .before .before .args .k) (c .before .before .before .before .args .table .now) (c .before .before .before .loop .i) (c .before .before .loop-test .taken) (c .if1 .left) (c .before .before .before .loop .inv .1))
+loop-again c = (
+  search needs,
+  index-on (c .before .before .before .before .args .k) (c .before .before .before .before .args .table .now) (c .before .before .before .loop .i)
+      (c .before .before .loop-test .taken) (c .if1 .left) (c .before .before .before .loop .inv .1),
+)
 
 returns-2 : tie.Need-returns-2 Inv-loop μ-loop
-returns-2 c = (index-end (c .before .before .args .k) (c .before .before .args .table .now) (c .before .loop .i) (c .loop-test .left) (c .before .loop .inv .1), search needs)
+returns-2 c = (
+  index-end (c .before .before .args .k) (c .before .before .args .table .now) (c .before .loop .i) (c .loop-test .left) (c .before .loop .inv .1),
+  search needs,
+)
 
 pub index-of-spec : {M : Type 1} → statement M
 index-of-spec =

@@ -1,14 +1,8 @@
 -- A compare, and the exit branch. Assumes nothing.
 use borrow.Author.Needs.{needs}
-use Rattle.emit.specs.Events.{limitCode}
+use Rattle.emit.specs.Events.{limitCodes}
 use Rattle.emit.proofs.limit.Statement.{statement}
 use Rattle.emit.proofs.limit.Tie as tie
-
-held-requires : tie.Need-held-requires
-held-requires c κs = search needs
-
-compare-requires : tie.Need-compare-requires
-compare-requires c κs = search needs
 
 before-requires : tie.Need-before-requires
 before-requires c κs = search needs
@@ -19,6 +13,9 @@ key-requires c κs = search needs
 exit-mask-requires : tie.Need-exit-mask-requires
 exit-mask-requires c κs = search needs
 
+held-requires : tie.Need-held-requires
+held-requires c κs = search needs
+
 before-requires-2 : tie.Need-before-requires-2
 before-requires-2 c κs = search needs
 
@@ -28,24 +25,33 @@ get-requires c κs = search needs
 branch-requires : tie.Need-branch-requires
 branch-requires c κs = search needs
 
-two-requires : tie.Need-two-requires
-two-requires c κs = search needs
+apply-then-requires : tie.Need-apply-then-requires
+apply-then-requires c κs = search needs
 
 returns : tie.Need-returns
-unfolding limitCode
-returns c = rw (← (c .before .before .before .before .before .before .before .before .held .ensures), ← (c .before .before .before .before .before .before .before .compare .ensures), ← (c .before .before .before .before .before .before .before2 .ensures), ← (c .before .before .before .before .before .key .ensures), ← (c .before .before .before .before .exit-mask .ensures), ← (c .before .before .before .before3 .ensures), ← (c .before .before .get .ensures .0), ← (c .before .branch .ensures)) (c .two .ensures)
+unfolding limitCodes
+returns c =
+    rw (
+      ← (c .before .before .before .before .before .before .before .before2 .ensures),
+      ← (c .before .before .before .before .before .before .key .ensures),
+      ← (c .before .before .before .before .before .exit-mask .ensures),
+      ← (c .before .before .before .before .held .ensures),
+      ← (c .before .before .before .before3 .ensures),
+      ← (c .before .before .get .ensures .0),
+      ← (c .before .branch .ensures),
+    )
+    (c .apply-then .ensures)
 
 pub limit-spec : {M : Type 1} → statement M
 limit-spec =
     tie.close
     (tie.spec
-    held-requires
-    compare-requires
     before-requires
     key-requires
     exit-mask-requires
+    held-requires
     before-requires-2
     get-requires
     branch-requires
-    two-requires
+    apply-then-requires
     returns)

@@ -1,19 +1,16 @@
 -- With and without a sign. Assumes nothing.
-use borrow.Author.Tests.{eq-eqb, ne-eqb}
 use borrow.Author.Needs.{needs}
-use Rattle.emit.specs.Codes.{loadCode}
+use borrow.Author.Tests.{eq-eqb, ne-eqb}
+use Rattle.emit.specs.Codes.{loadCodes}
 use Rattle.emit.proofs.load.Statement.{statement}
 use Rattle.emit.proofs.load.Tie as tie
 
-apply-requires : tie.Need-apply-requires
-apply-requires c κs = search needs
-
-one-requires : tie.Need-one-requires
-one-requires c κs = search needs
+applied-requires : tie.Need-applied-requires
+applied-requires c κs = search needs
 
 returns : tie.Need-returns
-unfolding loadCode
-returns c = rw (eq-eqb _ _ (c .before .before .if1 .taken), ← (c .before .apply .ensures)) (c .one .ensures)
+unfolding loadCodes
+returns c = rw (eq-eqb _ _ (c .before .if1 .taken)) (c .applied .ensures)
 
 sign-code-requires : tie.Need-sign-code-requires
 sign-code-requires c κs = search needs
@@ -22,10 +19,9 @@ signed-requires : tie.Need-signed-requires
 signed-requires c κs = search needs
 
 returns-2 : tie.Need-returns-2
-unfolding loadCode
+unfolding loadCodes
 returns-2 c = rw (ne-eqb _ _ (c .before .before .if1 .left), ← (c .before .sign-code .ensures)) (c .signed .ensures)
 
 pub load-spec : {M : Type 1} → statement M
 load-spec =
-    tie.close
-    (tie.spec apply-requires one-requires returns sign-code-requires signed-requires returns-2)
+    tie.close (tie.spec applied-requires returns sign-code-requires signed-requires returns-2)

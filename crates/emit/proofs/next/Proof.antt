@@ -1,6 +1,6 @@
 -- By the cases of the target. Assumes nothing.
 use borrow.Author.Needs.{needs}
-use Rattle.emit.specs.Codes.{nextCode}
+use Rattle.emit.specs.Codes.{nextCodes}
 use Rattle.emit.proofs.next.Statement.{statement}
 use Rattle.emit.proofs.next.Tie as tie
 
@@ -20,19 +20,19 @@ enum-told-3 : tie.Need-enum-told-3
 enum-told-3 c = search needs
 
 returns : tie.Need-returns
-unfolding nextCode
+unfolding nextCodes
 returns c = rw (c .enum-told .given .1)
 
 returns-2 : tie.Need-returns-2
-unfolding nextCode
+unfolding nextCodes
 returns-2 c = rw (c .before .before .aim .given .1) (c .term .ensures)
 
 returns-3 : tie.Need-returns-3
-unfolding nextCode
+unfolding nextCodes
 returns-3 c = rw (c .enum-told2 .given .1)
 
 returns-4 : tie.Need-returns-4
-unfolding nextCode
+unfolding nextCodes
 returns-4 c = rw (c .enum-told3 .given .1)
 
 pub next-spec : {M : Type 1} → statement M

@@ -12,31 +12,16 @@ returns : tie.Need-returns
 unfolding placeBy
 returns c = rw (eq-eqb _ _ (c .before .if1 .taken), ← (c .number .ensures .0))
 
-subscript-requires : tie.Need-subscript-requires
-subscript-requires c κs = search needs
-
-index-requires : tie.Need-index-requires
-index-requires c κs = search needs
-
 element-requires : tie.Need-element-requires
 element-requires c κs = search needs
 
 returns-2 : tie.Need-returns-2
 unfolding placeBy
-returns-2 c = rw (ne-eqb _ _ (c .before .before .before .before .if1 .left), le-leb _ _ (c .before .before .before .if2 .taken), ← (c .before .before .subscript .ensures), ← (c .before .index .ensures)) (c .element .ensures)
+returns-2 c = rw (ne-eqb _ _ (c .before .before .if1 .left), le-leb _ _ (c .before .if2 .taken)) (c .element .ensures)
 
 returns-3 : tie.Need-returns-3
 unfolding placeBy
 returns-3 c = rw (ne-eqb _ _ (c .before .if1 .left), lt-leb _ _ (c .if2 .left))
 
 pub place-by-spec : {M : Type 1} → statement M
-place-by-spec =
-    tie.close
-    (tie.spec
-    number-requires
-    returns
-    subscript-requires
-    index-requires
-    element-requires
-    returns-2
-    returns-3)
+place-by-spec = tie.close (tie.spec number-requires returns element-requires returns-2 returns-3)

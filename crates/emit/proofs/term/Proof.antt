@@ -1,8 +1,8 @@
 -- By the operator's kind. Assumes nothing.
-use borrow.Author.Tests.{eq-eqb, ne-eqb}
 use borrow.Author.Needs.{needs}
-use Rattle.emit.specs.Codes.{termCode}
+use borrow.Author.Tests.{eq-eqb, ne-eqb}
 use Rattle.base.proofs.Tests.{told}
+use Rattle.emit.specs.Codes.{termCodes}
 use Rattle.emit.proofs.term.Statement.{statement}
 use Rattle.emit.proofs.term.Tie as tie
 
@@ -19,28 +19,46 @@ amount-requires : tie.Need-amount-requires
 amount-requires c κs = search needs
 
 returns : tie.Need-returns
-unfolding termCode
-returns c = rw (told (c .before .before .before .before .is-shift .ensures) (c .before .before .before .if1 .taken), ← (c .before .held .ensures), ← (c .amount .ensures), ← (c .before .before .shift-code .ensures .0))
+unfolding termCodes
+returns c =
+    rw (
+      told (c .before .before .before .before .is-shift .ensures) (c .before .before .before .if1 .taken),
+      ← (c .before .held .ensures),
+      ← (c .amount .ensures),
+      ← (c .before .before .shift-code .ensures .0),
+    )
 
 product-register-requires : tie.Need-product-register-requires
 product-register-requires c κs = search needs
 
-apply-requires : tie.Need-apply-requires
-apply-requires c κs = search needs
+applied-requires : tie.Need-applied-requires
+applied-requires c κs = search needs
 
 returns-2 : tie.Need-returns-2
-unfolding termCode
-returns-2 c = rw (told (c .before .before .before .before .is-shift .ensures) (c .before .before .before .if1 .left), eq-eqb _ _ (c .before .before .if2 .taken), ← (c .before .product-register .ensures)) (c .apply .ensures)
+unfolding termCodes
+returns-2 c =
+    rw (
+      told (c .before .before .before .before .is-shift .ensures) (c .before .before .before .if1 .left),
+      eq-eqb _ _ (c .before .before .if2 .taken),
+      ← (c .before .product-register .ensures),
+    )
+    (c .applied .ensures)
 
 row-of-requires : tie.Need-row-of-requires
 row-of-requires c κs = search needs
 
-apply-requires-2 : tie.Need-apply-requires-2
-apply-requires-2 c κs = search needs
+applied-requires-2 : tie.Need-applied-requires-2
+applied-requires-2 c κs = search needs
 
 returns-3 : tie.Need-returns-3
-unfolding termCode
-returns-3 c = rw (told (c .before .before .before .before .is-shift .ensures) (c .before .before .before .if1 .left), ne-eqb _ _ (c .before .before .if2 .left), ← (c .before .row-of .ensures .0)) (c .apply2 .ensures)
+unfolding termCodes
+returns-3 c =
+    rw (
+      told (c .before .before .before .before .is-shift .ensures) (c .before .before .before .if1 .left),
+      ne-eqb _ _ (c .before .before .if2 .left),
+      ← (c .before .row-of .ensures .0),
+    )
+    (c .applied2 .ensures)
 
 pub term-spec : {M : Type 1} → statement M
 term-spec =
@@ -52,8 +70,8 @@ term-spec =
     amount-requires
     returns
     product-register-requires
-    apply-requires
+    applied-requires
     returns-2
     row-of-requires
-    apply-requires-2
+    applied-requires-2
     returns-3)

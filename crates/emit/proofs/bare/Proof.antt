@@ -1,0 +1,42 @@
+-- A branch on false. Assumes nothing.
+use borrow.Author.Needs.{needs}
+use Rattle.emit.specs.Events.{bareCodes}
+use Rattle.emit.proofs.bare.Statement.{statement}
+use Rattle.emit.proofs.bare.Tie as tie
+
+kind-requires : tie.Need-kind-requires
+kind-requires c κs = search needs
+
+false-mask-requires : tie.Need-false-mask-requires
+false-mask-requires c κs = search needs
+
+before-requires : tie.Need-before-requires
+before-requires c κs = search needs
+
+get-requires : tie.Need-get-requires
+get-requires c κs = search needs
+
+branch-requires : tie.Need-branch-requires
+branch-requires c κs = search needs
+
+returns : tie.Need-returns
+unfolding bareCodes
+returns c =
+    rw (
+      ← (c .before .before .before .before .kind .ensures),
+      ← (c .before .before .before .false-mask .ensures .0),
+      ← (c .before .before .before2 .ensures),
+      ← (c .before .get .ensures .0),
+      ← (c .branch .ensures),
+    )
+
+pub bare-spec : {M : Type 1} → statement M
+bare-spec =
+    tie.close
+    (tie.spec
+    kind-requires
+    false-mask-requires
+    before-requires
+    get-requires
+    branch-requires
+    returns)

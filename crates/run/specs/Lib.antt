@@ -1,0 +1,2 @@
+-- A run as the code answers it.
+pub mod Lent
