@@ -26,6 +26,7 @@ use Rattle.translator.specs.Layout.{literalsEnd, segmentLimit}
 use Rattle.translator.specs.Image.{segments}
 use Rattle.translator.specs.Translate.{Answer, accepted, refused, kindsOf, placeAt, make, finish, judge, afterTokens, translated, inRoom, translate}
 use Rattle.translator.specs.Rows.{Tokens, Program, Keeps, Fits, objectOf, TokenAt, BrokenAt, ProgramLong, LiteralsLong, BufferShort, Accepts, Row, Given}
+use Rattle.translator.proofs.Answers.{read-grammar}
 use Rattle.translator.proofs.Numbers.{make-ruled}
 
 module _ (source : List ℕ) (room : ℕ) where
@@ -38,7 +39,7 @@ module _ (source : List ℕ) (room : ℕ) where
   module _ (ts : List Token) where
     after-text : Tokens source ts → translate source room ≡ inRoom room (afterTokens ts (program (kindsOf ts) firstToken))
     unfolding translate translated
-    after-text t = rw (t .read, t .are)
+    after-text t = rw (t .read, t .are) (ap (inRoom room) (read-grammar (inFront ++ tokensOf source .tokens)))
 
     tree-refused : Tokens source ts → (n t : ℕ) → program (kindsOf ts) firstToken ≡ bad n t → translate source room ≡ refused n (placeAt ts t)
     unfolding inRoom
