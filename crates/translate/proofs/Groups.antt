@@ -25,6 +25,7 @@ use Rattle.kinds.specs.Kinds.{rulesOf}
 use Rattle.translator.specs.Layout.{layout, placeCells}
 use Rattle.translator.specs.Translate as T
 use Rattle.translator.specs.Translate.{kindsOf, valuesOf, named, labelled, make, finish, judgeBy, judge, afterTokens, inRoom, translated, translate}
+use Rattle.translator.proofs.Answers.{read-grammar}
 use Rattle.translator.proofs.Tokens.{small-text, text-length}
 use Rattle.parse.specs.Programs.{Told, toldOf, Parsed}
 use Rattle.parse.proofs.Texts.{tokens-small}
@@ -38,6 +39,7 @@ use Rattle.translate.specs.Answers.{Gives, outcome, defined}
 use Rattle.translate.specs.Texts.{allTokens, placesOf, Fronted, Small, Text, Blank, Blanks, Bound, meantIn, tablesIn, Settled, Zeros, Lent, Rooms}
 use Rattle.translate.proofs.Reading.{all-read, count-is}
 use Rattle.translate.proofs.Judging.{program-front}
+use Rattle.translate.proofs.Theorems.{outcome-parts, defined-parts}
 
 -- ── "6 to 13", then 14, 15, 16 ──
 
@@ -142,12 +144,12 @@ module _ (src kinds values places : List ℕ) (answer : Tokens) (d : Fronted src
         → Gives (translate src (length out)) out out′ a
     unfolding translate translated
     text-read found goes means out out′ a b g =
-        rw (all-read src answer (d .is) n e)
+        rw (all-read src answer (d .is) n e, read-grammar (allTokens src))
         (rw (d .kinds-are n e) at (g (d .kinds-are n e) (d .values-are n e) (d .places-are n e) (small-text src) b))
 
 -- number, place, length and buffer in one
 pub as-one : {a : T.Answer} {before after : List ℕ} {r : Answer} → Gives a before after r → outcome r after ≡ defined a before
-as-one g = rw (g .number-is, g .place-is, g .length-is, g .buffer-is)
+as-one {a} {before} {after} {r} g = outcome-parts r after ∙ (rw (g .number-is, g .place-is, g .length-is, g .buffer-is) (sym (defined-parts a before)))
 
 -- "1: source over 32,768 bytes … 32,768"
 pub too-long : (src out : List ℕ) → TEXT-LIMIT < length src → Gives (translate src (length out)) out out (Refused 1 TEXT-LIMIT)

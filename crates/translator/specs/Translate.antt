@@ -83,15 +83,8 @@ unfoldable pub meant : List Token → Named → Statement → Meant
 meant ts n x = meanProgram (kindsOf ts) (valuesOf ts) (n .found) x (standard (length ts - firstToken))
 
 abbrev pub tablesOf : List Token → Named → Labelled → Meant → Tables
-tablesOf ts n l m = record {
-  kinds = kindsOf ts;
-  values = valuesOf ts;
-  found = n .found;
-  goes = l .goes;
-  means = m .means;
-  opens = m .opens;
-  written = m .written;
-}
+tablesOf ts n l m =
+    record { kinds = kindsOf ts; values = valuesOf ts; found = n .found; goes = l .goes; means = m .means; opens = m .opens; written = m .written }
 
 unfoldable pub make : List Token → Statement → Made
 make ts x =
