@@ -1,6 +1,6 @@
 -- Each row of the table against the definition, group by group: a source that a group lets pass is answered by the groups after it. Assumes nothing.
 use mathlib.Core.Path.{_≡_, refl, sym, ap, subst, _∙_}
-use mathlib.Core.Logic.{_⊎_, inl, inr}
+use mathlib.Core.Logic.{_⊎_, inl, inr, _↔_}
 use mathlib.Core.Bool.{_&&_}
 use mathlib.Core.List.{List, [], _∷_, _++_}
 use Prim.Native.Nat.{ℕ, zero, suc, _<_, _≤_}
@@ -184,9 +184,14 @@ module _ (source : List ℕ) (room : ℕ) where
       (λ d. fits-given ts x (record { keeps = k; program-fits = h; literals-fit = ltb-false segmentLimit (literalsEnd (make ts x .layout)) d })))
 
   -- what is broken has a number of its group, and so its row
-  group-row : (n p : ℕ) → 6 ≤ n → n ≤ 13 → BrokenAt source n p → Row source room n p
-  group-row n p l h b =
-      rw (ne-eqb n 1 (λ e. omega arith), ne-eqb n 2 (λ e. omega arith), ne-eqb n 3 (λ e. omega arith), ne-eqb n 4 (λ e. omega arith), ne-eqb n 5 (λ e. omega arith), le-leb 6 n l, le-leb n 13 h) b
+  pub group-row : (n p : ℕ) → 6 ≤ n → n ≤ 13 → Row source room n p ↔ BrokenAt source n p
+  group-row n p l h =
+      let one = ne-eqb n 1 (λ e. omega arith) in
+      let two = ne-eqb n 2 (λ e. omega arith) in
+      let three = ne-eqb n 3 (λ e. omega arith) in
+      let four = ne-eqb n 4 (λ e. omega arith) in
+      let five = ne-eqb n 5 (λ e. omega arith) in
+      (λ r. (rw (one, two, three, four, five, le-leb 6 n l, le-leb n 13 h) at r), λ b. rw (one, two, three, four, five, le-leb 6 n l, le-leb n 13 h) b)
 
   program-given : (ts : List Token) (x : Statement) → Program source ts x → Given source room (translate source room)
   program-given ts x p = go (make ts x .broken .number) refl
@@ -197,7 +202,7 @@ module _ (source : List ℕ) (room : ℕ) where
           let r = make-ruled ts x .told (λ z. (let q : suc n ≡ 0 = sym e ∙ z in omega arith)) in
           let at = placeAt ts (make ts x .broken .at) in
           answered-by (refused (suc n) at) (rules-refused ts x p n e)
-          (group-row (suc n) at (rw e at (r .0)) (rw e at (r .1))
+          (group-row (suc n) at (rw e at (r .0)) (rw e at (r .1)) .1
           (record {
             ts = ts;
             x = x;
