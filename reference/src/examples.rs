@@ -265,7 +265,7 @@ fn run_vectors(dir: &Path, entries: &[Entry], manual: &[manual::Told]) -> io::Re
     Ok(records)
 }
 
-/// Every file of `examples/` that is made, with its content; the page on refusals as `../docs/REFUSALS.md`.
+/// Every file of `examples/` that is made, with its content; the page on refusals and the gate's cases by their way from there.
 pub fn files(dir: &Path) -> io::Result<Vec<(String, Vec<u8>)>> {
     let entries = entries(&std::fs::read_to_string(dir.join("refusals.data"))?).map_err(broken)?;
     let mut files = vec![("../docs/REFUSALS.md".to_string(), page(&entries).into_bytes())];
@@ -282,7 +282,7 @@ pub fn files(dir: &Path) -> io::Result<Vec<(String, Vec<u8>)>> {
     files.push(("runs".to_string(), runs(dir)?.into_bytes()));
     files.push(("texts".to_string(), texts(dir)?.into_bytes()));
     let manual = manual::texts(&std::fs::read_to_string(dir.join("../docs/LANGUAGE.md"))?);
-    files.push(("vectors/texts".to_string(), text_vectors(dir, &entries, &manual)?));
-    files.push(("vectors/runs".to_string(), run_vectors(dir, &entries, &manual)?));
+    files.push(("../crates/translate_vectors/data/examples".to_string(), text_vectors(dir, &entries, &manual)?));
+    files.push(("../crates/run_vectors/data/examples".to_string(), run_vectors(dir, &entries, &manual)?));
     Ok(files)
 }
