@@ -17,7 +17,7 @@ use Rattle.kinds.specs.Tables.{Tables}
 use Rattle.kinds.specs.Kinds.{ruleEvent}
 use Rattle.kinds.proofs.Numbers.{event-ruled, rules-ruled}
 use Rattle.translator.specs.Layout.{placeCell, placeCells, layout}
-use Rattle.translator.specs.Translate.{valuesOf, named, labelled, make}
+use Rattle.translator.specs.Translate.{valuesOf, named, labelled, meant, make}
 use Rattle.translator.specs.Broken.{NameBroken, LabelBroken, KindBroken, CellBroken, Somewhere, Breaks}
 
 cells-ruled : (n : ℕ) (ds : List Filled) → Ruled (placeCells n ds .broken)
@@ -68,4 +68,4 @@ pub breaks-ruled : (ts : List Token) (x : Statement) (n t : ℕ) → Breaks ts x
 breaks-ruled ts x n t (inl h) = somewhere-is (nameEvent (valuesOf ts)) (name-in (valuesOf ts) n t) (eventsOf x) [] _ h
 breaks-ruled ts x n t (inr (inl h)) = somewhere-is (labelEvent (valuesOf ts)) (label-in (valuesOf ts) n t) (eventsOf x) [] _ h
 breaks-ruled ts x n t (inr (inr (inl h))) = somewhere-is (ruleEvent _) (λ e p s. kind-in _ n t e p) (eventsOf x) [] _ h
-breaks-ruled ts x n t (inr (inr (inr h))) = cell-in _ _ n t h
+breaks-ruled ts x n t (inr (inr (inr h))) = (let m = meant ts (named ts x) x in cell-in (m .bases) (m .cells) n t h)
