@@ -15,7 +15,7 @@ use Rattle.base.specs.Lists.{_∈_, All}
 use Rattle.base.proofs.Lists.{all-in}
 use Rattle.grammar.specs.Tree.{Assignment, Condition, compared, bare, Declaration, registers, cells, base, Statement, assign, call, block, goto, null, ifThen, ifElse, while, for, Body, declare, procedure, items, Items, ended, label, item}
 use Rattle.grammar.specs.Derives.{isCondition, isRegister}
-use Rattle.grammar.specs.Events.{Route, labelled, sent, Entry, named, celled, itemed, valued, based, Phrase, aimed, driven, signed, given, joined, tested, limited, called, Event, edge, route, entry, phrase, mark, labelsOnto, labelsOf, eventsDeclaration, eventsChain, eventsStatement, eventsBody, eventsItems, eventsOf}
+use Rattle.grammar.specs.Events.{Route, labelled, sent, Entry, named, celled, itemed, valued, based, Phrase, aimed, driven, signed, given, joined, tested, limited, called, Event, edge, route, entry, phrase, mark, entryDeclares, labelsOnto, labelsOf, eventsDeclaration, eventsChain, eventsStatement, eventsBody, eventsItems, eventsOf}
 use Rattle.grammar.specs.Places.{Block, within, Place, enterName, enterLabel, after, afterAll, Along}
 use Rattle.grammar.specs.Texts.{Stands, Text}
 use Rattle.grammar.proofs.Kept.{keep-operand}

@@ -1,4 +1,5 @@
 -- The opcodes of document 01, in two steps: where an instruction's operand is, and what is done with it.
+use mathlib.Core.List.{List, [], _∷_}
 use Prim.Native.Nat.{ℕ}
 use lib.Dec.{eqb}
 use Rattle.base.specs.Choose.{choose}
@@ -25,48 +26,48 @@ pub data Long : Type 0 where
   shifts : Shift → Long
   unlistedLong : Long
 
+-- ── the table of "Code", a row a line ──
+
+-- register
+abbrev pub shortTable : List (ℕ × Short)
+shortTable =
+    (0x18, applies Load)  -- :=
+    ∷ (0x1A, applies Add)  -- +
+    ∷ (0x1B, applies Subtract)  -- -
+    ∷ (0x1C, multiplies)  -- *
+    ∷ (0x1E, applies AddLogical)  -- ++
+    ∷ (0x1F, applies SubtractLogical)  -- --
+    ∷ (0x14, applies And) ∷ (0x16, applies Or) ∷ (0x17, applies ExclusiveOr)  -- AND, OR, XOR
+    ∷ (0x19, applies Compare)  -- compare
+    -- "ABS 10, NEG 13, NEG ABS 11"
+    ∷ (0x10, applies Positive) ∷ (0x13, applies Complement) ∷ (0x11, applies Negative)
+    -- "Procedure: branch around, body, `07 Fr`."; "The last instruction is `0A 00`."
+    ∷ (0x07, branches) ∷ (0x0A, ends) ∷ []
+
+-- integer cell, number; short cell
+abbrev pub longTable : List (ℕ × Long)
+longTable =
+    (0x58, appliesTo 4 Load) ∷ (0x48, appliesTo 2 Load)  -- :=
+    ∷ (0x5A, appliesTo 4 Add) ∷ (0x4A, appliesTo 2 Add)  -- +
+    ∷ (0x5B, appliesTo 4 Subtract) ∷ (0x4B, appliesTo 2 Subtract)  -- -
+    ∷ (0x5C, multipliesBy) ∷ (0x4C, appliesTo 2 MultiplyHalf)  -- *
+    ∷ (0x5E, appliesTo 4 AddLogical)  -- ++
+    ∷ (0x5F, appliesTo 4 SubtractLogical)  -- --
+    ∷ (0x54, appliesTo 4 And) ∷ (0x56, appliesTo 4 Or) ∷ (0x57, appliesTo 4 ExclusiveOr)  -- AND, OR, XOR
+    ∷ (0x59, appliesTo 4 Compare) ∷ (0x49, appliesTo 2 Compare)  -- compare
+    ∷ (0x50, stores 4) ∷ (0x40, stores 2)  -- store
+    -- "Shifts 89, 88, 8B, 8A for SHLL, SHRL, SHLA, SHRA"
+    ∷ (0x89, shifts LeftLogical) ∷ (0x88, shifts RightLogical) ∷ (0x8B, shifts Left) ∷ (0x8A, shifts Right)
+    -- "Branch `47 m0` to a displacement from 15"; "Call: `45 r0` to the body."
+    ∷ (0x47, branchesTo) ∷ (0x45, links) ∷ []
+
+-- what a table has for an opcode; where it has nothing, `other`
+abbrev pub listed : {A : Type 0} → List (ℕ × A) → A → ℕ → A
+listed [] other op = other
+listed (r ∷ rs) other op = choose (eqb op (r .0)) (r .1) (listed rs other op)
+
 abbrev pub shortKind : ℕ → Short
-shortKind op =
-    choose (eqb op 0x07) branches
-    (choose (eqb op 0x0A) ends
-    (choose (eqb op 0x10) (applies Positive)
-    (choose (eqb op 0x11) (applies Negative)
-    (choose (eqb op 0x13) (applies Complement)
-    (choose (eqb op 0x14) (applies And)
-    (choose (eqb op 0x16) (applies Or)
-    (choose (eqb op 0x17) (applies ExclusiveOr)
-    (choose (eqb op 0x18) (applies Load)
-    (choose (eqb op 0x19) (applies Compare)
-    (choose (eqb op 0x1A) (applies Add)
-    (choose (eqb op 0x1B) (applies Subtract)
-    (choose (eqb op 0x1C) multiplies
-    (choose (eqb op 0x1E) (applies AddLogical)
-    (choose (eqb op 0x1F) (applies SubtractLogical)
-    unlisted))))))))))))))
+shortKind op = listed shortTable unlisted op
 
 abbrev pub longKind : ℕ → Long
-longKind op =
-    choose (eqb op 0x40) (stores 2)
-    (choose (eqb op 0x45) links
-    (choose (eqb op 0x47) branchesTo
-    (choose (eqb op 0x48) (appliesTo 2 Load)
-    (choose (eqb op 0x49) (appliesTo 2 Compare)
-    (choose (eqb op 0x4A) (appliesTo 2 Add)
-    (choose (eqb op 0x4B) (appliesTo 2 Subtract)
-    (choose (eqb op 0x4C) (appliesTo 2 MultiplyHalf)
-    (choose (eqb op 0x50) (stores 4)
-    (choose (eqb op 0x54) (appliesTo 4 And)
-    (choose (eqb op 0x56) (appliesTo 4 Or)
-    (choose (eqb op 0x57) (appliesTo 4 ExclusiveOr)
-    (choose (eqb op 0x58) (appliesTo 4 Load)
-    (choose (eqb op 0x59) (appliesTo 4 Compare)
-    (choose (eqb op 0x5A) (appliesTo 4 Add)
-    (choose (eqb op 0x5B) (appliesTo 4 Subtract)
-    (choose (eqb op 0x5C) multipliesBy
-    (choose (eqb op 0x5E) (appliesTo 4 AddLogical)
-    (choose (eqb op 0x5F) (appliesTo 4 SubtractLogical)
-    (choose (eqb op 0x88) (shifts RightLogical)
-    (choose (eqb op 0x89) (shifts LeftLogical)
-    (choose (eqb op 0x8A) (shifts Right)
-    (choose (eqb op 0x8B) (shifts Left)
-    unlistedLong))))))))))))))))))))))
+longKind op = listed longTable unlistedLong op
