@@ -1,6 +1,7 @@
 // The pages of `tautgaff help`.
 ghost use Rattle.figures.specs.Writing.{Adds};
 ghost use Rattle.helping.specs.Help.{page as pageFor};
+
 mod pages;
 
 // A page by its number; past the last one there is nothing.
