@@ -3,7 +3,7 @@
 ghost use mathlib.Core.Path.{_≡_};
 ghost use mathlib.Core.List.{[], _∷_};
 ghost use Prim.Native.Nat.{_+_, _-_, _≤_, _<_, _^_};
-ghost use lib.ListN.{length, drop, getD, replicate};
+ghost use lib.ListN.{length, take, drop, getD, replicate};
 ghost use Rattle.base.specs.Choose.{choose};
 ghost use Rattle.base.specs.Text.{sameBytes};
 ghost use Rattle.figures.specs.Writing.{Adds};
@@ -121,6 +121,26 @@ pub fn put_hexadecimal(out: &mut [u8], at: usize, n: u32) -> usize
 }
 
 // ── parts ──
+
+// The first n bytes, or all.
+pub fn front(s: &[u8], n: usize) -> &[u8]
+    ensures { λ r. ⌜ now r ≡ take n (now (s .entry)) ⌝ }
+{
+    if n < s.len() {
+        return &s[0..n];
+    }
+    s
+}
+
+// What comes behind the first n bytes.
+pub fn rest(s: &[u8], n: usize) -> &[u8]
+    ensures { λ r. ⌜ now r ≡ drop n (now (s .entry)) ⌝ }
+{
+    if n < s.len() {
+        return &s[n..];
+    }
+    &s[0..0]
+}
 
 fn one_if(b: bool) -> usize
     ensures { λ r. ⌜ (r ≡ choose b 1 0) × (r ≤ 1) ⌝ }
