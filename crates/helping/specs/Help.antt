@@ -1,0 +1,11 @@
+-- `tautgaff help`: which page a word asks for, and the page.
+use mathlib.Core.List.{List}
+use Prim.Native.Nat.{ℕ, _-_}
+use lib.Dec.{ltb}
+use Rattle.base.specs.Choose.{choose}
+use Rattle.figures.specs.Parts.{partOf}
+use Rattle.helping.specs.Pages.{below10, from10, commands}
+
+-- 0 to 19 are the numbers of refusals and stops, 20 is usage, 21 to 25 are the commands
+abbrev pub page : ℕ → List ℕ
+page n = choose (ltb n 10) (partOf 126 n below10) (choose (ltb n 20) (partOf 126 (n - 10) from10) (partOf 126 (n - 20) commands))
