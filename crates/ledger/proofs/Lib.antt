@@ -1,0 +1,3 @@
+-- Laws of the columns.
+pub mod Columns
+pub mod Clearing
