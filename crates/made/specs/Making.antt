@@ -12,7 +12,7 @@ use Rattle.translator.specs.Layout.{segmentLimit, roundUp}
 use Rattle.translator.specs.Image.{words}
 use Rattle.translator.specs.Translate.{Answer, accepted, refused, inRoom}
 use Rattle.layout.specs.Along.{Imaging, imagingOf, nowhere, imageEvent}
-use Rattle.code.specs.Places.{Placing, placesAlong}
+use Rattle.code.specs.Places.{kept, Placing, placesAlong}
 use Rattle.code.specs.Coding.{Laid, codeAlong}
 use Rattle.frames.specs.Frames.{objectOf}
 
@@ -48,7 +48,7 @@ startOf ends = roundUp 4 (endOf ends 1)
 -- the program's bytes and the literals
 unfoldable pub codedAlong : (kinds values found goes means under opens offsets ends marks tape : List ℕ) → Laid
 codedAlong kinds values found goes means under opens offsets ends marks tape =
-    codeAlong (startOf ends) kinds values found goes means under opens offsets (placesAlong kinds values found goes means under opens offsets marks tape .marks) zeros tape
+    codeAlong (startOf ends) kinds values found goes means under opens offsets (placesAlong kept kinds values found goes means under opens offsets marks tape .marks) zeros tape
 
 -- "14: program over 4,096 bytes … 0"; "15: literals end past 4,096 … 0"; 16
 unfoldable pub madeAlong : (kinds values found goes means under opens offsets ends marks tape : List ℕ) (bases room : ℕ) → Answer
