@@ -46,6 +46,7 @@ use Rattle.translator.proofs.Objects as O
 use Rattle.layout.specs.Along.{Imaging, imagingOf, nowhere, imageEvent}
 use Rattle.layout.proofs.Laid.{Right, all-right}
 use Rattle.layout.proofs.Images.{image-of-tree, placed-there}
+use Rattle.ledger.specs.Book.{Wide, Thin}
 use Rattle.emit.specs.Along.{along, codeFor}
 use Rattle.code.specs.Places.{whole, kept, Placing, noWriting, placesAlong}
 use Rattle.code.specs.Coding.{bytesIn, Laid, laidOf, codeAlong}
@@ -84,6 +85,17 @@ module _
     abbrev tape : List ℕ
     tape = tapeStatement x []
 
+    -- no address stands in the marks before
+    abbrev marks : List ℕ
+    marks = replicate (length ts) 0
+
+    -- the ledger
+    abbrev w : Wide
+    w = record { values = valuesOf ts; means = means; under = under; offsets = offsets }
+
+    abbrev b : Thin
+    b = record { found = named ts x .found; goes = labelled ts x .goes; opens = m .opens; written = marks }
+
     known : Known to m
     known = O.known ts x to front program quiet
 
@@ -119,17 +131,13 @@ module _
     unfolding meant
     right = all-right means under (kindsOf ts) (valuesOf ts) (named ts x .found) x firstToken to program before refl to known means-are
 
-    image-is : (k : ℕ) → imageAlong (valuesOf ts) means under offsets tape k ≡ fill k (y .placed) zeros
+    image-is : (k : ℕ) → imageAlong w tape k ≡ fill k (y .placed) zeros
     unfolding imageAlong meant layout
     image-is k =
         image-of-tree k means under offsets (valuesOf ts) zeros (let e = length-replicate {A = ℕ} segmentLimit 0 in omega arith) (kindsOf ts) (named ts x .found) x firstToken to program before (m .bases) refl right
         (all-map _ _ (placeCells (m .bases) (m .cells) .placed) (λ (p : Placed) h. offsets-are (p .name) ∙ h) (placed-there (m .bases) (m .cells) (known .falling)))
 
     -- ── the program ──
-
-    -- no address stands in the marks before
-    abbrev marks : List ℕ
-    marks = replicate (length ts) 0
 
     bound : Along (Goes (named ts x .found) (labelled ts x .goes)) (eventsOf x) []
     bound = goes-along (valuesOf ts) (named ts x .found) (labelled ts x .goes) (eventsOf x) [] (names-found ts x to program inside) (labels-led ts x to program inside)
@@ -149,7 +157,7 @@ module _
     coded = code-program f means under offsets (sym means-are) small held x firstToken to (length ts) program (omega arith) inside bound
 
     abbrev lain : Laid
-    lain = codedAlong (kindsOf ts) (valuesOf ts) (named ts x .found) (labelled ts x .goes) means under (m .opens) offsets ends marks tape
+    lain = codedAlong (kindsOf ts) w b ends tape
 
     -- with all of each address
     abbrev exactly : Laid
@@ -182,7 +190,7 @@ module _
 
     -- the object, if its program and its literals fit
     object-is : sizes is ≤ segmentLimit → literalsEnd y ≤ segmentLimit
-        → objectAlong (valuesOf ts) means under offsets tape (m .bases) ends (startOf ends) (take (lain .at) (lain .image)) (lain .literals) ≡ segments (m .bases) y is
+        → objectAlong w tape (m .bases) ends (startOf ends) (take (lain .at) (lain .image)) (lain .literals) ≡ segments (m .bases) y is
     unfolding objectAlong objectCut endOfFirst
     object-is h k =
         let fit : Fitting y = O.fitting ts x to front program quiet k in
@@ -191,7 +199,7 @@ module _
         (sym (segments-are y (m .bases) is few))
 
     pub made-as-defined : (room : ℕ)
-        → madeAlong (kindsOf ts) (valuesOf ts) (named ts x .found) (labelled ts x .goes) means under (m .opens) offsets ends marks tape (m .bases) room ≡ inRoom room (finish (make ts x))
+        → madeAlong (kindsOf ts) w b ends tape (m .bases) room ≡ inRoom room (finish (make ts x))
     unfolding madeAlong finish make inRoom
     made-as-defined room =
         cases (ltb segmentLimit (sizes is))
