@@ -36,6 +36,15 @@ narrow-at tape op t i n eo et h =
     let k = all-getD (λ (e : ℕ). noted (e % E.EVENTS) ≡ true → e / E.EVENTS < 65536) tape i 0 n z (ap noted (sym eo) ∙ h) in
     omega arith
 
+-- where a name is declared its token is written down
+pub declaring-noted : (op : ℕ) → declaring op ≡ true → noted op ≡ true
+declaring-noted op h = rw h (either (eqb op E.BLOCK) (eqb op E.LABEL))
+  where
+    either : (a b : Bool) → a || (b || true) ≡ true
+    either true b = refl
+    either false true = refl
+    either false false = refl
+
 pub nested-here : (most b p : ℕ) (l : List ℕ) → Nested most b p l → (b ≤ most) × (p ≤ most)
 unfolding Nested
 nested-here most b p [] n = n
