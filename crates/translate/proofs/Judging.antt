@@ -15,6 +15,7 @@ use Rattle.tape.specs.Tape.{event, tapeStatement}
 use Rattle.tape.specs.Pass.{pass}
 use Rattle.tape.specs.Written.{opOf, tokenOf}
 use Rattle.tape.proofs.Written.{tree-tape}
+use Rattle.ledger.specs.Book.{Thin}
 use Rattle.names.specs.declared.Broken.{Broken}
 use Rattle.names.specs.declared.Noted.{Noted}
 use Rattle.names.specs.Broken.{unbroken, _⊕_}
@@ -79,15 +80,15 @@ module _ (ts : List Token) (x : Statement) (values tape : List ℕ) (t : Text ts
   values-long = ap length (t .values-are) ∙ length-map (λ (u : Token). u .value) ts
 
   pub bound :
-      (found goes links outer found′ goes′ : List ℕ) (n l : Noted) (b : Broken) → length values ≤ length links → length values ≤ length outer → Blank ts found → Blank ts goes
-      → namedIn found′ n ≡ pass (nameOp values) (beginning found) tape .named → labelledIn goes′ l ≡ labelledAlong tape values links outer goes
-      → b ≡ n .broken ⊕ l .broken → Bound ts x found′ goes′ b
+      (found goes links outer : List ℕ) (n l : Noted) (b : Thin) (r : Broken) → length values ≤ length links → length values ≤ length outer → Blank ts found → Blank ts goes
+      → namedIn (b .found) n ≡ pass (nameOp values) (beginning found) tape .named → labelledIn (b .goes) l ≡ labelledAlong tape values links outer goes
+      → r ≡ n .broken ⊕ l .broken → Bound ts x b r
   unfolding named labelled
-  bound found goes links outer found′ goes′ n l b wl wo bf bg en el eb =
+  bound found goes links outer n l b r wl wo bf bg en el eb =
       let i = inside ts x (t .to) (t .program) in
       let v = values-long in
-      let p : namedIn found′ n ≡ named ts x = rw (t .values-are, t .tape-is, bf) at en ∙ named-program (kindsOf ts) (valuesOf ts) _ x firstToken (t .to) (t .program) in
-      let q : labelledIn goes′ l ≡ labelled ts x =
+      let p : namedIn (b .found) n ≡ named ts x = rw (t .values-are, t .tape-is, bf) at en ∙ named-program (kindsOf ts) (valuesOf ts) _ x firstToken (t .to) (t .program) in
+      let q : labelledIn (b .goes) l ≡ labelled ts x =
       rw (t .values-are, t .tape-is, bg) at el ∙ labelled-program (kindsOf ts) (valuesOf ts) links outer _ x firstToken (t .to) (t .program) (omega arith) (omega arith) (omega arith) in
       record {
         found-is = ap (λ (s : Named). s .found) p;
@@ -103,77 +104,3 @@ few-opened kinds values found x s =
     let e : length (tapeStatement x []) ≡ length (eventsOf x) = ap length (tree-tape x) ∙ length-map (λ (e : Event). event (opOf e) (tokenOf e)) (eventsOf x) in
     omega (arith, bases-along kinds values found (eventsOf x) [] s)
 
--- ── meanings, rules and places ──
-
-module _ (ts : List Token) (x : Statement) (kinds values found tape : List ℕ) (t : Text ts x values tape) (ek : kinds ≡ kindsOf ts) (ef : found ≡ named ts x .found) where
-  abbrev n : ℕ
-  n = length ts - firstToken
-
-  long : firstToken + n ≡ length ts
-  long = let h = program-front ts x (t .to) (t .program) in omega arith
-
-  blank : (l : List ℕ) → Blank ts l → l ≡ replicate (firstToken + n) 0
-  blank l b = b ∙ ap (λ (k : ℕ). replicate k 0) (sym long)
-
-  module _
-      (means under opens written means′ under′ opens′ written′ : List ℕ) (bases : ℕ) (bm : Blank ts means) (bo : Blank ts opens) (bw : Blank ts written)
-      (e : meantOf means′ under′ opens′ written′ bases ≡ pass (meanEvent kinds values found) (M.beginning (meantOf (registersNamed 16 means) under opens written 0)) tape .meant)
-    where
-      -- the tables, but for the list of cells
-      tables : meantOf means′ under′ opens′ written′ bases ≡ tabled (meantIn ts x)
-      unfolding meant
-      tables =
-          e ∙ rw (t .values-are, t .tape-is, ek, ef, blank means bm, blank opens bo, blank written bw)
-          (meant-text (kindsOf ts) (valuesOf ts) (named ts x .found) under n (t .small) (early ts x (t .to) (t .program)) x firstToken (t .to) (t .program) (let a = inside ts x (t .to) (t .program) in let b = long in omega arith))
-
-      means-are : meaningsOf means′ under′ ≡ meantIn ts x .means
-      means-are = ap (λ (s : Meant). s .means) tables
-
-      bases-are : bases ≡ meantIn ts x .bases
-      bases-are = ap (λ (s : Meant). s .bases) tables
-
-      few : meantIn ts x .bases ≤ length tape
-      unfolding meant
-      few =
-          let h : meantIn ts x .bases ≤ 0 + length (tapeStatement x []) = few-opened (kindsOf ts) (valuesOf ts) (named ts x .found) x (standard n) in
-          rw (t .tape-is) (omega (arith, h))
-
-      shown : Shown (tablesIn ts x) kinds values found means′ opens′ written′
-      shown = record {
-        names = record { bases = under′; found-is = sym ef; means-is = sym means-are };
-        values-are = record { values-is = sym (t .values-are) };
-        kinds-are = record { kinds-is = sym ek };
-        opens-are = record { opens-is = sym (ap (λ (s : Meant). s .opens) tables) };
-        written-are = record { written-is = sym (ap (λ (s : Meant). s .written) tables) };
-      }
-
-      pub settled :
-          (offsets ends′ offsets′ : List ℕ) (N : ℕ) (others ruled placed : Broken) (r : Judged) → length tape + 2 ≤ N → Blank ts offsets
-          → ((f : Tables) → Shown f kinds values found means′ opens′ written′ → ruled ≡ pass (judgeEvent f) (J.beginning others) tape .broken)
-          → layingOf ends′ offsets′ placed ≡ pass (layoutEvent means′ under′) (layingOf (startEnds N) offsets unbroken) tape
-          → r .bases ≡ bases → r .broken ≡ ruled ⊕ placed → Settled ts x means′ under′ opens′ written′ ends′ offsets′ others r
-      unfolding meant isProgram
-      settled offsets ends′ offsets′ N others ruled placed r wide bl ej el eb er =
-          let p = t .program in
-          let d : pass (judgeEvent (tablesIn ts x)) (J.beginning others) tape .broken ≡ others ⊕ rulesOf (tablesIn ts x) x =
-          rw (t .tape-is) (judged-program (kindsOf ts) (tablesIn ts x) x firstToken (t .to) p others) in
-          let f = few in
-          let b = bases-are in
-          let within = inside ts x (t .to) p in
-          let l : LaidAs (meantIn ts x .bases) (meantIn ts x .cells) (layingOf ends′ offsets′ placed) =
-          subst (λ (y : Laying). LaidAs (meantIn ts x .bases) (meantIn ts x .cells) y) (sym (rw (t .tape-is, bl) at el))
-          (layout-of-tree means′ under′ (kindsOf ts) (valuesOf ts) (named ts x .found) x firstToken (t .to) p (standard n) refl (t .to) known means-are N (length ts) within (omega arith)) in
-          record {
-            means-are = means-are;
-            opens-are = ap (λ (s : Meant). s .opens) tables;
-            written-are = ap (λ (s : Meant). s .written) tables;
-            bases-are = eb ∙ b;
-            ends-are = l .ends;
-            offsets-are = l .offsets;
-            broken-is = er ∙ ap₂ (λ (a c : Broken). a ⊕ c) (ej (tablesIn ts x) shown ∙ d) (l .broken);
-          }
-        where
-          known : Known (t .to) (meantIn ts x)
-          known =
-              known-text (kindsOf ts) (valuesOf ts) (named ts x .found) (eventsOf x) [] firstToken (t .to) (standard n) (program-text (kindsOf ts) x firstToken (t .to) (t .program))
-              (let a = length-replicate {A = Meaning} n nothing in let b = long in let c = inside ts x (t .to) (t .program) in omega arith) (known-standard n)

@@ -1,5 +1,6 @@
 -- Laws of the whole translation.
 pub mod Laying
+pub mod Cutting
 pub mod Reading
 pub mod Places
 pub mod Judging
