@@ -3,13 +3,14 @@ use Prim.Native.Nat.{ℕ, zero, suc, _+_, _*_, _/_, _%_, _<_, _≤_}
 use mathlib.Core.Path.{_≡_, refl, sym, ap, ap₂, _∙_, subst}
 use mathlib.Core.Logic.{_⊎_, inl, inr}
 use mathlib.Core.Bool.{Bool, true, false, _&&_}
-use mathlib.Core.List.{List}
+use mathlib.Core.List.{List, [], _∷_}
 use native.Mathlib.Omega.{arith}
 use native.Mathlib.Decide.{decLe}
 use lib.Dec.{T, eqb, ltb, leb, leb→le}
 use lib.ListN.{length, getD}
 use borrow.Author.Tests.{le-leb, leb-true, eqb-true}
 use Rattle.base.specs.Choose.{choose}
+use Rattle.base.specs.Lists.{All}
 use Rattle.base.specs.Numbers.{stored, bytesOf}
 use Rattle.base.proofs.Tests.{by-test, never-true, and-left, and-right}
 use Rattle.base.proofs.Parts.{sets-before, sets-after}
@@ -17,7 +18,7 @@ use Rattle.base.proofs.Numbers.{length-stored, length-bytesOf}
 use Rattle.machine.specs.declared.Fun.{Fun}
 use Rattle.machine.specs.declared.Shift.{Shift}
 use Rattle.machine.specs.Space.{Space, origin, writable}
-use Rattle.machine.specs.Instructions.{Long, appliesTo, multipliesBy, stores, branchesTo, links, shifts, unlistedLong, longKind}
+use Rattle.machine.specs.Instructions.{Long, appliesTo, multipliesBy, stores, branchesTo, links, shifts, unlistedLong, rowOf, halfwordRows, wordRows, shiftRows, longKind}
 use Rattle.machine.specs.Step.{Cpu, Turn, Stepped, stepped, went, halted, moved, address, longBy, step}
 use Rattle.machine.specs.Run.{onward, after, run}
 
@@ -106,32 +107,16 @@ long-keeps link m rx b d c s = untouched
 long-keeps shift m rx b d c s = untouched
 long-keeps none m rx b d c s = untouched
 
+-- of every row of a table, and of what is said further on
+rows-sized : (rows : List (ℕ × Long)) → All (λ x. Sized (x .1)) rows → (op : ℕ) {other : Long} → Sized other → Sized (rowOf rows op other)
+rows-sized [] a op z = z
+rows-sized (x ∷ xs) a op z = sized (eqb op (x .0)) (a .0) (rows-sized xs (a .1) op z)
+
 all-sized : (op : ℕ) → Sized (longKind op)
 all-sized op =
-    sized (eqb op 0x40) two
-    (sized (eqb op 0x45) link
-    (sized (eqb op 0x47) branch
-    (sized (eqb op 0x48) loads
-    (sized (eqb op 0x49) loads
-    (sized (eqb op 0x4A) loads
-    (sized (eqb op 0x4B) loads
-    (sized (eqb op 0x4C) loads
-    (sized (eqb op 0x50) four
-    (sized (eqb op 0x54) loads
-    (sized (eqb op 0x56) loads
-    (sized (eqb op 0x57) loads
-    (sized (eqb op 0x58) loads
-    (sized (eqb op 0x59) loads
-    (sized (eqb op 0x5A) loads
-    (sized (eqb op 0x5B) loads
-    (sized (eqb op 0x5C) product
-    (sized (eqb op 0x5E) loads
-    (sized (eqb op 0x5F) loads
-    (sized (eqb op 0x88) shift
-    (sized (eqb op 0x89) shift
-    (sized (eqb op 0x8A) shift
-    (sized (eqb op 0x8B) shift
-    none))))))))))))))))))))))
+    rows-sized halfwordRows (two, (link, (branch, (loads, (loads, (loads, (loads, (loads, tt)))))))) op
+    (rows-sized wordRows (four, (loads, (loads, (loads, (loads, (loads, (loads, (loads, (product, (loads, (loads, tt))))))))))) op
+    (rows-sized shiftRows (shift, (shift, (shift, (shift, tt)))) op none))
 
 -- a step leaves the length of storage and every byte that is not writable
 pub step-keeps : (m : Space) (c : Cpu) (s : List ℕ) → Keeps m s (step m c s .store)

@@ -1,5 +1,6 @@
 -- The opcodes of document 01, in two steps: where an instruction's operand is, and what is done with it.
 use Prim.Native.Nat.{ℕ}
+use mathlib.Core.List.{List, [], _∷_}
 use lib.Dec.{eqb}
 use Rattle.base.specs.Choose.{choose}
 use Rattle.machine.specs.declared.Fun.{Fun}
@@ -25,48 +26,75 @@ pub data Long : Type 0 where
   shifts : Shift → Long
   unlistedLong : Long
 
+-- an opcode's row in a table, or else what is said of it further on
+abbrev pub rowOf : {A : Type 0} → List (ℕ × A) → ℕ → A → A
+rowOf [] op other = other
+rowOf (x ∷ xs) op other = choose (eqb op (x .0)) (x .1) (rowOf xs op other)
+
+abbrev pub registerRows : List (ℕ × Short)
+registerRows =
+    (0x07, branches)
+    ∷ (0x0A, ends)
+    ∷ (0x10, applies Positive)
+    ∷ (0x11, applies Negative)
+    ∷ (0x13, applies Complement)
+    ∷ (0x14, applies And)
+    ∷ (0x16, applies Or)
+    ∷ (0x17, applies ExclusiveOr)
+    ∷ (0x18, applies Load)
+    ∷ (0x19, applies Compare)
+    ∷ (0x1A, applies Add)
+    ∷ (0x1B, applies Subtract)
+    ∷ (0x1C, multiplies)
+    ∷ (0x1E, applies AddLogical)
+    ∷ (0x1F, applies SubtractLogical)
+    ∷ []
+
 abbrev pub shortKind : ℕ → Short
-shortKind op =
-    choose (eqb op 0x07) branches
-    (choose (eqb op 0x0A) ends
-    (choose (eqb op 0x10) (applies Positive)
-    (choose (eqb op 0x11) (applies Negative)
-    (choose (eqb op 0x13) (applies Complement)
-    (choose (eqb op 0x14) (applies And)
-    (choose (eqb op 0x16) (applies Or)
-    (choose (eqb op 0x17) (applies ExclusiveOr)
-    (choose (eqb op 0x18) (applies Load)
-    (choose (eqb op 0x19) (applies Compare)
-    (choose (eqb op 0x1A) (applies Add)
-    (choose (eqb op 0x1B) (applies Subtract)
-    (choose (eqb op 0x1C) multiplies
-    (choose (eqb op 0x1E) (applies AddLogical)
-    (choose (eqb op 0x1F) (applies SubtractLogical)
-    unlisted))))))))))))))
+shortKind op = rowOf registerRows op unlisted
+
+-- of two bytes of storage, and the branches
+abbrev pub halfwordRows : List (ℕ × Long)
+halfwordRows =
+    (0x40, stores 2)
+    ∷ (0x45, links)
+    ∷ (0x47, branchesTo)
+    ∷ (0x48, appliesTo 2 Load)
+    ∷ (0x49, appliesTo 2 Compare)
+    ∷ (0x4A, appliesTo 2 Add)
+    ∷ (0x4B, appliesTo 2 Subtract)
+    ∷ (0x4C, appliesTo 2 MultiplyHalf)
+    ∷ []
+
+-- of four bytes of storage
+abbrev pub wordRows : List (ℕ × Long)
+wordRows =
+    (0x50, stores 4)
+    ∷ (0x54, appliesTo 4 And)
+    ∷ (0x56, appliesTo 4 Or)
+    ∷ (0x57, appliesTo 4 ExclusiveOr)
+    ∷ (0x58, appliesTo 4 Load)
+    ∷ (0x59, appliesTo 4 Compare)
+    ∷ (0x5A, appliesTo 4 Add)
+    ∷ (0x5B, appliesTo 4 Subtract)
+    ∷ (0x5C, multipliesBy)
+    ∷ (0x5E, appliesTo 4 AddLogical)
+    ∷ (0x5F, appliesTo 4 SubtractLogical)
+    ∷ []
+
+abbrev pub shiftRows : List (ℕ × Long)
+shiftRows =
+    (0x88, shifts RightLogical)
+    ∷ (0x89, shifts LeftLogical)
+    ∷ (0x8A, shifts Right)
+    ∷ (0x8B, shifts Left)
+    ∷ []
+
+abbrev pub shiftKind : ℕ → Long
+shiftKind op = rowOf shiftRows op unlistedLong
+
+abbrev pub wordKind : ℕ → Long
+wordKind op = rowOf wordRows op (shiftKind op)
 
 abbrev pub longKind : ℕ → Long
-longKind op =
-    choose (eqb op 0x40) (stores 2)
-    (choose (eqb op 0x45) links
-    (choose (eqb op 0x47) branchesTo
-    (choose (eqb op 0x48) (appliesTo 2 Load)
-    (choose (eqb op 0x49) (appliesTo 2 Compare)
-    (choose (eqb op 0x4A) (appliesTo 2 Add)
-    (choose (eqb op 0x4B) (appliesTo 2 Subtract)
-    (choose (eqb op 0x4C) (appliesTo 2 MultiplyHalf)
-    (choose (eqb op 0x50) (stores 4)
-    (choose (eqb op 0x54) (appliesTo 4 And)
-    (choose (eqb op 0x56) (appliesTo 4 Or)
-    (choose (eqb op 0x57) (appliesTo 4 ExclusiveOr)
-    (choose (eqb op 0x58) (appliesTo 4 Load)
-    (choose (eqb op 0x59) (appliesTo 4 Compare)
-    (choose (eqb op 0x5A) (appliesTo 4 Add)
-    (choose (eqb op 0x5B) (appliesTo 4 Subtract)
-    (choose (eqb op 0x5C) multipliesBy
-    (choose (eqb op 0x5E) (appliesTo 4 AddLogical)
-    (choose (eqb op 0x5F) (appliesTo 4 SubtractLogical)
-    (choose (eqb op 0x88) (shifts RightLogical)
-    (choose (eqb op 0x89) (shifts LeftLogical)
-    (choose (eqb op 0x8A) (shifts Right)
-    (choose (eqb op 0x8B) (shifts Left)
-    unlistedLong))))))))))))))))))))))
+longKind op = rowOf halfwordRows op (wordKind op)

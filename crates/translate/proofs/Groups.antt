@@ -28,11 +28,12 @@ use Rattle.kinds.specs.Kinds.{rulesOf}
 use Rattle.translator.specs.Layout.{layout, placeCells}
 use Rattle.translator.specs.Translate as T
 use Rattle.translator.specs.Translate.{kindsOf, valuesOf, named, labelled, make, finish, judgeBy, judge, afterTokens, inRoom, translated, translate}
+use Rattle.translator.proofs.Answers.{read-grammar}
 use Rattle.translator.proofs.Tables.{length-map}
 use Rattle.translator.proofs.Tokens.{small-text, text-length}
 use Rattle.parse.specs.Programs.{Told, toldOf, Parsed}
 use Rattle.parse.proofs.Texts.{tokens-small}
-use Rattle.phrases.specs.declared.tokens.Answer as P
+use Rattle.readers.specs.declared.tokens.Answer as P
 use Rattle.made.specs.Making.{madeAlong}
 use Rattle.made.proofs.Defined.{made-as-defined}
 use Rattle.translate.specs.declared.Answer.{Answer}
@@ -43,6 +44,7 @@ use Rattle.translate.specs.Texts.{allTokens, placesOf, ButValues, Fronte
 use Rattle.translate.proofs.Reading.{all-read, count-is}
 use Rattle.translate.proofs.Cutting.{wide-take, wide-zeros, thin-take, thin-zeros}
 use Rattle.translate.proofs.Judging.{program-front}
+use Rattle.translate.proofs.Theorems.{outcome-parts, defined-parts}
 
 -- ── "6 to 13", then 14, 15, 16 ──
 
@@ -152,11 +154,11 @@ module _ (src kinds values : List ℕ) (answer : Tokens) (d : Fronted src kinds 
       → Gives (translate src (length out)) out out′ a
   unfolding translate translated
   text-read n e w b out out′ a v bs g =
-      rw (all-read src answer (d .is) n e) (rw (d .kinds-are n e) at (g (d .kinds-are n e) (v ∙ d .values-are n e) (small-text src) bs))
+      rw (all-read src answer (d .is) n e, read-grammar (allTokens src)) (rw (d .kinds-are n e) at (g (d .kinds-are n e) (v ∙ d .values-are n e) (small-text src) bs))
 
 -- number, place, length and buffer in one
 pub as-one : {a : T.Answer} {before after : List ℕ} {r : Answer} → Gives a before after r → outcome r after ≡ defined a before
-as-one g = rw (g .number-is, g .place-is, g .length-is, g .buffer-is)
+as-one {a} {before} {after} {r} g = outcome-parts r after ∙ (rw (g .number-is, g .place-is, g .length-is, g .buffer-is) (sym (defined-parts a before)))
 
 -- "1: source over 32,768 bytes … 32,768"
 pub too-long : (src out : List ℕ) → TEXT-LIMIT < length src → Gives (translate src (length out)) out out (Refused 1 TEXT-LIMIT)

@@ -6,7 +6,7 @@ ghost use Prim.Native.Nat.{ℕ, _+_, _*_, _≤_, _<_, min};
 ghost use lib.ListN.{length, getD};
 ghost use lib.Seq.{sets};
 ghost use Rattle.token.specs.declared.Token.{Token};
-ghost use Rattle.token.specs.Text.{isLast, tokensOf};
+ghost use Rattle.token.specs.Text.{tokensOf};
 ghost use Rattle.grammar.specs.Tree.{Statement};
 ghost use Rattle.grammar.specs.Grammar.{program};
 ghost use Rattle.names.specs.Search.{inFront, firstToken};
@@ -28,6 +28,7 @@ use names::Broken;
 use names::join;
 use token::Next;
 use token::Tokens;
+use token_lists::is_last;
 
 // The bytes written; or a refusal's number and place.
 pub enum Answer {
@@ -80,12 +81,6 @@ fn put_front(kinds: &mut [u8], wide: &mut [u64])
     }
 }
 
-fn is_last(kind: u8) -> bool
-    ensures { λ r. ⌜ r ≡ isLast kind ⌝ }
-{
-    (kind == token::kinds::AT) | (kind == token::kinds::END_OF_TEXT)
-}
-
 // The text's own tokens, one after the other as far as a refusal.
 fn lay_tokens(src: &[u8], kinds: &mut [u8], wide: &mut [u64]) -> Tokens
     requires { ⌜ (length (now src) ≤ 32768) × (length (now src) + 18 ≤ length (now kinds)) ⌝ }
@@ -94,7 +89,7 @@ fn lay_tokens(src: &[u8], kinds: &mut [u8], wide: &mut [u64]) -> Tokens
     let mut at: usize = 0;
     let mut n: usize = 0;
     loop {
-        let next = token::next_token(&src[at..]);
+        let next = scanner::next_token(&src[at..]);
         match next {
             Next::Token(t, end) => {
                 let kind = t.kind;
@@ -299,7 +294,7 @@ fn place_in(src: &[u8], wanted: usize) -> usize
     let mut at: usize = 0;
     let mut n: usize = 0;
     loop {
-        let next = token::next_token(&src[at..]);
+        let next = scanner::next_token(&src[at..]);
         match next {
             Next::Token(t, end) => {
                 let kind = t.kind;
