@@ -42,7 +42,7 @@ use Rattle.translate.specs.declared.Judged.{Judged}
 use Rattle.translate.specs.Answers.{Gives, outcome, defined}
 use Rattle.translate.specs.Texts.{allTokens, placesOf, ButValues, Fronted, Small, Text, Blanks, Bound, meantIn, tablesIn, Settled, Stays, Zeros, Lent, Rooms}
 use Rattle.translate.proofs.Reading.{all-read, count-is}
-use Rattle.translate.proofs.Cutting.{wide-take, wide-zeros, thin-take, thin-zeros}
+use Rattle.ledger.proofs.Cutting.{wide-take, wide-zeros, thin-take, thin-zeros}
 use Rattle.translate.proofs.Judging.{program-front}
 use Rattle.translate.proofs.Theorems.{outcome-parts, defined-parts}
 
@@ -201,8 +201,8 @@ module _ (src : List ℕ) (answer : Tokens) (is : summaryOf answer ≡ summed (t
   }
 
 -- there are as many rows as tokens
-pub rows-are : (ts : List Token) (kinds wide thin : List ℕ) → kinds ≡ kindsOf ts → Lent (length kinds) wide thin → length thin / 4 ≡ length ts
-rows-are ts kinds wide thin ek l = let e = ap length ek ∙ length-map (λ (t : Token). t .kind) ts in omega (arith, l .thin-long)
+pub rows-are : (ts : List Token) (kinds wide thin : List ℕ) → kinds ≡ kindsOf ts → Lent (length kinds) wide thin → (length wide / 4 ≡ length ts) × (length thin / 4 ≡ length ts)
+rows-are ts kinds wide thin ek l = let e = ap length ek ∙ length-map (λ (t : Token). t .kind) ts in (omega (arith, l .wide-long), omega (arith, l .thin-long))
 
 -- what is lent, cut to so many tokens
 pub cut-lent :

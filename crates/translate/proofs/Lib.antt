@@ -1,6 +1,5 @@
 -- Laws of the whole translation.
 pub mod Laying
-pub mod Cutting
 pub mod Reading
 pub mod Places
 pub mod Judging

@@ -2,7 +2,7 @@
 // refusal is decided.
 ghost use mathlib.Core.Path.{_≡_};
 ghost use mathlib.Core.List.{List};
-ghost use Prim.Native.Nat.{ℕ, _+_, _*_, _≤_, _<_, min};
+ghost use Prim.Native.Nat.{ℕ, _+_, _*_, _/_, _≤_, _<_};
 ghost use lib.ListN.{length, getD};
 ghost use lib.Seq.{sets};
 ghost use Rattle.token.specs.declared.Token.{Token};
@@ -149,18 +149,19 @@ fn end_of(thin: &[u16], k: usize) -> usize
     SEGMENT_LIMIT
 }
 
-// "BEGIN, IF, WHILE, FOR or PROCEDURE inside 64 such constructs": so many blocks, or procedures, stand one inside the other at most.
-const NESTING: usize = 66;
+// "BEGIN, IF, WHILE, FOR or PROCEDURE inside 64 such constructs": so many blocks, or procedures, are open at most.
+const NESTING: usize = 64;
 
 // What is settled along the tape.
 fn settle(tape: &[u32], kinds: &[u8], wide: &mut [u64], thin: &mut [u16], others: Broken) -> Judged
-    requires { ⌜ Nested 64 0 0 (now tape) × (length (now tape) < 65534) × (4 * (length (now tape) + 2) ≤ length (now wide)) ⌝ }
-    ensures { λ r. ⌜ Ended (thinOf (now (thin .exit)) .written) r × Stays (wideOf (now (wide .entry))) (wideOf (now (wide .exit))) (thinOf (now (thin .entry))) (thinOf (now (thin .exit))) × ((ts : List Token) (x : Statement) → Text ts x (wideOf (now (wide .entry)) .values) (now (tape .entry)) → now (kinds .entry) ≡ kindsOf ts → thinOf (now (thin .entry)) .found ≡ named ts x .found → Blank ts (wideOf (now (wide .entry)) .means) → Blank ts (thinOf (now (thin .entry)) .opens) → Blank ts (thinOf (now (thin .entry)) .written) → Settled ts x (wideOf (now (wide .exit))) (thinOf (now (thin .exit))) others r) ⌝ }
+    requires { ⌜ Nested 64 0 0 (now tape) × (length (now tape) < 65534) × (4 * (length (now tape) + 2) ≤ length (now wide)) × (4 * (length (now tape) + 2) ≤ length (now thin)) ⌝ }
+    ensures { λ r. ⌜ Ended (thinOf (now (thin .exit)) .written) r × Stays (wideOf (now (wide .entry))) (wideOf (now (wide .exit))) (thinOf (now (thin .entry))) (thinOf (now (thin .exit))) × ((ts : List Token) (x : Statement) → Text ts x (wideOf (now (wide .entry)) .values) (now (tape .entry)) → now (kinds .entry) ≡ kindsOf ts → thinOf (now (thin .entry)) .found ≡ named ts x .found → Blank ts (wideOf (now (wide .entry)) .means) → Blank ts (thinOf (now (thin .entry)) .opens) → Blank ts (thinOf (now (thin .entry)) .written) → length (now (wide .entry)) / 4 ≡ length ts → Settled ts x (wideOf (now (wide .exit))) (thinOf (now (thin .exit))) others r) ⌝ }
 {
-    let mut owners = [0u64; NESTING];
-    let mut outer = [0u64; NESTING];
+    let mut owners = [0u64; NESTING + 1];
+    let mut outer = [0u64; NESTING + 1];
+    let mut counts = [0u64; NESTING];
     let bases = meanings::meanings(tape, kinds, wide, thin, &mut owners, &mut outer);
-    let ruled = judge::judge(tape, kinds, wide, thin, &mut outer, others);
+    let ruled = judge::judge(tape, kinds, wide, thin, &mut counts, others);
     clear_offsets(wide);
     let placed = layout::layout(tape, wide, thin);
     Judged {

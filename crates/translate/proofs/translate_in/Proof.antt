@@ -2,7 +2,7 @@
 use Rattle.translate.proofs.Groups.{text-refused, some-room, cut-blanks, text-read, cut-lent}
 use Rattle.translate.proofs.Reading.{all-read, few-read}
 use Rattle.translate.proofs.Delivering.{cut-long}
-use Rattle.translate.proofs.Cutting.{wide-take}
+use Rattle.ledger.proofs.Cutting.{wide-take}
 use Rattle.ledger.specs.Book.{wideOf, thinOf}
 use lib.Seq.{length-front}
 use mathlib.Core.Path.{refl, sym, _∙_}
