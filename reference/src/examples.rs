@@ -1,6 +1,7 @@
 //! The examples in `examples/`: what they are answered, run and show, in the plain form in which the results are stored beside them.
 
 use crate::grammar::{program, Block, Declaration, Item, Statement};
+use crate::help;
 use crate::layout::{layout, Place};
 use crate::machine::origin;
 use crate::manual;
@@ -269,6 +270,9 @@ fn run_vectors(dir: &Path, entries: &[Entry], manual: &[manual::Told]) -> io::Re
 pub fn files(dir: &Path) -> io::Result<Vec<(String, Vec<u8>)>> {
     let entries = entries(&std::fs::read_to_string(dir.join("refusals.data"))?).map_err(broken)?;
     let mut files = vec![("../docs/REFUSALS.md".to_string(), page(&entries).into_bytes())];
+    let usage = std::fs::read_to_string(dir.join("../command/usage"))?;
+    files.push(("../crates/helping/specs/Pages.antt".to_string(), help::definition(&entries, &usage).into_bytes()));
+    files.push(("../crates/helping/src/pages.rt".to_string(), help::code(&entries, &usage).into_bytes()));
     for entry in &entries {
         for (gets, example) in [(true, &entry.gets), (false, &entry.not)] {
             files.push((format!("refusals/{}", entry.file(gets)), example.text()));

@@ -34,7 +34,7 @@ fn told(read: Tokens, place: &mut usize, count: &mut usize) -> u64
     }
 }
 
-// `token::tokens_of`.
+// `token_lists::tokens_of`.
 #[no_mangle]
 pub extern "C" fn tautgaff_tokens(
     text: &[u8],
@@ -46,11 +46,11 @@ pub extern "C" fn tautgaff_tokens(
 ) -> u64
     ensures { λ r. ⌜ ((t : Tokens) × ((summaryOf t ≡ summary r (now (place .exit)) (now (count .exit))) × Laid (tokensInto (room (now (kinds .entry)) (now (values .entry)) (now (places .entry))) (now (text .entry))) (now (kinds .entry)) (now (values .entry)) (now (places .entry)) (now (kinds .exit)) (now (values .exit)) (now (places .exit)) t)) ⌝ }
 {
-    let read = token::tokens_of(text, kinds, values, places);
+    let read = token_lists::tokens_of(text, kinds, values, places);
     told(read, place, count)
 }
 
-// `token::read_tokens`.
+// `token_lists::read_tokens`.
 #[no_mangle]
 pub extern "C" fn tautgaff_read_tokens(
     text: &[u8],
@@ -62,7 +62,7 @@ pub extern "C" fn tautgaff_read_tokens(
 ) -> u64
     ensures { λ r. ⌜ ((t : Tokens) × ((summaryOf t ≡ summary r (now (place .exit)) (now (count .exit))) × Laid (readInto (room (now (kinds .entry)) (now (values .entry)) (now (places .entry))) (now (text .entry))) (now (kinds .entry)) (now (values .entry)) (now (places .entry)) (now (kinds .exit)) (now (values .exit)) (now (places .exit)) t)) ⌝ }
 {
-    let read = token::read_tokens(text, kinds, values, places);
+    let read = token_lists::read_tokens(text, kinds, values, places);
     told(read, place, count)
 }
 

@@ -1,10 +1,11 @@
 // Document 01, "Runner": one instruction, from its bytes. Every opcode has an arm of its own that calls a shared function with a constant.
 ghost use mathlib.Core.Path.{_≡_};
+ghost use mathlib.Core.List.{List};
 ghost use Prim.Native.Nat.{ℕ, _+_, _*_, _/_, _%_, _<_, _≤_};
 ghost use lib.ListN.{length};
-ghost use Rattle.machine.specs.Space.{room, needed, spaceBy};
+ghost use Rattle.machine.specs.Space.{room, needed, Space, spaceBy};
 ghost use Rattle.machine.specs.Step.{cpu, stepped, shortBy, longBy, step as stepOf};
-ghost use Rattle.machine.specs.Instructions.{shortKind, longKind};
+ghost use Rattle.machine.specs.Instructions.{shortKind, shiftKind, wordKind, longKind};
 ghost use Rattle.machine.specs.Lent.{turn};
 use machine::Fun;
 use machine::Next;
@@ -63,6 +64,57 @@ fn displacement(bd: u8, d: u8) -> usize
     (bd % 16) as usize * 256 + (d as usize)
 }
 
+fn shift(op: u8, rx: u8, b: usize, d: usize, regs: &mut [u32; 16], code: u64, at: u32) -> Next
+    requires { ⌜ (b < 16) × (d < 4096) × (at < 2 * room) ⌝ }
+    ensures { λ q. ⌜ ((m : Space) (s : List ℕ) → stepped (turn q (now (regs .exit))) s ≡ longBy (shiftKind op) m rx b d (cpu (now (regs .entry)) code at) s) ⌝ }
+{
+    let r = (rx / 16) as usize;
+    match op {
+        0x88 => shift_step(Shift::RightLogical, regs, r, b, d, code, at),
+        0x89 => shift_step(Shift::LeftLogical, regs, r, b, d, code, at),
+        0x8A => shift_step(Shift::Right, regs, r, b, d, code, at),
+        0x8B => shift_step(Shift::Left, regs, r, b, d, code, at),
+        _ => halt(4, code, at),
+    }
+}
+
+// What takes four bytes of storage, or a shift.
+fn word(
+    op: u8,
+    rx: u8,
+    b: usize,
+    d: usize,
+    end: &[usize; PAGES],
+    from: &[usize; PAGES],
+    to: &[usize; PAGES],
+    regs: &mut [u32; 16],
+    s: &mut [u8],
+    code: u64,
+    at: u32,
+) -> Next
+    requires { ⌜ (b < 16) × (d < 4096) × (at < 2 * room) × (needed ≤ length (now s)) ⌝ }
+    ensures { λ q. ⌜ ((p : ℕ) → stepped (turn q (now (regs .exit))) (now (s .exit)) ≡ longBy (wordKind op) (spaceBy p (now (end .entry)) (now (from .entry)) (now (to .entry))) rx b d (cpu (now (regs .entry)) code at) (now (s .entry))) ⌝ }
+{
+    let r = (rx / 16) as usize;
+    let x = (rx % 16) as usize;
+    let a = address(regs, x, b, d);
+    match op {
+        0x50 => store_step(4, regs, r, a, from, to, s, code, at),
+        0x54 => load_step(Fun::And, 4, regs, r, a, end, s, code, at),
+        0x56 => load_step(Fun::Or, 4, regs, r, a, end, s, code, at),
+        0x57 => load_step(Fun::ExclusiveOr, 4, regs, r, a, end, s, code, at),
+        0x58 => load_step(Fun::Load, 4, regs, r, a, end, s, code, at),
+        0x59 => load_step(Fun::Compare, 4, regs, r, a, end, s, code, at),
+        0x5A => load_step(Fun::Add, 4, regs, r, a, end, s, code, at),
+        0x5B => load_step(Fun::Subtract, 4, regs, r, a, end, s, code, at),
+        0x5C => multiply_word_step(regs, r, a, end, s, code, at),
+        0x5E => load_step(Fun::AddLogical, 4, regs, r, a, end, s, code, at),
+        0x5F => load_step(Fun::SubtractLogical, 4, regs, r, a, end, s, code, at),
+        _ => shift(op, rx, b, d, regs, code, at),
+    }
+}
+
+// What takes two bytes of storage, branches, or another of four bytes.
 fn long(
     op: u8,
     rx: u8,
@@ -81,171 +133,17 @@ fn long(
 {
     let r = (rx / 16) as usize;
     let x = (rx % 16) as usize;
+    let a = address(regs, x, b, d);
     match op {
-        0x40 => store_step(2, regs, r, address(regs, x, b, d), from, to, s, code, at),
-        0x45 => link_step(regs, r, address(regs, x, b, d), code, at),
+        0x40 => store_step(2, regs, r, a, from, to, s, code, at),
+        0x45 => link_step(regs, r, a, code, at),
         0x47 => branch_step(regs, r, x, b, d, code, at),
-        0x48 => load_step(
-            Fun::Load,
-            2,
-            regs,
-            r,
-            address(regs, x, b, d),
-            end,
-            s,
-            code,
-            at,
-        ),
-        0x49 => load_step(
-            Fun::Compare,
-            2,
-            regs,
-            r,
-            address(regs, x, b, d),
-            end,
-            s,
-            code,
-            at,
-        ),
-        0x4A => load_step(
-            Fun::Add,
-            2,
-            regs,
-            r,
-            address(regs, x, b, d),
-            end,
-            s,
-            code,
-            at,
-        ),
-        0x4B => load_step(
-            Fun::Subtract,
-            2,
-            regs,
-            r,
-            address(regs, x, b, d),
-            end,
-            s,
-            code,
-            at,
-        ),
-        0x4C => load_step(
-            Fun::MultiplyHalf,
-            2,
-            regs,
-            r,
-            address(regs, x, b, d),
-            end,
-            s,
-            code,
-            at,
-        ),
-        0x50 => store_step(4, regs, r, address(regs, x, b, d), from, to, s, code, at),
-        0x54 => load_step(
-            Fun::And,
-            4,
-            regs,
-            r,
-            address(regs, x, b, d),
-            end,
-            s,
-            code,
-            at,
-        ),
-        0x56 => load_step(
-            Fun::Or,
-            4,
-            regs,
-            r,
-            address(regs, x, b, d),
-            end,
-            s,
-            code,
-            at,
-        ),
-        0x57 => load_step(
-            Fun::ExclusiveOr,
-            4,
-            regs,
-            r,
-            address(regs, x, b, d),
-            end,
-            s,
-            code,
-            at,
-        ),
-        0x58 => load_step(
-            Fun::Load,
-            4,
-            regs,
-            r,
-            address(regs, x, b, d),
-            end,
-            s,
-            code,
-            at,
-        ),
-        0x59 => load_step(
-            Fun::Compare,
-            4,
-            regs,
-            r,
-            address(regs, x, b, d),
-            end,
-            s,
-            code,
-            at,
-        ),
-        0x5A => load_step(
-            Fun::Add,
-            4,
-            regs,
-            r,
-            address(regs, x, b, d),
-            end,
-            s,
-            code,
-            at,
-        ),
-        0x5B => load_step(
-            Fun::Subtract,
-            4,
-            regs,
-            r,
-            address(regs, x, b, d),
-            end,
-            s,
-            code,
-            at,
-        ),
-        0x5C => multiply_word_step(regs, r, address(regs, x, b, d), end, s, code, at),
-        0x5E => load_step(
-            Fun::AddLogical,
-            4,
-            regs,
-            r,
-            address(regs, x, b, d),
-            end,
-            s,
-            code,
-            at,
-        ),
-        0x5F => load_step(
-            Fun::SubtractLogical,
-            4,
-            regs,
-            r,
-            address(regs, x, b, d),
-            end,
-            s,
-            code,
-            at,
-        ),
-        0x88 => shift_step(Shift::RightLogical, regs, r, b, d, code, at),
-        0x89 => shift_step(Shift::LeftLogical, regs, r, b, d, code, at),
-        0x8A => shift_step(Shift::Right, regs, r, b, d, code, at),
-        0x8B => shift_step(Shift::Left, regs, r, b, d, code, at),
-        _ => halt(4, code, at),
+        0x48 => load_step(Fun::Load, 2, regs, r, a, end, s, code, at),
+        0x49 => load_step(Fun::Compare, 2, regs, r, a, end, s, code, at),
+        0x4A => load_step(Fun::Add, 2, regs, r, a, end, s, code, at),
+        0x4B => load_step(Fun::Subtract, 2, regs, r, a, end, s, code, at),
+        0x4C => load_step(Fun::MultiplyHalf, 2, regs, r, a, end, s, code, at),
+        _ => word(op, rx, b, d, end, from, to, regs, s, code, at),
     }
 }
 

@@ -18,7 +18,7 @@ use Rattle.base.proofs.Numbers.{length-stored, length-bytesOf}
 use Rattle.machine.specs.declared.Fun.{Fun}
 use Rattle.machine.specs.declared.Shift.{Shift}
 use Rattle.machine.specs.Space.{Space, origin, writable}
-use Rattle.machine.specs.Instructions.{Long, appliesTo, multipliesBy, stores, branchesTo, links, shifts, unlistedLong, longTable, listed, longKind}
+use Rattle.machine.specs.Instructions.{Long, appliesTo, multipliesBy, stores, branchesTo, links, shifts, unlistedLong, rowOf, halfwordRows, wordRows, shiftRows, longKind}
 use Rattle.machine.specs.Step.{Cpu, Turn, Stepped, stepped, went, halted, moved, address, longBy, step}
 use Rattle.machine.specs.Run.{onward, after, run}
 
@@ -37,6 +37,10 @@ data Sized : Long → Type 0 where
   link : Sized links
   shift : {f : Shift} → Sized (shifts f)
   none : Sized unlistedLong
+
+sized : (t : Bool) {a b : Long} → Sized a → Sized b → Sized (choose t a b)
+sized true p q = p
+sized false p q = q
 
 -- a byte of an aligned operand that is writable is writable
 module _ (m : Space) (w n a : ℕ) (z : (n ≡ 2) ⊎ (n ≡ 4)) (e : w % n ≡ 0) (h : w ≤ a) (l : a < w + n) where
@@ -103,15 +107,16 @@ long-keeps link m rx b d c s = untouched
 long-keeps shift m rx b d c s = untouched
 long-keeps none m rx b d c s = untouched
 
--- what holds of all that a table has, and of what stands for the rest, holds of each opcode's
-listed-all : {A : Type 0} (P : A → Type 0) (rows : List (ℕ × A)) (other : A) (op : ℕ) → All (λ (r : ℕ × A). P (r .1)) rows → P other → P (listed rows other op)
-listed-all P [] other op h o = o
-listed-all P (r ∷ rs) other op (h, hs) o = by-test P (eqb op (r .0)) (r .1) (listed rs other op) (λ e. h) (λ e. listed-all P rs other op hs o)
+-- of every row of a table, and of what is said further on
+rows-sized : (rows : List (ℕ × Long)) → All (λ x. Sized (x .1)) rows → (op : ℕ) {other : Long} → Sized other → Sized (rowOf rows op other)
+rows-sized [] a op z = z
+rows-sized (x ∷ xs) a op z = sized (eqb op (x .0)) (a .0) (rows-sized xs (a .1) op z)
 
 all-sized : (op : ℕ) → Sized (longKind op)
-all-sized op = listed-all Sized longTable unlistedLong op
-    (loads, (loads, (loads, (loads, (loads, (loads, (product, (loads, (loads, (loads, (loads, (loads, (loads, (loads, (loads, (four, (two, (shift, (shift, (shift, (shift, (branch, (link, tt)))))))))))))))))))))))
-    none
+all-sized op =
+    rows-sized halfwordRows (two, (link, (branch, (loads, (loads, (loads, (loads, (loads, tt)))))))) op
+    (rows-sized wordRows (four, (loads, (loads, (loads, (loads, (loads, (loads, (loads, (product, (loads, (loads, tt))))))))))) op
+    (rows-sized shiftRows (shift, (shift, (shift, (shift, tt)))) op none))
 
 -- a step leaves the length of storage and every byte that is not writable
 pub step-keeps : (m : Space) (c : Cpu) (s : List ℕ) → Keeps m s (step m c s .store)

@@ -1,4 +1,4 @@
-pub mod Rules
+pub mod Answers
 pub mod Texts
 pub mod Cases
 pub mod Theorems

@@ -11,7 +11,7 @@ use Rattle.grammar.specs.Reader.{Result, ok, bad}
 use Rattle.grammar.specs.Grammar as G
 use Rattle.tape.specs.Tape.{tapeStatement}
 use Rattle.parse.specs.declared.Verdict.{Verdict}
-use Rattle.phrases.specs.declared.tokens.Answer.{Answer}
+use Rattle.readers.specs.declared.tokens.Answer.{Answer}
 use Rattle.parse.specs.declared.Verdict.the-variants as S
 
 -- number, token and events: 0, the token after the program and the tape of its tree; or the refusal

@@ -7,14 +7,13 @@ ghost use Rattle.token.specs.Text.{TEXT-LIMIT};
 ghost use Rattle.tape.specs.Events.{TOKEN-LIMIT};
 ghost use Rattle.grammar.specs.Grammar as G;
 ghost use Rattle.parse.specs.Programs.{Parsed, judgedBy, judged, verdictOf};
-use phrases::tokens::Answer;
-use phrases::tokens::kind_at;
-use phrases::tokens::read;
-use phrases::tokens::refused;
-use phrases::tokens::wanted;
+use readers::tokens::Answer;
+use readers::tokens::kind_at;
+use readers::tokens::read;
+use readers::tokens::refused;
+use readers::tokens::wanted;
+use statements::statement;
 use token::kinds;
-
-pub mod statements;
 
 // "inside 64 such constructs"
 const NESTING: usize = 64;
@@ -27,7 +26,7 @@ pub fn program(kinds: &[u8], first: usize, tape: &mut [u32]) -> Answer
     if kind_at(kinds, first) != kinds::BEGIN {
         return refused(4, first);
     }
-    let b = statements::statement(kinds, first, NESTING, tape, 0);
+    let b = statement(kinds, first, NESTING, tape, 0);
     if b.number != 0 {
         return refused(b.number, b.at);
     }
@@ -84,7 +83,7 @@ fn judge_text(
     requires { ⌜ (length (now src) < length (now kinds)) × ((length (now src) < length (now values)) × ((length (now src) < length (now places)) × (length (now src) < length (now tape)))) ⌝ }
     ensures { λ r. ⌜ verdictOf r ≡ judged (now (src .entry)) ⌝ }
 {
-    let read = token::read_tokens(src, kinds, values, places);
+    let read = token_lists::read_tokens(src, kinds, values, places);
     match read {
         token::Tokens::Read(n) => judge(kinds, places, n, tape),
         token::Tokens::TooLong => Verdict::TooLong,

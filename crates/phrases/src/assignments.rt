@@ -1,21 +1,23 @@
 // "designator", "operand", "condition", "assignment".
-use crate::events::write;
-use crate::tokens::Answer;
-use crate::tokens::in_parens;
-use crate::tokens::kind_at;
-use crate::tokens::read;
-use crate::tokens::refused;
-use crate::tokens::wanted;
+use readers::classes::begins_condition;
+use readers::classes::is_operator;
+use readers::classes::is_relation;
+use readers::events::write;
+use readers::tokens::Answer;
+use readers::tokens::in_parens;
+use readers::tokens::kind_at;
+use readers::tokens::read;
+use readers::tokens::refused;
+use readers::tokens::wanted;
 ghost use mathlib.Core.Path.{_≡_};
 ghost use mathlib.Core.List.{[], _∷_};
 ghost use Prim.Native.Nat.{_+_, _≤_, _<_};
 ghost use lib.ListN.{length};
-ghost use Rattle.base.specs.Lists.{member};
 ghost use Rattle.token.specs.Kinds as K;
 ghost use Rattle.grammar.specs.Reader.{wantOne};
 ghost use Rattle.grammar.specs.Grammar as G;
 ghost use Rattle.tape.specs.Tape.{tapeDesignator, tapeOperand, tapeCondition, tapeTerm, tapeEach, tapeSign, tapeAssignment};
-ghost use Rattle.phrases.specs.Reads.{Took, Designated, Ready, Wrote};
+ghost use Rattle.readers.specs.Reads.{Took, Designated, Ready, Wrote};
 use token::kinds;
 
 fn number_or_name(kinds: &[u8], i: usize) -> Answer
@@ -92,18 +94,6 @@ pub fn operand(kinds: &[u8], i: usize, op: u32, tape: &mut [u32], p: usize) -> A
     refused(4, i)
 }
 
-fn is_relation(k: u8) -> bool
-    ensures { λ r. ⌜ r ≡ member k G.relations ⌝ }
-{
-    ((kinds::AT_MOST <= k) & (k <= kinds::UNEQUAL)) | ((kinds::EQUAL <= k) & (k <= kinds::MORE))
-}
-
-fn begins_condition(k: u8) -> bool
-    ensures { λ r. ⌜ r ≡ member k (K.NAME ∷ K.OVERFLOW ∷ G.relations) ⌝ }
-{
-    (k == kinds::NAME) | ((k == kinds::OVERFLOW) | is_relation(k))
-}
-
 pub fn condition(kinds: &[u8], i: usize, tape: &mut [u32], p: usize) -> Answer
     requires { ⌜ Ready (now kinds) (now tape) i p ⌝ }
     ensures { λ r. ⌜ Wrote tapeCondition (now (kinds .entry)) i p (now (tape .entry)) (now (tape .exit)) r (G.condition (now (kinds .entry)) i) ⌝ }
@@ -121,14 +111,6 @@ pub fn condition(kinds: &[u8], i: usize, tape: &mut [u32], p: usize) -> Answer
         return read(i + 1, p + 1);
     }
     refused(4, i)
-}
-
-fn is_operator(k: u8) -> bool
-    ensures { λ r. ⌜ r ≡ member k G.operators ⌝ }
-{
-    ((kinds::AND <= k) & (k <= kinds::XOR))
-        | ((kinds::SHLL <= k) & (k <= kinds::SHRA))
-        | ((kinds::ADD_LOGICAL <= k) & (k <= kinds::TIMES))
 }
 
 fn terms(kinds: &[u8], i: usize, tape: &mut [u32], p: usize) -> Answer

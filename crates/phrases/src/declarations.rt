@@ -1,16 +1,16 @@
 // "declaration", but for procedures, which hold a statement.
-use crate::events::write;
-use crate::tokens::Answer;
-use crate::tokens::in_parens;
-use crate::tokens::kind_at;
-use crate::tokens::read;
-use crate::tokens::refused;
-use crate::tokens::wanted;
+use readers::events::write;
+use readers::tokens::Answer;
+use readers::tokens::in_parens;
+use readers::tokens::kind_at;
+use readers::tokens::read;
+use readers::tokens::refused;
+use readers::tokens::wanted;
 ghost use Prim.Native.Nat.{_≤_};
 ghost use lib.ListN.{length};
 ghost use Rattle.grammar.specs.Grammar as G;
 ghost use Rattle.tape.specs.Tape.{tapeEach, tapeValue, tapeItem, tapeRegister, tapeDeclaration};
-ghost use Rattle.phrases.specs.Reads.{Typed, Ready, Wrote};
+ghost use Rattle.readers.specs.Reads.{Typed, Ready, Wrote};
 ghost use Rattle.phrases.specs.Parts.{baseOf, arrayOf, typedOf};
 use token::kinds;
 

@@ -2,6 +2,4 @@
 // written out as events on a tape (crate `tape`); what is none is refused, 4, at a token.
 pub mod assignments;
 pub mod declarations;
-pub mod events;
 pub mod simple;
-pub mod tokens;

@@ -2,26 +2,20 @@
 use crate::assignments::assignment;
 use crate::assignments::condition;
 use crate::assignments::operand;
-use crate::events::write;
-use crate::tokens::Answer;
-use crate::tokens::in_parens;
-use crate::tokens::kind_at;
-use crate::tokens::read;
-use crate::tokens::refused;
-use crate::tokens::wanted;
-ghost use mathlib.Core.Path.{_≡_};
-ghost use mathlib.Core.Bool.{not, _&&_};
-ghost use mathlib.Core.List.{[], _∷_};
-ghost use Prim.Native.Nat.{_+_, _≤_, _<_};
-ghost use lib.Dec.{eqb};
-ghost use lib.ListN.{length, getD};
-ghost use Rattle.base.specs.Lists.{member};
-ghost use Rattle.token.specs.Kinds as K;
+use readers::events::write;
+use readers::tokens::Answer;
+use readers::tokens::in_parens;
+use readers::tokens::kind_at;
+use readers::tokens::read;
+use readers::tokens::refused;
+use readers::tokens::wanted;
+ghost use Prim.Native.Nat.{_+_, _<_};
+ghost use lib.ListN.{length};
 ghost use Rattle.grammar.specs.Reader.{refuse};
 ghost use Rattle.grammar.specs.Grammar as G;
 ghost use Rattle.tape.specs.Events as E;
 ghost use Rattle.tape.specs.Tape.{tapeOperand, tapeCondition, tapeAssignment, tapeStatement};
-ghost use Rattle.phrases.specs.Reads.{Ready, Wrote};
+ghost use Rattle.readers.specs.Reads.{Ready, Wrote};
 ghost use Rattle.phrases.specs.Parts.{headOf, controlOf, limitOf, procedureHead, tapeOpening};
 use token::kinds;
 
@@ -142,35 +136,4 @@ pub fn procedure_head(kinds: &[u8], i: usize, tape: &mut [u32], p: usize) -> Ans
     }
     write(tape, p, tape::PROCEDURE, i);
     read(semicolon.at, p + 1)
-}
-
-pub fn opens(k: u8) -> bool
-    ensures { λ r. ⌜ r ≡ member k G.openers ⌝ }
-{
-    (k == kinds::BEGIN) | ((k == kinds::IF) | ((k == kinds::WHILE) | (k == kinds::FOR)))
-}
-
-pub fn declares(k: u8) -> bool
-    ensures { λ r. ⌜ r ≡ member k G.declarators ⌝ }
-{
-    ((kinds::INTEGER <= k) & (k <= kinds::ARRAY)) | (k == kinds::SEGMENT)
-}
-
-// Whether the token at `at` is an ELSE that goes with a true part of the kind k.
-pub fn has_else(kinds: &[u8], at: usize, k: u8) -> bool
-    requires { ⌜ at ≤ length (now kinds) ⌝ }
-    ensures { λ r. ⌜ r ≡ (eqb (getD (now (kinds .entry)) at 0) K.ELSE && not (member k (K.IF ∷ K.WHILE ∷ K.FOR ∷ []))) ⌝ }
-{
-    (kind_at(kinds, at) == kinds::ELSE)
-        & ((k != kinds::IF) & ((k != kinds::WHILE) & (k != kinds::FOR)))
-}
-
-pub fn has_label(kinds: &[u8], at: usize) -> bool
-    requires { ⌜ at ≤ length (now kinds) ⌝ }
-    ensures { λ r. ⌜ r ≡ (eqb (getD (now (kinds .entry)) at 0) K.NAME && eqb (getD (now (kinds .entry)) (at + 1) 0) K.COLON) ⌝ }
-{
-    if kind_at(kinds, at) == kinds::NAME {
-        return kind_at(kinds, at + 1) == kinds::COLON;
-    }
-    false
 }

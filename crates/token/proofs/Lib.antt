@@ -1,9 +1,5 @@
 -- Laws of the definitions of specs/, and worked texts.
 pub mod Cases
-pub mod Spelling
-pub mod Keys
-pub mod Words
-pub mod Signs
 pub mod Sizes
 pub mod Gaps
 pub mod Readings

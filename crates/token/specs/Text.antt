@@ -38,7 +38,7 @@ isHexadecimal b = isDigit b || within (code "A") (code "F") b
 abbrev pub digitOf : ℕ → ℕ
 digitOf b = if isDigit b then b - code "0" else if isCapital b then b - (code "A" - 10) else 36
 
--- the first 10 characters of a name as one number: no two have the same (proofs/Keys.antt, `key-one`)
+-- the first 10 characters of a name as one number: no two have the same (scanner/proofs/Keys, `key-one`)
 abbrev pub keyOf : List ℕ → ℕ
 keyOf name = numberFrom digitOf 36 0 (take 10 name)
 

@@ -29,7 +29,7 @@ use Rattle.translator.proofs.Answers.{read-grammar}
 use Rattle.translator.proofs.Tokens.{small-text, text-length}
 use Rattle.parse.specs.Programs.{Told, toldOf, Parsed}
 use Rattle.parse.proofs.Texts.{tokens-small}
-use Rattle.phrases.specs.declared.tokens.Answer as P
+use Rattle.readers.specs.declared.tokens.Answer as P
 use Rattle.made.specs.Making.{madeAlong}
 use Rattle.made.proofs.Defined.{made-as-defined}
 use Rattle.translate.specs.declared.Answer.{Answer}

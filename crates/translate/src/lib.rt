@@ -81,7 +81,7 @@ fn read(src: &[u8], kinds: &mut [u8], values: &mut [u64], places: &mut [u32]) ->
     ensures { λ r. ⌜ Fronted (now (src .entry)) (now (kinds .exit)) (now (values .exit)) (now (places .exit)) r ⌝ }
 {
     put_front(kinds, values, places);
-    token::read_tokens(
+    token_lists::read_tokens(
         src,
         &mut kinds[FIRST_TOKEN..],
         &mut values[FIRST_TOKEN..],
@@ -402,7 +402,7 @@ fn place_in(src: &[u8], wanted: usize) -> usize
     let mut at: usize = 0;
     let mut n: usize = 0;
     loop {
-        let next = token::next_token(&src[at..]);
+        let next = scanner::next_token(&src[at..]);
         match next {
             Next::Token(t, end) => {
                 let kind = t.kind;

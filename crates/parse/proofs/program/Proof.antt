@@ -6,8 +6,8 @@ use borrow.Author.Needs.{needs}
 use Rattle.base.proofs.Tests.{same, other}
 use Rattle.grammar.specs.Grammar as G
 use Rattle.grammar.specs.Reader.{andThen, look}
-use Rattle.phrases.proofs.Reading.{done, no, stops, halts, goes}
-use Rattle.parse.proofs.Rules.{parsed}
+use Rattle.readers.proofs.Reading.{done, no, stops, halts, goes}
+use Rattle.parse.proofs.Answers.{parsed}
 use Rattle.parse.proofs.program.Statement.{statement}
 use Rattle.parse.proofs.program.Tie as tie
 

@@ -3,7 +3,7 @@ use mathlib.Core.Path.{_∙_}
 use borrow.Author.Needs.{needs}
 use Rattle.grammar.specs.Grammar.{assignmentOf}
 use Rattle.tape.specs.Tape.{tapeAssignment}
-use Rattle.phrases.proofs.Reading.{stops, goes, gives}
+use Rattle.readers.proofs.Reading.{stops, goes, gives}
 use Rattle.phrases.proofs.assignments.assignment.Statement.{statement}
 use Rattle.phrases.proofs.assignments.assignment.Tie as tie
 

@@ -10,8 +10,8 @@ use Rattle.grammar.specs.Grammar.{condition, relations}
 use Rattle.grammar.specs.Tree.{compared}
 use Rattle.grammar.specs.Reader.{andThen, look}
 use Rattle.tape.specs.Tape.{tapeCondition}
-use Rattle.phrases.proofs.Reading.{done, no, since, gives}
-use Rattle.phrases.proofs.Choices.{one-yes, one-no, is-token}
+use Rattle.readers.proofs.Reading.{done, no, since, gives}
+use Rattle.readers.proofs.Choices.{one-yes, one-no, is-token}
 use Rattle.phrases.proofs.assignments.condition.Statement.{statement}
 use Rattle.phrases.proofs.assignments.condition.Tie as tie
 

@@ -6,7 +6,7 @@ use borrow.Author.Needs.{needs}
 use Rattle.base.proofs.Tests.{same, other}
 use Rattle.grammar.specs.Grammar.{designatorOf}
 use Rattle.grammar.specs.Reader.{andThen, look, next}
-use Rattle.phrases.proofs.Reading.{done, since, stops, goes}
+use Rattle.readers.proofs.Reading.{done, since, stops, goes}
 use Rattle.phrases.proofs.assignments.designator.Statement.{statement}
 use Rattle.phrases.proofs.assignments.designator.Tie as tie
 

@@ -5,7 +5,7 @@ use borrow.Author.Tests.{ne-eqb}
 use borrow.Author.Needs.{needs}
 use Rattle.base.proofs.Tests.{same, other}
 use Rattle.grammar.specs.Reader.{wantOne}
-use Rattle.phrases.proofs.Reading.{done, no}
+use Rattle.readers.proofs.Reading.{done, no}
 use Rattle.phrases.proofs.assignments.number_or_name.Statement.{statement}
 use Rattle.phrases.proofs.assignments.number_or_name.Tie as tie
 

@@ -7,7 +7,7 @@ use Rattle.grammar.specs.Grammar.{operand}
 use Rattle.grammar.specs.Tree.{place}
 use Rattle.grammar.specs.Reader.{andThen, look, next, wantOne}
 use Rattle.tape.specs.Tape.{tapeOperand}
-use Rattle.phrases.proofs.Reading.{done, no, gives}
+use Rattle.readers.proofs.Reading.{done, no, gives}
 use Rattle.phrases.proofs.assignments.operand.Statement.{statement}
 use Rattle.phrases.proofs.assignments.operand.Tie as tie
 

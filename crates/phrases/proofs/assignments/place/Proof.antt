@@ -2,7 +2,7 @@
 use native.Mathlib.Omega.{arith}
 use borrow.Author.Needs.{needs}
 use Rattle.tape.specs.Tape.{tapeDesignator}
-use Rattle.phrases.proofs.Reading.{since, refuses, turns}
+use Rattle.readers.proofs.Reading.{since, refuses, turns}
 use Rattle.phrases.proofs.assignments.place.Statement.{statement}
 use Rattle.phrases.proofs.assignments.place.Tie as tie
 

@@ -7,7 +7,7 @@ use Rattle.base.proofs.Tests.{same, other}
 use Rattle.grammar.specs.Grammar.{signOf}
 use Rattle.grammar.specs.Reader.{andThen, look, next}
 use Rattle.tape.specs.Tape.{tapeSign}
-use Rattle.phrases.proofs.Reading.{done}
+use Rattle.readers.proofs.Reading.{done}
 use Rattle.phrases.proofs.assignments.sign.Statement.{statement}
 use Rattle.phrases.proofs.assignments.sign.Tie as tie
 

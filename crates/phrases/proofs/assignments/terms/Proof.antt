@@ -8,9 +8,9 @@ use lib.ListN.{length}
 use Rattle.grammar.specs.Grammar.{terms, operators}
 use Rattle.grammar.specs.Reader.{andThen, look, next}
 use Rattle.tape.specs.Tape.{tapeEach, tapeTerm}
-use Rattle.phrases.proofs.Reading.{done, since, stops, goes, gives}
-use Rattle.phrases.proofs.Choices.{among, is-token}
-use Rattle.phrases.proofs.Loops.{Going, starts, leaves, turn}
+use Rattle.readers.proofs.Reading.{done, since, stops, goes, gives}
+use Rattle.readers.proofs.Choices.{among, is-token}
+use Rattle.readers.proofs.Loops.{Going, starts, leaves, turn}
 use Rattle.phrases.proofs.assignments.terms.Statement.{statement}
 use Rattle.phrases.proofs.assignments.terms.Tie as tie
 

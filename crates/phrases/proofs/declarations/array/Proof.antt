@@ -5,7 +5,7 @@ use borrow.Author.Needs.{needs}
 use Rattle.grammar.specs.Grammar.{cellsOf}
 use Rattle.grammar.specs.Tree.{cells}
 use Rattle.tape.specs.Tape.{tapeDeclaration}
-use Rattle.phrases.proofs.Reading.{stops, halts, goes, gives}
+use Rattle.readers.proofs.Reading.{stops, halts, goes, gives}
 use Rattle.phrases.proofs.declarations.array.Statement.{statement}
 use Rattle.phrases.proofs.declarations.array.Tie as tie
 

@@ -2,7 +2,7 @@
 use native.Mathlib.Omega.{arith}
 use borrow.Author.Needs.{needs}
 use Rattle.tape.specs.Tape.{tapeDeclaration}
-use Rattle.phrases.proofs.Reading.{done, stops, goes}
+use Rattle.readers.proofs.Reading.{done, stops, goes}
 use Rattle.phrases.proofs.declarations.base.Statement.{statement}
 use Rattle.phrases.proofs.declarations.base.Tie as tie
 

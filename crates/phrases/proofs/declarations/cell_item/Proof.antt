@@ -3,7 +3,7 @@ use mathlib.Core.Path.{_∙_}
 use borrow.Author.Needs.{needs}
 use Rattle.grammar.specs.Grammar.{cellItem}
 use Rattle.tape.specs.Tape.{tapeItem}
-use Rattle.phrases.proofs.Reading.{stops, goes, gives}
+use Rattle.readers.proofs.Reading.{stops, goes, gives}
 use Rattle.phrases.proofs.declarations.cell_item.Statement.{statement}
 use Rattle.phrases.proofs.declarations.cell_item.Tie as tie
 

@@ -5,7 +5,7 @@ use borrow.Author.Needs.{needs}
 use Rattle.base.proofs.Tests.{same, other}
 use Rattle.grammar.specs.Grammar.{declaration}
 use Rattle.grammar.specs.Reader.{andThen, look, next}
-use Rattle.phrases.proofs.Reading.{since}
+use Rattle.readers.proofs.Reading.{since}
 use Rattle.phrases.proofs.declarations.declaration.Statement.{statement}
 use Rattle.phrases.proofs.declarations.declaration.Tie as tie
 

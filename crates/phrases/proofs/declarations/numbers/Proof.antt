@@ -10,8 +10,8 @@ use Rattle.base.proofs.Tests.{same, other}
 use Rattle.grammar.specs.Grammar.{numbers}
 use Rattle.grammar.specs.Reader.{andThen, look}
 use Rattle.tape.specs.Tape.{tapeEach, tapeValue}
-use Rattle.phrases.proofs.Loops.{Going, starts, leaves, turn}
-use Rattle.phrases.proofs.Reading.{done, stops, goes, gives}
+use Rattle.readers.proofs.Loops.{Going, starts, leaves, turn}
+use Rattle.readers.proofs.Reading.{done, stops, goes, gives}
 use Rattle.phrases.proofs.declarations.numbers.Statement.{statement}
 use Rattle.phrases.proofs.declarations.numbers.Tie as tie
 

@@ -2,7 +2,7 @@
 use native.Mathlib.Omega.{arith}
 use borrow.Author.Needs.{needs}
 use Rattle.grammar.specs.Grammar.{registerItem}
-use Rattle.phrases.proofs.Reading.{done, stops, goes}
+use Rattle.readers.proofs.Reading.{done, stops, goes}
 use Rattle.phrases.proofs.declarations.register_item.Statement.{statement}
 use Rattle.phrases.proofs.declarations.register_item.Tie as tie
 

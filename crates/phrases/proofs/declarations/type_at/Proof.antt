@@ -6,7 +6,7 @@ use borrow.Author.Needs.{needs}
 use Rattle.base.proofs.Tests.{same, other}
 use Rattle.grammar.specs.Grammar.{typeOf}
 use Rattle.grammar.specs.Reader.{andThen, look, wantOne}
-use Rattle.phrases.proofs.Reading.{done, no, since, stops, goes}
+use Rattle.readers.proofs.Reading.{done, no, since, stops, goes}
 use Rattle.phrases.proofs.declarations.type_at.Statement.{statement}
 use Rattle.phrases.proofs.declarations.type_at.Tie as tie
 

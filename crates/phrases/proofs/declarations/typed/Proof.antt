@@ -6,8 +6,8 @@ use borrow.Author.Needs.{needs}
 use Rattle.grammar.specs.Grammar.{cellsOf}
 use Rattle.grammar.specs.Tree.{registers, cells}
 use Rattle.tape.specs.Tape.{tapeDeclaration}
-use Rattle.phrases.proofs.Choices.{registered, after-registers, after-cells}
-use Rattle.phrases.proofs.Reading.{halts, goes, gives, since}
+use Rattle.readers.proofs.Choices.{registered, after-registers, after-cells}
+use Rattle.readers.proofs.Reading.{halts, goes, gives, since}
 use Rattle.phrases.proofs.declarations.typed.Statement.{statement}
 use Rattle.phrases.proofs.declarations.typed.Tie as tie
 

@@ -5,7 +5,7 @@ use Rattle.grammar.specs.Grammar.{afterName}
 use Rattle.grammar.specs.Tree.{assign}
 use Rattle.grammar.specs.Reader.{andThen, look}
 use Rattle.tape.specs.Tape.{tapeStatement}
-use Rattle.phrases.proofs.Reading.{done, gives}
+use Rattle.readers.proofs.Reading.{done, gives}
 use Rattle.phrases.proofs.simple.after_name.Statement.{statement}
 use Rattle.phrases.proofs.simple.after_name.Tie as tie
 

@@ -1,7 +1,7 @@
 -- `control` joins a name, its assignment and STEP. Assumes nothing.
 use native.Mathlib.Omega.{arith}
 use borrow.Author.Needs.{needs}
-use Rattle.phrases.proofs.Reading.{done, stops, goes, takes}
+use Rattle.readers.proofs.Reading.{done, stops, goes, takes}
 use Rattle.phrases.proofs.simple.control.Statement.{statement}
 use Rattle.phrases.proofs.simple.control.Tie as tie
 

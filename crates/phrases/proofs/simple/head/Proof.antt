@@ -1,7 +1,7 @@
 -- `head` joins a condition and a word. Assumes nothing.
 use native.Mathlib.Omega.{arith}
 use borrow.Author.Needs.{needs}
-use Rattle.phrases.proofs.Reading.{done, stops, goes}
+use Rattle.readers.proofs.Reading.{done, stops, goes}
 use Rattle.phrases.proofs.simple.head.Statement.{statement}
 use Rattle.phrases.proofs.simple.head.Tie as tie
 

@@ -1,7 +1,7 @@
 -- `limit` joins number, UNTIL, operand and DO. Assumes nothing.
 use native.Mathlib.Omega.{arith}
 use borrow.Author.Needs.{needs}
-use Rattle.phrases.proofs.Reading.{done, stops, goes}
+use Rattle.readers.proofs.Reading.{done, stops, goes}
 use Rattle.phrases.proofs.simple.limit.Statement.{statement}
 use Rattle.phrases.proofs.simple.limit.Tie as tie
 

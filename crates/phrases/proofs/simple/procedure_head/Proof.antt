@@ -1,7 +1,7 @@
 -- `procedure_head` joins the tokens before a procedure's statement. Assumes nothing.
 use native.Mathlib.Omega.{arith}
 use borrow.Author.Needs.{needs}
-use Rattle.phrases.proofs.Reading.{done, stops, goes}
+use Rattle.readers.proofs.Reading.{done, stops, goes}
 use Rattle.phrases.proofs.simple.procedure_head.Statement.{statement}
 use Rattle.phrases.proofs.simple.procedure_head.Tie as tie
 

@@ -10,8 +10,8 @@ use Rattle.base.proofs.Tests.{same, other}
 use Rattle.grammar.specs.Grammar.{statementOf, openers}
 use Rattle.grammar.specs.Reader.{andThen, look, next, refuse}
 use Rattle.tape.specs.Tape.{tapeStatement}
-use Rattle.phrases.proofs.Choices.{either}
-use Rattle.phrases.proofs.Reading.{done, no, since, stops, goes}
+use Rattle.readers.proofs.Choices.{either}
+use Rattle.readers.proofs.Reading.{done, no, since, stops, goes}
 use Rattle.phrases.proofs.simple.simple.Statement.{statement}
 use Rattle.phrases.proofs.simple.simple.Tie as tie
 

@@ -1,0 +1,15 @@
+-- `is_relation` agrees with the list of relations on every byte. Assumes nothing.
+use mathlib.Core.Bool.{_&&_, _||_}
+use borrow.Author.Needs.{needs}
+use lib.Dec.{leb}
+use Rattle.base.specs.Lists.{member}
+use Rattle.grammar.specs.Grammar.{relations}
+use Rattle.readers.proofs.Choices.{same-test}
+use Rattle.readers.proofs.classes.is_relation.Statement.{statement}
+use Rattle.readers.proofs.classes.is_relation.Tie as tie
+
+returns : tie.Need-returns
+returns c = same-test (λ k. ((leb 35 k && leb k 37) || (leb 43 k && leb k 45))) (λ k. member k relations) tt (c .args .k) (search needs)
+
+pub is-relation-spec : {M : Type 1} → statement M
+is-relation-spec = tie.close (tie.spec returns)

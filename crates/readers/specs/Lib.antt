@@ -1,0 +1,2 @@
+-- What readers promise.
+pub mod Reads

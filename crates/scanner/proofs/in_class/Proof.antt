@@ -1,0 +1,19 @@
+-- `in_class` tests a byte as the definition of its class does. Assumes nothing.
+use borrow.Author.Needs.{needs}
+use Rattle.scanner.proofs.in_class.Statement.{statement}
+use Rattle.scanner.proofs.in_class.Tie as tie
+
+enum-told : tie.Need-enum-told
+enum-told c = search needs
+
+enum-told-2 : tie.Need-enum-told-2
+enum-told-2 c = search needs
+
+returns : tie.Need-returns
+returns c = cc
+
+returns-2 : tie.Need-returns-2
+returns-2 c = cc
+
+pub in-class-spec : {M : Type 1} → statement M
+in-class-spec = tie.close (tie.spec enum-told enum-told-2 returns returns-2)

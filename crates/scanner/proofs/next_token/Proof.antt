@@ -1,0 +1,98 @@
+-- `next_token` passes over gaps to a token, a refusal or the end. The invariant: the next token is that found from here on. Assumes nothing.
+use Prim.Native.Nat.{_≤_, _-_}
+use mathlib.Core.Path.{_≡_, _∙_, sym, ap}
+use native.Mathlib.Omega.{arith}
+use denote.Ref.{now}
+use lib.ListN.{length, length-drop}
+use borrow.Author.Needs.{needs}
+use Rattle.base.proofs.Parts.{to-end}
+use Rattle.token.proofs.Gaps.{from, start, at-end, some, fits, past, found, no-token, out-of-range}
+use Rattle.token.proofs.Sizes.{sizeOf}
+use Rattle.token.specs.Text.{nextToken}
+use Rattle.scanner.proofs.next_token.Statement.{statement}
+use Rattle.scanner.proofs.next_token.Tie as tie
+
+abbrev Inv-loop : tie.InvT-loop
+Inv-loop s at₀ at = (at ≤ length s) × (nextToken s ≡ from at s)
+
+abbrev μ-loop : tie.MeasureT-loop
+μ-loop s at₀ at = length s - at
+
+loop-holds : tie.Need-loop-holds Inv-loop μ-loop
+loop-holds c = (search needs, start _)
+
+sub-front : tie.Need-sub-front Inv-loop μ-loop
+sub-front c = search needs
+
+part-front-start : tie.Need-part-front-start Inv-loop μ-loop
+part-front-start c = search needs
+
+part-front-end : tie.Need-part-front-end Inv-loop μ-loop
+part-front-end c = search needs
+
+front-requires : tie.Need-front-requires Inv-loop μ-loop
+front-requires c κs = let s = now (c .before .before .before .before .args .s) in rw (to-end s (c .before .before .loop .at)) (omega (arith, length-drop (c .before .before .loop .at) s))
+
+enum-known-l : tie.Need-enum-known-l Inv-loop μ-loop
+enum-known-l c = search needs
+
+add-at : tie.Need-add-at Inv-loop μ-loop
+add-at c = omega (arith, fits (now (c .before .before .before .before .before .before .before .before .args .s)) (c .before .before .before .before .before .before .loop .at) (c .before .before .before .front .result) (c .before .before .before .before .before .loop-test .taken) (c .before .before .before .front .ensures), ap sizeOf (c .before .l .given .1))
+
+loop-less : tie.Need-loop-less Inv-loop μ-loop
+loop-less c = omega (arith, some (now (c .before .before .before .before .before .before .before .before .args .s)) (c .before .before .before .before .before .before .loop .at) (c .before .before .before .front .result) (c .before .before .before .before .before .loop-test .taken) (c .before .before .before .front .ensures), ap sizeOf (c .before .l .given .1))
+
+loop-again : tie.Need-loop-again Inv-loop μ-loop
+loop-again c = let s = now (c .before .before .before .before .before .before .before .before .args .s) in
+    let l = c .before .before .before .front in
+    let at = c .before .before .before .before .before .before .loop .at in
+    let h = c .before .before .before .before .before .loop-test .taken in
+    (omega (arith, fits s at (l .result) h (l .ensures), ap sizeOf (c .before .l .given .1)), c .before .before .before .before .before .before .loop .inv .1 ∙ past s at (l .result) h (l .ensures) _ (c .before .l .given .1))
+
+enum-known-l-2 : tie.Need-enum-known-l-2 Inv-loop μ-loop
+enum-known-l-2 c = search needs
+
+add-t14 : tie.Need-add-t14 Inv-loop μ-loop
+add-t14 c = omega (arith, fits (now (c .before .before .before .before .before .before .before .before .args .s)) (c .before .before .before .before .before .before .loop .at) (c .before .before .before .front .result) (c .before .before .before .before .before .loop-test .taken) (c .before .before .before .front .ensures), ap sizeOf (c .before .l2 .given .1))
+
+returns : tie.Need-returns Inv-loop μ-loop
+returns c = sym (c .before .before .before .before .before .before .loop .inv .1 ∙ found (now (c .before .before .before .before .before .before .before .before .args .s)) (c .before .before .before .before .before .before .loop .at) (c .before .before .before .front .result) (c .before .before .before .before .before .loop-test .taken) (c .before .before .before .front .ensures) _ _ _ (c .before .l2 .given .1))
+
+enum-told : tie.Need-enum-told Inv-loop μ-loop
+enum-told c = search needs
+
+returns-2 : tie.Need-returns-2 Inv-loop μ-loop
+returns-2 c = sym (c .before .before .before .before .before .loop .inv .1 ∙ no-token (now (c .before .before .before .before .before .before .before .args .s)) (c .before .before .before .before .before .loop .at) (c .before .before .front .result) (c .before .before .before .before .loop-test .taken) (c .before .before .front .ensures) (c .enum-told .given .1))
+
+enum-told-2 : tie.Need-enum-told-2 Inv-loop μ-loop
+enum-told-2 c = search needs
+
+returns-3 : tie.Need-returns-3 Inv-loop μ-loop
+returns-3 c = sym (c .before .before .before .before .before .loop .inv .1 ∙ out-of-range (now (c .before .before .before .before .before .before .before .args .s)) (c .before .before .before .before .before .loop .at) (c .before .before .front .result) (c .before .before .before .before .loop-test .taken) (c .before .before .front .ensures) (c .enum-told2 .given .1))
+
+returns-4 : tie.Need-returns-4 Inv-loop μ-loop
+returns-4 c = sym (c .before .loop .inv .1 ∙ at-end _ _ (search needs))
+
+pub next-token-spec : {M : Type 1} → statement M
+next-token-spec =
+    tie.close
+    (tie.spec
+    Inv-loop
+    μ-loop
+    loop-holds
+    sub-front
+    part-front-start
+    part-front-end
+    front-requires
+    enum-known-l
+    add-at
+    loop-less
+    loop-again
+    enum-known-l-2
+    add-t14
+    returns
+    enum-told
+    returns-2
+    enum-told-2
+    returns-3
+    returns-4)

@@ -1,0 +1,2 @@
+-- What the functions of the scanner promise.
+pub mod Inner

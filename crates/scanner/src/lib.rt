@@ -1,0 +1,334 @@
+// The next token of what remains of a text: document 01, "Text and tokens", and refusals 2 and 3.
+ghost use mathlib.Core.Path.{_≡_};
+ghost use mathlib.Core.Bool.{true};
+ghost use Prim.Native.Nat.{_+_, _≤_, _<_, _^_, min};
+ghost use lib.ListN.{length, getD};
+ghost use Rattle.token.specs.Kinds as K;
+ghost use Rattle.token.specs.Text as T;
+ghost use Rattle.token.specs.Answers.{outcomeOf};
+ghost use Rattle.scanner.specs.Inner.{inClass, Ran, Digited, Named, keyKind, inBase, bitsOf, twoOr};
+use token::Lexeme;
+use token::Next;
+use token::Token;
+use token::kinds;
+
+// The classes of bytes that runs are made of.
+enum Class {
+    Separator,
+    InComment,
+}
+
+fn in_class(c: Class, b: u8) -> bool
+    ensures { λ r. ⌜ r ≡ inClass c b ⌝ }
+{
+    match c {
+        Class::Separator => (b == b' ') | (b == b'\n'),
+        Class::InComment => b != b';',
+    }
+}
+
+// How many bytes at the front are of the class.
+fn run(c: Class, s: &[u8]) -> usize
+    ensures { λ r. ⌜ Ran c (now (s .entry)) r ⌝ }
+{
+    let mut i = 0;
+    while i < s.len() {
+        if in_class(c, s[i]) {
+            i += 1;
+        } else {
+            return i;
+        }
+    }
+    i
+}
+
+// What a digit or a capital stands for, and 36 for any other byte.
+fn digit(b: u8) -> u64
+    ensures { λ r. ⌜ (r ≡ T.digitOf b) × (r ≤ 36) ⌝ }
+{
+    if b < b'0' {
+        return 36;
+    }
+    if b <= b'9' {
+        return (b - b'0') as u64;
+    }
+    if b < b'A' {
+        return 36;
+    }
+    if b <= b'Z' {
+        return (b - 55) as u64;
+    }
+    36
+}
+
+// Numbers are cut off here: every limit of the language and every name's key lies below.
+const CAP: u64 = 4503599627370496;
+
+fn cap(x: u64) -> u64
+    ensures { λ r. ⌜ r ≡ min (2 ^ 52) x ⌝ }
+{
+    if x < CAP { x } else { CAP }
+}
+
+// How many digits or characters, and the number or the key that they make.
+struct Spelled {
+    size: usize,
+    value: u64,
+}
+
+// The digits to a base at the front.
+fn digits(base: u64, s: &[u8]) -> Spelled
+    requires { ⌜ base ≤ 36 ⌝ }
+    ensures { λ r. ⌜ Digited base (now (s .entry)) r ⌝ }
+{
+    let mut v: u64 = 0;
+    let mut i = 0;
+    while i < s.len() {
+        let d = digit(s[i]);
+        if base <= d {
+            return Spelled { size: i, value: v };
+        }
+        v = cap(v * base + d);
+        i += 1;
+    }
+    Spelled { size: i, value: v }
+}
+
+// Each reserved word as its key times 64 and its kind, at the place key mod 131 mod 44; 1 where there is none.
+const WORDS: [u64; 44] = [
+    2599819994320,
+    1225623491,
+    883288,
+    43611015,
+    49834765,
+    85081182,
+    1,
+    85067357,
+    42437,
+    3295988556,
+    33740694,
+    31497,
+    3492157576,
+    1,
+    1,
+    1,
+    4652580649483927,
+    57049,
+    3020246200145,
+    1,
+    1,
+    1,
+    856603,
+    1941020,
+    124743218865185,
+    1,
+    1301194,
+    1157840531,
+    86046795,
+    1,
+    3062688338,
+    71215694,
+    3956758474325,
+    1215044,
+    1,
+    1,
+    2794202,
+    85080480,
+    1,
+    88037318,
+    85066655,
+    137427610859732,
+    1,
+    1767076687439,
+];
+
+// The kind of the word with this key, or of a name.
+fn word(key: u64) -> u8
+    ensures { λ r. ⌜ r ≡ keyKind K.words key ⌝ }
+{
+    let slot = (key % 131 % 44) as usize;
+    let w = WORDS[slot];
+    if w / 64 == key {
+        return (w % 64) as u8;
+    }
+    kinds::NAME
+}
+
+// A comment whose word has n bytes.
+fn comment(n: usize, s: &[u8]) -> Lexeme
+    requires { ⌜ n ≤ length (now s) ⌝ }
+    ensures { λ r. ⌜ r ≡ T.comment n (now (s .entry)) ⌝ }
+{
+    let m = n + run(Class::InComment, &s[n..]);
+    if m < s.len() {
+        return Lexeme::Gap(m + 1);
+    }
+    Lexeme::NoToken
+}
+
+pub fn least(a: usize, b: usize) -> usize
+    ensures { λ r. ⌜ r ≡ min a b ⌝ }
+{
+    if a < b { a } else { b }
+}
+
+// The name at the front, of which the first ten characters count.
+fn name(s: &[u8]) -> Spelled
+    ensures { λ r. ⌜ Named (now (s .entry)) r ⌝ }
+{
+    let n = least(s.len(), 10);
+    let first = digits(36, &s[..n]);
+    let size = first.size;
+    let value = first.value;
+    if size < 10 {
+        return Spelled { size, value };
+    }
+    let rest = digits(36, &s[10..]);
+    let more = rest.size;
+    Spelled {
+        size: 10 + more,
+        value,
+    }
+}
+
+fn name_or_word(s: &[u8]) -> Lexeme
+    requires { ⌜ (0 < length (now s)) × (T.isCapital (getD (now s) 0 0) ≡ true) ⌝ }
+    ensures { λ r. ⌜ r ≡ T.nameOrWord (now (s .entry)) ⌝ }
+{
+    let d = name(s);
+    let size = d.size;
+    let key = d.value;
+    let kind = word(key);
+    if kind == kinds::COMMENT {
+        return comment(size, s);
+    }
+    if kind == kinds::NAME {
+        return Lexeme::Token(kind, key, size);
+    }
+    Lexeme::Token(kind, 0, size)
+}
+
+// The digits after a mark of some bytes.
+fn number(base: u64, most: u64, negative: bool, mark: usize, s: &[u8]) -> Lexeme
+    requires { ⌜ (base ≤ 36) × (most < 2 ^ 32) × (mark ≤ 1) ⌝ }
+    ensures { λ r. ⌜ r ≡ T.number (inBase base) base most (bitsOf negative) mark (now (s .entry)) ⌝ }
+{
+    let d = digits(base, s);
+    let size = d.size;
+    let v = d.value;
+    if size == 0 {
+        return Lexeme::NoToken;
+    }
+    if most < v {
+        return Lexeme::OutOfRange;
+    }
+    if negative {
+        return Lexeme::Token(kinds::NUMBER, (4294967296 - v) % 4294967296, mark + size);
+    }
+    Lexeme::Token(kinds::NUMBER, v, mark + size)
+}
+
+// A sign of two bytes where the second follows, or else `other`.
+fn two_or(s: &[u8], second: u8, two: u8, other: Lexeme) -> Lexeme
+    ensures { λ r. ⌜ r ≡ twoOr (now (s .entry)) second two other ⌝ }
+{
+    if s.len() < 2 {
+        return other;
+    }
+    if s[1] == second {
+        return Lexeme::Token(two, 0, 2);
+    }
+    other
+}
+
+fn sign(s: &[u8]) -> Lexeme
+    requires { ⌜ 0 < length (now s) ⌝ }
+    ensures { λ r. ⌜ r ≡ T.sign K.signs (now (s .entry)) ⌝ }
+{
+    let b = s[0];
+    match b {
+        b'(' => Lexeme::Token(kinds::OPEN, 0, 1),
+        b')' => Lexeme::Token(kinds::CLOSE, 0, 1),
+        b'*' => Lexeme::Token(kinds::TIMES, 0, 1),
+        b'+' => two_or(
+            s,
+            b'+',
+            kinds::ADD_LOGICAL,
+            Lexeme::Token(kinds::PLUS, 0, 1),
+        ),
+        b',' => Lexeme::Token(kinds::COMMA, 0, 1),
+        b'-' => two_or(
+            s,
+            b'-',
+            kinds::SUBTRACT_LOGICAL,
+            Lexeme::Token(kinds::MINUS, 0, 1),
+        ),
+        b':' => two_or(s, b'=', kinds::BECOMES, Lexeme::Token(kinds::COLON, 0, 1)),
+        b';' => Lexeme::Token(kinds::SEMICOLON, 0, 1),
+        b'<' => two_or(s, b'=', kinds::AT_MOST, Lexeme::Token(kinds::LESS, 0, 1)),
+        b'=' => Lexeme::Token(kinds::EQUAL, 0, 1),
+        b'>' => two_or(s, b'=', kinds::AT_LEAST, Lexeme::Token(kinds::MORE, 0, 1)),
+        b'@' => Lexeme::Token(kinds::AT, 0, 1),
+        b'^' => two_or(s, b'=', kinds::UNEQUAL, Lexeme::NoToken),
+        _ => Lexeme::NoToken,
+    }
+}
+
+// What stands at the front.
+fn front(s: &[u8]) -> Lexeme
+    requires { ⌜ 0 < length (now s) ⌝ }
+    ensures { λ r. ⌜ r ≡ T.lexeme (now (s .entry)) ⌝ }
+{
+    let b = s[0];
+    if (b == b' ') | (b == b'\n') {
+        return Lexeme::Gap(run(Class::Separator, s));
+    }
+    if (b'A' <= b) & (b <= b'Z') {
+        return name_or_word(s);
+    }
+    if (b'0' <= b) & (b <= b'9') {
+        return number(10, 2147483647, false, 0, s);
+    }
+    if b == b'_' {
+        return number(10, 2147483648, true, 1, &s[1..]);
+    }
+    if b == b'#' {
+        return number(16, 4294967295, false, 1, &s[1..]);
+    }
+    sign(s)
+}
+
+// The next token of what remains of a text.
+pub fn next_token(s: &[u8]) -> Next
+    ensures { λ r. ⌜ outcomeOf r ≡ T.nextToken (now (s .entry)) ⌝ }
+{
+    let mut at = 0;
+    while at < s.len() {
+        let l = front(&s[at..]);
+        match l {
+            Lexeme::Gap(n) => {
+                at += n;
+            }
+            Lexeme::Token(kind, value, size) => {
+                return Next::Token(
+                    Token {
+                        kind,
+                        value,
+                        place: at,
+                    },
+                    at + size,
+                );
+            }
+            Lexeme::NoToken => return Next::NoToken(at),
+            Lexeme::OutOfRange => return Next::OutOfRange(at),
+        }
+    }
+    Next::Token(
+        Token {
+            kind: kinds::END_OF_TEXT,
+            value: 0,
+            place: at,
+        },
+        at,
+    )
+}

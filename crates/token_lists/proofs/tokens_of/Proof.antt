@@ -1,0 +1,96 @@
+-- `tokens_of` lays the tokens of a text that the check has found to be without refusal and to fit. Assumes nothing.
+use mathlib.Core.Path.{refl, _∙_, sym, ap}
+use native.Mathlib.Omega.{arith}
+use denote.Ref.{now}
+use borrow.Author.Needs.{needs}
+use Rattle.token.proofs.Readings.{stays, too-many, checked-limit, checked-count, all-read}
+use Rattle.token.specs.Answers.{summaryOf}
+use Rattle.token_lists.proofs.tokens_of.Statement.{statement}
+use Rattle.token_lists.proofs.tokens_of.Tie as tie
+
+check-text-requires : tie.Need-check-text-requires
+check-text-requires c κs = search needs
+
+enum-known-checked : tie.Need-enum-known-checked
+enum-known-checked c = search needs
+
+room-in-requires : tie.Need-room-in-requires
+room-in-requires c κs = search needs
+
+same-length : tie.Need-same-length
+same-length c = search needs
+
+same-length-2 : tie.Need-same-length-2
+same-length-2 c = search needs
+
+same-length-3 : tie.Need-same-length-3
+same-length-3 c = search needs
+
+returns : tie.Need-returns
+returns c = too-many (now (c .before .before .before .before .before .before .before .before .before .before .before .before .before .args .src)) _ (sym (ap summaryOf (c .before .before .before .before .before .before .checked .given .1)) ∙ c .before .before .before .before .before .before .before .before .check-text .ensures) _ (omega (arith, c .before .room-in .ensures, c .if1 .taken))
+
+lay-tokens-requires : tie.Need-lay-tokens-requires
+lay-tokens-requires c κs = let s = now (c .before .before .before .before .before .before .before .before .before .before .before .before .before .before .before .before .args .src) in
+    let e = sym (ap summaryOf (c .before .before .before .before .before .before .before .before .before .checked .given .1)) ∙ c .before .before .before .before .before .before .before .before .before .before .before .check-text .ensures in
+    (checked-limit s _ e, omega (arith, checked-count s _ e, c .before .before .before .before .room-in .ensures, c .before .before .before .if1 .left))
+
+enum-told : tie.Need-enum-told
+enum-told c = search needs
+
+enum-known-checked-2 : tie.Need-enum-known-checked-2
+enum-known-checked-2 c = search needs
+
+enum-known-checked-3 : tie.Need-enum-known-checked-3
+enum-known-checked-3 c = search needs
+
+enum-known-checked-4 : tie.Need-enum-known-checked-4
+enum-known-checked-4 c = search needs
+
+same-length-4 : tie.Need-same-length-4
+same-length-4 c = search needs
+
+same-length-5 : tie.Need-same-length-5
+same-length-5 c = search needs
+
+same-length-6 : tie.Need-same-length-6
+same-length-6 c = search needs
+
+returns-2 : tie.Need-returns-2
+returns-2 c = all-read (now (c .before .before .before .before .before .before .before .before .before .before .before .before .before .before .before .before .before .before .before .before .before .before .before .args .src)) _ (sym (ap summaryOf (c .before .before .before .before .before .before .before .before .before .before .before .before .before .before .before .before .checked .given .1)) ∙ c .before .before .before .before .before .before .before .before .before .before .before .before .before .before .before .before .before .before .check-text .ensures) _ (omega (arith, c .before .before .before .before .before .before .before .before .before .before .before .room-in .ensures, c .before .before .before .before .before .before .before .before .before .before .if1 .left)) (c .before .before .before .before .before .before .lay-tokens .ensures)
+
+returns-3 : tie.Need-returns-3
+returns-3 c = stays _ _ _ (sym (ap summaryOf (c .enum-told .given .1)) ∙ c .before .before .check-text .ensures) refl
+
+returns-4 : tie.Need-returns-4
+returns-4 c = stays _ _ _ (sym (ap summaryOf (c .before .checked2 .given .1)) ∙ c .before .before .before .check-text .ensures) refl
+
+returns-5 : tie.Need-returns-5
+returns-5 c = stays _ _ _ (sym (ap summaryOf (c .before .checked3 .given .1)) ∙ c .before .before .before .check-text .ensures) refl
+
+returns-6 : tie.Need-returns-6
+returns-6 c = stays _ _ _ (sym (ap summaryOf (c .before .checked4 .given .1)) ∙ c .before .before .before .check-text .ensures) refl
+
+pub tokens-of-spec : {M : Type 1} → statement M
+tokens-of-spec =
+    tie.close
+    (tie.spec
+    check-text-requires
+    enum-known-checked
+    room-in-requires
+    same-length
+    same-length-2
+    same-length-3
+    returns
+    lay-tokens-requires
+    enum-told
+    enum-known-checked-2
+    enum-known-checked-3
+    enum-known-checked-4
+    same-length-4
+    same-length-5
+    same-length-6
+    returns-2
+    returns-3
+    returns-4
+    returns-5
+    returns-6)
