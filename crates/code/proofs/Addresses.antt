@@ -2,7 +2,7 @@
 -- Assumes nothing.
 use mathlib.Core.Path.{_≡_, refl, ap, subst, _∙_}
 use mathlib.Core.List.{List, _∷_}
-use Prim.Native.Nat.{ℕ, _+_, _-_, _%_}
+use Prim.Native.Nat.{ℕ, _+_, _-_, _%_, _<_}
 use native.Mathlib.Omega.{arith}
 use lib.ListN.{set}
 use Rattle.base.specs.Lists.{All}
@@ -14,14 +14,15 @@ use Rattle.tape.specs.Tape.{event, tapeDeclaration, tapeStatement, tapeBody, ta
 use Rattle.tape.specs.Pass.{pass}
 use Rattle.tape.proofs.Pass.{pass-event}
 use Rattle.tables.specs.Packed.{meaningsOf}
-use Rattle.kinds.specs.Tables.{Tables}
+use Rattle.kinds.specs.Meaning.{registerOf}
+use Rattle.kinds.specs.Tables.{Tables, meaningAt}
 use Rattle.translator.specs.Instructions.{sizes}
 use Rattle.translator.specs.Core.{toRegister, compareWith, testOf, controlOf, coreStatement, coreBody, coreItems}
 use Rattle.translator.specs.Code.{sizeOf}
 use Rattle.emit.specs.declared.Writing.{Writing}
 use Rattle.emit.specs.Codes.{listOf, codeSize, applyCode, isAbsent, applyThen}
 use Rattle.emit.specs.Events.{registerAt, goalAt, writtenAfter, stepCodes, otherCodes, codesOf, writingAfter, codesBy}
-use Rattle.code.specs.Places.{Placing, placingOf, markClosing, markAfter, placeEvent}
+use Rattle.code.specs.Places.{whole, Placing, placingOf, markClosing, markAfter, placeEvent}
 use Rattle.emit.proofs.Operands.{Small}
 use Rattle.code.proofs.Declarations.{declaring, registers-out, cells-out}
 use Rattle.code.proofs.Expressions.{place, assignment-placed, control-placed, condition-placed, limit-placed}
@@ -67,17 +68,21 @@ module _ (f : Tables) where
 
 -- ── along the tape ──
 
+-- what names mean are registers 0 to 15, if any
+abbrev pub Held : Tables → Type 0
+Held f = (t : ℕ) → registerOf (meaningAt f t) < 16
+
 module _ (f : Tables) (means under offsets : List ℕ) where
   abbrev at : ℕ → Writing → List ℕ → List ℕ → Placing
   at p w ms k = place f means under offsets p w ms k
 
   -- an event of n bytes that changes the addresses to what `marked` says by the address behind it
   on : (op t p n q : ℕ) (w : Writing) (ms : List ℕ) (marked : ℕ → List ℕ) (k : List ℕ)
-      → placeEvent (f .kinds) (f .values) (f .found) (f .goes) means under (f .opens) offsets (op % E.EVENTS) t (placingOf p w ms) ≡ placingOf (p + n) w (marked (p + n))
+      → placeEvent whole (f .kinds) (f .values) (f .found) (f .goes) means under (f .opens) offsets (op % E.EVENTS) t (placingOf p w ms) ≡ placingOf (p + n) w (marked (p + n))
       → p + n ≡ q → at p w ms (event op t ∷ k) ≡ at q w (marked q) k
   on op t p n q w ms marked k e g =
       pass-event _ op t (placingOf p w ms) k
-      ∙ (ap (λ (m : Placing). pass (placeEvent (f .kinds) (f .values) (f .found) (f .goes) means under (f .opens) offsets) m k) e ∙ ap (λ (m : ℕ). at m w (marked m) k) g)
+      ∙ (ap (λ (m : Placing). pass (placeEvent whole (f .kinds) (f .values) (f .found) (f .goes) means under (f .opens) offsets) m k) e ∙ ap (λ (m : ℕ). at m w (marked m) k) g)
 
   -- the same address, in other words
   moved : (p q : ℕ) (w : Writing) (ms k : List ℕ) → p ≡ q → at p w ms k ≡ at q w ms k
@@ -90,13 +95,13 @@ module _ (f : Tables) (means under offsets : List ℕ) where
   still p w ms t k =
       (by E.REGISTER refl, (by E.SINGLE-FULL refl, (by E.SINGLE-SHORT refl, (by E.ARRAY-FULL refl, (by E.ARRAY-SHORT refl, (by E.ITEM refl, (by E.VALUE refl, tt)))))))
     where
-      by : (op : ℕ) → placeEvent (f .kinds) (f .values) (f .found) (f .goes) means under (f .opens) offsets (op % E.EVENTS) t (placingOf p w ms) ≡ placingOf (p + 0) w ms
+      by : (op : ℕ) → placeEvent whole (f .kinds) (f .values) (f .found) (f .goes) means under (f .opens) offsets (op % E.EVENTS) t (placingOf p w ms) ≡ placingOf (p + 0) w ms
           → at p w ms (event op t ∷ k) ≡ at p w ms k
       by op e = on op t p 0 p w ms (λ q. ms) k e (omega arith)
 
   -- ── statements ──
 
-  module _ (table : f .means ≡ meaningsOf means under) (small : Small f) where
+  module _ (table : f .means ≡ meaningsOf means under) (small : Small f) (held : Held f) where
     mutual
       unfolding isStatement tapeStatement tapeDeclaration coreStatement sizeOf leaves marksOf placeEvent listOf formAt otherCodes stepCodes codesOf codesBy applyThen isAbsent applyCode writtenAfter writingAfter codeSize markAfter markClosing
 
@@ -131,7 +136,7 @@ module _ (f : Tables) (means under offsets : List ℕ) where
           let q0 = p + sizes (toRegister f (controlOf f a) a) in
           let q1 = p + (sizes (toRegister f (controlOf f a) a) + (sizes (compareWith f (controlOf f a) l) + 4)) in
           control-placed f means under offsets table small a _ _ (h .2 .1) p w ms _
-          ∙ (limit-placed f means under offsets table small a l v (h .2 .2 .1 .2 .1 .0) (subst (λ (q : ℕ). isOperand (f .kinds) l q (h .2 .2 .1 .2 .1 .0)) (omega arith) (h .2 .2 .1 .2 .1 .1)) q0 _ refl ms _
+          ∙ (limit-placed f means under offsets table small a l v (h .2 .2 .1 .2 .1 .0) (held (a .target .name)) (subst (λ (q : ℕ). isOperand (f .kinds) l q (h .2 .2 .1 .2 .1 .0)) (omega arith) (h .2 .2 .1 .2 .1 .1)) q0 _ refl ms _
           ∙ (moved _ q1 _ _ _ (omega arith)
           ∙ (place-statement x _ _ (h .2 .2 .1 .2 .1 .2 .1) q1 _ _ _
           ∙ on E.END-FOR v _ 8 _ _ _ (λ q. set (marksOf f x q1 (set (set ms v q0) (v + 1) (controlOf f a))) (v - 1) q) k refl (omega arith))))

@@ -3,7 +3,7 @@
 use mathlib.Core.Path.{_≡_, refl, sym, ap, _∙_}
 use mathlib.Core.Bool.{true}
 use mathlib.Core.List.{List, _∷_}
-use Prim.Native.Nat.{ℕ, _+_, _-_, _/_, _%_}
+use Prim.Native.Nat.{ℕ, _+_, _-_, _/_, _%_, _<_}
 use native.Mathlib.Omega.{arith}
 use lib.Dec.{eqb}
 use lib.ListN.{getD, set}
@@ -20,8 +20,7 @@ use Rattle.tape.specs.Tape.{event, tapeOperand, tapeCondition, tapeAssignment}
 use Rattle.tape.specs.Pass.{pass}
 use Rattle.tape.proofs.Pass.{pass-event}
 use Rattle.kinds.specs.Tables.{Tables, valueAt}
-use Rattle.tables.specs.Packed.{low, numberIn, meaningsOf, registerIn, packedAt}
-use Rattle.tables.proofs.Meanings.{low-low, low-is}
+use Rattle.tables.specs.Packed.{meaningsOf, registerIn, packedAt}
 use Rattle.translator.specs.Instructions.{sizes}
 use Rattle.translator.specs.Core.{exitMask, toRegister, assignmentOf, compareWith, testOf, maskOf, controlOf}
 use Rattle.emit.specs.declared.Use.{Use}
@@ -31,7 +30,8 @@ use Rattle.emit.specs.Along.{targetWriting, controlWriting}
 use Rattle.emit.proofs.Operands.{Small, shapeOf, by-shape, operand-tape, register-at}
 use Rattle.emit.proofs.Sizes.{sizes-append, coded-sizes, tested-size}
 use Rattle.emit.proofs.Walks.{unmarking, made, after, Walk, limit-makes, assignment-walked, control-walked, condition-walked}
-use Rattle.code.specs.Places.{markLimit, markClosing, markAfter, Placing, placingOf, placeEvent}
+use Rattle.code.specs.Places.{whole, kept, markLimit, markClosing, markAfter, Placing, placingOf, placeEvent}
+use Rattle.code.proofs.Kept.{kept-is}
 use Rattle.code.proofs.Placing.{place-is}
 
 unmarked-stays : (family t from to : ℕ) (aim : Use) (marks : List ℕ) → member family unmarking ≡ true → marks ≡ markAfter family t from to aim marks
@@ -39,13 +39,9 @@ unfolding markAfter markClosing
 unmarked-stays family t from to aim marks q =
     each (λ (x : ℕ). marks ≡ markAfter x t from to aim marks) unmarking (refl, (refl, (refl, (refl, (refl, (refl, (refl, (refl, (refl, tt))))))))) family q
 
-low-register : (m : ℕ) → low (registerIn m) ≡ registerIn m
-unfolding registerIn numberIn
-low-register m = by-test (λ (x : ℕ). low x ≡ x) (eqb (m % 8) 1) (low (m / 8)) 0 (λ e. low-low (m / 8)) (λ e. low-is 0 (omega arith))
-
 -- two tokens behind its STEP's number v
 limit-marked :
-    (l : Operand) (v p to r : ℕ) (aim : Use) (ms : List ℕ) → headOf l ≡ v + 2 → low (heldIn aim) ≡ r
+    (l : Operand) (v p to r : ℕ) (aim : Use) (ms : List ℕ) → headOf l ≡ v + 2 → kept (heldIn aim) ≡ r
     → set (set ms v p) (v + 1) r ≡ markAfter (familyAt ((E.LIMIT + shapeOf l) % E.EVENTS)) (headOf l) p to aim ms
 unfolding formAt markAfter markLimit
 limit-marked l v p to r aim ms e s =
@@ -56,7 +52,7 @@ limit-marked l v p to r aim ms e s =
 
 module _ (f : Tables) (means under offsets : List ℕ) where
   abbrev pub place : (p : ℕ) → Writing → (marks tape : List ℕ) → Placing
-  place p w ms tape = pass (placeEvent (f .kinds) (f .values) (f .found) (f .goes) means under (f .opens) offsets) (placingOf p w ms) tape
+  place p w ms tape = pass (placeEvent whole (f .kinds) (f .values) (f .found) (f .goes) means under (f .opens) offsets) (placingOf p w ms) tape
 
   -- an event, by the size of what it makes, the assignment and the addresses after it
   pub event-placed :
@@ -64,9 +60,9 @@ module _ (f : Tables) (means under offsets : List ℕ) where
       → z ≡ codeSizes (made f means under offsets ms (op % E.EVENTS) t w) → ms′ ≡ markAfter (familyAt (op % E.EVENTS)) t p (p + z) (w .aim) ms
       → w′ ≡ after f means under offsets ms (op % E.EVENTS) t w → place p w ms (event op t ∷ k) ≡ place (p + z) w′ ms′ k
   event-placed op t p z w ms k ez ek ew =
-      let step = placeEvent (f .kinds) (f .values) (f .found) (f .goes) means under (f .opens) offsets in
+      let step = placeEvent whole (f .kinds) (f .values) (f .found) (f .goes) means under (f .opens) offsets in
       pass-event step op t (placingOf p w ms) k
-      ∙ sym (ap (λ (x : Placing). pass step x k) (place-is (f .kinds) (f .values) (f .found) (f .goes) means under (f .opens) offsets ms (op % E.EVENTS) t p w refl ez ek ew))
+      ∙ sym (ap (λ (x : Placing). pass step x k) (place-is whole (f .kinds) (f .values) (f .found) (f .goes) means under (f .opens) offsets ms (op % E.EVENTS) t p w refl ez ek ew))
 
   placing : (ms : List ℕ) → Walk f means under offsets ms ℕ Placing
   placing ms = record {
@@ -103,16 +99,16 @@ module _ (f : Tables) (means under offsets : List ℕ) where
         ∙ ap (λ (n : ℕ). place (p + n) w ms k) (tested-size offsets (testOf f c) (maskOf f c) (getD ms (i - 1) 0))
 
     pub limit-placed :
-        (a : Assignment) (l : Operand) (v j : ℕ) → isOperand (f .kinds) l (v + 2) j → (p : ℕ) (w : Writing) → w ≡ controlWriting (f .found) means a → (ms k : List ℕ)
+        (a : Assignment) (l : Operand) (v j : ℕ) → controlOf f a < 16 → isOperand (f .kinds) l (v + 2) j → (p : ℕ) (w : Writing) → w ≡ controlWriting (f .found) means a → (ms k : List ℕ)
         → place p w ms (tapeOperand E.LIMIT l k)
         ≡ place (p + (sizes (compareWith f (controlOf f a) l) + 4)) w (set (set ms v p) (v + 1) (controlOf f a)) k
     unfolding controlWriting heldIn
-    limit-placed a l v j h p w e ms k =
+    limit-placed a l v j small-control h p w e ms k =
         let (m, u) = limit-makes f means under offsets ms table small v l j h w in
         let n = a .target .name in
         let q : heldIn (w .aim) ≡ registerIn (packedAt (f .found) means n) = ap (λ (x : Writing). heldIn (x .aim)) e in
         let r : heldIn (w .aim) ≡ controlOf f a = q ∙ register-at f means under table n in
-        let s : low (heldIn (w .aim)) ≡ controlOf f a = ap low q ∙ (low-register (packedAt (f .found) means n) ∙ register-at f means under table n) in
+        let s : kept (heldIn (w .aim)) ≡ controlOf f a = ap kept r ∙ kept-is (controlOf f a) (omega arith) in
         ap (place p w ms) (operand-tape E.LIMIT l k)
         ∙ event-placed (E.LIMIT + shapeOf l) (headOf l) p (sizes (compareWith f (controlOf f a) l) + 4) w ms k
         (sym (ap codeSizes m ∙ (tested-size offsets (compareWith f (heldIn (w .aim)) l) (exitMask (valueAt f v)) (getD ms (v - 1) 0) ∙ ap (λ (x : ℕ). sizes (compareWith f x l) + 4) r)))

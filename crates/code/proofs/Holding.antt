@@ -25,9 +25,10 @@ use Rattle.emit.specs.declared.Code.the-variants.{Two, Four, Literal}
 use Rattle.emit.specs.declared.Codes.{Codes}
 use Rattle.emit.specs.declared.Writing.{Writing}
 use Rattle.emit.specs.Codes.{listOf, blank, codeSize, stopCode}
-use Rattle.emit.specs.Events.{writingAfter, codesBy}
+use Rattle.ledger.specs.Book.{Wide, Thin}
+use Rattle.emit.specs.Events.{writingAfter, codesBy, writingIn, codesIn}
 use Rattle.code.specs.Places.{noWriting}
-use Rattle.code.specs.Coding.{Laid, laidOf, laidBy, literalsAfter, layCode, layAll, Coding, codingOf, codeEvent, codeAlong, Holds}
+use Rattle.code.specs.Coding.{Laid, laidOf, laidBy, literalsAfter, layCode, layAll, Coding, codingOf, codeEvent, codeAlong, codeStep, codeIn, Holds}
 
 -- ── an instruction ──
 
@@ -106,36 +107,36 @@ module _ (start room k : ℕ) (cs : List Code) where
 
 -- ── a tape ──
 
-module _ (start room : ℕ) (kinds values found goes means under opens offsets marks : List ℕ) where
+module _ (start room : ℕ) (kinds : List ℕ) (w : Wide) (b : Thin) where
   abbrev step : ℕ → ℕ → Coding → Coding
-  step = codeEvent start kinds values found goes means under opens offsets marks
+  step = codeStep start kinds w b
 
-  pub record Coded (at n : ℕ) (image literals : List ℕ) (w : Writing) (rest : List ℕ) (whole : Coding) : Type 0 where
+  pub record Coded (at n : ℕ) (image literals : List ℕ) (v : Writing) (rest : List ℕ) (whole : Coding) : Type 0 where
     pub state : Laid
     pub holds : Holds room at n image literals state
-    pub leads : pass step (codingOf state w) rest ≡ whole
+    pub leads : pass step (codingOf state v) rest ≡ whole
 
   pub tape-turn :
-      (tape : List ℕ) (i op t at n at′ n′ : ℕ) (image literals image′ literals′ : List ℕ) (m : Codes) (w w′ : Writing) (whole : Coding) → i < length tape
+      (tape : List ℕ) (i op t at n at′ n′ : ℕ) (image literals image′ literals′ : List ℕ) (m : Codes) (v v′ : Writing) (whole : Coding) → i < length tape
       → op ≡ getD tape i 0 % E.EVENTS → t ≡ getD tape i 0 / E.EVENTS
-      → m ≡ codesBy kinds values found goes means under opens offsets marks op t w → w′ ≡ writingAfter values found means under offsets op t w
+      → m ≡ codesIn kinds w b op t v → v′ ≡ writingIn w b op t v
       → {given : ℕ} → given ≡ room → ((s : Laid) → Holds given at n image literals s → Holds given at′ n′ image′ literals′ (layAll start (listOf m) s))
-      → Coded at n image literals w (drop i tape) whole → Coded at′ n′ image′ literals′ w′ (drop (i + 1) tape) whole
+      → Coded at n image literals v (drop i tape) whole → Coded at′ n′ image′ literals′ v′ (drop (i + 1) tape) whole
   unfolding codeEvent
-  tape-turn tape i op t at n at′ n′ image literals image′ literals′ m w w′ whole h eo et em ew e laid l = record {
+  tape-turn tape i op t at n at′ n′ image literals image′ literals′ m v v′ whole h eo et em ew e laid l = record {
     state = layAll start (listOf m) (l .state);
     holds = (rw e at laid) (l .state) (l .holds);
-    leads = rw (em, ew) (pass-turn step (codingOf (l .state) w) tape i op t h eo et (l .leads));
+    leads = rw (em, ew) (pass-turn step (codingOf (l .state) v) tape i op t h eo et (l .leads));
   }
 
   -- and the last instruction behind all
   pub tape-end :
-      (tape image₀ : List ℕ) (i at n n′ : ℕ) (image literals image′ literals′ : List ℕ) (w : Writing) (c : Code) → length tape ≤ i → length literals′ ≡ room → c ≡ stopCode
+      (tape image₀ : List ℕ) (i at n n′ : ℕ) (image literals image′ literals′ : List ℕ) (v : Writing) (c : Code) → length tape ≤ i → length literals′ ≡ room → c ≡ stopCode
       → (n < room → laidBy (at + codeSize c) n′ image′ literals′ ≡ layCode start c (laidBy at n image literals)) → (n ≡ room → n′ ≡ n)
-      → n′ ≤ n + 1 → Coded at n image literals w (drop i tape) (pass step (codingOf (laidOf 0 image₀ []) noWriting) tape)
-      → Holds room (at + 2) n′ image′ literals′ (codeAlong start kinds values found goes means under opens offsets marks image₀ tape)
+      → n′ ≤ n + 1 → Coded at n image literals v (drop i tape) (pass step (codingOf (laidOf 0 image₀ []) noWriting) tape)
+      → Holds room (at + 2) n′ image′ literals′ (codeIn start kinds w b image₀ tape)
   unfolding codeAlong codeSize
-  tape-end tape image₀ i at n n′ image literals image′ literals′ w c h e ec step′ stays one l =
-      let q = pass-end step (codingOf (l .state) w) tape i h (l .leads) in
+  tape-end tape image₀ i at n n′ image literals image′ literals′ v c h e ec step′ stays one l =
+      let q = pass-end step (codingOf (l .state) v) tape i h (l .leads) in
       let g = holds-on start room at n n′ image literals image′ literals′ stopCode (l .state) e (rw ec at step′) stays one (l .holds) in
       subst (λ (x : Coding). Holds room (at + 2) n′ image′ literals′ (layCode start stopCode (x .laid))) q g

@@ -1,5 +1,6 @@
 -- Laws of addresses and code along a tape.
 pub mod Placing
+pub mod Kept
 pub mod Coding
 pub mod Holding
 pub mod Laying

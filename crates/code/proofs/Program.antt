@@ -21,28 +21,28 @@ use Rattle.translator.specs.Code.{sizeOf, code}
 use Rattle.emit.specs.Along.{along}
 use Rattle.emit.proofs.Operands.{Small}
 use Rattle.emit.proofs.Written.{coded}
-use Rattle.code.specs.Places.{Placing, placingOf, noWriting, placesAlong}
+use Rattle.code.specs.Places.{whole, Placing, placingOf, noWriting, placesAlong}
 use Rattle.code.proofs.Statements.{leaves, code-statement}
-use Rattle.code.proofs.Addresses.{marksOf, place-statement}
+use Rattle.code.proofs.Addresses.{Held, marksOf, place-statement}
 use Rattle.code.proofs.Agreeing.{agree-program}
 
 module _
     (f : Tables) (means under offsets : List ℕ) (table : f .means ≡ meaningsOf means under) (small : Small f)
-    (x : Statement) (i j n : ℕ) (program : isProgram (f .kinds) x i j)
+    (held : Held f) (x : Statement) (i j n : ℕ) (program : isProgram (f .kinds) x i j)
   where
     pub places-program :
-        placesAlong (f .kinds) (f .values) (f .found) (f .goes) means under (f .opens) offsets (replicate n 0) (tapeStatement x [])
+        placesAlong whole (f .kinds) (f .values) (f .found) (f .goes) means under (f .opens) offsets (replicate n 0) (tapeStatement x [])
         ≡ placingOf (sizeOf (coreStatement f x)) (leaves f means under offsets x noWriting) (marksOf f x 0 (replicate n 0))
     unfolding isProgram placesAlong
     places-program =
-        place-statement f means under offsets table small x _ _ (program .1 .1) 0 noWriting (replicate n 0) []
+        place-statement f means under offsets table small held x _ _ (program .1 .1) 0 noWriting (replicate n 0) []
         ∙ (pass-none _ _ ∙ ap (λ (p : ℕ). placingOf p (leaves f means under offsets x noWriting) (marksOf f x 0 (replicate n 0))) (omega arith))
 
     -- the tokens of names around a program stand before it, and the marks have room for its own
     module _ (starts : firstToken ≤ i) (room : j ≤ n) (bound : Along (Goes (f .found) (f .goes)) (eventsOf x) []) where
       pub code-program :
           along (f .kinds) (f .values) (f .found) (f .goes) means under (f .opens) offsets
-          (placesAlong (f .kinds) (f .values) (f .found) (f .goes) means under (f .opens) offsets (replicate n 0) (tapeStatement x []) .marks) noWriting (tapeStatement x [])
+          (placesAlong whole (f .kinds) (f .values) (f .found) (f .goes) means under (f .opens) offsets (replicate n 0) (tapeStatement x []) .marks) noWriting (tapeStatement x [])
           ≡ coded offsets (code [] [] (coreStatement f x) 0)
       unfolding isProgram along
       code-program =

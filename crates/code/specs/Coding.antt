@@ -11,6 +11,7 @@ use Rattle.translator.specs.Instructions.{literal}
 use Rattle.translator.specs.Layout.{needs}
 use Rattle.translator.specs.Bytes.{twoBytes, fourBytes}
 use Rattle.tape.specs.Pass.{pass}
+use Rattle.ledger.specs.Book.{Wide, Thin}
 use Rattle.emit.specs.declared.Code.{Code}
 use Rattle.emit.specs.declared.Code.the-variants.{Two, Four, Literal}
 use Rattle.emit.specs.declared.Writing.{Writing}
@@ -74,6 +75,13 @@ codeEvent start kinds values found goes means under opens offsets marks op t s =
 unfoldable pub codeAlong : (start : ℕ) (kinds values found goes means under opens offsets marks : List ℕ) (image tape : List ℕ) → Laid
 codeAlong start kinds values found goes means under opens offsets marks image tape =
     layCode start stopCode (pass (codeEvent start kinds values found goes means under opens offsets marks) (codingOf (laidOf 0 image []) noWriting) tape .laid)
+
+-- by the ledger
+abbrev pub codeStep : (start : ℕ) (kinds : List ℕ) → Wide → Thin → (op t : ℕ) → Coding → Coding
+codeStep start kinds w b = codeEvent start kinds (w .values) (b .found) (b .goes) (w .means) (w .under) (b .opens) (w .offsets) (b .written)
+
+abbrev pub codeIn : (start : ℕ) (kinds : List ℕ) → Wide → Thin → (image tape : List ℕ) → Laid
+codeIn start kinds w b image tape = codeAlong start kinds (w .values) (b .found) (b .goes) (w .means) (w .under) (b .opens) (w .offsets) (b .written) image tape
 
 -- What is reached in a room for so many literals: the address always; all else while the room is not full; a full room says that there are as many literals.
 pub record Holds (room at n : ℕ) (image literals : List ℕ) (s : Laid) : Type 0 where

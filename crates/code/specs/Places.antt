@@ -1,23 +1,30 @@
 -- Addresses along a tape: where branches go, by token, as `emit` reads them. Each is set when its place is passed, from the addresses before and behind the
--- event's instructions.
+-- event's instructions. The ledger keeps 16 bits of each: enough for a program that fits its segment.
 use mathlib.Core.List.{List}
-use Prim.Native.Nat.{ℕ, _+_, _-_}
+use Prim.Native.Nat.{ℕ, _+_, _-_, _%_}
 use lib.Dec.{eqb}
 use lib.ListN.{set}
 use Rattle.base.specs.Choose.{if_then_else_}
 use Rattle.tape.specs.Events as E
 use Rattle.tape.specs.Numbers.{familyAt}
-use Rattle.tables.specs.Packed.{low}
 use Rattle.tape.specs.Pass.{pass}
+use Rattle.ledger.specs.Book.{Wide, Thin, onThin}
 use Rattle.emit.specs.declared.Use.{Use}
 use Rattle.emit.specs.declared.Use.the-variants.{Absent}
 use Rattle.emit.specs.declared.Writing.{Writing}
 use Rattle.emit.specs.Codes.{listOf, codeSizes, heldIn}
 use Rattle.emit.specs.Events.{writingAfter, codesBy}
 
+-- all of an address, and what the ledger keeps of a number
+abbrev pub whole : ℕ → ℕ
+whole n = n
+
+unfoldable pub kept : ℕ → ℕ
+kept n = n % 65536
+
 -- a FOR's compare, and its control register
 unfoldable pub markLimit : (t from : ℕ) → Use → List ℕ → List ℕ
-markLimit t from aim marks = set (set marks (t - 2) from) (t - 1) (low (heldIn aim))
+markLimit t from aim marks = set (set marks (t - 2) from) (t - 1) (kept (heldIn aim))
 
 unfoldable pub markClosing : (family t to : ℕ) → List ℕ → List ℕ
 markClosing family t to marks =
@@ -46,7 +53,7 @@ pub record Placing : Type 0 where
 abbrev pub placingOf : ℕ → Writing → List ℕ → Placing
 placingOf at w marks = record { at = at; writing = w; marks = marks }
 
-module _ (kinds values found goes means under opens offsets : List ℕ) where
+module _ (keep : ℕ → ℕ) (kinds values found goes means under opens offsets : List ℕ) where
   abbrev pub behind : (op t : ℕ) → Placing → ℕ
   behind op t s = s .at + codeSizes (listOf (codesBy kinds values found goes means under opens offsets (s .marks) op t (s .writing)))
 
@@ -54,7 +61,7 @@ module _ (kinds values found goes means under opens offsets : List ℕ) where
   placeEvent op t s = record {
     at = behind op t s;
     writing = writingAfter values found means under offsets op t (s .writing);
-    marks = markAfter (familyAt op) t (s .at) (behind op t s) (s .writing .aim) (s .marks);
+    marks = markAfter (familyAt op) t (keep (s .at)) (keep (behind op t s)) (s .writing .aim) (s .marks);
   }
 
 -- no assignment is written
@@ -62,6 +69,17 @@ abbrev pub noWriting : Writing
 noWriting = record { aim = Absent; sign = 0 }
 
 -- along a whole tape, over the marks as they were lent
-unfoldable pub placesAlong : (kinds values found goes means under opens offsets : List ℕ) (marks tape : List ℕ) → Placing
-placesAlong kinds values found goes means under opens offsets marks tape =
-    pass (placeEvent kinds values found goes means under opens offsets) (placingOf 0 noWriting marks) tape
+unfoldable pub placesAlong : (keep : ℕ → ℕ) (kinds values found goes means under opens offsets : List ℕ) (marks tape : List ℕ) → Placing
+placesAlong keep kinds values found goes means under opens offsets marks tape =
+    pass (placeEvent keep kinds values found goes means under opens offsets) (placingOf 0 noWriting marks) tape
+
+-- ── by the ledger: where branches go stands in the column of what procedures write, which is done ──
+
+abbrev pub onMarks : (List ℕ → List ℕ) → Thin → Thin
+onMarks f b = onThin 3 f b
+
+abbrev pub placeStep : (kinds : List ℕ) → Wide → Thin → (op t : ℕ) → Placing → Placing
+placeStep kinds w b = placeEvent kept kinds (w .values) (b .found) (b .goes) (w .means) (w .under) (b .opens) (w .offsets)
+
+abbrev pub placesIn : (kinds : List ℕ) → Wide → Thin → (tape : List ℕ) → Placing
+placesIn kinds w b tape = placesAlong kept kinds (w .values) (b .found) (b .goes) (w .means) (w .under) (b .opens) (w .offsets) (b .written) tape

@@ -9,9 +9,9 @@ ghost use Rattle.translator.specs.Instructions.{literal};
 ghost use Rattle.translator.specs.Layout.{needs};
 ghost use Rattle.translator.specs.Bytes.{twoBytes, fourBytes};
 ghost use Rattle.emit.specs.Codes.{listOf, codeSize};
-ghost use Rattle.code.specs.Places.{markLimit, markClosing, markAfter, placesAlong};
-ghost use Rattle.code.specs.Coding.{bytesIn, Laid, laidBy, layCode, layAll, codeAlong, Holds};
-use arrays::put;
+ghost use Rattle.ledger.specs.Book.{wideOf, thinOf, putIn};
+ghost use Rattle.code.specs.Places.{markLimit, markClosing, markAfter, onMarks, placesIn};
+ghost use Rattle.code.specs.Coding.{bytesIn, Laid, laidBy, layCode, layAll, codeIn, Holds};
 use arrays::put_wide;
 use emit::Code;
 use emit::Codes;
@@ -31,84 +31,81 @@ use emit::register_at;
 use emit::size;
 use emit::stop;
 use emit::written_after;
+use ledger::put_written;
 
 // ── addresses ──
 
-fn mark_limit(t: usize, from: usize, aim: Use, marks: &mut [u32])
-    requires { ⌜ from < 4294967296 ⌝ }
-    ensures { λ _. ⌜ now (marks .exit) ≡ markLimit t from aim (now (marks .entry)) ⌝ }
+fn put_mark(thin: &mut [u16], t: usize, v: usize)
+    requires { ⌜ v < 65536 ⌝ }
+    ensures { λ _. ⌜ thinOf (now (thin .exit)) ≡ onMarks (putIn t v) (thinOf (now (thin .entry))) ⌝ }
 {
-    put(marks, before(t, 2), from);
-    put(marks, before(t, 1), (held(aim) % 4294967296) as usize);
+    put_written(thin, t, v);
 }
 
-fn mark_closing(family: u32, t: usize, to: usize, marks: &mut [u32])
-    requires { ⌜ (t < TOKEN-LIMIT) × (to < 4294967296) ⌝ }
-    ensures { λ _. ⌜ now (marks .exit) ≡ markClosing family t to (now (marks .entry)) ⌝ }
+fn mark_limit(t: usize, from: usize, aim: Use, thin: &mut [u16])
+    requires { ⌜ from < 65536 ⌝ }
+    ensures { λ _. ⌜ thinOf (now (thin .exit)) ≡ onMarks (markLimit t from aim) (thinOf (now (thin .entry))) ⌝ }
+{
+    put_mark(thin, before(t, 2), from);
+    put_mark(thin, before(t, 1), (held(aim) % 65536) as usize);
+}
+
+fn mark_closing(family: u32, t: usize, to: usize, thin: &mut [u16])
+    requires { ⌜ (t < TOKEN-LIMIT) × (to < 65536) ⌝ }
+    ensures { λ _. ⌜ thinOf (now (thin .exit)) ≡ onMarks (markClosing family t to) (thinOf (now (thin .entry))) ⌝ }
 {
     if family == tape::END_FOR {
-        put(marks, before(t, 1), to);
+        put_mark(thin, before(t, 1), to);
         return;
     }
     if family == tape::END_ELSE {
-        put(marks, t + 1, to);
+        put_mark(thin, t + 1, to);
         return;
     }
     if family == tape::ELSE {
-        put(marks, t, to);
+        put_mark(thin, t, to);
         return;
     }
     if family == tape::END_IF {
-        put(marks, t, to);
+        put_mark(thin, t, to);
         return;
     }
     if family == tape::END_WHILE {
-        put(marks, t, to);
+        put_mark(thin, t, to);
     }
 }
 
-fn mark_after(family: u32, t: usize, from: usize, to: usize, aim: Use, marks: &mut [u32])
-    requires { ⌜ (t < TOKEN-LIMIT) × (from < 4294967296) × (to < 4294967296) ⌝ }
-    ensures { λ _. ⌜ now (marks .exit) ≡ markAfter family t from to aim (now (marks .entry)) ⌝ }
+fn mark_after(family: u32, t: usize, from: usize, to: usize, aim: Use, thin: &mut [u16])
+    requires { ⌜ (t < TOKEN-LIMIT) × (from < 65536) × (to < 65536) ⌝ }
+    ensures { λ _. ⌜ thinOf (now (thin .exit)) ≡ onMarks (markAfter family t from to aim) (thinOf (now (thin .entry))) ⌝ }
 {
     if family == tape::LABEL {
-        put(marks, t, from);
+        put_mark(thin, t, from);
         return;
     }
     if family == tape::PROCEDURE {
-        put(marks, t, to);
+        put_mark(thin, t, to);
         return;
     }
     if family == tape::END_PROCEDURE {
-        put(marks, t + 1, to);
+        put_mark(thin, t + 1, to);
         return;
     }
     if family == tape::LIMIT {
-        mark_limit(t, from, aim, marks);
+        mark_limit(t, from, aim, thin);
         return;
     }
     if family == tape::WHILE {
-        put(marks, t + 1, from);
+        put_mark(thin, t + 1, from);
         return;
     }
-    mark_closing(family, t, to, marks);
+    mark_closing(family, t, to, thin);
 }
 
 // Where branches go, by token; the length of the program but for its last instruction.
-pub fn places(
-    tape: &[u32],
-    kinds: &[u8],
-    values: &[u64],
-    found: &[u32],
-    goes: &[u32],
-    means: &[u64],
-    under: &[u64],
-    opens: &[u32],
-    offsets: &[u64],
-    marks: &mut [u32],
-) -> usize
+pub fn places(tape: &[u32], kinds: &[u8], wide: &[u64], thin: &mut [u16]) -> usize
     requires { ⌜ length (now tape) ≤ 67108864 ⌝ }
-    ensures { λ r. ⌜ (r ≡ placesAlong (now (kinds .entry)) (now (values .entry)) (now (found .entry)) (now (goes .entry)) (now (means .entry)) (now (under .entry)) (now (opens .entry)) (now (offsets .entry)) (now (marks .entry)) (now (tape .entry)) .at) × (now (marks .exit) ≡ placesAlong (now (kinds .entry)) (now (values .entry)) (now (found .entry)) (now (goes .entry)) (now (means .entry)) (now (under .entry)) (now (opens .entry)) (now (offsets .entry)) (now (marks .entry)) (now (tape .entry)) .marks) ⌝ }
+    ensures { λ r. ⌜ (r ≡ placesIn (now (kinds .entry)) (wideOf (now (wide .entry))) (thinOf (now (thin .entry))) (now (tape .entry)) .at) × (thinOf (now (thin .exit)) ≡ onMarks (λ marks. placesIn (now (kinds .entry)) (wideOf (now (wide .entry))) (thinOf (now (thin .entry))) (now (tape .entry)) .marks) (thinOf (now (thin .entry)))) ⌝ }
 {
     let mut p: usize = 0;
     let mut w = Writing {
@@ -121,22 +118,13 @@ pub fn places(
         let op = tape::op(e);
         let t = tape::token(e);
         let family = tape::family(op);
-        let u = operand(values, found, means, under, offsets, tape::form(op), t);
-        let register = register_at(found, means, family, t);
-        let goal = goal_at(found, goes, opens, family, t);
-        let m = codes_of(
-            kinds,
-            values,
-            marks,
-            family,
-            t,
-            w,
-            u,
-            Named { register, goal },
-        );
+        let u = operand(wide, thin, tape::form(op), t);
+        let register = register_at(wide, thin, family, t);
+        let goal = goal_at(thin, family, t);
+        let m = codes_of(kinds, wide, thin, family, t, w, u, Named { register, goal });
         let q = p + size(m);
         let aim = w.aim;
-        mark_after(family, t, p, q, aim, marks);
+        mark_after(family, t, p % 65536, q % 65536, aim, thin);
         w = written_after(family, w, u, register);
         p = q;
         i += 1;
@@ -274,20 +262,14 @@ fn lay_codes(image: &mut [u8], literals: &mut [u64], start: u64, from: Reached, 
 pub fn write_code(
     tape: &[u32],
     kinds: &[u8],
-    values: &[u64],
-    found: &[u32],
-    goes: &[u32],
-    means: &[u64],
-    under: &[u64],
-    opens: &[u32],
-    offsets: &[u64],
-    marks: &[u32],
+    wide: &[u64],
+    thin: &[u16],
     start: u64,
     image: &mut [u8],
     literals: &mut [u64],
 ) -> Reached
     requires { ⌜ (length (now tape) ≤ 67108864) × (length (now literals) ≤ 4294967296) × (start < 1099511627776) ⌝ }
-    ensures { λ r. ⌜ Holds (length (now (literals .entry))) (r .length) (r .literals) (now (image .exit)) (now (literals .exit)) (codeAlong start (now (kinds .entry)) (now (values .entry)) (now (found .entry)) (now (goes .entry)) (now (means .entry)) (now (under .entry)) (now (opens .entry)) (now (offsets .entry)) (now (marks .entry)) (now (image .entry)) (now (tape .entry))) × (r .literals ≤ 2 * length (now (tape .entry)) + 1) ⌝ }
+    ensures { λ r. ⌜ Holds (length (now (literals .entry))) (r .length) (r .literals) (now (image .exit)) (now (literals .exit)) (codeIn start (now (kinds .entry)) (wideOf (now (wide .entry))) (thinOf (now (thin .entry))) (now (image .entry)) (now (tape .entry))) × (r .literals ≤ 2 * length (now (tape .entry)) + 1) ⌝ }
 {
     let mut at = Reached {
         length: 0,
@@ -303,19 +285,10 @@ pub fn write_code(
         let op = tape::op(e);
         let t = tape::token(e);
         let family = tape::family(op);
-        let u = operand(values, found, means, under, offsets, tape::form(op), t);
-        let register = register_at(found, means, family, t);
-        let goal = goal_at(found, goes, opens, family, t);
-        let m = codes_of(
-            kinds,
-            values,
-            marks,
-            family,
-            t,
-            w,
-            u,
-            Named { register, goal },
-        );
+        let u = operand(wide, thin, tape::form(op), t);
+        let register = register_at(wide, thin, family, t);
+        let goal = goal_at(thin, family, t);
+        let m = codes_of(kinds, wide, thin, family, t, w, u, Named { register, goal });
         at = lay_codes(image, literals, start, at, m);
         w = written_after(family, w, u, register);
         i += 1;

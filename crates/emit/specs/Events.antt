@@ -11,6 +11,7 @@ use Rattle.tape.specs.Numbers.{familyAt, formAt}
 use Rattle.tables.specs.Packed.{low, numberIn, registerIn, packedAt}
 use Rattle.translator.specs.Instructions.{addRow, compareRow, falseMask, always}
 use Rattle.translator.specs.Core.{exitMask}
+use Rattle.ledger.specs.Book.{Wide, Thin}
 use Rattle.emit.specs.declared.Use.{Use}
 use Rattle.emit.specs.declared.Use.the-variants.{Absent, Held, Number, Stored}
 use Rattle.emit.specs.declared.Codes.{Codes}
@@ -135,3 +136,10 @@ unfoldable pub codesBy : (kinds values found goes means under opens offsets mark
 codesBy kinds values found goes means under opens offsets marks op t w =
     codesOf kinds values marks (familyAt op) t w (useIn values found means under offsets (formAt op) t)
     (record { register = registerAt found means (familyAt op) t; goal = goalAt found goes opens (familyAt op) t })
+
+-- by the ledger: where branches go stands in the column of what procedures write, which is done
+abbrev pub writingIn : Wide → Thin → (op t : ℕ) → Writing → Writing
+writingIn w b op t v = writingAfter (w .values) (b .found) (w .means) (w .under) (w .offsets) op t v
+
+abbrev pub codesIn : (kinds : List ℕ) → Wide → Thin → (op t : ℕ) → Writing → Codes
+codesIn kinds w b op t v = codesBy kinds (w .values) (b .found) (b .goes) (w .means) (w .under) (b .opens) (w .offsets) (b .written) op t v

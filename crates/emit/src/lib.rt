@@ -6,15 +6,21 @@ ghost use Rattle.tape.specs.Events.{TOKEN-LIMIT};
 ghost use lib.ListN.{length, getD};
 ghost use Rattle.base.specs.Lists.{member};
 ghost use Rattle.base.specs.Runs.{indexOf};
+ghost use Rattle.ledger.specs.Book.{wideOf, thinOf};
 ghost use Rattle.kinds.specs.Rules.{shifts};
 ghost use Rattle.translator.specs.Instructions.{opcode as opcodeOf, rowOf, shiftCode, falseMask};
 ghost use Rattle.translator.specs.Core.{exitMask};
 ghost use Rattle.emit.specs.Codes.{listOf, blank as blankCode, codeSize, codeSizes, columnOf, applyCode, isAbsent, applyCodes, applyThen, signCode, signedCodes, loadCodes, heldIn, amountIn, isLongUse, productRegister, termCodes, firstCodes, nextCodes, branchCode, linkCode, baseCode, returnCode, stopCode};
 ghost use Rattle.emit.specs.Events.{subscriptIn, indexIn, elementIn, placeBy, placeIn, useIn, returnIn, registerAt, goalAt, signing as signingOf, writtenAfter, comparedCodes, bareCodes, limitCodes, stepCodes, otherCodes, codesOf};
-use arrays::get;
-use arrays::key;
 use arrays::kind;
-use tables::meaning;
+use ledger::found;
+use ledger::goes;
+use ledger::meaning;
+use ledger::offset;
+use ledger::opens;
+use ledger::under;
+use ledger::value;
+use ledger::written;
 use tables::number;
 use tables::register;
 
@@ -489,94 +495,71 @@ pub fn size(m: Codes) -> usize
 
 // ── operands ──
 
-fn subscript(values: &[u64], shape: u32, t: usize) -> u64
+fn subscript(wide: &[u64], shape: u32, t: usize) -> u64
     requires { ⌜ t < TOKEN-LIMIT ⌝ }
-    ensures { λ r. ⌜ r ≡ subscriptIn (now (values .entry)) shape t ⌝ }
+    ensures { λ r. ⌜ r ≡ subscriptIn (wideOf (now (wide .entry)) .values) shape t ⌝ }
 {
     if shape % 2 == 1 {
-        return key(values, t + 2);
+        return value(wide, t + 2);
     }
     0
 }
 
-fn index(found: &[u32], means: &[u64], shape: u32, t: usize) -> u64
+fn index(wide: &[u64], thin: &[u16], shape: u32, t: usize) -> u64
     requires { ⌜ t < TOKEN-LIMIT ⌝ }
-    ensures { λ r. ⌜ r ≡ indexIn (now (found .entry)) (now (means .entry)) shape t ⌝ }
+    ensures { λ r. ⌜ r ≡ indexIn (thinOf (now (thin .entry)) .found) (wideOf (now (wide .entry)) .means) shape t ⌝ }
 {
     if shape == 2 {
-        return register(meaning(found, means, t + 2));
+        return register(meaning(wide, thin, t + 2));
     }
     if shape == 3 {
-        return register(meaning(found, means, t + 5));
+        return register(meaning(wide, thin, t + 5));
     }
     0
 }
 
-fn element(under: &[u64], offsets: &[u64], d: usize, m: u64, subscript: u64, index: u64) -> Use
-    ensures { λ r. ⌜ r ≡ elementIn (now (under .entry)) (now (offsets .entry)) d m subscript index ⌝ }
+fn element(wide: &[u64], d: usize, m: u64, subscript: u64, index: u64) -> Use
+    ensures { λ r. ⌜ r ≡ elementIn (wideOf (now (wide .entry)) .under) (wideOf (now (wide .entry)) .offsets) d m subscript index ⌝ }
 {
     Use::Stored(
         m % 2 == 1,
         index,
-        key(under, d) / 4294967296,
-        key(offsets, d) % 4294967296 + subscript % 4294967296,
+        under(wide, d) / 4294967296,
+        offset(wide, d) % 4294967296 + subscript % 4294967296,
     )
 }
 
 // What is declared at token d, by its packed meaning m.
-fn place_by(under: &[u64], offsets: &[u64], d: usize, m: u64, subscript: u64, index: u64) -> Use
-    ensures { λ r. ⌜ r ≡ placeBy (now (under .entry)) (now (offsets .entry)) d m subscript index ⌝ }
+fn place_by(wide: &[u64], d: usize, m: u64, subscript: u64, index: u64) -> Use
+    ensures { λ r. ⌜ r ≡ placeBy (wideOf (now (wide .entry)) .under) (wideOf (now (wide .entry)) .offsets) d m subscript index ⌝ }
 {
     if m % 8 == tables::REGISTER {
         return Use::Held(number(m));
     }
     if tables::CELL <= m % 8 {
-        return element(under, offsets, d, m, subscript, index);
+        return element(wide, d, m, subscript, index);
     }
     Use::Absent
 }
 
-fn place(
-    values: &[u64],
-    found: &[u32],
-    means: &[u64],
-    under: &[u64],
-    offsets: &[u64],
-    shape: u32,
-    t: usize,
-) -> Use
+fn place(wide: &[u64], thin: &[u16], shape: u32, t: usize) -> Use
     requires { ⌜ t < TOKEN-LIMIT ⌝ }
-    ensures { λ r. ⌜ r ≡ placeIn (now (values .entry)) (now (found .entry)) (now (means .entry)) (now (under .entry)) (now (offsets .entry)) shape t ⌝ }
+    ensures { λ r. ⌜ r ≡ placeIn (wideOf (now (wide .entry)) .values) (thinOf (now (thin .entry)) .found) (wideOf (now (wide .entry)) .means) (wideOf (now (wide .entry)) .under) (wideOf (now (wide .entry)) .offsets) shape t ⌝ }
 {
-    let s = subscript(values, shape, t);
-    let x = index(found, means, shape, t);
-    place_by(
-        under,
-        offsets,
-        get(found, t),
-        meaning(found, means, t),
-        s,
-        x,
-    )
+    let s = subscript(wide, shape, t);
+    let x = index(wide, thin, shape, t);
+    place_by(wide, found(thin, t), meaning(wide, thin, t), s, x)
 }
 
 // The operand or designator at token t, by its shape.
-pub fn operand(
-    values: &[u64],
-    found: &[u32],
-    means: &[u64],
-    under: &[u64],
-    offsets: &[u64],
-    shape: u32,
-    t: usize,
-) -> Use
+pub fn operand(wide: &[u64], thin: &[u16], shape: u32, t: usize) -> Use
     requires { ⌜ t < TOKEN-LIMIT ⌝ }
-    ensures { λ r. ⌜ r ≡ useIn (now (values .entry)) (now (found .entry)) (now (means .entry)) (now (under .entry)) (now (offsets .entry)) shape t ⌝ }
+    ensures { λ r. ⌜ r ≡ useIn (wideOf (now (wide .entry)) .values) (thinOf (now (thin .entry)) .found) (wideOf (now (wide .entry)) .means) (wideOf (now (wide .entry)) .under) (wideOf (now (wide .entry)) .offsets) shape t ⌝ }
 {
     if shape == 4 {
-        return Use::Number(key(values, t));
+        return Use::Number(value(wide, t));
     }
-    place(values, found, means, under, offsets, shape, t)
+    place(wide, thin, shape, t)
 }
 
 // ── what an event names ──
@@ -596,32 +579,32 @@ pub fn before(t: usize, n: usize) -> usize
     if t < n { 0 } else { t - n }
 }
 
-pub fn register_at(found: &[u32], means: &[u64], family: u32, t: usize) -> u64
+pub fn register_at(wide: &[u64], thin: &[u16], family: u32, t: usize) -> u64
     requires { ⌜ t < TOKEN-LIMIT ⌝ }
-    ensures { λ r. ⌜ r ≡ registerAt (now (found .entry)) (now (means .entry)) family t ⌝ }
+    ensures { λ r. ⌜ r ≡ registerAt (thinOf (now (thin .entry)) .found) (wideOf (now (wide .entry)) .means) family t ⌝ }
 {
     if family == tape::END_PROCEDURE {
-        return register(meaning(found, means, t + 2));
+        return register(meaning(wide, thin, t + 2));
     }
     if family == tape::COMPARED {
-        return register(meaning(found, means, before(t, 2)));
+        return register(meaning(wide, thin, before(t, 2)));
     }
     if family == tape::CALL {
-        return return_register(meaning(found, means, t));
+        return return_register(meaning(wide, thin, t));
     }
-    register(meaning(found, means, t))
+    register(meaning(wide, thin, t))
 }
 
-pub fn goal_at(found: &[u32], goes: &[u32], opens: &[u32], family: u32, t: usize) -> usize
-    ensures { λ r. ⌜ (r ≡ goalAt (now (found .entry)) (now (goes .entry)) (now (opens .entry)) family t) × (r < 4294967296) ⌝ }
+pub fn goal_at(thin: &[u16], family: u32, t: usize) -> usize
+    ensures { λ r. ⌜ (r ≡ goalAt (thinOf (now (thin .entry)) .found) (thinOf (now (thin .entry)) .goes) (thinOf (now (thin .entry)) .opens) family t) × (r < 65536) ⌝ }
 {
     if family == tape::BASE {
-        return get(opens, t);
+        return opens(thin, t);
     }
     if family == tape::CALL {
-        return get(found, t);
+        return found(thin, t);
     }
-    get(goes, t)
+    goes(thin, t)
 }
 
 // ── the assignment that is written ──
@@ -673,7 +656,7 @@ fn link(r: u64, to: usize) -> Code
 }
 
 fn base(r: u64, k: usize) -> Code
-    requires { ⌜ k < 4294967296 ⌝ }
+    requires { ⌜ k < 65536 ⌝ }
     ensures { λ c. ⌜ c ≡ baseCode r k ⌝ }
 {
     Code::Four(opcode(LOAD, 1), r, 0, DATA_BASE, 4 * k as u64)
@@ -686,52 +669,59 @@ pub fn stop() -> Code
     Code::Two(STOP, 0, 0)
 }
 
-// "IF and WHILE branch on false": a register and the operand u are compared.
-fn compared(kinds: &[u8], marks: &[u32], r: u64, t: usize, u: Use) -> Codes
-    ensures { λ m. ⌜ m ≡ comparedCodes (now (kinds .entry)) (now (marks .entry)) r t u ⌝ }
+// Where a branch goes, by token: the column of what procedures write is done, and lent again.
+fn mark(thin: &[u16], t: usize) -> usize
+    ensures { λ r. ⌜ (r ≡ getD (thinOf (now (thin .entry)) .written) t 0) × (r < 65536) ⌝ }
 {
-    let mask = false_mask(kind(kinds, before(t, 1)));
-    apply_then(COMPARE, r, u, branch(mask, get(marks, before(t, 3))))
+    written(thin, t)
 }
 
-fn bare(kinds: &[u8], marks: &[u32], t: usize) -> Codes
-    ensures { λ m. ⌜ m ≡ bareCodes (now (kinds .entry)) (now (marks .entry)) t ⌝ }
+// "IF and WHILE branch on false": a register and the operand u are compared.
+fn compared(kinds: &[u8], thin: &[u16], r: u64, t: usize, u: Use) -> Codes
+    ensures { λ m. ⌜ m ≡ comparedCodes (now (kinds .entry)) (thinOf (now (thin .entry)) .written) r t u ⌝ }
+{
+    let mask = false_mask(kind(kinds, before(t, 1)));
+    apply_then(COMPARE, r, u, branch(mask, mark(thin, before(t, 3))))
+}
+
+fn bare(kinds: &[u8], thin: &[u16], t: usize) -> Codes
+    ensures { λ m. ⌜ m ≡ bareCodes (now (kinds .entry)) (thinOf (now (thin .entry)) .written) t ⌝ }
 {
     let mask = false_mask(kind(kinds, t));
-    Codes::One(branch(mask, get(marks, before(t, 1))))
+    Codes::One(branch(mask, mark(thin, before(t, 1))))
 }
 
 // "compare with limit; exit branch": the control register and the operand u.
-fn limit(values: &[u64], marks: &[u32], aim: Use, t: usize, u: Use) -> Codes
-    ensures { λ m. ⌜ m ≡ limitCodes (now (values .entry)) (now (marks .entry)) aim t u ⌝ }
+fn limit(wide: &[u64], thin: &[u16], aim: Use, t: usize, u: Use) -> Codes
+    ensures { λ m. ⌜ m ≡ limitCodes (wideOf (now (wide .entry)) .values) (thinOf (now (thin .entry)) .written) aim t u ⌝ }
 {
-    let mask = exit_mask(key(values, before(t, 2)));
+    let mask = exit_mask(value(wide, before(t, 2)));
     apply_then(
         COMPARE,
         held(aim),
         u,
-        branch(mask, get(marks, before(t, 3))),
+        branch(mask, mark(thin, before(t, 3))),
     )
 }
 
 // "5A of the step; branch to the compare".
-fn step(values: &[u64], marks: &[u32], t: usize) -> Codes
+fn step(wide: &[u64], thin: &[u16], t: usize) -> Codes
     requires { ⌜ t < TOKEN-LIMIT ⌝ }
-    ensures { λ m. ⌜ m ≡ stepCodes (now (values .entry)) (now (marks .entry)) t ⌝ }
+    ensures { λ m. ⌜ m ≡ stepCodes (wideOf (now (wide .entry)) .values) (thinOf (now (thin .entry)) .written) t ⌝ }
 {
-    let r = get(marks, t + 1) as u64;
+    let r = mark(thin, t + 1) as u64;
     apply_then(
         ADD,
         r,
-        Use::Number(key(values, t)),
-        branch(ALWAYS, get(marks, t)),
+        Use::Number(value(wide, t)),
+        branch(ALWAYS, mark(thin, t)),
     )
 }
 
 // Declarations, ends of statements, calls and GOTOs.
-fn others(marks: &[u32], family: u32, t: usize, n: Named) -> Codes
-    requires { ⌜ (t < TOKEN-LIMIT) × (n .goal < 4294967296) ⌝ }
-    ensures { λ m. ⌜ m ≡ otherCodes (now (marks .entry)) family t n ⌝ }
+fn others(thin: &[u16], family: u32, t: usize, n: Named) -> Codes
+    requires { ⌜ (t < TOKEN-LIMIT) × (n .goal < 65536) ⌝ }
+    ensures { λ m. ⌜ m ≡ otherCodes (thinOf (now (thin .entry)) .written) family t n ⌝ }
 {
     let r = n.register;
     let goal = n.goal;
@@ -739,22 +729,22 @@ fn others(marks: &[u32], family: u32, t: usize, n: Named) -> Codes
         return Codes::One(base(r, goal));
     }
     if family == tape::PROCEDURE {
-        return Codes::One(branch(ALWAYS, get(marks, t + 1)));
+        return Codes::One(branch(ALWAYS, mark(thin, t + 1)));
     }
     if family == tape::END_PROCEDURE {
         return Codes::One(Code::Two(RETURN, ALWAYS, r));
     }
     if family == tape::ELSE {
-        return Codes::One(branch(ALWAYS, get(marks, t + 1)));
+        return Codes::One(branch(ALWAYS, mark(thin, t + 1)));
     }
     if family == tape::END_WHILE {
-        return Codes::One(branch(ALWAYS, get(marks, t + 1)));
+        return Codes::One(branch(ALWAYS, mark(thin, t + 1)));
     }
     if family == tape::CALL {
-        return Codes::One(link(r, get(marks, goal)));
+        return Codes::One(link(r, mark(thin, goal)));
     }
     if family == tape::GOTO {
-        return Codes::One(branch(ALWAYS, get(marks, goal)));
+        return Codes::One(branch(ALWAYS, mark(thin, goal)));
     }
     Codes::None
 }
@@ -762,16 +752,16 @@ fn others(marks: &[u32], family: u32, t: usize, n: Named) -> Codes
 // The instructions of an event, by its operand u and what it names.
 pub fn codes_of(
     kinds: &[u8],
-    values: &[u64],
-    marks: &[u32],
+    wide: &[u64],
+    thin: &[u16],
     family: u32,
     t: usize,
     w: Writing,
     u: Use,
     n: Named,
 ) -> Codes
-    requires { ⌜ (t < TOKEN-LIMIT) × (n .goal < 4294967296) ⌝ }
-    ensures { λ m. ⌜ m ≡ codesOf (now (kinds .entry)) (now (values .entry)) (now (marks .entry)) family t w u n ⌝ }
+    requires { ⌜ (t < TOKEN-LIMIT) × (n .goal < 65536) ⌝ }
+    ensures { λ m. ⌜ m ≡ codesOf (now (kinds .entry)) (wideOf (now (wide .entry)) .values) (thinOf (now (thin .entry)) .written) family t w u n ⌝ }
 {
     let aim = w.aim;
     if family == tape::FIRST {
@@ -781,16 +771,16 @@ pub fn codes_of(
         return next(aim, kind(kinds, before(t, 1)), u);
     }
     if family == tape::COMPARED {
-        return compared(kinds, marks, n.register, t, u);
+        return compared(kinds, thin, n.register, t, u);
     }
     if family == tape::LIMIT {
-        return limit(values, marks, aim, t, u);
+        return limit(wide, thin, aim, t, u);
     }
     if family == tape::BARE {
-        return bare(kinds, marks, t);
+        return bare(kinds, thin, t);
     }
     if family == tape::END_FOR {
-        return step(values, marks, t);
+        return step(wide, thin, t);
     }
-    others(marks, family, t, n)
+    others(thin, family, t, n)
 }

@@ -1,14 +1,13 @@
--- The loops of layout and images: the ends stay small, and a turn is a step of the pass. Assumes nothing.
-use Prim.Native.Nat.{ℕ, zero, suc, _+_, _-_, _*_, _/_, _%_, _≤_, _<_}
-use mathlib.Core.Path.{_≡_, refl, sym, ap, _∙_}
-use mathlib.Core.List.{List, [], _∷_}
+-- The loops of layout and images: a turn is a step of the pass, in the ledger. Assumes nothing.
+use Prim.Native.Nat.{ℕ, _+_, _-_, _*_, _/_, _%_, _≤_, _<_}
+use mathlib.Core.Path.{_≡_, refl, sym, ap, ap₂, _∙_}
+use mathlib.Core.List.{List}
 use native.Mathlib.Omega.{arith}
 use native.Mathlib.Nat.{div-mul-le-self, mul-le-mul-right}
-use lib.Dec.{eqb, leb}
-use lib.ListN.{length, getD, set, replicate, drop}
-use borrow.Author.Tests.{lt-ltb, le-ltb, eq-eqb, ne-eqb}
+use lib.Dec.{leb}
+use lib.ListN.{length, getD, drop}
+use borrow.Author.Tests.{lt-ltb, le-ltb, le-leb, lt-leb, eq-eqb, ne-eqb}
 use Rattle.base.specs.Numbers.{stored}
-use Rattle.base.proofs.Tests.{by-test}
 use Rattle.names.specs.declared.Broken.{Broken}
 use Rattle.names.specs.Broken.{unbroken, rule, _⊕_}
 use Rattle.kinds.specs.Meaning.{elementSize}
@@ -16,10 +15,12 @@ use Rattle.grammar.specs.Tree.{Width, full, short}
 use Rattle.tape.specs.Events as E
 use Rattle.tape.specs.Pass.{pass}
 use Rattle.tape.proofs.Pass.{pass-turn, pass-end}
-use Rattle.tables.specs.Packed.{widthIn, numberIn, low}
+use Rattle.ledger.specs.Book.{Wide, Thin, thinOf, onThin, zeros, putOffset, putWritten}
+use Rattle.ledger.proofs.Columns.{thin-length}
+use Rattle.tables.specs.Packed.{widthIn, numberIn}
 use Rattle.translator.specs.Layout.{segmentLimit, roundUp}
 use Rattle.layout.specs.declared.Filling.{Filling}
-use Rattle.layout.specs.Along.{Laying, layingOf, startEnds, segmentAt, sizeAt, endAt, placeAt, layoutEvent, Imaging, imagingOf, nowhere, startCell, layValue, imageEvent}
+use Rattle.layout.specs.Along.{Laying, layingOf, startEnds, segmentAt, placeBy, eventBy, capped, cappedEvent, Book, bookOf, layingIn, withLaying, laidBy, Imaging, imagingOf, nowhere, startCell, layValue, imageEvent}
 
 -- ── sizes ──
 
@@ -34,97 +35,77 @@ size-small short = (omega arith, omega arith)
 pub cell-small : (z n : ℕ) → z ≤ 4 → n < 4294967296 → z * n ≤ 17179869184
 cell-small z n a b = omega (arith, mul-le-mul-right n a)
 
-number-small : (m : ℕ) → numberIn m < 4294967296
-unfolding numberIn low
-number-small m = omega arith
-
 -- ── a cell is placed ──
 
+pub within-is : (n : ℕ) → n ≤ 4096 → n ≡ capped n
+unfolding capped
+within-is n h = rw (le-leb n segmentLimit h)
+
+pub past-is : (n : ℕ) → 4096 < n → 4097 ≡ capped n
+unfolding capped
+past-is n h = rw (lt-leb n segmentLimit h)
+
 pub place-is :
-    (means bases ends offsets : List ℕ) (t : ℕ) (b : Broken) {ends′ offsets′ : List ℕ} {r q : Broken} {m size k end offset n : ℕ} → m ≡ getD means t 0
-    → size ≡ elementSize (widthIn m) → k ≡ segmentAt bases t → end ≡ getD ends k 0 → offset ≡ roundUp size end → n ≡ numberIn m
-    → offsets′ ≡ set offsets t offset → ends′ ≡ set ends k (offset + size * n) → q ≡ rule (leb (offset + size * n) segmentLimit) 12 t → r ≡ b ⊕ q
-    → layingOf ends′ offsets′ r ≡ placeAt means bases t (layingOf ends offsets b)
-unfolding placeAt
-place-is means bases ends offsets t b em es ek ee eo en e1 e2 e3 e4 = rw (e4, e3, e2, e1, eo, ee, ek, en, es, em)
+    (w : Wide) (b : Thin) (t : ℕ) (r : Broken) {w′ : Wide} {b′ : Thin} {r′ q : Broken} {m size k end offset n v : ℕ} → m ≡ getD (w .means) t 0
+    → size ≡ elementSize (widthIn m) → k ≡ segmentAt (w .under) t → end ≡ getD (b .written) k 0 → offset ≡ roundUp size end → n ≡ numberIn m
+    → w′ ≡ putOffset t offset w → v ≡ capped (offset + size * n) → b′ ≡ putWritten k v b → q ≡ rule (leb (offset + size * n) segmentLimit) 12 t → r′ ≡ r ⊕ q
+    → bookOf w′ b′ r′ ≡ laidBy (placeBy (w .means) (w .under) capped t) (bookOf w b r)
+unfolding placeBy
+place-is w b t r em es ek ee eo en e1 ev e2 e3 e4 = rw (e4, e3, e2, ev, e1, eo, ee, ek, en, es, em)
 
 module _ (means bases : List ℕ) where
-  pub item-is : (op t : ℕ) {x : Laying} (s : Laying) → op ≡ E.ITEM → x ≡ placeAt means bases t s → x ≡ layoutEvent means bases op t s
-  unfolding layoutEvent
-  item-is op t s h e = rw (eq-eqb op E.ITEM h) e
+  pub item-is : (op t : ℕ) {x : Book} (l : Book) → op ≡ E.ITEM → x ≡ laidBy (placeBy means bases capped t) l → x ≡ laidBy (cappedEvent means bases op t) l
+  unfolding eventBy
+  item-is op t l h e = rw (eq-eqb op E.ITEM h) e
 
-  pub other-is : (op t : ℕ) (s : Laying) → (op ≡ E.ITEM → ⊥) → s ≡ layoutEvent means bases op t s
-  unfolding layoutEvent
-  other-is op t s h = rw (ne-eqb op E.ITEM h)
+  pub other-is : (op t : ℕ) (l : Book) → (op ≡ E.ITEM → ⊥) → l ≡ laidBy (cappedEvent means bases op t) l
+  unfolding eventBy
+  other-is op t l h = rw (ne-eqb op E.ITEM h)
 
-  -- ── the ends stay small ──
+-- ── the loop ──
 
-  set-small : (l : List ℕ) (i v k B : ℕ) → v ≤ B → getD l k 0 ≤ B → getD (set l i v) k 0 ≤ B
-  set-small [] i v k B a b = b
-  set-small (x ∷ l) zero v zero B a b = a
-  set-small (x ∷ l) zero v (suc k) B a b = b
-  set-small (x ∷ l) (suc i) v zero B a b = b
-  set-small (x ∷ l) (suc i) v (suc k) B a b = set-small l i v k B a b
+-- the pass over what is left, in the ledger l
+abbrev along : Wide → List ℕ → Book → Book
+along w tape l = laidBy (λ s. pass (cappedEvent (w .means) (w .under)) s tape) l
 
-  step-small : (op t : ℕ) (s : Laying) (B : ℕ) → ((k : ℕ) → getD (s .ends) k 0 ≤ B) → (k : ℕ) → getD (layoutEvent means bases op t s .ends) k 0 ≤ B + 34359738368
-  unfolding layoutEvent placeAt
-  step-small op t s B h k =
-      let m = getD means t 0 in
-      let z = size-small (widthIn m) in
-      let o = round-room (sizeAt means t) (getD (s .ends) (segmentAt bases t) 0) (z .0) (z .1) in
-      let n = cell-small (sizeAt means t) (numberIn m) (z .1) (number-small m) in
-      let e = h (segmentAt bases t) in
-      let f = h k in
-      by-test (λ (x : Laying). getD (x .ends) k 0 ≤ B + 34359738368) (eqb op E.ITEM) _ s
-      (λ q. set-small (s .ends) (segmentAt bases t) (endAt means bases t (s .ends)) k (B + 34359738368) (omega arith) (omega arith))
-      (λ q. omega arith)
-
--- i events are passed
-pub record Going (tape means bases ends₀ offsets₀ ends offsets : List ℕ) (b : Broken) (i : ℕ) : Type 0 where
+-- i events are passed, from the ledger l₀ on
+pub record Going (tape : List ℕ) (l₀ l : Book) (i : ℕ) : Type 0 where
   pub inside : i ≤ length tape
-  pub small : (k : ℕ) → getD ends k 0 ≤ 16 + i * 34359738368
-  pub is :
-      pass (layoutEvent means bases) (layingOf ends offsets b) (drop i tape)
-      ≡ pass (layoutEvent means bases) (layingOf ends₀ offsets₀ unbroken) tape
-  pub same-ends : length ends ≡ length ends₀
-  pub same-offsets : length offsets ≡ length offsets₀
+  pub is : along (l₀ .wide) (drop i tape) l ≡ along (l₀ .wide) tape l₀
+  pub means-is : l .wide .means ≡ l₀ .wide .means
+  pub under-is : l .wide .under ≡ l₀ .wide .under
 
-start-small : (n k : ℕ) → getD (replicate {A = ℕ} n 0) k 0 ≤ 0
-start-small zero k = omega arith
-start-small (suc n) zero = omega arith
-start-small (suc n) (suc k) = start-small n k
-
-module _ (tape means bases ends₀ offsets₀ : List ℕ) where
-  pub going : (lent : List ℕ) → lent ≡ replicate (length lent) 0 → ends₀ ≡ set lent 1 16 → Going tape means bases ends₀ offsets₀ ends₀ offsets₀ unbroken 0
-  going lent z e = record {
-    inside = omega arith;
-    small = λ k. rw (e, z) (set-small means bases (replicate (length lent) 0) 1 16 k 16 (omega arith) (omega (arith, start-small (length lent) k)));
-    is = refl;
-    same-ends = refl;
-    same-offsets = refl;
-  }
+module _ (tape : List ℕ) (l₀ : Book) where
+  pub going : Going tape l₀ l₀ 0
+  going = record { inside = omega arith; is = refl; means-is = refl; under-is = refl }
 
   pub going-on :
-      {ends offsets ends′ offsets′ : List ℕ} {b b′ : Broken} {i op t : ℕ} → Going tape means bases ends₀ offsets₀ ends offsets b i → i < length tape
-      → op ≡ getD tape i 0 % E.EVENTS → t ≡ getD tape i 0 / E.EVENTS → layingOf ends′ offsets′ b′ ≡ layoutEvent means bases op t (layingOf ends offsets b)
-      → length ends′ ≡ length ends → length offsets′ ≡ length offsets → Going tape means bases ends₀ offsets₀ ends′ offsets′ b′ (i + 1)
-  going-on {ends} {offsets} {ends′} {offsets′} {b} {b′} {i} {op} {t} g h eo et e l m = record {
-    inside = omega arith;
-    small = λ k.
-        let q = step-small means bases op t (layingOf ends offsets b) (16 + i * 34359738368) (g .small) k in
-        let w : getD ends′ k 0 ≡ getD (layoutEvent means bases op t (layingOf ends offsets b) .ends) k 0 = ap (λ (x : Laying). getD (x .ends) k 0) e in
-        omega arith;
-    is = rw e (pass-turn (layoutEvent means bases) (layingOf ends offsets b) tape i op t h eo et (g .is));
-    same-ends = l ∙ g .same-ends;
-    same-offsets = m ∙ g .same-offsets;
-  }
+      {l l′ : Book} {i op t : ℕ} → Going tape l₀ l i → i < length tape → op ≡ getD tape i 0 % E.EVENTS → t ≡ getD tape i 0 / E.EVENTS
+      → l′ ≡ laidBy (cappedEvent (l .wide .means) (l .wide .under) op t) l → Going tape l₀ l′ (i + 1)
+  going-on {l} {l′} {i} {op} {t} g h eo et e =
+      let step = cappedEvent (l₀ .wide .means) (l₀ .wide .under) in
+      let e′ : l′ ≡ laidBy (step op t) l = e ∙ ap₂ (λ (m u : List ℕ). laidBy (cappedEvent m u op t) l) (g .means-is) (g .under-is) in
+      let turned = pass-turn step (layingIn l) tape i op t h eo et refl in
+      record {
+        inside = omega arith;
+        is = ap (along (l₀ .wide) (drop (i + 1) tape)) e′ ∙ (ap (λ (s : Laying). withLaying s l) turned ∙ g .is);
+        means-is = ap (λ (x : Book). x .wide .means) e ∙ g .means-is;
+        under-is = ap (λ (x : Book). x .wide .under) e ∙ g .under-is;
+      }
 
-  pub going-end :
-      (lent : List ℕ) {ends offsets : List ℕ} {b : Broken} {i : ℕ} → lent ≡ replicate (length lent) 0 → ends₀ ≡ set lent 1 16 → Going tape means bases ends₀ offsets₀ ends offsets b i
-      → length tape ≤ i → layingOf ends offsets b ≡ pass (layoutEvent means bases) (layingOf (startEnds (length lent)) offsets₀ unbroken) tape
-  going-end lent {ends} {offsets} {b} {i} z e g h =
-      pass-end (layoutEvent means bases) (layingOf ends offsets b) tape i h (g .is)
-      ∙ ap (λ (x : List ℕ). pass (layoutEvent means bases) (layingOf x offsets₀ unbroken) tape) (e ∙ ap (λ (x : List ℕ). set x 1 16) z)
+  pub going-end : {l : Book} {i : ℕ} → Going tape l₀ l i → length tape ≤ i → l ≡ along (l₀ .wide) tape l₀
+  going-end {l} {i} g h =
+      let step = cappedEvent (l₀ .wide .means) (l₀ .wide .under) in
+      ap (λ (s : Laying). withLaying s l) (pass-end step (layingIn l) tape i h refl) ∙ g .is
+
+-- before the first event the column of ends is cleared, and segment 1 has its table
+pub begun :
+    (tape thin : List ℕ) (w : Wide) {b b′ : Thin} → b ≡ onThin 3 zeros (thinOf thin) → b′ ≡ putWritten 1 16 b
+    → along w tape (bookOf w b′ unbroken)
+    ≡ laidBy (λ s. pass (cappedEvent (w .means) (w .under)) (layingOf (startEnds (length thin / 4)) (s .offsets) unbroken) tape) (bookOf w (thinOf thin) unbroken)
+begun tape thin w {b} {b′} e f =
+    let ends : b′ ≡ onThin 3 (λ _. startEnds (length thin / 4)) (thinOf thin) = f ∙ rw (e, thin-length 3 thin) in
+    ap (λ (x : Thin). along w tape (bookOf w x unbroken)) ends
 
 -- ── images ──
 

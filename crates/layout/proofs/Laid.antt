@@ -24,7 +24,7 @@ use Rattle.tables.specs.Packed.{numberIn, basedIn, cellIn, unpacked, meaningsOf
 use Rattle.tables.proofs.Meanings.{by-sort, meaning-at}
 use Rattle.translator.specs.Layout.{roundUp, offsetFor, endFor, emptyEnds, placeCell, placeCells, offsetOf, segmentLimit}
 use Rattle.translator.proofs.Rooms.{length-ends}
-use Rattle.layout.specs.Along.{Laying, layingOf, startEnds, segmentAt, sizeAt, offsetAt, endAt, placeAt, layoutEvent}
+use Rattle.layout.specs.Along.{Laying, layingOf, startEnds, segmentAt, sizeAt, offsetAt, endAt, placeBy, placeAt, eventBy, layoutEvent}
 use Rattle.layout.proofs.Trees.{Apart, onValues, onItem, cells-made}
 
 -- ── a cell by its packed meaning ──
@@ -60,17 +60,17 @@ module _ (means bases : List ℕ) where
     layAll (d ∷ ds) = placeAt means bases (d .cell .name) (layAll ds)
 
     quiet : (op t : ℕ) (s : Laying) → Apart op → layoutEvent means bases op t s ≡ s
-    unfolding layoutEvent
+    unfolding eventBy
     quiet op t s h = rw (h .0)
 
     values-quiet : (ts : List ℕ) (s : Laying) → onValues (layoutEvent means bases) ts s ≡ s
-    unfolding layoutEvent
+    unfolding eventBy
     values-quiet [] s = refl
     values-quiet (t ∷ ts) s = values-quiet ts s
 
     one : (values : List ℕ) (i : Item) (d : Filled) (ds : List Filled) → d .cell .name ≡ i .name → d .values ≡ map (λ (t : ℕ). getD values t 0) (i .numbers) → Right d
         → onItem (layoutEvent means bases) i (layAll ds) ≡ layAll (d ∷ ds)
-    unfolding layoutEvent
+    unfolding eventBy
     one values i d ds e v r = values-quiet (i .numbers) _ ∙ rw e
 
 -- ── it is the definition's ──
@@ -106,12 +106,12 @@ module _ (means bases : List ℕ) (N M n : ℕ) (fit : 2 + n ≤ N) where
   start-ends m (suc (suc k)) = zeros m k ∙ sym (zeros n k)
 
   long-ends : (ds : List Filled) → length (layAll means bases start ds .ends) ≡ N
-  unfolding placeAt
+  unfolding placeBy
   long-ends [] = length-set (replicate N 0) 1 16 ∙ length-replicate N 0
   long-ends (d ∷ ds) = length-set (layAll means bases start ds .ends) _ _ ∙ long-ends ds
 
   long-offsets : (ds : List Filled) → length (layAll means bases start ds .offsets) ≡ M
-  unfolding placeAt
+  unfolding placeBy
   long-offsets [] = length-replicate M 0
   long-offsets (d ∷ ds) = length-set (layAll means bases start ds .offsets) _ _ ∙ long-offsets ds
 
@@ -126,7 +126,7 @@ module _ (means bases : List ℕ) (N M n : ℕ) (fit : 2 + n ≤ N) where
       (λ e. let q = eqb-false i t e in rw e (getD-set-other l i t v 0 (λ p. q (sym p))))
 
   laid-as : (ds : List Filled) → All Fits ds → LaidAs n ds (layAll means bases start ds)
-  unfolding placeAt placeCells placeCell offsetOf
+  unfolding placeBy placeCells placeCell offsetOf
   laid-as [] a = at-start (N - 2) (omega arith)
   laid-as (d ∷ ds) a =
       let f = fields means bases d (a .0 .0) in

@@ -2,4 +2,5 @@
 pub mod Along
 pub mod Trees
 pub mod Laid
+pub mod Capped
 pub mod Images

@@ -1,7 +1,7 @@
 -- Where cells stand, and their initial values in a segment's image, event by event. A cell is known by its token: its packed meaning has its width and its
 -- number of elements, its base the segment.
 use mathlib.Core.List.{List}
-use Prim.Native.Nat.{ℕ, _+_, _*_, _%_}
+use Prim.Native.Nat.{ℕ, suc, _+_, _*_, _%_}
 use lib.Dec.{eqb, leb, ltb}
 use lib.ListN.{getD, set, replicate}
 use Rattle.base.specs.Choose.{if_then_else_}
@@ -11,6 +11,7 @@ use Rattle.names.specs.Broken.{rule, _⊕_}
 use Rattle.kinds.specs.Meaning.{elementSize}
 use Rattle.tape.specs.Events as E
 use Rattle.tables.specs.Packed.{widthIn, numberIn}
+use Rattle.ledger.specs.Book.{Wide, Thin, onWide, onThin}
 use Rattle.translator.specs.Layout.{segmentLimit, tableBytes, roundUp}
 use Rattle.layout.specs.declared.Filling.{Filling}
 
@@ -44,16 +45,51 @@ module _ (means bases : List ℕ) where
   abbrev pub endAt : ℕ → List ℕ → ℕ
   endAt t ends = offsetAt t ends + sizeAt means t * numberIn (getD means t 0)
 
-  -- "12: cell ends past 4,096"
-  unfoldable pub placeAt : ℕ → Laying → Laying
-  placeAt t s = record {
-    ends = set (s .ends) (segmentAt bases t) (endAt t (s .ends));
+  -- "12: cell ends past 4,096"; of the new end `keep` is kept
+  unfoldable pub placeBy : (keep : ℕ → ℕ) → ℕ → Laying → Laying
+  placeBy keep t s = record {
+    ends = set (s .ends) (segmentAt bases t) (keep (endAt t (s .ends)));
     offsets = set (s .offsets) t (offsetAt t (s .ends));
     broken = s .broken ⊕ rule (leb (endAt t (s .ends)) segmentLimit) 12 t;
   }
 
-  unfoldable pub layoutEvent : (op t : ℕ) → Laying → Laying
-  layoutEvent op t s = if eqb op E.ITEM then placeAt t s else s
+  unfoldable pub eventBy : (keep : ℕ → ℕ) → (op t : ℕ) → Laying → Laying
+  eventBy keep op t s = if eqb op E.ITEM then placeBy keep t s else s
+
+  -- every end as it is
+  abbrev pub placeAt : ℕ → Laying → Laying
+  placeAt = placeBy (λ n. n)
+
+  abbrev pub layoutEvent : (op t : ℕ) → Laying → Laying
+  layoutEvent = eventBy (λ n. n)
+
+-- "A segment is at most 4,096 bytes, every cell included": of an end past that is kept that it is past
+unfoldable pub capped : ℕ → ℕ
+capped n = if leb n segmentLimit then n else suc segmentLimit
+
+abbrev pub cappedEvent : (means bases : List ℕ) → (op t : ℕ) → Laying → Laying
+cappedEvent means bases = eventBy means bases capped
+
+-- ── in the ledger ──
+
+-- the ledger, with the broken rules
+pub record Book : Type 0 where
+  pub wide : Wide
+  pub thin : Thin
+  pub broken : Broken
+
+abbrev pub bookOf : Wide → Thin → Broken → Book
+bookOf w b r = record { wide = w; thin = b; broken = r }
+
+-- the ends stand in the column `written`; all columns but it and the offsets stay
+abbrev pub layingIn : Book → Laying
+layingIn l = layingOf (l .thin .written) (l .wide .offsets) (l .broken)
+
+abbrev pub withLaying : Laying → Book → Book
+withLaying s l = record { wide = onWide 3 (λ _. s .offsets) (l .wide); thin = onThin 3 (λ _. s .ends) (l .thin); broken = s .broken }
+
+abbrev pub laidBy : (Laying → Laying) → Book → Book
+laidBy f l = withLaying (f (layingIn l)) l
 
 -- ── initial values ──
 

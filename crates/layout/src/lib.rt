@@ -1,17 +1,24 @@
 // Document 01, "Names, cells, protected registers": where cells stand, refusal 12 of a cell, and the initial values in a segment's image, each in one loop
 // along the tape.
 ghost use mathlib.Core.Path.{_≡_};
-ghost use Prim.Native.Nat.{_+_, _≤_, _<_};
-ghost use lib.ListN.{length, getD, set, replicate};
+ghost use Prim.Native.Nat.{_+_, _/_, _≤_, _<_};
+ghost use lib.ListN.{length, set};
 ghost use Rattle.base.specs.Numbers.{stored};
 ghost use Rattle.names.specs.Broken.{unbroken};
 ghost use Rattle.kinds.specs.Meaning.{elementSize};
 ghost use Rattle.tape.specs.Pass.{pass};
+ghost use Rattle.ledger.specs.Book.{wideOf, thinOf};
 ghost use Rattle.tables.specs.Packed.{widthIn};
 ghost use Rattle.translator.specs.Layout.{roundUp};
-ghost use Rattle.layout.specs.Along.{layingOf, startEnds, segmentAt, placeAt, layoutEvent, imagingOf, nowhere, startCell, layValue, imageEvent};
-use arrays::key;
-use arrays::put_wide;
+ghost use Rattle.layout.specs.Along.{layingOf, startEnds, segmentAt, placeBy, capped, cappedEvent, bookOf, laidBy, imagingOf, nowhere, startCell, layValue, imageEvent};
+use ledger::clear_written;
+use ledger::mean;
+use ledger::offset;
+use ledger::put_offset;
+use ledger::put_written;
+use ledger::under;
+use ledger::value;
+use ledger::written;
 use names::Broken;
 use names::join;
 use names::rule;
@@ -20,8 +27,11 @@ use tables::number;
 // "A segment is at most 4,096 bytes, every cell included."
 const SEGMENT_LIMIT: u64 = 4096;
 
+// What is kept of an end that is past it.
+const PAST_LIMIT: usize = 4097;
+
 // "Segment 1 begins with a table of four 4-byte entries".
-const TABLE_BYTES: u64 = 16;
+const TABLE_BYTES: usize = 16;
 
 // "(4, or 2 for short)".
 pub fn element_size(m: u64) -> u64
@@ -34,10 +44,10 @@ pub fn element_size(m: u64) -> u64
 }
 
 // The segment of the cell that is declared at a token.
-pub fn segment(bases: &[u64], t: usize) -> usize
-    ensures { λ r. ⌜ (r ≡ segmentAt (now (bases .entry)) t) × (r < 4294967296) ⌝ }
+fn segment(wide: &[u64], t: usize) -> usize
+    ensures { λ r. ⌜ (r ≡ segmentAt (wideOf (now (wide .entry)) .under) t) × (r < 4294967296) ⌝ }
 {
-    (key(bases, t) % 4294967296) as usize
+    (under(wide, t) % 4294967296) as usize
 }
 
 // "the next multiple of" z.
@@ -48,70 +58,49 @@ pub fn round_up(z: u64, n: u64) -> u64
     (n + (z - 1)) / z * z
 }
 
-fn place_cell(
-    means: &[u64],
-    bases: &[u64],
-    ends: &mut [u64],
-    offsets: &mut [u64],
-    t: usize,
-    broken: Broken,
-) -> Broken
-    requires { ⌜ getD (now ends) (segmentAt (now bases) t) 0 < 4611686018427387904 ⌝ }
-    ensures { λ r. ⌜ layingOf (now (ends .exit)) (now (offsets .exit)) r ≡ placeAt (now (means .entry)) (now (bases .entry)) t (layingOf (now (ends .entry)) (now (offsets .entry)) broken) ⌝ }
+// What is kept of an end in 16 bits.
+fn cap(end: u64) -> usize
+    ensures { λ r. ⌜ (r ≡ capped end) × (r < 65536) ⌝ }
 {
-    let m = key(means, t);
+    if end <= SEGMENT_LIMIT {
+        return end as usize;
+    }
+    PAST_LIMIT
+}
+
+fn place_cell(wide: &mut [u64], thin: &mut [u16], t: usize, broken: Broken) -> Broken
+    ensures { λ r. ⌜ bookOf (wideOf (now (wide .exit))) (thinOf (now (thin .exit))) r ≡ laidBy (placeBy (wideOf (now (wide .entry)) .means) (wideOf (now (wide .entry)) .under) capped t) (bookOf (wideOf (now (wide .entry))) (thinOf (now (thin .entry))) broken) ⌝ }
+{
+    let m = mean(wide, t);
     let size = element_size(m);
-    let k = segment(bases, t);
-    let offset = round_up(size, key(ends, k));
-    let end = offset + size * number(m);
-    put_wide(offsets, t, offset);
-    put_wide(ends, k, end);
+    let k = segment(wide, t);
+    let start = round_up(size, written(thin, k) as u64);
+    let end = start + size * number(m);
+    put_offset(wide, t, start);
+    put_written(thin, k, cap(end));
     join(broken, rule(end <= SEGMENT_LIMIT, 12, t))
 }
 
-fn layout_event(
-    op: u32,
-    t: usize,
-    means: &[u64],
-    bases: &[u64],
-    ends: &mut [u64],
-    offsets: &mut [u64],
-    broken: Broken,
-) -> Broken
-    requires { ⌜ getD (now ends) (segmentAt (now bases) t) 0 < 4611686018427387904 ⌝ }
-    ensures { λ r. ⌜ layingOf (now (ends .exit)) (now (offsets .exit)) r ≡ layoutEvent (now (means .entry)) (now (bases .entry)) op t (layingOf (now (ends .entry)) (now (offsets .entry)) broken) ⌝ }
+fn layout_event(op: u32, t: usize, wide: &mut [u64], thin: &mut [u16], broken: Broken) -> Broken
+    ensures { λ r. ⌜ bookOf (wideOf (now (wide .exit))) (thinOf (now (thin .exit))) r ≡ laidBy (cappedEvent (wideOf (now (wide .entry)) .means) (wideOf (now (wide .entry)) .under) op t) (bookOf (wideOf (now (wide .entry))) (thinOf (now (thin .entry))) broken) ⌝ }
 {
     if op == tape::ITEM {
-        return place_cell(means, bases, ends, offsets, t, broken);
+        return place_cell(wide, thin, t, broken);
     }
     broken
 }
 
-// Where cells stand, by token, and where they end, by segment. The ends are lent as zeros.
-pub fn layout(
-    tape: &[u32],
-    means: &[u64],
-    bases: &[u64],
-    ends: &mut [u64],
-    offsets: &mut [u64],
-) -> Broken
-    requires { ⌜ (length (now tape) ≤ 67108864) × (now ends ≡ replicate (length (now ends)) 0) ⌝ }
-    ensures { λ r. ⌜ layingOf (now (ends .exit)) (now (offsets .exit)) r ≡ pass (layoutEvent (now (means .entry)) (now (bases .entry))) (layingOf (startEnds (length (now (ends .entry)))) (now (offsets .entry)) unbroken) (now (tape .entry)) ⌝ }
+// Where cells stand, by token, and where they end, by segment, in the column `written`, whatever stood there.
+pub fn layout(tape: &[u32], wide: &mut [u64], thin: &mut [u16]) -> Broken
+    ensures { λ r. ⌜ bookOf (wideOf (now (wide .exit))) (thinOf (now (thin .exit))) r ≡ laidBy (λ s. pass (cappedEvent (wideOf (now (wide .entry)) .means) (wideOf (now (wide .entry)) .under)) (layingOf (startEnds (length (now (thin .entry)) / 4)) (s .offsets) unbroken) (now (tape .entry))) (bookOf (wideOf (now (wide .entry))) (thinOf (now (thin .entry))) unbroken) ⌝ }
 {
-    put_wide(ends, 1, TABLE_BYTES);
+    clear_written(thin);
+    put_written(thin, 1, TABLE_BYTES);
     let mut broken = Broken { number: 0, at: 0 };
     let mut i: usize = 0;
     while i < tape.len() {
         let e = tape[i];
-        broken = layout_event(
-            tape::op(e),
-            tape::token(e),
-            means,
-            bases,
-            ends,
-            offsets,
-            broken,
-        );
+        broken = layout_event(tape::op(e), tape::token(e), wide, thin, broken);
         i += 1;
     }
     broken
@@ -123,13 +112,13 @@ pub struct Filling {
     pub size: usize,
 }
 
-fn start_cell(k: usize, means: &[u64], bases: &[u64], offsets: &[u64], t: usize) -> Filling
-    ensures { λ r. ⌜ (r ≡ startCell k (now (means .entry)) (now (bases .entry)) (now (offsets .entry)) t) × (r .size ≤ 4) ⌝ }
+fn start_cell(k: usize, wide: &[u64], t: usize) -> Filling
+    ensures { λ r. ⌜ (r ≡ startCell k (wideOf (now (wide .entry)) .means) (wideOf (now (wide .entry)) .under) (wideOf (now (wide .entry)) .offsets) t) × (r .size ≤ 4) ⌝ }
 {
-    if segment(bases, t) == k {
+    if segment(wide, t) == k {
         return Filling {
-            at: key(offsets, t) as usize,
-            size: element_size(key(means, t)) as usize,
+            at: offset(wide, t) as usize,
+            size: element_size(mean(wide, t)) as usize,
         };
     }
     Filling { at: 0, size: 0 }
@@ -173,56 +162,28 @@ fn lay_value(image: &mut [u8], v: u64, f: Filling) -> Filling
     f
 }
 
-fn image_event(
-    op: u32,
-    t: usize,
-    k: usize,
-    means: &[u64],
-    bases: &[u64],
-    offsets: &[u64],
-    values: &[u64],
-    image: &mut [u8],
-    f: Filling,
-) -> Filling
+fn image_event(op: u32, t: usize, k: usize, wide: &[u64], image: &mut [u8], f: Filling) -> Filling
     requires { ⌜ f .size ≤ 4 ⌝ }
-    ensures { λ r. ⌜ (imagingOf (now (image .exit)) r ≡ imageEvent k (now (means .entry)) (now (bases .entry)) (now (offsets .entry)) (now (values .entry)) op t (imagingOf (now (image .entry)) f)) × (r .size ≤ 4) ⌝ }
+    ensures { λ r. ⌜ (imagingOf (now (image .exit)) r ≡ imageEvent k (wideOf (now (wide .entry)) .means) (wideOf (now (wide .entry)) .under) (wideOf (now (wide .entry)) .offsets) (wideOf (now (wide .entry)) .values) op t (imagingOf (now (image .entry)) f)) × (r .size ≤ 4) ⌝ }
 {
     if op == tape::ITEM {
-        return start_cell(k, means, bases, offsets, t);
+        return start_cell(k, wide, t);
     }
     if op == tape::VALUE {
-        return lay_value(image, key(values, t), f);
+        return lay_value(image, value(wide, t), f);
     }
     f
 }
 
 // The initial values of the cells of segment k, laid over its image.
-pub fn fill(
-    tape: &[u32],
-    k: usize,
-    means: &[u64],
-    bases: &[u64],
-    offsets: &[u64],
-    values: &[u64],
-    image: &mut [u8],
-) -> Filling
-    ensures { λ r. ⌜ imagingOf (now (image .exit)) r ≡ pass (imageEvent k (now (means .entry)) (now (bases .entry)) (now (offsets .entry)) (now (values .entry))) (imagingOf (now (image .entry)) nowhere) (now (tape .entry)) ⌝ }
+pub fn fill(tape: &[u32], k: usize, wide: &[u64], image: &mut [u8]) -> Filling
+    ensures { λ r. ⌜ imagingOf (now (image .exit)) r ≡ pass (imageEvent k (wideOf (now (wide .entry)) .means) (wideOf (now (wide .entry)) .under) (wideOf (now (wide .entry)) .offsets) (wideOf (now (wide .entry)) .values)) (imagingOf (now (image .entry)) nowhere) (now (tape .entry)) ⌝ }
 {
     let mut f = Filling { at: 0, size: 0 };
     let mut i: usize = 0;
     while i < tape.len() {
         let e = tape[i];
-        f = image_event(
-            tape::op(e),
-            tape::token(e),
-            k,
-            means,
-            bases,
-            offsets,
-            values,
-            image,
-            f,
-        );
+        f = image_event(tape::op(e), tape::token(e), k, wide, image, f);
         i += 1;
     }
     f

@@ -24,20 +24,21 @@ use Rattle.names.specs.Search.{firstToken}
 use Rattle.names.specs.Names.{Named}
 use Rattle.names.proofs.Bound.{Goes, goes-along}
 use Rattle.kinds.specs.Meanings.{Filled, Meant, standard}
-use Rattle.kinds.specs.Tables.{Tables}
+use Rattle.kinds.specs.Tables.{Tables, meaningAt}
 use Rattle.kinds.proofs.Known.{Known}
+use Rattle.kinds.proofs.Small.{register-small, meaning-small, meant-small, standard-small}
 use Rattle.tables.specs.Packed.{low, meaningsOf}
 use Rattle.tables.proofs.Meanings.{low-is}
 use Rattle.objtext.specs.Object.{Segment, objectText}
 use Rattle.translator.specs.Instructions.{Instruction, sizes}
 use Rattle.translator.specs.Core.{Core, coreStatement}
-use Rattle.translator.specs.Code.{code, instructions}
+use Rattle.translator.specs.Code.{sizeOf, code, instructions}
 use Rattle.translator.specs.Layout.{Layout, Placed, layout, placeCells, offsetOf, segmentLimit, roundUp, literalsEnd, literalsFrom, cellsEnd}
 use Rattle.translator.specs.Bytes.{encodeAll}
 use Rattle.translator.specs.Image as I
 use Rattle.translator.specs.Image.{fill, words, segments}
 use Rattle.translator.specs.Translate.{Answer, accepted, refused, kindsOf, valuesOf, named, labelled, meant, Made, tablesOf, make, finish, inRoom}
-use Rattle.translator.proofs.Sizes.{length-encodeAll}
+use Rattle.translator.proofs.Sizes.{length-encodeAll, sizes-instructions}
 use Rattle.translator.proofs.Rooms.{ends-fit, offsets-fit}
 use Rattle.translator.proofs.Tables.{length-map, names-found, labels-led}
 use Rattle.translator.proofs.Images.{Fitting}
@@ -45,11 +46,14 @@ use Rattle.translator.proofs.Objects as O
 use Rattle.layout.specs.Along.{Imaging, imagingOf, nowhere, imageEvent}
 use Rattle.layout.proofs.Laid.{Right, all-right}
 use Rattle.layout.proofs.Images.{image-of-tree, placed-there}
+use Rattle.ledger.specs.Book.{Wide, Thin}
 use Rattle.emit.specs.Along.{along, codeFor}
-use Rattle.code.specs.Places.{noWriting, placesAlong}
+use Rattle.code.specs.Places.{whole, kept, Placing, noWriting, placesAlong}
 use Rattle.code.specs.Coding.{bytesIn, Laid, laidOf, codeAlong}
 use Rattle.code.proofs.Laying.{laid-instructions}
-use Rattle.code.proofs.Program.{code-program}
+use Rattle.code.proofs.Addresses.{Held}
+use Rattle.code.proofs.Kept.{places-kept, length-same}
+use Rattle.code.proofs.Program.{places-program, code-program}
 use Rattle.frames.specs.Frames.{objectOf}
 use Rattle.made.specs.Making.{zeros, endOf, endOfFirst, imageAlong, objectCut, objectAlong, startOf, codedAlong, madeAlong}
 use Rattle.made.proofs.Segments.{program-cut, firstBytes, laterBytes, first-cut, later-cut, segments-are}
@@ -80,6 +84,17 @@ module _
 
     abbrev tape : List ℕ
     tape = tapeStatement x []
+
+    -- no address stands in the marks before
+    abbrev marks : List ℕ
+    marks = replicate (length ts) 0
+
+    -- the ledger
+    abbrev w : Wide
+    w = record { values = valuesOf ts; means = means; under = under; offsets = offsets }
+
+    abbrev b : Thin
+    b = record { found = named ts x .found; goes = labelled ts x .goes; opens = m .opens; written = marks }
 
     known : Known to m
     known = O.known ts x to front program quiet
@@ -116,7 +131,7 @@ module _
     unfolding meant
     right = all-right means under (kindsOf ts) (valuesOf ts) (named ts x .found) x firstToken to program before refl to known means-are
 
-    image-is : (k : ℕ) → imageAlong (valuesOf ts) means under offsets tape k ≡ fill k (y .placed) zeros
+    image-is : (k : ℕ) → imageAlong w tape k ≡ fill k (y .placed) zeros
     unfolding imageAlong meant layout
     image-is k =
         image-of-tree k means under offsets (valuesOf ts) zeros (let e = length-replicate {A = ℕ} segmentLimit 0 in omega arith) (kindsOf ts) (named ts x .found) x firstToken to program before (m .bases) refl right
@@ -124,48 +139,77 @@ module _
 
     -- ── the program ──
 
-    -- no address stands in the marks before
-    abbrev marks : List ℕ
-    marks = replicate (length ts) 0
-
     bound : Along (Goes (named ts x .found) (labelled ts x .goes)) (eventsOf x) []
     bound = goes-along (valuesOf ts) (named ts x .found) (labelled ts x .goes) (eventsOf x) [] (names-found ts x to program inside) (labels-led ts x to program inside)
 
+    -- registers 0 to 15
+    held : Held f
+    unfolding meant
+    held t = register-small (meaningAt f t) (meaning-small (f .found) (m .means) t (meant-small f x before (O.quiet-along ts x to front program quiet) (standard-small (length ts - firstToken))))
+
+    -- where branches go
+    abbrev placed : (keep : ℕ → ℕ) → Placing
+    placed keep = placesAlong keep (kindsOf ts) (valuesOf ts) (named ts x .found) (labelled ts x .goes) means under (m .opens) offsets marks tape
+
     coded : along (kindsOf ts) (valuesOf ts) (named ts x .found) (labelled ts x .goes) means under (m .opens) offsets
-        (placesAlong (kindsOf ts) (valuesOf ts) (named ts x .found) (labelled ts x .goes) means under (m .opens) offsets marks tape .marks) noWriting tape
+        (placed whole .marks) noWriting tape
         ≡ map (codeFor (λ (t : ℕ). low (getD offsets t 0))) (code [] [] core 0)
-    coded = code-program f means under offsets (sym means-are) small x firstToken to (length ts) program (omega arith) inside bound
+    coded = code-program f means under offsets (sym means-are) small held x firstToken to (length ts) program (omega arith) inside bound
 
     abbrev lain : Laid
-    lain = codedAlong (kindsOf ts) (valuesOf ts) (named ts x .found) (labelled ts x .goes) means under (m .opens) offsets ends marks tape
+    lain = codedAlong (kindsOf ts) w b ends tape
 
-    lain-is : lain ≡ laidOf (sizes is) (sets zeros 0 (bytesIn (encodeAll y is))) (y .literals)
-    unfolding codedAlong layout
-    lain-is =
+    -- with all of each address
+    abbrev exactly : Laid
+    exactly = codeAlong (startOf ends) (kindsOf ts) (valuesOf ts) (named ts x .found) (labelled ts x .goes) means under (m .opens) offsets (placed whole .marks) zeros tape
+
+    exactly-is : exactly ≡ laidOf (sizes is) (sets zeros 0 (bytesIn (encodeAll y is))) (y .literals)
+    unfolding layout
+    exactly-is =
         rw start-is
         (laid-instructions y (λ (t : ℕ). low (getD offsets t 0)) place-is (kindsOf ts) (valuesOf ts) (named ts x .found) (labelled ts x .goes) means under (m .opens) offsets _ zeros tape core coded refl)
 
+    length-is : lain .at ≡ sizes is
+    unfolding codedAlong
+    length-is =
+        length-same (startOf ends) (kindsOf ts) (valuesOf ts) (named ts x .found) (labelled ts x .goes) means under (m .opens) offsets (placed kept .marks) (placed whole .marks) zeros tape
+        ∙ ap (λ (l : Laid). l .at) exactly-is
+
+    -- 16 bits are all of an address of a program that fits
+    lain-is : sizes is ≤ segmentLimit → lain ≡ laidOf (sizes is) (sets zeros 0 (bytesIn (encodeAll y is))) (y .literals)
+    unfolding codedAlong
+    lain-is h =
+        let p : placed whole .at ≡ sizeOf core = ap (λ (s : Placing). s .at) (places-program f means under offsets (sym means-are) small held x firstToken to (length ts) program) in
+        let s = sizes-instructions core in
+        let k : placed kept ≡ placed whole = places-kept (kindsOf ts) (valuesOf ts) (named ts x .found) (labelled ts x .goes) means under (m .opens) offsets marks tape (omega arith) in
+        ap
+        (λ (s : Placing).
+        codeAlong (startOf ends) (kindsOf ts) (valuesOf ts) (named ts x .found) (labelled ts x .goes) means under (m .opens) offsets (s .marks) zeros tape)
+        k
+        ∙ exactly-is
+
     -- the object, if its program and its literals fit
     object-is : sizes is ≤ segmentLimit → literalsEnd y ≤ segmentLimit
-        → objectAlong (valuesOf ts) means under offsets tape (m .bases) ends (startOf ends) (take (lain .at) (lain .image)) (lain .literals) ≡ segments (m .bases) y is
+        → objectAlong w tape (m .bases) ends (startOf ends) (take (lain .at) (lain .image)) (lain .literals) ≡ segments (m .bases) y is
     unfolding objectAlong objectCut endOfFirst
     object-is h k =
         let fit : Fitting y = O.fitting ts x to front program quiet k in
         let bytes = O.program-bytes ts x to front program quiet h k in
-        rw (lain-is, start-is, image-is 1, image-is 2, image-is 3, end-is 1, end-is 2, end-is 3, program-cut (encodeAll y is) (sizes is) (length-encodeAll y is) h bytes, first-cut y fit, later-cut y 2 (fit .ends 2), later-cut y 3 (fit .ends 3))
+        rw (lain-is h, start-is, image-is 1, image-is 2, image-is 3, end-is 1, end-is 2, end-is 3, program-cut (encodeAll y is) (sizes is) (length-encodeAll y is) h bytes, first-cut y fit, later-cut y 2 (fit .ends 2), later-cut y 3 (fit .ends 3))
         (sym (segments-are y (m .bases) is few))
 
     pub made-as-defined : (room : ℕ)
-        → madeAlong (kindsOf ts) (valuesOf ts) (named ts x .found) (labelled ts x .goes) means under (m .opens) offsets ends marks tape (m .bases) room ≡ inRoom room (finish (make ts x))
+        → madeAlong (kindsOf ts) w b ends tape (m .bases) room ≡ inRoom room (finish (make ts x))
     unfolding madeAlong finish make inRoom
     made-as-defined room =
         cases (ltb segmentLimit (sizes is))
-        (λ p. rw (lain-is, p))
+        (λ p. rw (length-is, p))
         (λ p.
+        let fits = ltb-false segmentLimit (sizes is) p in
         cases (ltb segmentLimit (literalsEnd y))
-        (λ q. rw (lain-is, start-is, p, q))
+        (λ q. rw (lain-is fits, start-is, p, q))
         (λ q.
-        let a : ltb segmentLimit (lain .at) ≡ false = ap (λ (l : Laid). ltb segmentLimit (l .at)) lain-is ∙ p in
+        let a : ltb segmentLimit (lain .at) ≡ false = ap (λ (l : Laid). ltb segmentLimit (l .at)) (lain-is fits) ∙ p in
         let b : ltb segmentLimit (startOf ends + 4 * length (lain .literals)) ≡ false =
-        ap₂ (λ (n : ℕ) (l : Laid). ltb segmentLimit (n + 4 * length (l .literals))) start-is lain-is ∙ q in
-        rw (a, b, p, q) (ap (λ (o : List Segment). inRoom room (accepted (objectText o))) (object-is (ltb-false _ _ p) (ltb-false _ _ q)))))
+        ap₂ (λ (n : ℕ) (l : Laid). ltb segmentLimit (n + 4 * length (l .literals))) start-is (lain-is fits) ∙ q in
+        rw (a, b, p, q) (ap (λ (o : List Segment). inRoom room (accepted (objectText o))) (object-is fits (ltb-false _ _ q)))))

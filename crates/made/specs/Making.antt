@@ -1,4 +1,4 @@
--- The object that the passes make of a text along its tape, by its tables as arrays.
+-- The object that the passes make of a text along its tape, by what the ledger has of its tokens.
 use mathlib.Core.List.{List}
 use mathlib.Core.Bool.{Bool}
 use Prim.Native.Nat.{ℕ, _+_, _*_, min}
@@ -12,8 +12,9 @@ use Rattle.translator.specs.Layout.{segmentLimit, roundUp}
 use Rattle.translator.specs.Image.{words}
 use Rattle.translator.specs.Translate.{Answer, accepted, refused, inRoom}
 use Rattle.layout.specs.Along.{Imaging, imagingOf, nowhere, imageEvent}
-use Rattle.code.specs.Places.{Placing, placesAlong}
-use Rattle.code.specs.Coding.{Laid, codeAlong}
+use Rattle.ledger.specs.Book.{Wide, Thin}
+use Rattle.code.specs.Places.{Placing, onMarks, placesIn}
+use Rattle.code.specs.Coding.{Laid, codeIn}
 use Rattle.frames.specs.Frames.{objectOf}
 
 -- "Each segment's image is built in an array of 4,096 zero bytes"
@@ -28,9 +29,9 @@ endOf ends k = min (getD ends k 0) segmentLimit
 unfoldable pub endOfFirst : (cells start literals : ℕ) → ℕ
 endOfFirst cells start literals = if eqb literals 0 then cells else start + 4 * literals
 
-module _ (values means under offsets tape : List ℕ) where
+module _ (w : Wide) (tape : List ℕ) where
   unfoldable pub imageAlong : ℕ → List ℕ
-  imageAlong k = pass (imageEvent k means under offsets values) (imagingOf zeros nowhere) tape .image
+  imageAlong k = pass (imageEvent k (w .means) (w .under) (w .offsets) (w .values)) (imagingOf zeros nowhere) tape .image
 
   module _ (bases : ℕ) where
     -- the object of a program and the literals from `start`, by the ends of segment 1's cells and of the data segments
@@ -45,15 +46,14 @@ module _ (values means under offsets tape : List ℕ) where
 abbrev pub startOf : (ends : List ℕ) → ℕ
 startOf ends = roundUp 4 (endOf ends 1)
 
--- the program's bytes and the literals
-unfoldable pub codedAlong : (kinds values found goes means under opens offsets ends marks tape : List ℕ) → Laid
-codedAlong kinds values found goes means under opens offsets ends marks tape =
-    codeAlong (startOf ends) kinds values found goes means under opens offsets (placesAlong kinds values found goes means under opens offsets marks tape .marks) zeros tape
+-- the program's bytes and the literals: where branches go is placed first
+unfoldable pub codedAlong : (kinds : List ℕ) → Wide → Thin → (ends tape : List ℕ) → Laid
+codedAlong kinds w b ends tape = codeIn (startOf ends) kinds w (onMarks (λ (marks : List ℕ). placesIn kinds w b tape .marks) b) zeros tape
 
 -- "14: program over 4,096 bytes … 0"; "15: literals end past 4,096 … 0"; 16
-unfoldable pub madeAlong : (kinds values found goes means under opens offsets ends marks tape : List ℕ) (bases room : ℕ) → Answer
-madeAlong kinds values found goes means under opens offsets ends marks tape bases room =
-    let l = codedAlong kinds values found goes means under opens offsets ends marks tape in
+unfoldable pub madeAlong : (kinds : List ℕ) → Wide → Thin → (ends tape : List ℕ) (bases room : ℕ) → Answer
+madeAlong kinds w b ends tape bases room =
+    let l = codedAlong kinds w b ends tape in
     if ltb segmentLimit (l .at) then refused 14 0 else
     if ltb segmentLimit (startOf ends + 4 * length (l .literals)) then refused 15 0 else
-    inRoom room (accepted (objectText (objectAlong values means under offsets tape bases ends (startOf ends) (take (l .at) (l .image)) (l .literals))))
+    inRoom room (accepted (objectText (objectAlong w tape bases ends (startOf ends) (take (l .at) (l .image)) (l .literals))))

@@ -13,6 +13,7 @@ use Rattle.base.specs.Lists.{member}
 use Rattle.base.proofs.Tests.{cases}
 use Rattle.token.specs.Kinds as K
 use Rattle.grammar.specs.Tree.{Designator, Operand, number, place, Term}
+use Rattle.ledger.specs.Book.{Wide, Thin}
 use Rattle.names.specs.declared.Broken.{Broken}
 use Rattle.names.specs.Broken.{unbroken, rule, broken, _⊕_}
 use Rattle.kinds.specs.Registers.{Registers, noRegisters, spares}
@@ -24,7 +25,7 @@ use Rattle.tables.specs.Stacks.{stackOf}
 use Rattle.tables.proofs.Meanings.{by-sort, register-is, long-is}
 use Rattle.tables.proofs.Sets.{sets-at}
 use Rattle.rules.specs.Parts.{subscriptAt, indexAt, designatorAt, operandAt, termAt}
-use Rattle.rules.specs.Shows.{Names, Values, Opens, Written}
+use Rattle.rules.specs.Shows.{Listed}
 use Rattle.rules.proofs.Sorts.{as-register, as-routine, as-cell, register-sort, zero-sort, short-sort, baseAt, meant-at}
 
 or-none : (x : Bool) → x ≡ (x || false)
@@ -44,10 +45,10 @@ OfMeaning m x f = (n : ℕ) (b : Based) → x ≡ f (unpacked n m b)
 -- ── parts of a designator ──
 
 module _ (f : Tables) (t shape : ℕ) where
-  pub subscripted : {v : ℕ} {x : Broken} {y : Bool} (m : ℕ) (values : List ℕ) → Values f values → (eqb shape 1 || eqb shape 3) ≡ true → v ≡ getD values (t + 2) 0
+  pub subscripted : {v : ℕ} {x : Broken} {y : Bool} (m : ℕ) (values : List ℕ) → f .values ≡ values → (eqb shape 1 || eqb shape 3) ≡ true → v ≡ getD values (t + 2) 0
       → ((n : ℕ) (b : Based) → y ≡ inside (cellIn n m b) v) → x ≡ rule y 11 (t + 2) → (n : ℕ) (b : Based) → x ≡ subscriptRules f (cellIn n m b) (subscriptAt shape t)
   unfolding subscriptAt subscriptRules
-  subscripted m values s h e g k n b = rw (h, s .values-is, ← e) (k ∙ ap (λ (z : Bool). rule z 11 (t + 2)) (g n b))
+  subscripted m values s h e g k n b = rw (h, s, ← e) (k ∙ ap (λ (z : Bool). rule z 11 (t + 2)) (g n b))
 
   pub no-subscript : {x : Broken} → (eqb shape 1 || eqb shape 3) ≡ false → x ≡ unbroken → (c : Cell) → x ≡ subscriptRules f c (subscriptAt shape t)
   unfolding subscriptAt subscriptRules
@@ -83,7 +84,7 @@ a-place shape t n = rw (ne-eqb shape 4 n)
 
 -- ── by what the name at token t means ──
 
-module _ {f : Tables} {found means : List ℕ} (s : Names f found means) (t m : ℕ) (e : m ≡ packedAt found means t) where
+module _ {f : Tables} {w : Wide} {l : Thin} (s : Listed f w l) (t m : ℕ) (e : m ≡ packedAt (l .found) (w .means) t) where
   at : (g : Meaning → Broken) {x : Broken} → OfMeaning m x g → x ≡ g (meaningAt f t)
   at g p = p _ _ ∙ ap g (sym (meant-at s t m e))
 
@@ -97,11 +98,11 @@ module _ {f : Tables} {found means : List ℕ} (s : Names f found means) (t m : 
 
   pub placed-register : (shape : ℕ) {x : Broken} {bare : Bool} → m % 8 ≡ 1 → ((u : ℕ) → bare ≡ isBare (subscriptAt shape u) (indexAt shape u)) → x ≡ rule bare 8 t → x ≡ placeRules f (designatorAt shape t)
   unfolding placeRules
-  placed-register shape h p q = rw (meant-at s t m e, as-register (getD found t 0) m (baseAt s t) h) (q ∙ ap (λ (z : Bool). rule z 8 t) (p t))
+  placed-register shape h p q = rw (meant-at s t m e, as-register (getD (l .found) t 0) m (baseAt s t) h) (q ∙ ap (λ (z : Bool). rule z 8 t) (p t))
 
   pub placed-cell : (shape : ℕ) {x : Broken} → 4 ≤ m % 8 → ((n : ℕ) (b : Based) → x ≡ placeBy f (cell (cellIn n m b)) (designatorAt shape t)) → x ≡ placeRules f (designatorAt shape t)
   unfolding placeRules
-  placed-cell shape h p = rw (meant-at s t m e, as-cell (getD found t 0) m (baseAt s t) h) (p _ _)
+  placed-cell shape h p = rw (meant-at s t m e, as-cell (getD (l .found) t 0) m (baseAt s t) h) (p _ _)
 
   pub placed-nowhere : (shape : ℕ) {x : Broken} → (m % 8 ≡ 1 → ⊥) → m % 8 < 4 → x ≡ broken 8 t → x ≡ placeRules f (designatorAt shape t)
   unfolding placeRules
@@ -115,11 +116,11 @@ module _ {f : Tables} {found means : List ℕ} (s : Names f found means) (t m : 
   pub one-register : (shape : ℕ) {x : Broken} {bare : Bool} → (shape ≡ 4 → ⊥) → ((u : ℕ) → bare ≡ isBare (subscriptAt shape u) (indexAt shape u)) → x ≡ rule (eqb (m % 8) 1 && bare) 8 t → x ≡ onlyRegister f (operandAt shape t)
   unfolding onlyRegister
   one-register shape n p q =
-      rw (a-place shape t n, meant-at s t m e) (q ∙ ap₂ (λ (y z : Bool). rule (y && z) 8 t) (register-sort (getD found t 0) m (baseAt s t)) (p t))
+      rw (a-place shape t n, meant-at s t m e) (q ∙ ap₂ (λ (y z : Bool). rule (y && z) 8 t) (register-sort (getD (l .found) t 0) m (baseAt s t)) (p t))
 
   pub not-short : (shape : ℕ) {x : Broken} → (shape ≡ 4 → ⊥) → x ≡ rule (not (leb 4 (m % 8) && not (eqb (m % 2) 0))) 8 t → x ≡ noShort f (operandAt shape t)
   unfolding noShort
-  not-short shape n q = rw (a-place shape t n, meant-at s t m e) (q ∙ ap (λ (y : Bool). rule (not y) 8 t) (short-sort (getD found t 0) m (baseAt s t)))
+  not-short shape n q = rw (a-place shape t n, meant-at s t m e) (q ∙ ap (λ (y : Bool). rule (not y) 8 t) (short-sort (getD (l .found) t 0) m (baseAt s t)))
 
   long-is-at : (shape : ℕ) (l : Bool) → l ≡ longIn m → longOperand (f .found) (f .means) (operandAt shape t) ≡ (eqb shape 4 || l)
   unfolding operandAt
@@ -140,28 +141,28 @@ module _ {f : Tables} {found means : List ℕ} (s : Names f found means) (t m : 
   no-product shape kept r {l} h k c = rw (long-is-at shape l h, k) c
 
   pub a-base :
-      (kept opens : List ℕ) → Opens f opens → {r o : ℕ} {v w x y a b c : Broken} → r ≡ registerIn m → o ≡ getD opens t 0
+      (kept : List ℕ) {r o : ℕ} {v w x y a b c : Broken} → r ≡ registerIn m → o ≡ getD (l .opens) t 0
       → OfMeaning m v (λ y. rule (isRegister y) 8 t) → OfMeaning m w (λ y. rule (not (isZero y)) 9 t) → x ≡ writeRule kept r t → y ≡ rule (leb o 3) 12 t
       → a ≡ x ⊕ y → b ≡ w ⊕ a → c ≡ v ⊕ b → c ≡ baseRules f kept t
   unfolding baseRules
-  a-base kept opens q {r} {o} g h p₁ p₂ p₃ p₄ a b c =
+  a-base kept {r} {o} g h p₁ p₂ p₃ p₄ a b c =
       c ∙ ap₂ (λ (j k : Broken). j ⊕ k) (a-register p₁)
       (b ∙ ap₂ (λ (j k : Broken). j ⊕ k) (no-zero p₂)
       (a ∙ ap₂ (λ (j k : Broken). j ⊕ k) (p₃ ∙ ap (λ (k : ℕ). writeRule kept k t) (g ∙ sym (ap registerOf (meant-at s t m e) ∙ register-is _ _ _)))
-      (p₄ ∙ rw (q .opens-is, ← h))))
+      (p₄ ∙ rw (s .opens-is, ← h))))
 
 -- ── calls ──
 
-module _ {f : Tables} {found means : List ℕ} (s : Names f found means) (kept : List ℕ) (t p m : ℕ) (e : p ≡ getD found t 0) (g : m ≡ getD means p 0) where
-  packed-is : m ≡ packedAt found means t
-  packed-is = g ∙ ap (λ (k : ℕ). getD means k 0) e
+module _ {f : Tables} {w : Wide} {l : Thin} (s : Listed f w l) (kept : List ℕ) (t p m : ℕ) (e : p ≡ getD (l .found) t 0) (g : m ≡ getD (w .means) p 0) where
+  packed-is : m ≡ packedAt (l .found) (w .means) t
+  packed-is = g ∙ ap (λ (k : ℕ). getD (w .means) k 0) e
 
   pub called :
-      (written : List ℕ) → Written f written → {r w : ℕ} {y : Bool} {a b c : Broken} → m % 8 ≡ 2 → r ≡ numberIn m → w ≡ getD written p 0 → y ≡ spares (setOf w) kept
+      {r u : ℕ} {y : Bool} {a b c : Broken} → m % 8 ≡ 2 → r ≡ numberIn m → u ≡ getD (l .written) p 0 → y ≡ spares (setOf u) kept
       → a ≡ writeRule kept r t → b ≡ rule y 10 t → c ≡ a ⊕ b → c ≡ callRules f kept t
   unfolding callRules
-  called written q {r} {w} h i j k a b c =
-      rw (meant-at s t m packed-is, as-routine (getD found t 0) m (baseAt s t) h, q .written-is, s .found-is, ← e, sets-at written p, ← j, ← k, ← i) (c ∙ ap₂ (λ (v z : Broken). v ⊕ z) a b)
+  called {r} {u} h i j k a b c =
+      rw (meant-at s t m packed-is, as-routine (getD (l .found) t 0) m (baseAt s t) h, s .written-is, s .found-is, ← e, sets-at (l .written) p, ← j, ← k, ← i) (c ∙ ap₂ (λ (v z : Broken). v ⊕ z) a b)
 
   pub no-routine : {x : Broken} → (m % 8 ≡ 2 → ⊥) → x ≡ broken 8 t → x ≡ callRules f kept t
   unfolding callRules

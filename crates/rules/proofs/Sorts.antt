@@ -13,6 +13,7 @@ use Rattle.base.specs.Choose.{choose, if_then_else_}
 use Rattle.base.specs.Lists.{member}
 use Rattle.base.proofs.Tests.{cases}
 use Rattle.grammar.specs.Tree.{Width, full, short}
+use Rattle.ledger.specs.Book.{Wide, Thin}
 use Rattle.kinds.specs.Registers.{Registers, has, spares}
 use Rattle.kinds.specs.Meaning.{Meaning, nothing, register, cell, routine, Based, Cell, elementSize, isFull}
 use Rattle.kinds.specs.Tables.{Tables, meaningAt}
@@ -21,7 +22,7 @@ use Rattle.tables.specs.Packed.{numberIn, basedIn, cellIn, widthIn, unpacked, m
 use Rattle.tables.specs.Stacks.{stackOf}
 use Rattle.tables.proofs.Meanings.{by-sort, meaning-at}
 use Rattle.rules.specs.Parts.{subscriptAt, indexAt}
-use Rattle.rules.specs.Shows.{Names}
+use Rattle.rules.specs.Shows.{Listed}
 
 -- ── what a name means ──
 
@@ -53,14 +54,14 @@ module _ (n m : ℕ) (b : Based) where
       full-is true = refl
       full-is false = refl
 
-module _ {f : Tables} {found means : List ℕ} (s : Names f found means) where
+module _ {f : Tables} {w : Wide} {l : Thin} (s : Listed f w l) where
   -- the base of the name at token t
   pub baseAt : ℕ → Based
-  baseAt t = basedIn (getD (s .bases) (getD found t 0) 0)
+  baseAt t = basedIn (getD (s .bases) (getD (l .found) t 0) 0)
 
-  pub meant-at : (t m : ℕ) → m ≡ packedAt found means t → meaningAt f t ≡ unpacked (getD found t 0) m (baseAt t)
+  pub meant-at : (t m : ℕ) → m ≡ packedAt (l .found) (w .means) t → meaningAt f t ≡ unpacked (getD (l .found) t 0) m (baseAt t)
   unfolding baseAt
-  meant-at t m e = rw (s .found-is, s .means-is, e) (meaning-at means (s .bases) (getD found t 0))
+  meant-at t m e = rw (s .found-is, s .means-is, e) (meaning-at (w .means) (s .bases) (getD (l .found) t 0))
 
 -- ── parts ──
 

@@ -1,32 +1,21 @@
--- The tables as arrays.
+-- The tables as the ledger's columns.
 use mathlib.Core.Path.{_≡_}
 use mathlib.Core.List.{List}
 use Prim.Native.Nat.{ℕ}
+use Rattle.ledger.specs.Book.{Wide, Thin}
 use Rattle.kinds.specs.Tables.{Tables}
 use Rattle.tables.specs.Packed.{meaningsOf, setsOf}
 
--- what names mean, whatever the bases of cells
-pub record Names (f : Tables) (found means : List ℕ) : Type 0 where
+-- the tables are what the columns list, whatever the bases of cells
+pub record Listed (f : Tables) (w : Wide) (b : Thin) : Type 0 where
   pub bases : List ℕ
-  pub found-is : f .found ≡ found
-  pub means-is : f .means ≡ meaningsOf means bases
+  pub found-is : f .found ≡ b .found
+  pub means-is : f .means ≡ meaningsOf (w .means) bases
+  pub values-is : f .values ≡ w .values
+  pub opens-is : f .opens ≡ b .opens
+  pub written-is : f .written ≡ setsOf (b .written)
 
-pub record Values (f : Tables) (values : List ℕ) : Type 0 where
-  pub values-is : f .values ≡ values
-
-pub record Kinds (f : Tables) (kinds : List ℕ) : Type 0 where
+-- and the kinds of tokens beside them
+pub record Shown (f : Tables) (kinds : List ℕ) (w : Wide) (b : Thin) : Type 0 where
+  pub listed : Listed f w b
   pub kinds-is : f .kinds ≡ kinds
-
-pub record Opens (f : Tables) (opens : List ℕ) : Type 0 where
-  pub opens-is : f .opens ≡ opens
-
-pub record Written (f : Tables) (written : List ℕ) : Type 0 where
-  pub written-is : f .written ≡ setsOf written
-
--- all of them
-pub record Shown (f : Tables) (kinds values found means opens written : List ℕ) : Type 0 where
-  pub names : Names f found means
-  pub values-are : Values f values
-  pub kinds-are : Kinds f kinds
-  pub opens-are : Opens f opens
-  pub written-are : Written f written

@@ -4,6 +4,7 @@ ghost use mathlib.Core.Bool.{Bool, not};
 ghost use Prim.Native.Nat.{ℕ, _+_, _-_, _≤_, _<_};
 ghost use lib.ListN.{getD};
 ghost use Rattle.base.specs.Lists.{member};
+ghost use Rattle.ledger.specs.Book.{wideOf, thinOf};
 ghost use Rattle.names.specs.Broken.{unbroken, rule as ruleOf, broken as brokenOf, _⊕_};
 ghost use Rattle.kinds.specs.Registers.{spares as sparesOf};
 ghost use Rattle.kinds.specs.Meaning.{Based, cell, elementSize};
@@ -12,15 +13,19 @@ ghost use Rattle.kinds.specs.Rules.{isRegister, isZero, isShort, inside, isBare
 ghost use Rattle.tables.specs.Packed.{widthIn, cellIn, unpacked, setOf};
 ghost use Rattle.tables.specs.Stacks.{stackOf};
 ghost use Rattle.rules.specs.Parts.{subscriptAt, indexAt, designatorAt, operandAt, termAt};
-ghost use Rattle.rules.specs.Shows.{Names, Values, Opens, Written};
-use arrays::get;
-use arrays::key;
+ghost use Rattle.rules.specs.Shows.{Listed};
+use ledger::found;
+use ledger::mean;
+use ledger::meaning;
+use ledger::offset;
+use ledger::opens;
+use ledger::value;
+use ledger::written;
 use names::Broken;
 use names::join;
 use names::rule;
 use tables::is_long;
 use tables::less;
-use tables::meaning;
 use tables::number;
 use tables::register;
 
@@ -38,13 +43,13 @@ pub fn broken(number: usize, t: usize) -> Broken
 
 // ── registers ──
 
-fn is_kept(kept: &[u64], depth: usize, r: u64) -> bool
-    ensures { λ x. ⌜ x ≡ member r (stackOf (now (kept .entry)) depth) ⌝ }
+fn is_kept(wide: &[u64], depth: usize, r: u64) -> bool
+    ensures { λ x. ⌜ x ≡ member r (stackOf (wideOf (now (wide .entry)) .offsets) depth) ⌝ }
 {
     let mut i = depth;
     while 0 < i {
         i -= 1;
-        if r == key(kept, i) {
+        if r == offset(wide, i) {
             return true;
         }
     }
@@ -52,10 +57,10 @@ fn is_kept(kept: &[u64], depth: usize, r: u64) -> bool
 }
 
 // "No statement, base declaration or call may write a protected register".
-pub fn write_rule(kept: &[u64], depth: usize, r: u64, t: usize) -> Broken
-    ensures { λ x. ⌜ x ≡ writeRule (stackOf (now (kept .entry)) depth) r t ⌝ }
+pub fn write_rule(wide: &[u64], depth: usize, r: u64, t: usize) -> Broken
+    ensures { λ x. ⌜ x ≡ writeRule (stackOf (wideOf (now (wide .entry)) .offsets) depth) r t ⌝ }
 {
-    rule(!is_kept(kept, depth, r), 10, t)
+    rule(!is_kept(wide, depth, r), 10, t)
 }
 
 // The name at token t, which means m, is a register.
@@ -73,24 +78,24 @@ pub fn zero_rule(m: u64, t: usize) -> Broken
 }
 
 // A base, a return register or an index.
-pub fn used_register(found: &[u32], means: &[u64], t: usize) -> Broken
-    ensures { λ x. ⌜ ((f : Tables) → Names f (now (found .entry)) (now (means .entry)) → x ≡ registerRule f t ⊕ zeroRule f t) ⌝ }
+pub fn used_register(wide: &[u64], thin: &[u16], t: usize) -> Broken
+    ensures { λ x. ⌜ ((f : Tables) → Listed f (wideOf (now (wide .entry))) (thinOf (now (thin .entry))) → x ≡ registerRule f t ⊕ zeroRule f t) ⌝ }
 {
-    let m = meaning(found, means, t);
+    let m = meaning(wide, thin, t);
     join(register_rule(m, t), zero_rule(m, t))
 }
 
 // ── designators and operands ──
 
-fn index_rules(shape: u32, found: &[u32], means: &[u64], t: usize) -> Broken
+fn index_rules(shape: u32, wide: &[u64], thin: &[u16], t: usize) -> Broken
     requires { ⌜ t < 4294967296 ⌝ }
-    ensures { λ x. ⌜ ((f : Tables) → Names f (now (found .entry)) (now (means .entry)) → x ≡ indexRules f (indexAt shape t)) ⌝ }
+    ensures { λ x. ⌜ ((f : Tables) → Listed f (wideOf (now (wide .entry))) (thinOf (now (thin .entry))) → x ≡ indexRules f (indexAt shape t)) ⌝ }
 {
     if shape == 2 {
-        return used_register(found, means, t + 2);
+        return used_register(wide, thin, t + 2);
     }
     if shape == 3 {
-        return used_register(found, means, t + 5);
+        return used_register(wide, thin, t + 5);
     }
     none()
 }
@@ -111,12 +116,12 @@ fn is_inside(m: u64, v: u64) -> bool
     (v < 2147483648) & ((v % e == 0) & (v / e < n))
 }
 
-fn subscript_rules(shape: u32, m: u64, values: &[u64], t: usize) -> Broken
+fn subscript_rules(shape: u32, m: u64, wide: &[u64], t: usize) -> Broken
     requires { ⌜ t < 4294967296 ⌝ }
-    ensures { λ x. ⌜ ((f : Tables) → Values f (now (values .entry)) → (n : ℕ) (b : Based) → x ≡ subscriptRules f (cellIn n m b) (subscriptAt shape t)) ⌝ }
+    ensures { λ x. ⌜ ((f : Tables) → f .values ≡ wideOf (now (wide .entry)) .values → (n : ℕ) (b : Based) → x ≡ subscriptRules f (cellIn n m b) (subscriptAt shape t)) ⌝ }
 {
     if (shape == 1) | (shape == 3) {
-        return rule(is_inside(m, key(values, t + 2)), 11, t + 2);
+        return rule(is_inside(m, value(wide, t + 2)), 11, t + 2);
     }
     none()
 }
@@ -131,93 +136,91 @@ pub fn is_bare(shape: u32) -> bool
 pub fn cell_rules(
     shape: u32,
     m: u64,
-    values: &[u64],
-    found: &[u32],
-    means: &[u64],
+    wide: &[u64],
+    thin: &[u16],
     t: usize,
 ) -> Broken
     requires { ⌜ t < 4294967296 ⌝ }
-    ensures { λ x. ⌜ ((f : Tables) → Names f (now (found .entry)) (now (means .entry)) → Values f (now (values .entry)) → (n : ℕ) (b : Based) → x ≡ placeBy f (cell (cellIn n m b)) (designatorAt shape t)) ⌝ }
+    ensures { λ x. ⌜ ((f : Tables) → Listed f (wideOf (now (wide .entry))) (thinOf (now (thin .entry))) → (n : ℕ) (b : Based) → x ≡ placeBy f (cell (cellIn n m b)) (designatorAt shape t)) ⌝ }
 {
     let fits = rule((tables::ARRAY <= m % 8) | is_bare(shape), 8, t);
-    let inside = subscript_rules(shape, m, values, t);
-    join(fits, join(inside, index_rules(shape, found, means, t)))
+    let inside = subscript_rules(shape, m, wide, t);
+    join(fits, join(inside, index_rules(shape, wide, thin, t)))
 }
 
-fn place_rules(shape: u32, values: &[u64], found: &[u32], means: &[u64], t: usize) -> Broken
+fn place_rules(shape: u32, wide: &[u64], thin: &[u16], t: usize) -> Broken
     requires { ⌜ t < 4294967296 ⌝ }
-    ensures { λ x. ⌜ ((f : Tables) → Names f (now (found .entry)) (now (means .entry)) → Values f (now (values .entry)) → x ≡ placeRules f (designatorAt shape t)) ⌝ }
+    ensures { λ x. ⌜ ((f : Tables) → Listed f (wideOf (now (wide .entry))) (thinOf (now (thin .entry))) → x ≡ placeRules f (designatorAt shape t)) ⌝ }
 {
-    let m = meaning(found, means, t);
+    let m = meaning(wide, thin, t);
     if m % 8 == tables::REGISTER {
         return rule(is_bare(shape), 8, t);
     }
     if tables::CELL <= m % 8 {
-        return cell_rules(shape, m, values, found, means, t);
+        return cell_rules(shape, m, wide, thin, t);
     }
     broken(8, t)
 }
 
-pub fn operand_rules(shape: u32, values: &[u64], found: &[u32], means: &[u64], t: usize) -> Broken
+pub fn operand_rules(shape: u32, wide: &[u64], thin: &[u16], t: usize) -> Broken
     requires { ⌜ t < 4294967296 ⌝ }
-    ensures { λ x. ⌜ ((f : Tables) → Names f (now (found .entry)) (now (means .entry)) → Values f (now (values .entry)) → x ≡ operandRules f (operandAt shape t)) ⌝ }
+    ensures { λ x. ⌜ ((f : Tables) → Listed f (wideOf (now (wide .entry))) (thinOf (now (thin .entry))) → x ≡ operandRules f (operandAt shape t)) ⌝ }
 {
     if shape == 4 {
         return none();
     }
-    place_rules(shape, values, found, means, t)
+    place_rules(shape, wide, thin, t)
 }
 
 // One register name and nothing else.
-pub fn only_register(shape: u32, found: &[u32], means: &[u64], t: usize) -> Broken
-    ensures { λ x. ⌜ ((f : Tables) → Names f (now (found .entry)) (now (means .entry)) → x ≡ onlyRegister f (operandAt shape t)) ⌝ }
+pub fn only_register(shape: u32, wide: &[u64], thin: &[u16], t: usize) -> Broken
+    ensures { λ x. ⌜ ((f : Tables) → Listed f (wideOf (now (wide .entry))) (thinOf (now (thin .entry))) → x ≡ onlyRegister f (operandAt shape t)) ⌝ }
 {
     if shape == 4 {
         return broken(8, t);
     }
-    let m = meaning(found, means, t);
+    let m = meaning(wide, thin, t);
     rule((m % 8 == tables::REGISTER) & is_bare(shape), 8, t)
 }
 
 // ── chains ──
 
 // "Shift operands are a number 0 to 63 or a register."
-fn shift_rules(shape: u32, values: &[u64], found: &[u32], means: &[u64], t: usize) -> Broken
-    ensures { λ x. ⌜ ((f : Tables) → Names f (now (found .entry)) (now (means .entry)) → Values f (now (values .entry)) → x ≡ shiftRules f (operandAt shape t)) ⌝ }
+fn shift_rules(shape: u32, wide: &[u64], thin: &[u16], t: usize) -> Broken
+    ensures { λ x. ⌜ ((f : Tables) → Listed f (wideOf (now (wide .entry))) (thinOf (now (thin .entry))) → x ≡ shiftRules f (operandAt shape t)) ⌝ }
 {
     if shape == 4 {
-        return rule(key(values, t) <= 63, 11, t);
+        return rule(value(wide, t) <= 63, 11, t);
     }
-    let only = only_register(shape, found, means, t);
-    join(only, zero_rule(meaning(found, means, t), t))
+    let only = only_register(shape, wide, thin, t);
+    join(only, zero_rule(meaning(wide, thin, t), t))
 }
 
-fn no_short(shape: u32, found: &[u32], means: &[u64], t: usize) -> Broken
-    ensures { λ x. ⌜ ((f : Tables) → Names f (now (found .entry)) (now (means .entry)) → x ≡ noShort f (operandAt shape t)) ⌝ }
+fn no_short(shape: u32, wide: &[u64], thin: &[u16], t: usize) -> Broken
+    ensures { λ x. ⌜ ((f : Tables) → Listed f (wideOf (now (wide .entry))) (thinOf (now (thin .entry))) → x ≡ noShort f (operandAt shape t)) ⌝ }
 {
     if shape == 4 {
         return none();
     }
-    let m = meaning(found, means, t);
+    let m = meaning(wide, thin, t);
     rule(!((tables::CELL <= m % 8) & (m % 2 != 0)), 8, t)
 }
 
 // "`*` by a number, or by what begins with the name of a register or integer cell, needs an odd target and also writes the register below."
 fn product_rules(
     shape: u32,
-    found: &[u32],
-    means: &[u64],
-    kept: &[u64],
+    wide: &[u64],
+    thin: &[u16],
     depth: usize,
     r: usize,
     t: usize,
 ) -> Broken
-    ensures { λ x. ⌜ ((f : Tables) → Names f (now (found .entry)) (now (means .entry)) → x ≡ productRules f (stackOf (now (kept .entry)) depth) r (termAt shape t)) ⌝ }
+    ensures { λ x. ⌜ ((f : Tables) → Listed f (wideOf (now (wide .entry))) (thinOf (now (thin .entry))) → x ≡ productRules f (stackOf (wideOf (now (wide .entry)) .offsets) depth) r (termAt shape t)) ⌝ }
 {
-    if (shape == 4) | is_long(meaning(found, means, t)) {
+    if (shape == 4) | is_long(meaning(wide, thin, t)) {
         let operator = less(t);
         let odd = rule(r % 2 == 1, 9, operator);
-        return join(odd, write_rule(kept, depth, less(r) as u64, operator));
+        return join(odd, write_rule(wide, depth, less(r) as u64, operator));
     }
     none()
 }
@@ -242,29 +245,27 @@ fn is_full_only(k: u8) -> bool
 pub fn term_rules(
     k: u8,
     shape: u32,
-    values: &[u64],
-    found: &[u32],
-    means: &[u64],
-    kept: &[u64],
+    wide: &[u64],
+    thin: &[u16],
     depth: usize,
     r: usize,
     t: usize,
 ) -> Broken
     requires { ⌜ t < 4294967296 ⌝ }
-    ensures { λ x. ⌜ ((f : Tables) → Names f (now (found .entry)) (now (means .entry)) → Values f (now (values .entry)) → k ≡ getD (f .kinds) (t - 1) 0 → x ≡ termRules f (stackOf (now (kept .entry)) depth) r (termAt shape t)) ⌝ }
+    ensures { λ x. ⌜ ((f : Tables) → Listed f (wideOf (now (wide .entry))) (thinOf (now (thin .entry))) → k ≡ getD (f .kinds) (t - 1) 0 → x ≡ termRules f (stackOf (wideOf (now (wide .entry)) .offsets) depth) r (termAt shape t)) ⌝ }
 {
     if is_shift(k) {
-        return shift_rules(shape, values, found, means, t);
+        return shift_rules(shape, wide, thin, t);
     }
-    let operand = operand_rules(shape, values, found, means, t);
+    let operand = operand_rules(shape, wide, thin, t);
     if k == token::kinds::TIMES {
         return join(
-            product_rules(shape, found, means, kept, depth, r, t),
+            product_rules(shape, wide, thin, depth, r, t),
             operand,
         );
     }
     if is_full_only(k) {
-        return join(operand, no_short(shape, found, means, t));
+        return join(operand, no_short(shape, wide, thin, t));
     }
     operand
 }
@@ -272,13 +273,13 @@ pub fn term_rules(
 // ── calls and base declarations ──
 
 // None of the protected registers is in the set.
-fn spares(set: usize, kept: &[u64], depth: usize) -> bool
-    ensures { λ x. ⌜ x ≡ sparesOf (setOf set) (stackOf (now (kept .entry)) depth) ⌝ }
+fn spares(set: usize, wide: &[u64], depth: usize) -> bool
+    ensures { λ x. ⌜ x ≡ sparesOf (setOf set) (stackOf (wideOf (now (wide .entry)) .offsets) depth) ⌝ }
 {
     let mut i = depth;
     while 0 < i {
         i -= 1;
-        if tables::has(set, key(kept, i)) {
+        if tables::has(set, offset(wide, i)) {
             return false;
         }
     }
@@ -287,37 +288,33 @@ fn spares(set: usize, kept: &[u64], depth: usize) -> bool
 
 // "A call writes the procedure's return register and all that its body's text writes".
 pub fn call_rules(
-    found: &[u32],
-    means: &[u64],
-    written: &[u32],
-    kept: &[u64],
+    wide: &[u64],
+    thin: &[u16],
     depth: usize,
     t: usize,
 ) -> Broken
-    ensures { λ x. ⌜ ((f : Tables) → Names f (now (found .entry)) (now (means .entry)) → Written f (now (written .entry)) → x ≡ callRules f (stackOf (now (kept .entry)) depth) t) ⌝ }
+    ensures { λ x. ⌜ ((f : Tables) → Listed f (wideOf (now (wide .entry))) (thinOf (now (thin .entry))) → x ≡ callRules f (stackOf (wideOf (now (wide .entry)) .offsets) depth) t) ⌝ }
 {
-    let p = get(found, t);
-    let m = key(means, p);
+    let p = found(thin, t);
+    let m = mean(wide, p);
     if m % 8 == tables::ROUTINE {
-        let returns = write_rule(kept, depth, number(m), t);
-        return join(returns, rule(spares(get(written, p), kept, depth), 10, t));
+        let returns = write_rule(wide, depth, number(m), t);
+        return join(returns, rule(spares(written(thin, p), wide, depth), 10, t));
     }
     broken(8, t)
 }
 
 pub fn base_rules(
-    found: &[u32],
-    means: &[u64],
-    opens: &[u32],
-    kept: &[u64],
+    wide: &[u64],
+    thin: &[u16],
     depth: usize,
     t: usize,
 ) -> Broken
-    ensures { λ x. ⌜ ((f : Tables) → Names f (now (found .entry)) (now (means .entry)) → Opens f (now (opens .entry)) → x ≡ baseRules f (stackOf (now (kept .entry)) depth) t) ⌝ }
+    ensures { λ x. ⌜ ((f : Tables) → Listed f (wideOf (now (wide .entry))) (thinOf (now (thin .entry))) → x ≡ baseRules f (stackOf (wideOf (now (wide .entry)) .offsets) depth) t) ⌝ }
 {
-    let m = meaning(found, means, t);
-    let writes = write_rule(kept, depth, register(m), t);
-    let few = rule(get(opens, t) <= 3, 12, t);
+    let m = meaning(wide, thin, t);
+    let writes = write_rule(wide, depth, register(m), t);
+    let few = rule(opens(thin, t) <= 3, 12, t);
     join(
         register_rule(m, t),
         join(zero_rule(m, t), join(writes, few)),

@@ -1,17 +1,19 @@
 -- What a declaration, a use and a whole event leave, and the loop along the tape.
-use mathlib.Core.Path.{_≡_, refl, ap, _∙_}
+use mathlib.Core.Path.{_≡_, refl, sym, ap, subst, _∙_}
 use mathlib.Core.List.{List}
 use Prim.Native.Nat.{ℕ, suc, _+_, _-_, _/_, _%_, _≤_, _<_}
 use native.Mathlib.Omega.{arith}
 use native.Mathlib.Numerals.{add-one}
 use lib.Dec.{eqb, ltb}
-use lib.ListN.{getD, set, length, drop}
+use lib.ListN.{getD, length, drop}
 use Rattle.base.proofs.Tests.{by-test}
 use Rattle.tape.specs.Pass.{pass}
 use Rattle.tape.specs.Events as E
 use Rattle.tape.specs.Numbers.{familyAt}
 use Rattle.tape.specs.Names.{declaring, shapeAt, indexAfter}
 use Rattle.tape.proofs.Pass.{pass-turn, pass-end}
+use Rattle.ledger.specs.Book.{Thin, thinOf, putFound}
+use Rattle.ledger.proofs.Columns.{thin-length}
 use Rattle.names.specs.declared.Broken.{Broken}
 use Rattle.names.specs.Broken.{rule, _⊕_, unbroken}
 use Rattle.names.specs.Search.{inBlock, find, innermost}
@@ -19,25 +21,25 @@ use Rattle.names.specs.Names.{Named, noteFound, useName, declareName, mostNames
 use Rattle.search.specs.declared.Blocks.{Blocks}
 use Rattle.names.specs.declared.Noted.{Noted}
 use Rattle.search.specs.Naming.{Naming, blocksAfter, declareAt, useRegister, usePlace, useAt, nameOp, beginning}
-use Rattle.search.specs.Flat.{span, blocksIn, namedIn, Rising, Changed, Begun}
+use Rattle.search.specs.Flat.{span, blocksOf, blocksIn, namedIn, Rising, Roomy, Changed, Stays, Begun, Searching, searchIn, naming}
 
 -- ── a declaration, a use ──
 
-module _ (keys scope starts : List ℕ) (b : Blocks) (t : ℕ) (n : Noted) (key : ℕ) where
+module _ (keys : List ℕ) (l : Thin) (b : Blocks) (t : ℕ) (n : Noted) (key : ℕ) where
   pub declared :
       (start earlier : ℕ) (once few both all : Broken) → key ≡ getD keys t 0
-      → ((s : List ℕ) → innermost (blocksIn s starts b) ≡ span s start (b .count)) → earlier ≡ inBlock keys key (span scope start (b .count)) 0
+      → innermost (blocksIn l b) ≡ span (l .opens) start (b .count) → earlier ≡ inBlock keys key (span (l .opens) start (b .count)) 0
       → once ≡ rule (eqb earlier 0) 7 t → few ≡ rule (ltb (n .count) mostNames) 13 t → both ≡ once ⊕ few → all ≡ n .broken ⊕ both
-      → (found : List ℕ) → namedIn found (record { count = n .count + 1; broken = all }) ≡ declareName keys t (blocksIn scope starts b) (namedIn found n)
+      → (found : List ℕ) → namedIn found (record { count = n .count + 1; broken = all }) ≡ declareName keys t (blocksIn l b) (namedIn found n)
   unfolding declareName
-  declared start earlier once few both all k s e o f j q found = rw (add-one (n .count), q, j, o, f, e, k, s scope)
+  declared start earlier once few both all k s e o f j q found = rw (add-one (n .count), q, j, o, f, e, k, s)
 
   pub used :
-      (d : ℕ) (one all : Broken) (found found′ : List ℕ) → key ≡ getD keys t 0 → d ≡ find keys key (blocksIn scope starts b) → found′ ≡ set found t d
+      (d : ℕ) (one all : Broken) (l′ : Thin) → key ≡ getD keys t 0 → d ≡ find keys key (blocksIn l b) → l′ ≡ putFound t d l
       → one ≡ rule (ltb 0 d) 6 t → all ≡ n .broken ⊕ one
-      → namedIn found′ (record { count = n .count; broken = all }) ≡ useName keys t (blocksIn scope starts b) (namedIn found n)
+      → searchIn l′ (record { count = n .count; broken = all }) ≡ naming b (useName keys t) (searchIn l n)
   unfolding useName noteFound
-  used d one all found found′ k e s o q = rw (q, o, s, e, k)
+  used d one all l′ k e s o q = rw (q, o, s, e, k)
 
 -- ── an event declares one name at most ──
 
@@ -76,49 +78,55 @@ module _ (keys : List ℕ) (bs : List (List ℕ)) where
 
 -- ── along the tape ──
 
-abbrev state : List ℕ → List ℕ → List ℕ → Blocks → Noted → Naming
-state scope starts found b n = record { blocks = blocksIn scope starts b; named = namedIn found n }
+abbrev state : Thin → Blocks → Noted → Naming
+state l b n = record { blocks = blocksIn l b; named = namedIn (l .found) n }
 
 -- i events are passed
-pub record Going (tape keys scope₀ starts₀ found₀ scope starts found : List ℕ) (b : Blocks) (n : Noted) (i : ℕ) : Type 0 where
-  pub is : pass (nameOp keys) (state scope starts found b n) (drop i tape) ≡ pass (nameOp keys) (beginning found₀) tape
+pub record Going (tape keys thin₀ thin : List ℕ) (b : Blocks) (n : Noted) (i : ℕ) : Type 0 where
+  pub is : pass (nameOp keys) (state (thinOf thin) b n) (drop i tape) ≡ pass (nameOp keys) (beginning (thinOf thin₀ .found)) tape
+  pub goes-is : thinOf thin .goes ≡ thinOf thin₀ .goes
   pub inside : i ≤ length tape
-  pub rising : Rising starts (b .depth) (b .count)
+  pub rising : Rising (thinOf thin .written) (b .depth) (b .count)
   pub deep : b .depth ≤ i + 1
   pub wide : b .count ≤ i + 16
   pub few : n .count ≤ i
-  pub same-scope : length scope ≡ length scope₀
-  pub same-starts : length starts ≡ length starts₀
-  pub same-found : length found ≡ length found₀
+  pub same : length thin ≡ length thin₀
 
-pub going :
-    (tape keys scope starts found : List ℕ) (b : Blocks) → Begun scope starts b
-    → Going tape keys scope starts found scope starts found b (record { count = 0; broken = unbroken }) 0
-going tape keys scope starts found b g =
+pub going : (tape keys thin : List ℕ) (b : Blocks) → Begun (thinOf thin) b → Going tape keys thin thin b (record { count = 0; broken = unbroken }) 0
+going tape keys thin b g =
     let d = g .depth in
     let c = g .count in
     record {
-      is = ap (λ (bs : List (List ℕ)). pass (nameOp keys) (record { blocks = bs; named = record { found = found; count = 0; broken = unbroken } }) tape) (g .is);
+      is = rw (g .is);
+      goes-is = refl;
       inside = omega arith;
       rising = g .rising;
       deep = omega arith;
       wide = omega arith;
       few = omega arith;
-      same-scope = refl;
-      same-starts = refl;
-      same-found = refl;
+      same = refl;
     }
 
-module _ {tape keys scope₀ starts₀ found₀ scope starts found : List ℕ} {b : Blocks} {n : Noted} {i : ℕ} (g : Going tape keys scope₀ starts₀ found₀ scope starts found b n i) where
+-- there is room for one more block and one more name
+pub roomy : (tape keys thin₀ thin : List ℕ) (b : Blocks) (n : Noted) (i : ℕ) → Going tape keys thin₀ thin b n i → i < length tape → 17 + length tape ≤ length thin₀ / 4 → length thin₀ ≤ 262144
+    → Roomy (thinOf thin) b
+roomy tape keys thin₀ thin b n i g h r w =
+    let deep = g .deep in
+    let wide = g .wide in
+    let same = g .same in
+    let o = thin-length 2 thin in
+    let z = thin-length 3 thin in
+    record { rising = g .rising; deep = omega arith; wide = omega arith; shallow = omega arith; small = omega arith }
+
+module _ {tape keys thin₀ thin : List ℕ} {b : Blocks} {n : Noted} {i : ℕ} (g : Going tape keys thin₀ thin b n i) where
   pub going-on :
-      {scope′ starts′ found′ : List ℕ} {b′ : Blocks} {n′ n″ : Noted} (op t : ℕ) → i < length tape → op ≡ getD tape i 0 % E.EVENTS → t ≡ getD tape i 0 / E.EVENTS
-      → ((f : List ℕ) → namedIn f n′ ≡ declareAt keys op t (blocksIn scope starts b) (namedIn f n))
-      → Changed (blocksAfter op t (blocksIn scope starts b)) scope′ starts′ b b′
-      → namedIn found′ n″ ≡ useAt keys op t (blocksIn scope′ starts′ b′) (namedIn found n′)
-      → length scope′ ≡ length scope → length starts′ ≡ length starts → length found′ ≡ length found
-      → Going tape keys scope₀ starts₀ found₀ scope′ starts′ found′ b′ n″ (i + 1)
+      (thin₁ : List ℕ) {thin₂ : List ℕ} {b′ : Blocks} {n′ n″ : Noted} (op t : ℕ) → i < length tape → op ≡ getD tape i 0 % E.EVENTS → t ≡ getD tape i 0 / E.EVENTS
+      → ((f : List ℕ) → namedIn f n′ ≡ declareAt keys op t (blocksIn (thinOf thin) b) (namedIn f n))
+      → Changed (blocksAfter op t (blocksIn (thinOf thin) b)) (thinOf thin₁) b b′ → Stays (thinOf thin) (thinOf thin₁)
+      → searchIn (thinOf thin₂) n″ ≡ naming b′ (useAt keys op t) (searchIn (thinOf thin₁) n′)
+      → length thin₁ ≡ length thin → length thin₂ ≡ length thin₁ → Going tape keys thin₀ thin₂ b′ n″ (i + 1)
   unfolding nameOp
-  going-on {scope′} {starts′} {found′} {b′} {n′} {n″} op t h eo et declare change uses p q r =
+  going-on thin₁ {thin₂} {b′} {n′} {n″} op t h eo et declare change stays uses p q =
       let few = g .few in
       let deep = g .deep in
       let wide = g .wide in
@@ -126,18 +134,21 @@ module _ {tape keys scope₀ starts₀ found₀ scope starts found : List ℕ} {
       let wide′ = change .wide in
       record {
         is = ap (λ (m : Naming). pass (nameOp keys) m (drop (i + 1) tape)) stepped ∙ pass-turn (nameOp keys) _ tape i op t h eo et (g .is);
+        goes-is = ap (λ (s : Searching). s .goes) uses ∙ (stays .goes-is ∙ g .goes-is);
         inside = omega arith;
-        rising = change .rising;
+        rising = subst (λ (l : List ℕ). Rising l (b′ .depth) (b′ .count)) (sym (ap (λ (s : Searching). s .written) uses)) (change .rising);
         deep = omega arith;
         wide = omega arith;
-        few = omega (arith, ap (λ (m : Named). m .count) uses, at-count keys (blocksIn scope′ starts′ b′) op t (namedIn found n′), ap (λ (m : Named). m .count) (declare found), declare-count keys (blocksIn scope starts b) op t (namedIn found n));
-        same-scope = p ∙ g .same-scope;
-        same-starts = q ∙ g .same-starts;
-        same-found = r ∙ g .same-found;
+        few = omega (arith, ap (λ (s : Searching). s .named .count) uses, at-count keys (blocksIn (thinOf thin₁) b′) op t (namedIn (thinOf thin₁ .found) n′), ap (λ (m : Named). m .count) (declare (thinOf thin₁ .found)), declare-count keys (blocksIn (thinOf thin) b) op t (namedIn (thinOf thin₁ .found) n));
+        same = q ∙ (p ∙ g .same);
       }
     where
-      stepped : state scope′ starts′ found′ b′ n″ ≡ nameOp keys op t (state scope starts found b n)
-      stepped = rw (uses, change .is, declare found)
+      used-so : state (thinOf thin₂) b′ n″ ≡ record { blocks = blocksIn (thinOf thin₁) b′; named = useAt keys op t (blocksIn (thinOf thin₁) b′) (namedIn (thinOf thin₁ .found) n′) }
+      used-so = ap (λ (s : Searching). record { blocks = blocksOf (s .opens) (s .written) (b′ .depth) (b′ .count); named = s .named }) uses
 
-  pub going-end : length tape ≤ i → namedIn found n ≡ (pass (nameOp keys) (beginning found₀) tape) .named
-  going-end h = ap (λ (m : Naming). m .named) (pass-end (nameOp keys) _ tape i h (g .is))
+      stepped : state (thinOf thin₂) b′ n″ ≡ nameOp keys op t (state (thinOf thin) b n)
+      stepped = used-so ∙ rw (change .is, stays .found-is, declare (thinOf thin .found))
+
+  pub going-end : (start : List ℕ) → Stays (thinOf start) (thinOf thin₀) → length tape ≤ i
+      → (namedIn (thinOf thin .found) n ≡ (pass (nameOp keys) (beginning (thinOf start .found)) tape) .named) × (thinOf thin .goes ≡ thinOf start .goes)
+  going-end start s h = (ap (λ (m : Naming). m .named) (pass-end (nameOp keys) _ tape i h (g .is)) ∙ ap (λ (l : List ℕ). pass (nameOp keys) (beginning l) tape .named) (s .found-is), g .goes-is ∙ s .goes-is)

@@ -1,4 +1,5 @@
--- The open blocks as two flat lists: `scope` has the tokens that declare names, oldest first, and `starts` for each open block where it begins there.
+-- The open blocks as two flat lists: `scope`, the ledger's column `opens`, has the tokens that declare names, oldest first, and `starts`, its column `written`,
+-- for each open block where it begins there.
 use mathlib.Core.Path.{_≡_}
 use mathlib.Core.List.{List, [], _∷_}
 use Prim.Native.Nat.{ℕ, zero, suc, _+_, _≤_, _<_}
@@ -7,6 +8,7 @@ use lib.ListN.{getD, length}
 use Rattle.base.specs.Choose.{if_then_else_}
 use Rattle.names.specs.Search.{around}
 use Rattle.names.specs.Names.{Named}
+use Rattle.ledger.specs.Book.{Thin}
 use Rattle.search.specs.declared.Blocks.{Blocks}
 use Rattle.names.specs.declared.Noted.{Noted}
 
@@ -25,28 +27,49 @@ unfoldable pub Rising : List ℕ → ℕ → ℕ → Type 0
 Rising starts zero hi = Unit
 Rising starts (suc depth) hi = (getD starts depth 0 ≤ hi) × Rising starts depth (getD starts depth 0)
 
-abbrev pub blocksIn : List ℕ → List ℕ → Blocks → List (List ℕ)
-blocksIn scope starts b = blocksOf scope starts (b .depth) (b .count)
+abbrev pub blocksIn : Thin → Blocks → List (List ℕ)
+blocksIn l b = blocksOf (l .opens) (l .written) (b .depth) (b .count)
 
 abbrev pub namedIn : List ℕ → Noted → Named
 namedIn found n = record { found = found; count = n .count; broken = n .broken }
 
 -- what a change of the blocks asks for, and what it leaves
-pub record Roomy (scope starts : List ℕ) (b : Blocks) : Type 0 where
-  pub rising : Rising starts (b .depth) (b .count)
-  pub deep : b .depth < length starts
-  pub wide : b .count < length scope
-  pub small : b .count < 4294967296
+pub record Roomy (l : Thin) (b : Blocks) : Type 0 where
+  pub rising : Rising (l .written) (b .depth) (b .count)
+  pub deep : b .depth < length (l .written)
+  pub wide : b .count < length (l .opens)
+  pub shallow : b .depth < 65536
+  pub small : b .count < 65536
 
-pub record Changed (blocks : List (List ℕ)) (scope starts : List ℕ) (b r : Blocks) : Type 0 where
-  pub is : blocksIn scope starts r ≡ blocks
-  pub rising : Rising starts (r .depth) (r .count)
+pub record Changed (blocks : List (List ℕ)) (l : Thin) (b r : Blocks) : Type 0 where
+  pub is : blocksIn l r ≡ blocks
+  pub rising : Rising (l .written) (r .depth) (r .count)
   pub deep : r .depth ≤ b .depth + 1
   pub wide : r .count ≤ b .count + 1
 
+-- what has been found stays
+pub record Stays (before after : Thin) : Type 0 where
+  pub found-is : after .found ≡ before .found
+  pub goes-is : after .goes ≡ before .goes
+
 -- before the first event
-pub record Begun (scope starts : List ℕ) (b : Blocks) : Type 0 where
-  pub is : blocksIn scope starts b ≡ around
-  pub rising : Rising starts (b .depth) (b .count)
+pub record Begun (l : Thin) (b : Blocks) : Type 0 where
+  pub is : blocksIn l b ≡ around
+  pub rising : Rising (l .written) (b .depth) (b .count)
   pub depth : b .depth ≡ 1
   pub count : b .count ≡ 16
+
+-- ── what is found, with what stays meanwhile ──
+
+pub record Searching : Type 0 where
+  pub named : Named
+  pub goes : List ℕ
+  pub opens : List ℕ
+  pub written : List ℕ
+
+abbrev pub searchIn : Thin → Noted → Searching
+searchIn l n = record { named = namedIn (l .found) n; goes = l .goes; opens = l .opens; written = l .written }
+
+-- what is found, changed by the open blocks
+abbrev pub naming : Blocks → (List (List ℕ) → Named → Named) → Searching → Searching
+naming b f s = record { named = f (blocksOf (s .opens) (s .written) (b .depth) (b .count)) (s .named); goes = s .goes; opens = s .opens; written = s .written }

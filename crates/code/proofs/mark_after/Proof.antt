@@ -5,18 +5,18 @@ use Rattle.code.specs.Places.{markAfter}
 use Rattle.code.proofs.mark_after.Statement.{statement}
 use Rattle.code.proofs.mark_after.Tie as tie
 
-put-requires : tie.Need-put-requires
-put-requires c κs = search needs
+put-mark-requires : tie.Need-put-mark-requires
+put-mark-requires c κs = search needs
 
 same-length : tie.Need-same-length
 same-length c = search needs
 
 returns : tie.Need-returns
 unfolding markAfter
-returns c = rw (eq-eqb _ _ (c .before .before .before .before .if1 .taken)) (c .before .before .put .ensures)
+returns c = rw (eq-eqb _ _ (c .before .before .before .before .if1 .taken)) (c .before .before .put-mark .ensures)
 
-put-requires-2 : tie.Need-put-requires-2
-put-requires-2 c κs = search needs
+put-mark-requires-2 : tie.Need-put-mark-requires-2
+put-mark-requires-2 c κs = search needs
 
 same-length-2 : tie.Need-same-length-2
 same-length-2 c = search needs
@@ -24,13 +24,13 @@ same-length-2 c = search needs
 returns-2 : tie.Need-returns-2
 unfolding markAfter
 returns-2 c =
-    rw (ne-eqb _ _ (c .before .before .before .before .before .if1 .left), eq-eqb _ _ (c .before .before .before .before .if2 .taken)) (c .before .before .put2 .ensures)
+    rw (ne-eqb _ _ (c .before .before .before .before .before .if1 .left), eq-eqb _ _ (c .before .before .before .before .if2 .taken)) (c .before .before .put-mark2 .ensures)
 
-add-put : tie.Need-add-put
-add-put c = search needs
+add-put-mark : tie.Need-add-put-mark
+add-put-mark c = search needs
 
-put-requires-3 : tie.Need-put-requires-3
-put-requires-3 c κs = search needs
+put-mark-requires-3 : tie.Need-put-mark-requires-3
+put-mark-requires-3 c κs = search needs
 
 same-length-3 : tie.Need-same-length-3
 same-length-3 c = search needs
@@ -43,7 +43,7 @@ returns-3 c =
       ne-eqb _ _ (c .before .before .before .before .before .if2 .left),
       eq-eqb _ _ (c .before .before .before .before .if3 .taken),
     )
-    (c .before .before .put3 .ensures)
+    (c .before .before .put-mark3 .ensures)
 
 mark-limit-requires : tie.Need-mark-limit-requires
 mark-limit-requires c κs = search needs
@@ -62,11 +62,11 @@ returns-4 c =
     )
     (c .before .before .mark-limit .ensures)
 
-add-put-2 : tie.Need-add-put-2
-add-put-2 c = search needs
+add-put-mark-2 : tie.Need-add-put-mark-2
+add-put-mark-2 c = search needs
 
-put-requires-4 : tie.Need-put-requires-4
-put-requires-4 c κs = search needs
+put-mark-requires-4 : tie.Need-put-mark-requires-4
+put-mark-requires-4 c κs = search needs
 
 same-length-5 : tie.Need-same-length-5
 same-length-5 c = search needs
@@ -81,7 +81,7 @@ returns-5 c =
       ne-eqb _ _ (c .before .before .before .before .before .if4 .left),
       eq-eqb _ _ (c .before .before .before .before .if5 .taken),
     )
-    (c .before .before .put4 .ensures)
+    (c .before .before .put-mark4 .ensures)
 
 mark-closing-requires : tie.Need-mark-closing-requires
 mark-closing-requires c κs = search needs
@@ -103,4 +103,4 @@ returns-6 c =
 
 pub mark-after-spec : {M : Type 1} → statement M
 mark-after-spec = tie.close
-    (tie.spec put-requires same-length returns put-requires-2 same-length-2 returns-2 add-put put-requires-3 same-length-3 returns-3 mark-limit-requires same-length-4 returns-4 add-put-2 put-requires-4 same-length-5 returns-5 mark-closing-requires same-length-6 returns-6)
+    (tie.spec put-mark-requires same-length returns put-mark-requires-2 same-length-2 returns-2 add-put-mark put-mark-requires-3 same-length-3 returns-3 mark-limit-requires same-length-4 returns-4 add-put-mark-2 put-mark-requires-4 same-length-5 returns-5 mark-closing-requires same-length-6 returns-6)

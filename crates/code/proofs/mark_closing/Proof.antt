@@ -8,21 +8,21 @@ use Rattle.code.proofs.mark_closing.Tie as tie
 before-requires : tie.Need-before-requires
 before-requires c κs = search needs
 
-put-requires : tie.Need-put-requires
-put-requires c κs = search needs
+put-mark-requires : tie.Need-put-mark-requires
+put-mark-requires c κs = search needs
 
 same-length : tie.Need-same-length
 same-length c = search needs
 
 returns : tie.Need-returns
 unfolding markClosing
-returns c = rw (eq-eqb _ _ (c .before .before .before .before .before .if1 .taken), ← (c .before .before .before .before2 .ensures)) (c .before .before .put .ensures)
+returns c = rw (eq-eqb _ _ (c .before .before .before .before .before .if1 .taken), ← (c .before .before .before .before2 .ensures)) (c .before .before .put-mark .ensures)
 
-add-put : tie.Need-add-put
-add-put c = search needs
+add-put-mark : tie.Need-add-put-mark
+add-put-mark c = search needs
 
-put-requires-2 : tie.Need-put-requires-2
-put-requires-2 c κs = search needs
+put-mark-requires-2 : tie.Need-put-mark-requires-2
+put-mark-requires-2 c κs = search needs
 
 same-length-2 : tie.Need-same-length-2
 same-length-2 c = search needs
@@ -30,10 +30,10 @@ same-length-2 c = search needs
 returns-2 : tie.Need-returns-2
 unfolding markClosing
 returns-2 c =
-    rw (ne-eqb _ _ (c .before .before .before .before .before .if1 .left), eq-eqb _ _ (c .before .before .before .before .if2 .taken)) (c .before .before .put2 .ensures)
+    rw (ne-eqb _ _ (c .before .before .before .before .before .if1 .left), eq-eqb _ _ (c .before .before .before .before .if2 .taken)) (c .before .before .put-mark2 .ensures)
 
-put-requires-3 : tie.Need-put-requires-3
-put-requires-3 c κs = search needs
+put-mark-requires-3 : tie.Need-put-mark-requires-3
+put-mark-requires-3 c κs = search needs
 
 same-length-3 : tie.Need-same-length-3
 same-length-3 c = search needs
@@ -46,10 +46,10 @@ returns-3 c =
       ne-eqb _ _ (c .before .before .before .before .before .if2 .left),
       eq-eqb _ _ (c .before .before .before .before .if3 .taken),
     )
-    (c .before .before .put3 .ensures)
+    (c .before .before .put-mark3 .ensures)
 
-put-requires-4 : tie.Need-put-requires-4
-put-requires-4 c κs = search needs
+put-mark-requires-4 : tie.Need-put-mark-requires-4
+put-mark-requires-4 c κs = search needs
 
 same-length-4 : tie.Need-same-length-4
 same-length-4 c = search needs
@@ -63,10 +63,10 @@ returns-4 c =
       ne-eqb _ _ (c .before .before .before .before .before .if3 .left),
       eq-eqb _ _ (c .before .before .before .before .if4 .taken),
     )
-    (c .before .before .put4 .ensures)
+    (c .before .before .put-mark4 .ensures)
 
-put-requires-5 : tie.Need-put-requires-5
-put-requires-5 c κs = search needs
+put-mark-requires-5 : tie.Need-put-mark-requires-5
+put-mark-requires-5 c κs = search needs
 
 same-length-5 : tie.Need-same-length-5
 same-length-5 c = search needs
@@ -81,7 +81,7 @@ returns-5 c =
       ne-eqb _ _ (c .before .before .before .before .before .if4 .left),
       eq-eqb _ _ (c .before .before .before .before .if5 .taken),
     )
-    (c .before .before .put5 .ensures)
+    (c .before .before .put-mark5 .ensures)
 
 returns-6 : tie.Need-returns-6
 unfolding markClosing
@@ -96,4 +96,4 @@ returns-6 c =
 
 pub mark-closing-spec : {M : Type 1} → statement M
 mark-closing-spec = tie.close
-    (tie.spec before-requires put-requires same-length returns add-put put-requires-2 same-length-2 returns-2 put-requires-3 same-length-3 returns-3 put-requires-4 same-length-4 returns-4 put-requires-5 same-length-5 returns-5 returns-6)
+    (tie.spec before-requires put-mark-requires same-length returns add-put-mark put-mark-requires-2 same-length-2 returns-2 put-mark-requires-3 same-length-3 returns-3 put-mark-requires-4 same-length-4 returns-4 put-mark-requires-5 same-length-5 returns-5 returns-6)

@@ -1,15 +1,17 @@
 -- Two addresses are set. Assumes nothing.
+use Rattle.code.specs.Places.{kept, markLimit, onMarks}
+use Rattle.ledger.specs.Book.{putIn}
+use Prim.Native.Nat.{_%_}
+use mathlib.Core.Path.{ap, _∙_}
 use borrow.Author.Needs.{needs}
-use Rattle.code.specs.Places.{markLimit}
-use Rattle.tables.specs.Packed.{low}
 use Rattle.code.proofs.mark_limit.Statement.{statement}
 use Rattle.code.proofs.mark_limit.Tie as tie
 
 before-requires : tie.Need-before-requires
 before-requires c κs = search needs
 
-put-requires : tie.Need-put-requires
-put-requires c κs = search needs
+put-mark-requires : tie.Need-put-mark-requires
+put-mark-requires c κs = search needs
 
 before-requires-2 : tie.Need-before-requires-2
 before-requires-2 c κs = search needs
@@ -17,31 +19,31 @@ before-requires-2 c κs = search needs
 held-requires : tie.Need-held-requires
 held-requires c κs = search needs
 
-put-requires-2 : tie.Need-put-requires-2
-put-requires-2 c κs = search needs
+put-mark-requires-2 : tie.Need-put-mark-requires-2
+put-mark-requires-2 c κs = search needs
 
 same-length : tie.Need-same-length
 same-length c = search needs
 
 returns : tie.Need-returns
-unfolding markLimit low
+unfolding markLimit kept
 returns c =
-    rw (
-      ← (c .before .before .before .before .before .before .before .before .before .before2 .ensures),
-      ← (c .before .before .before .before .before3 .ensures),
-      ← (c .before .before .before .held .ensures),
-      ← (c .before .before .before .before .before .before .before .before .put .ensures),
-    )
-    (c .before .before .put2 .ensures)
+    let at-put-mark2 = c .before .before in
+    let at-held = at-put-mark2 .before in
+    let at-before3 = at-held .before in
+    let at-put-mark = at-before3 .before .before .before .before in
+    let at-before2 = at-put-mark .before in
+    rw (← (at-before2 .before2 .ensures), ← (at-before3 .before3 .ensures), ← (at-held .held .ensures)) (at-put-mark2 .put-mark2 .ensures ∙ ap (onMarks (putIn
+    (at-before3 .before3 .result) (at-held .held .result % 65536))) (at-put-mark .put-mark .ensures))
 
 pub mark-limit-spec : {M : Type 1} → statement M
 mark-limit-spec =
     tie.close
     (tie.spec
     before-requires
-    put-requires
+    put-mark-requires
     before-requires-2
     held-requires
-    put-requires-2
+    put-mark-requires-2
     same-length
     returns)

@@ -1,29 +1,29 @@
--- `places` is the pass. The invariant: the pass over what is left makes the whole, and an event takes eight bytes at most. Assumes nothing.
-use Prim.Native.Nat.{_≤_, _-_, _*_}
-use mathlib.Core.Path.{_≡_, refl, ap}
-use native.Mathlib.Omega.{arith}
-use lib.ListN.{length, drop}
-use borrow.Author.Needs.{needs}
-use Rattle.tape.specs.Pass.{pass}
-use Rattle.tape.proofs.Pass.{pass-turn, pass-end}
+-- `places` is the pass. The invariant: the pass over what is left makes the whole, the other columns are as they were, and an event takes eight bytes at most. Assumes nothing.
+use Rattle.code.proofs.Placing.{Same, places-turn}
+use Rattle.code.specs.Places.{kept, Placing, placingOf, placesAlong, onMarks, placeStep, placesIn}
 use Rattle.emit.proofs.Knowing.{codes-known, written-known}
-use Rattle.code.specs.Places.{Placing, placingOf, placeEvent, placesAlong}
-use Rattle.code.proofs.Placing.{place-is}
+use Rattle.ledger.specs.Book.{wideOf, thinOf}
+use Rattle.tape.proofs.Pass.{pass-end}
+use Rattle.tape.specs.Pass.{pass}
+use lib.ListN.{length, drop}
+use native.Mathlib.Omega.{arith}
+use mathlib.Core.Path.{_≡_, refl, ap, _∙_}
+use mathlib.Core.List.{List}
+use Prim.Native.Nat.{ℕ, _≤_, _-_, _*_}
+use borrow.Author.Needs.{needs}
 use Rattle.code.proofs.places.Statement.{statement}
 use Rattle.code.proofs.places.Tie as tie
 
 abbrev Inv-loop : tie.InvT-loop
-Inv-loop tape kinds values found goes means under opens offsets marks₀ p₀ w₀ i₀ marks p w i =
-    (i ≤ length tape) × (p ≤ 8 * i) × (length marks ≡ length marks₀)
-    × (pass (placeEvent kinds values found goes means under opens offsets) (placingOf p w marks) (drop i tape)
-    ≡ placesAlong kinds values found goes means under opens offsets marks₀ tape)
+Inv-loop tape kinds wide thin₀ p₀ w₀ i₀ thin p w i = (i ≤ length tape) × (p ≤ 8 * i) × (length thin ≡ length thin₀) × Same (thinOf thin₀) (thinOf thin)
+    × (pass (placeStep kinds (wideOf wide) (thinOf thin₀)) (placingOf p w (thinOf thin .written)) (drop i tape) ≡ placesIn kinds (wideOf wide) (thinOf thin₀) tape)
 
 abbrev μ-loop : tie.MeasureT-loop
-μ-loop tape kinds values found goes means under opens offsets marks₀ p₀ w₀ i₀ marks p w i = length tape - i
+μ-loop tape kinds wide thin₀ p₀ w₀ i₀ thin p w i = length tape - i
 
 loop-holds : tie.Need-loop-holds Inv-loop μ-loop
 unfolding placesAlong
-loop-holds c = (search needs, search needs, search needs, refl)
+loop-holds c = (search needs, search needs, refl, refl, refl)
 
 mul-e : tie.Need-mul-e Inv-loop μ-loop
 mul-e c = search needs
@@ -44,74 +44,80 @@ form-requires : tie.Need-form-requires Inv-loop μ-loop
 form-requires c κs = search needs
 
 operand-requires : tie.Need-operand-requires Inv-loop μ-loop
-operand-requires c κs = c .before .before .token .ensures .1
+operand-requires c κs = c .before .before .before .token .ensures .1
 
 register-at-requires : tie.Need-register-at-requires Inv-loop μ-loop
-register-at-requires c κs = c .before .before .before .token .ensures .1
+register-at-requires c κs = c .before .before .before .before .before .token .ensures .1
 
 goal-at-requires : tie.Need-goal-at-requires Inv-loop μ-loop
 goal-at-requires c κs = search needs
 
 codes-of-requires : tie.Need-codes-of-requires Inv-loop μ-loop
-codes-of-requires c κs = (c .before .before .before .before .before .before .token .ensures .1, c .before .goal-at .ensures .1)
+codes-of-requires c κs =
+    let at-goal-at = c .before in
+    let at-token = at-goal-at .before .before .before .before .before .before .before .before in
+    (at-token .token .ensures .1, at-goal-at .goal-at .ensures .1)
 
 size-requires : tie.Need-size-requires Inv-loop μ-loop
 size-requires c κs = search needs
 
 add-q : tie.Need-add-q Inv-loop μ-loop
 add-q c =
-    let b = c .before .before .before .before .before .before .before .before .before .before .before .before .loop .inv .1 in
-    let h = c .before .before .before .before .before .before .before .before .before .before .before .loop-test .taken in
-    let n = c .before .before .before .before .before .before .before .before .before .before .before .before .before .before .before .before .before .before .before
-    .before .before .before .before .pre in
-    omega (arith, c .size .ensures .1)
+    let at-loop-test = c .before .before .before .before .before .before .before .before .before .before .before .before .before .before in
+    let at-loop = at-loop-test .before in
+    let start = at-loop .before .before .before .before .before in
+    let b = at-loop .loop .inv .1 in let h = at-loop-test .loop-test .taken in let n = start .pre in omega (arith, c .size .ensures .1)
 
 mark-after-requires : tie.Need-mark-after-requires Inv-loop μ-loop
 mark-after-requires c κs =
-    let b = c .before .before .before .before .before .before .before .before .before .before .before .before .before .loop .inv .1 in
-    let h = c .before .before .before .before .before .before .before .before .before .before .before .before .loop-test .taken in
-    let n = c .before .before .before .before .before .before .before .before .before .before .before .before .before .before .before .before .before .before .before
-    .before .before .before .before .before .pre in
-    (c .before .before .before .before .before .before .before .before .before .token .ensures .1, omega arith, omega (arith, c .before .size .ensures .1))
+    let at-token = c .before .before .before .before .before .before .before .before .before .before .before .before in
+    (at-token .token .ensures .1, omega arith, omega arith)
 
 written-after-requires : tie.Need-written-after-requires Inv-loop μ-loop
 written-after-requires c κs = search needs
 
 add-i : tie.Need-add-i Inv-loop μ-loop
 add-i c =
-    let h = c .before .before .before .before .before .before .before .before .before .before .before .before .before .before .before .before .loop-test .taken in
-    let n = c .before .before .before .before .before .before .before .before .before .before .before .before .before .before .before .before .before .before .before
-    .before .before .before .before .before .before .before .before .before .pre in
-    omega arith
+    let back = c .before .before .before .before .before .before .before .before .before .before .before .before .before .before .before in
+    let at-loop-test = back .before .before .before .before in
+    let start = at-loop-test .before .before .before .before .before .before in
+    let h = at-loop-test .loop-test .taken in let n = start .pre in omega arith
 
 loop-less : tie.Need-loop-less Inv-loop μ-loop
 loop-less c =
-    let h = c .before .before .before .before .before .before .before .before .before .before .before .before .before .before .before .before .loop-test .taken in
-    omega arith
+    let back = c .before .before .before .before .before .before .before .before .before .before .before .before .before .before .before in
+    let at-loop-test = back .before .before .before .before in
+    let h = at-loop-test .loop-test .taken in omega arith
 
 loop-again : tie.Need-loop-again Inv-loop μ-loop
+unfolding kept
 loop-again c =
-    let a = c .before .before .before .before .before .before .before .before .before .before .before .before .before .before .before .before .before .before .before
-    .before .before .before .before .before .before .before .before .before .args in
-    let l = c .before .before .before .before .before .before .before .before .before .before .before .before .before .before .before .before .before .loop in
-    let h = c .before .before .before .before .before .before .before .before .before .before .before .before .before .before .before .before .loop-test .taken in
-    let op = c .before .before .before .before .before .before .before .before .before .before .before .before .before .before .op in
-    let t = c .before .before .before .before .before .before .before .before .before .before .before .before .before .token in
-    let f = c .before .before .before .before .before .before .before .before .before .before .before .before .family .ensures in
-    let s = c .before .before .before .before .before .before .before .before .before .before .before .form .ensures .0 in
-    let u = c .before .before .before .before .before .before .before .before .before .before .operand .ensures in
-    let r = c .before .before .before .before .before .before .before .before .before .register-at .ensures in
-    let codes = codes-known (a .kinds .now) (a .values .now) (a .found .now) (a .goes .now) (a .means .now) (a .under .now) (a .opens .now) (a .offsets .now) (l .marks)
-    (op .result) (t .result) (l .w) f s u r (c .before .before .before .before .before .before .before .before .goal-at .ensures .0)
-    (c .before .before .before .before .before .before .codes-of .ensures) in
-    let written = written-known (a .kinds .now) (a .values .now) (a .found .now) (a .goes .now) (a .means .now) (a .under .now) (a .opens .now) (a .offsets .now)
-    (l .marks) (op .result) (t .result) (l .w) f s u r (c .written-after .ensures) in (
+    let at-mark-after = c .before .before .before in
+    let at-size = at-mark-after .before .before in
+    let at-codes-of = at-size .before in
+    let at-goal-at = at-codes-of .before .before in
+    let at-register-at = at-goal-at .before .before in
+    let at-operand = at-register-at .before .before in
+    let at-form = at-operand .before in
+    let at-family = at-form .before .before in
+    let at-token = at-family .before in
+    let at-op = at-token .before in
+    let at-loop-test = at-op .before .before in
+    let at-loop = at-loop-test .before in
+    let start = at-loop .before .before .before .before .before in
+    let a = start .args in let l = at-loop .loop in let op = at-op .op in let t = at-token .token in let f = at-family .family .ensures in let s = at-form .form
+    .ensures .0 in let u = at-operand .operand .ensures in let r = at-register-at .register-at .ensures in let h = at-loop-test .loop-test .taken in let codes =
+    codes-known (a .kinds .now) (wideOf (a .wide .now)) (thinOf (l .thin)) (op .result) (t .result) (l .w) f s u r (at-goal-at .goal-at .ensures .0)
+    (at-codes-of .codes-of .ensures) in let written = written-known (a .kinds .now) (wideOf (a .wide .now)) (thinOf (l .thin)) (op .result) (t .result) (l .w) f
+    s u r (c .written-after .ensures) in let turn = places-turn (a .kinds .now) (a .tape .now) (wideOf (a .wide .now)) (thinOf (a .thin .now)) (thinOf (l
+    .thin)) _ (l .i) (op .result) (t .result) (l .p) _ (l .w) _ _ (l .inv .3) h (op .ensures .0) (t .ensures .0) codes (at-size .size .ensures .0) (rw f at
+    (at-mark-after .mark-after .ensures)) written (l .inv .4) in (
       omega arith,
-      omega (arith, l .inv .1, c .before .before .before .before .before .size .ensures .1),
-      search needs,
-      rw
-          (place-is (a .kinds .now) (a .values .now) (a .found .now) (a .goes .now) (a .means .now) (a .under .now) (a .opens .now) (a .offsets .now) (l .marks) (op .result) (t .result) (l .p) (l .w) codes (c .before .before .before .before .before .size .ensures .0) (rw f at (c .before .before .before .mark-after .ensures)) written)
-          (pass-turn (placeEvent (a .kinds .now) (a .values .now) (a .found .now) (a .goes .now) (a .means .now) (a .under .now) (a .opens .now) (a .offsets .now)) (placingOf (l .p) (l .w) (l .marks)) (a .tape .now) (l .i) (op .result) (t .result) h (op .ensures .0) (t .ensures .0) (l .inv .3)),
+      omega (arith, l .inv .1, at-size .size .ensures .1),
+      at-mark-after .mark-after
+          .kept .1 .1 .1 .1 .1 .0 ∙ l .inv .2,
+      turn .0,
+      turn .1,
     )
 
 same-length : tie.Need-same-length Inv-loop μ-loop
@@ -119,11 +125,14 @@ same-length c = search needs
 
 returns : tie.Need-returns Inv-loop μ-loop
 returns c =
-    let a = c .before .before .before .before .before .before .before .before .before .before .before .before .args in
-    let l = c .before .loop in
-    let e = pass-end (placeEvent (a .kinds .now) (a .values .now) (a .found .now) (a .goes .now) (a .means .now) (a .under .now) (a .opens .now) (a .offsets .now))
-    (placingOf (l .p) (l .w) (l .marks)) (a .tape .now) (l .i) (c .loop-test .left) (l .inv .3) in
-    (ap (λ (s : Placing). s .at) e, ap (λ (s : Placing). s .marks) e)
+    let at-loop = c .before in
+    let start = at-loop .before .before .before .before .before in
+    let a = start .args in let l = at-loop .loop in let e = pass-end (placeStep (a .kinds .now) (wideOf (a .wide .now)) (thinOf (a .thin .now))) (placingOf (l
+    .p) (l .w) (thinOf (l .thin) .written)) (a .tape .now) (l .i) (c .loop-test .left) (l .inv .4) in (
+      ap (λ (s : Placing). s .at) e,
+      l .inv .3 ∙ ap (λ (s :
+          Placing). onMarks (λ (m : List ℕ). s .marks) (thinOf (a .thin .now))) e,
+    )
 
 pub places-spec : {M : Type 1} → statement M
 places-spec =

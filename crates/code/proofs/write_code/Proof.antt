@@ -1,39 +1,42 @@
 -- `write_code` is the pass, and the last instruction. The invariant: what is laid holds of a state from which the rest of the tape leads to the whole; an event takes
 -- eight bytes and two literals at most. Assumes nothing.
-use Prim.Native.Nat.{_+_, _-_, _*_, _≤_}
-use mathlib.Core.List.{[]}
-use mathlib.Core.Path.{_≡_, refl, sym, _∙_}
-use native.Mathlib.Omega.{arith}
-use lib.ListN.{length, drop}
-use borrow.Author.Needs.{needs}
-use Rattle.tape.specs.Pass.{pass}
-use Rattle.emit.proofs.Knowing.{codes-known, written-known}
-use Rattle.code.specs.Coding.{laidOf, codingOf, codeEvent}
-use Rattle.code.specs.Places.{noWriting}
 use Rattle.code.proofs.Holding.{Coded, holds-first, tape-turn, tape-end}
+use Rattle.code.specs.Places.{noWriting}
+use Rattle.code.specs.Coding.{laidOf, codingOf, codeStep}
+use Rattle.ledger.specs.Book.{wideOf, thinOf}
+use Rattle.emit.proofs.Knowing.{codes-known, written-known}
+use Rattle.tape.specs.Pass.{pass}
+use lib.ListN.{length, drop}
+use native.Mathlib.Omega.{arith}
+use mathlib.Core.Path.{_≡_, refl, sym, _∙_}
+use mathlib.Core.List.{[]}
+use Prim.Native.Nat.{_+_, _-_, _*_, _≤_}
+use borrow.Author.Needs.{needs}
 use Rattle.code.proofs.write_code.Statement.{statement}
 use Rattle.code.proofs.write_code.Tie as tie
 
 abbrev Inv-loop : tie.InvT-loop
-Inv-loop tape kinds values found goes means under opens offsets marks start image₀ literals₀ at₀ w₀ i₀ image literals at w i =
-    (i ≤ length tape) × (at .length ≤ 8 * i) × (at .literals ≤ 2 * i) × (at .literals ≤ length literals₀) × (length image ≡ length image₀) ×
-    (length literals ≡ length literals₀)
-    × Coded start (length literals₀) kinds values found goes means under opens offsets marks (at .length) (at .literals) image literals w (drop i tape)
-    (pass (codeEvent start kinds values found goes means under opens offsets marks) (codingOf (laidOf 0 image₀ []) noWriting) tape)
+Inv-loop tape kinds wide thin start image₀ literals₀ at₀ w₀ i₀ image literals at w i = (i ≤ length tape) × (at .length ≤ 8 * i) × (at .literals ≤ 2 * i) × (at .literals ≤ length literals₀) × (length image ≡ length image₀) × (length literals ≡ length literals₀) × Coded start (length literals₀) kinds (wideOf wide) (thinOf thin) (at .length) (at .literals) image literals w (drop i tape) (pass (codeStep start kinds (wideOf wide) (thinOf thin)) (codingOf (laidOf 0 image₀ []) noWriting) tape)
 
 abbrev μ-loop : tie.MeasureT-loop
-μ-loop tape kinds values found goes means under opens offsets marks start image₀ literals₀ at₀ w₀ i₀ image literals at w i = length tape - i
+μ-loop tape kinds wide thin start image₀ literals₀ at₀ w₀ i₀ image literals at w i = length tape - i
 
 loop-holds : tie.Need-loop-holds Inv-loop μ-loop
 loop-holds c =
-    let a = c .before .before .before .before .before .before .before .before .before .before .before .before .args in (
+    let start = c .before .before .before .before .before .before in
+    let a = start .args in (
       search needs,
       search needs,
       search needs,
       search needs,
       refl,
       refl,
-      record { state = laidOf 0 (a .image .now) []; holds = holds-first (length (a .literals .now)) (a .image .now) (a .literals .now); leads = refl },
+      record {
+        state = laidOf 0 (a .image .now) [];
+        holds =
+            holds-first (length (a .literals .now)) (a .image .now) (a .literals .now);
+        leads = refl;
+      },
     )
 
 mul-e : tie.Need-mul-e Inv-loop μ-loop
@@ -68,56 +71,61 @@ codes-of-requires c κs = (c .before .before .before .before .before .token .ens
 
 lay-codes-requires : tie.Need-lay-codes-requires Inv-loop μ-loop
 lay-codes-requires c κs =
-    let l = c .before .before .before .before .before .before .before .before .before .before .before .before .loop .inv in
-    let h = c .before .before .before .before .before .before .before .before .before .before .before .loop-test .taken in
-    let n = c .before .before .before .before .before .before .before .before .before .before .before .before .before .before .before .before .before .before .before
-    .before .before .before .before .before .before .pre in
-    (omega (arith, l .3, l .5), omega (arith, n .1, l .5), n .2, omega (arith, l .1, n .0))
+    let at-loop-test = c .before .before .before .before .before .before .before .before .before .before .before in
+    let at-loop = at-loop-test .before in
+    let start = at-loop .before .before .before .before .before .before .before in
+    let l = at-loop .loop .inv in let h = at-loop-test .loop-test .taken in let n = start .pre in (
+      omega (arith, l .3, l .5),
+      omega (arith, n .1, l .5),
+      n .2,
+      omega (arith, l .1, n .0),
+    )
 
 written-after-requires : tie.Need-written-after-requires Inv-loop μ-loop
 written-after-requires c κs = search needs
 
 add-i : tie.Need-add-i Inv-loop μ-loop
 add-i c =
-    let h = c .before .before .before .before .before .before .before .before .before .before .before .before .before .before .before .before .before .loop-test .taken in
-    let n = c .before .before .before .before .before .before .before .before .before .before .before .before .before .before .before .before .before .before .before
-    .before .before .before .before .before .before .before .before .before .before .before .before .pre .0 in
-    omega arith
+    let back = c .before .before .before .before .before .before .before .before .before .before .before .before .before .before .before in
+    let at-loop-test = back .before .before in
+    let start = at-loop-test .before .before .before .before .before .before .before .before in
+    let h = at-loop-test .loop-test .taken in let n = start .pre .0 in omega arith
 
 loop-less : tie.Need-loop-less Inv-loop μ-loop
 loop-less c =
-    let h = c .before .before .before .before .before .before .before .before .before .before .before .before .before .before .before .before .before .loop-test .taken in
-    omega arith
+    let back = c .before .before .before .before .before .before .before .before .before .before .before .before .before .before .before in
+    let at-loop-test = back .before .before in
+    let h = at-loop-test .loop-test .taken in omega arith
 
 loop-again : tie.Need-loop-again Inv-loop μ-loop
 loop-again c =
-    let a = c .before .before .before .before .before .before .before .before .before .before .before .before .before .before .before .before .before .before .before
-    .before .before .before .before .before .before .before .before .before .before .before .before .args in
-    let l = c .before .before .before .before .before .before .before .before .before .before .before .before .before .before .before .before .before .before .loop in
-    let h = c .before .before .before .before .before .before .before .before .before .before .before .before .before .before .before .before .before .loop-test .taken in
-    let op = c .before .before .before .before .before .before .before .before .before .before .before .before .before .before .before .op in
-    let t = c .before .before .before .before .before .before .before .before .before .before .before .before .before .before .token in
-    let f = c .before .before .before .before .before .before .before .before .before .before .before .before .before .family .ensures in
-    let s = c .before .before .before .before .before .before .before .before .before .before .before .before .form .ensures .0 in
-    let u = c .before .before .before .before .before .before .before .before .before .before .before .operand .ensures in
-    let r = c .before .before .before .before .before .before .before .before .before .before .register-at .ensures in
-    let codes = codes-known (a .kinds .now) (a .values .now) (a .found .now) (a .goes .now) (a .means .now) (a .under .now) (a .opens .now) (a .offsets .now)
-    (a .marks .now) (op .result) (t .result) (l .w) f s u r (c .before .before .before .before .before .before .before .before .before .goal-at .ensures .0)
-    (c .before .before .before .before .before .before .before .before .codes-of .ensures) in
-    let written = written-known (a .kinds .now) (a .values .now) (a .found .now) (a .goes .now) (a .means .now) (a .under .now) (a .opens .now) (a .offsets .now)
-    (a .marks .now) (op .result) (t .result) (l .w) f s u r (c .written-after .ensures) in
-    let laid = c .before .before .before .before .before .lay-codes in
-    let len : length (l .literals) ≡ length (a .literals .now) = l .inv .5 in (
+    let at-lay-codes = c .before .before .before .before .before in
+    let at-codes-of = at-lay-codes .before .before .before in
+    let at-goal-at = at-codes-of .before in
+    let at-register-at = at-goal-at .before in
+    let at-operand = at-register-at .before in
+    let at-form = at-operand .before in
+    let at-family = at-form .before in
+    let at-token = at-family .before in
+    let at-op = at-token .before in
+    let at-loop-test = at-op .before .before in
+    let at-loop = at-loop-test .before in
+    let start = at-loop .before .before .before .before .before .before .before in
+    let a = start .args in let l = at-loop .loop in let h = at-loop-test .loop-test .taken in let op = at-op .op in let t = at-token .token in let f = at-family
+    .family .ensures in let s = at-form .form .ensures .0 in let u = at-operand .operand .ensures in let r = at-register-at .register-at .ensures in let codes =
+    codes-known (a .kinds .now) (wideOf (a .wide .now)) (thinOf (a .thin .now)) (op .result) (t .result) (l .w) f s u r (at-goal-at .goal-at .ensures .0)
+    (at-codes-of .codes-of .ensures) in let written = written-known (a .kinds .now) (wideOf (a .wide .now)) (thinOf (a .thin .now)) (op .result) (t .result) (l
+    .w) f s u r (c .written-after .ensures) in let laid = at-lay-codes .lay-codes in let len : length (l .literals) ≡ length (a .literals .now) = l .inv .5 in (
       omega arith,
       omega (arith, l .inv .1, laid .ensures .3),
       omega (arith, l .inv .2, laid .ensures .1),
       omega (arith, len, laid .ensures .2),
-      laid .kept .0 ∙ l .inv .4,
+      laid .kept .0 ∙ l
+          .inv .4,
       laid .kept .1 .0 ∙ len,
-      tape-turn (a .start) (length (a .literals .now)) (a .kinds .now) (a .values .now) (a .found .now) (a .goes .now) (a .means .now) (a .under .now) (a .opens .now)
-          (a .offsets .now) (a .marks .now) (a .tape .now) (l .i) (op .result) (t .result) _ _ _ _ _ _ _ _
-          (c .before .before .before .before .before .before .before .before .codes-of .result) (l .w) _ _ h (op .ensures .0) (t .ensures .0) codes written len
-          (laid .ensures .0) (l .inv .6),
+      tape-turn (a .start) (length (a .literals .now)) (a .kinds .now) (wideOf (a .wide .now)) (thinOf (a .thin .now)) (a .tape
+          .now) (l .i) (op .result) (t .result) _ _ _ _ _ _ _ _ (at-codes-of .codes-of .result) (l .w) _ _ h (op .ensures .0) (t .ensures .0) codes written len (laid
+          .ensures .0) (l .inv .6),
     )
 
 stop-requires : tie.Need-stop-requires Inv-loop μ-loop
@@ -125,35 +133,40 @@ stop-requires c κs = search needs
 
 lay-code-requires : tie.Need-lay-code-requires Inv-loop μ-loop
 lay-code-requires c κs =
-    let l = c .before .before .before .before .loop .inv in
-    let n = c .before .before .before .before .before .before .before .before .before .before .before .before .before .before .before .before .before .pre in
-    (omega (arith, l .3, l .5), omega (arith, n .1, l .5), n .2, omega (arith, l .1, l .0, n .0))
+    let at-loop = c .before .before .before .before in
+    let start = at-loop .before .before .before .before .before .before .before in
+    let l = at-loop .loop .inv in let n = start .pre in (omega (arith, l .3, l .5), omega (arith, n .1, l .5), n .2, omega (arith, l .1, l .0, n .0))
 
 add-end : tie.Need-add-end Inv-loop μ-loop
 add-end c =
-    let l = c .before .before .before .before .before .before .before .before .before .loop .inv in
-    let n = c .before .before .before .before .before .before .before .before .before .before .before .before .before .before .before .before .before .before .before
-    .before .before .before .pre .0 in
-    omega (arith, l .1, l .0)
+    let at-loop = c .before .before .before .before .before .before .before .before .before in
+    let start = at-loop .before .before .before .before .before .before .before in
+    let l = at-loop .loop .inv in let n = start .pre .0 in omega (arith, l .1, l .0)
 
 same-length : tie.Need-same-length Inv-loop μ-loop
-same-length c = c .before .before .before .before .lay-code .kept .0 ∙ c .before .before .before .before .before .before .before .before .before .loop .inv .4
+same-length c =
+    let at-lay-code = c .before .before .before .before in
+    let at-loop = at-lay-code .before .before .before .before .before in
+    at-lay-code .lay-code .kept .0 ∙ at-loop .loop .inv .4
 
 same-length-2 : tie.Need-same-length-2 Inv-loop μ-loop
-same-length-2 c = c .before .before .before .before .lay-code .kept .1 .0 ∙ c .before .before .before .before .before .before .before .before .before .loop .inv .5
+same-length-2 c =
+    let at-lay-code = c .before .before .before .before in
+    let at-loop = at-lay-code .before .before .before .before .before in
+    at-lay-code .lay-code .kept .1 .0 ∙ at-loop .loop .inv .5
 
 returns : tie.Need-returns Inv-loop μ-loop
 returns c =
-    let a = c .before .before .before .before .before .before .before .before .before .before .before .before .before .before .before .before .before .before .before
-    .before .before .before .args in
-    let l = c .before .before .before .before .before .before .before .before .before .loop in
-    let laid = c .before .before .before .before .lay-code in
-    let len : length (l .literals) ≡ length (a .literals .now) = l .inv .5 in (
-      tape-end (a .start) (length (a .literals .now)) (a .kinds .now) (a .values .now) (a .found .now) (a .goes .now) (a .means .now) (a .under .now) (a .opens .now)
-          (a .offsets .now) (a .marks .now) (a .tape .now) (a .image .now) (l .i) (l .at .length) (l .at .literals) (laid .result) (l .image) (l .literals) _ _ (l .w)
-          (c .before .before .before .before .before .stop .result) (c .before .before .before .before .before .before .before .before .loop-test .left)
-          (laid .kept .1 .0 ∙ len) (c .before .before .before .before .before .stop .ensures) (λ g. laid .ensures .0 (omega (arith, g, len)))
-          (λ g. laid .ensures .1 (g ∙ sym len)) (laid .ensures .2) (l .inv .6),
+    let at-lay-code = c .before .before .before .before in
+    let at-stop = at-lay-code .before in
+    let at-loop-test = at-stop .before .before .before in
+    let at-loop = at-loop-test .before in
+    let start = at-loop .before .before .before .before .before .before .before in
+    let a = start .args in let l = at-loop .loop in let laid = at-lay-code .lay-code in let len : length (l .literals) ≡ length (a .literals .now) = l .inv .5
+    in (
+      tape-end (a .start) (length (a .literals .now)) (a .kinds .now) (wideOf (a .wide .now)) (thinOf (a .thin .now)) (a .tape .now) (a .image .now) (l .i)
+          (l .at .length) (l .at .literals) (laid .result) (l .image) (l .literals) _ _ (l .w) (at-stop .stop .result) (at-loop-test .loop-test .left) (laid .kept .1
+          .0 ∙ len) (at-stop .stop .ensures) (λ g. laid .ensures .0 (omega (arith, g, len))) (λ g. laid .ensures .1 (g ∙ sym len)) (laid .ensures .2) (l .inv .6),
       omega (arith, laid .ensures .2, l .inv .2, l .inv .0),
     )
 

@@ -13,8 +13,8 @@ false-mask-requires c κs = search needs
 before-requires : tie.Need-before-requires
 before-requires c κs = search needs
 
-get-requires : tie.Need-get-requires
-get-requires c κs = search needs
+mark-requires : tie.Need-mark-requires
+mark-requires c κs = search needs
 
 branch-requires : tie.Need-branch-requires
 branch-requires c κs = search needs
@@ -26,7 +26,7 @@ returns c =
       ← (c .before .before .before .before .kind .ensures),
       ← (c .before .before .before .false-mask .ensures .0),
       ← (c .before .before .before2 .ensures),
-      ← (c .before .get .ensures .0),
+      ← (c .before .mark .ensures .0),
       ← (c .branch .ensures),
     )
 
@@ -37,6 +37,6 @@ bare-spec =
     kind-requires
     false-mask-requires
     before-requires
-    get-requires
+    mark-requires
     branch-requires
     returns)

@@ -16,8 +16,8 @@ false-mask-requires c κs = search needs
 before-requires-2 : tie.Need-before-requires-2
 before-requires-2 c κs = search needs
 
-get-requires : tie.Need-get-requires
-get-requires c κs = search needs
+mark-requires : tie.Need-mark-requires
+mark-requires c κs = search needs
 
 branch-requires : tie.Need-branch-requires
 branch-requires c κs = search needs
@@ -33,10 +33,10 @@ returns c =
       ← (c .before .before .before .before .before .kind .ensures),
       ← (c .before .before .before .before .false-mask .ensures .0),
       ← (c .before .before .before .before3 .ensures),
-      ← (c .before .before .get .ensures .0),
+      ← (c .before .before .mark .ensures .0),
       ← (c .before .branch .ensures),
     )
     (c .apply-then .ensures)
 
 pub compared-spec : {M : Type 1} → statement M
-compared-spec = tie.close (tie.spec before-requires kind-requires false-mask-requires before-requires-2 get-requires branch-requires apply-then-requires returns)
+compared-spec = tie.close (tie.spec before-requires kind-requires false-mask-requires before-requires-2 mark-requires branch-requires apply-then-requires returns)

@@ -7,8 +7,8 @@ use Rattle.emit.proofs.limit.Tie as tie
 before-requires : tie.Need-before-requires
 before-requires c κs = search needs
 
-key-requires : tie.Need-key-requires
-key-requires c κs = search needs
+value-requires : tie.Need-value-requires
+value-requires c κs = search needs
 
 exit-mask-requires : tie.Need-exit-mask-requires
 exit-mask-requires c κs = search needs
@@ -19,8 +19,8 @@ held-requires c κs = search needs
 before-requires-2 : tie.Need-before-requires-2
 before-requires-2 c κs = search needs
 
-get-requires : tie.Need-get-requires
-get-requires c κs = search needs
+mark-requires : tie.Need-mark-requires
+mark-requires c κs = search needs
 
 branch-requires : tie.Need-branch-requires
 branch-requires c κs = search needs
@@ -33,11 +33,11 @@ unfolding limitCodes
 returns c =
     rw (
       ← (c .before .before .before .before .before .before .before .before2 .ensures),
-      ← (c .before .before .before .before .before .before .key .ensures),
+      ← (c .before .before .before .before .before .before .value .ensures),
       ← (c .before .before .before .before .before .exit-mask .ensures),
       ← (c .before .before .before .before .held .ensures),
       ← (c .before .before .before .before3 .ensures),
-      ← (c .before .before .get .ensures .0),
+      ← (c .before .before .mark .ensures .0),
       ← (c .before .branch .ensures),
     )
     (c .apply-then .ensures)
@@ -47,11 +47,11 @@ limit-spec =
     tie.close
     (tie.spec
     before-requires
-    key-requires
+    value-requires
     exit-mask-requires
     held-requires
     before-requires-2
-    get-requires
+    mark-requires
     branch-requires
     apply-then-requires
     returns)

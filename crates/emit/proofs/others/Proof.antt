@@ -12,28 +12,28 @@ returns : tie.Need-returns
 unfolding otherCodes
 returns c = rw (eq-eqb _ _ (c .before .if1 .taken), ← (c .base .ensures))
 
-add-get : tie.Need-add-get
-add-get c = search needs
+add-mark : tie.Need-add-mark
+add-mark c = search needs
 
-get-requires : tie.Need-get-requires
-get-requires c κs = search needs
+mark-requires : tie.Need-mark-requires
+mark-requires c κs = search needs
 
 branch-requires : tie.Need-branch-requires
 branch-requires c κs = search needs
 
 returns-2 : tie.Need-returns-2
 unfolding otherCodes
-returns-2 c = rw (ne-eqb _ _ (c .before .before .before .if1 .left), eq-eqb _ _ (c .before .before .if2 .taken), ← (c .before .get .ensures .0), ← (c .branch .ensures))
+returns-2 c = rw (ne-eqb _ _ (c .before .before .before .if1 .left), eq-eqb _ _ (c .before .before .if2 .taken), ← (c .before .mark .ensures .0), ← (c .branch .ensures))
 
 returns-3 : tie.Need-returns-3
 unfolding otherCodes
 returns-3 c = rw (ne-eqb _ _ (c .before .before .if1 .left), ne-eqb _ _ (c .before .if2 .left), eq-eqb _ _ (c .if3 .taken))
 
-add-get-2 : tie.Need-add-get-2
-add-get-2 c = search needs
+add-mark-2 : tie.Need-add-mark-2
+add-mark-2 c = search needs
 
-get-requires-2 : tie.Need-get-requires-2
-get-requires-2 c κs = search needs
+mark-requires-2 : tie.Need-mark-requires-2
+mark-requires-2 c κs = search needs
 
 branch-requires-2 : tie.Need-branch-requires-2
 branch-requires-2 c κs = search needs
@@ -46,15 +46,15 @@ returns-4 c =
       ne-eqb _ _ (c .before .before .before .before .if2 .left),
       ne-eqb _ _ (c .before .before .before .if3 .left),
       eq-eqb _ _ (c .before .before .if4 .taken),
-      ← (c .before .get2 .ensures .0),
+      ← (c .before .mark2 .ensures .0),
       ← (c .branch2 .ensures),
     )
 
-add-get-3 : tie.Need-add-get-3
-add-get-3 c = search needs
+add-mark-3 : tie.Need-add-mark-3
+add-mark-3 c = search needs
 
-get-requires-3 : tie.Need-get-requires-3
-get-requires-3 c κs = search needs
+mark-requires-3 : tie.Need-mark-requires-3
+mark-requires-3 c κs = search needs
 
 branch-requires-3 : tie.Need-branch-requires-3
 branch-requires-3 c κs = search needs
@@ -68,12 +68,12 @@ returns-5 c =
       ne-eqb _ _ (c .before .before .before .before .if3 .left),
       ne-eqb _ _ (c .before .before .before .if4 .left),
       eq-eqb _ _ (c .before .before .if5 .taken),
-      ← (c .before .get3 .ensures .0),
+      ← (c .before .mark3 .ensures .0),
       ← (c .branch3 .ensures),
     )
 
-get-requires-4 : tie.Need-get-requires-4
-get-requires-4 c κs = search needs
+mark-requires-4 : tie.Need-mark-requires-4
+mark-requires-4 c κs = search needs
 
 link-requires : tie.Need-link-requires
 link-requires c κs = search needs
@@ -88,12 +88,12 @@ returns-6 c =
       ne-eqb _ _ (c .before .before .before .before .if4 .left),
       ne-eqb _ _ (c .before .before .before .if5 .left),
       eq-eqb _ _ (c .before .before .if6 .taken),
-      ← (c .before .get4 .ensures .0),
+      ← (c .before .mark4 .ensures .0),
       ← (c .link .ensures),
     )
 
-get-requires-5 : tie.Need-get-requires-5
-get-requires-5 c κs = search needs
+mark-requires-5 : tie.Need-mark-requires-5
+mark-requires-5 c κs = search needs
 
 branch-requires-4 : tie.Need-branch-requires-4
 branch-requires-4 c κs = search needs
@@ -109,7 +109,7 @@ returns-7 c =
       ne-eqb _ _ (c .before .before .before .before .if5 .left),
       ne-eqb _ _ (c .before .before .before .if6 .left),
       eq-eqb _ _ (c .before .before .if7 .taken),
-      ← (c .before .get5 .ensures .0),
+      ← (c .before .mark5 .ensures .0),
       ← (c .branch4 .ensures),
     )
 
@@ -128,4 +128,4 @@ returns-8 c =
 
 pub others-spec : {M : Type 1} → statement M
 others-spec = tie.close
-    (tie.spec base-requires returns add-get get-requires branch-requires returns-2 returns-3 add-get-2 get-requires-2 branch-requires-2 returns-4 add-get-3 get-requires-3 branch-requires-3 returns-5 get-requires-4 link-requires returns-6 get-requires-5 branch-requires-4 returns-7 returns-8)
+    (tie.spec base-requires returns add-mark mark-requires branch-requires returns-2 returns-3 add-mark-2 mark-requires-2 branch-requires-2 returns-4 add-mark-3 mark-requires-3 branch-requires-3 returns-5 mark-requires-4 link-requires returns-6 mark-requires-5 branch-requires-4 returns-7 returns-8)

@@ -10,8 +10,8 @@ subscript-requires c κs = search needs
 index-requires : tie.Need-index-requires
 index-requires c κs = search needs
 
-get-requires : tie.Need-get-requires
-get-requires c κs = search needs
+found-requires : tie.Need-found-requires
+found-requires c κs = search needs
 
 meaning-requires : tie.Need-meaning-requires
 meaning-requires c κs = search needs
@@ -24,11 +24,11 @@ unfolding placeIn
 returns c =
     rw (
       ← (c .before .meaning .ensures),
-      ← (c .before .before .get .ensures .0),
+      ← (c .before .before .found .ensures .0),
       ← (c .before .before .before .before .subscript .ensures),
       ← (c .before .before .before .index .ensures),
     )
     (c .place-by .ensures)
 
 pub place-spec : {M : Type 1} → statement M
-place-spec = tie.close (tie.spec subscript-requires index-requires get-requires meaning-requires place-by-requires returns)
+place-spec = tie.close (tie.spec subscript-requires index-requires found-requires meaning-requires place-by-requires returns)

@@ -1,25 +1,31 @@
--- `layout` is the pass. The invariant `Going`: the pass over what is left makes the whole, and the ends stay small enough to grow. Assumes nothing.
-use Prim.Native.Nat.{_-_}
-use mathlib.Core.Path.{_∙_}
-use native.Mathlib.Omega.{arith}
-use lib.ListN.{length}
+-- `layout` is the pass. The invariant `Going`: the pass over what is left makes the whole, and what it reads stays. Assumes nothing.
+use Rattle.layout.proofs.Along.{Going, going, going-on, going-end, begun}
+use Rattle.layout.specs.Along.{bookOf}
+use Rattle.names.specs.Broken.{unbroken}
+use Rattle.ledger.specs.Book.{wideOf, thinOf}
 use borrow.Author.Needs.{needs}
-use Rattle.layout.proofs.Along.{Going, going, going-on, going-end}
-use Rattle.layout.specs.Along.{segmentAt}
+use lib.ListN.{length}
+use native.Mathlib.Omega.{arith}
+use mathlib.Core.Path.{_≡_, refl, _∙_}
+use Prim.Native.Nat.{_-_}
 use Rattle.layout.proofs.layout.Statement.{statement}
 use Rattle.layout.proofs.layout.Tie as tie
 
 abbrev Inv-loop : tie.InvT-loop
-Inv-loop tape means bases ends₀ offsets₀ broken₀ i₀ ends offsets broken i = Going tape means bases ends₀ offsets₀ ends offsets broken i
+Inv-loop tape wide₀ thin₀ broken₀ i₀ wide thin broken i =
+    Going tape (bookOf (wideOf wide₀) (thinOf thin₀) unbroken) (bookOf (wideOf wide) (thinOf thin) broken) i × (length wide ≡ length wide₀) × (length thin ≡ length thin₀)
 
 abbrev μ-loop : tie.MeasureT-loop
-μ-loop tape means bases ends₀ offsets₀ broken₀ i₀ ends offsets broken i = length tape - i
+μ-loop tape wide₀ thin₀ broken₀ i₀ wide thin broken i = length tape - i
 
-put-wide-requires : tie.Need-put-wide-requires Inv-loop μ-loop
-put-wide-requires c κs = search needs
+clear-written-requires : tie.Need-clear-written-requires Inv-loop μ-loop
+clear-written-requires c κs = search needs
+
+put-written-requires : tie.Need-put-written-requires Inv-loop μ-loop
+put-written-requires c κs = search needs
 
 loop-holds : tie.Need-loop-holds Inv-loop μ-loop
-loop-holds c = going (c .before .before .before .before .before .before .before .before .before .args .tape .now) (c .before .before .before .before .before .before .before .before .before .args .means .now) (c .before .before .before .before .before .before .before .before .before .args .bases .now) _ (c .before .before .before .before .before .before .before .before .before .args .offsets .now) (c .before .before .before .before .before .before .before .before .before .args .ends .now) (c .before .before .before .before .before .before .before .before .before .pre .1) (c .before .before .put-wide .ensures)
+loop-holds c = (going _ _, refl, refl)
 
 mul-e : tie.Need-mul-e Inv-loop μ-loop
 mul-e c = search needs
@@ -34,25 +40,25 @@ token-requires : tie.Need-token-requires Inv-loop μ-loop
 token-requires c κs = search needs
 
 layout-event-requires : tie.Need-layout-event-requires Inv-loop μ-loop
-layout-event-requires c κs = (let h = c .before .before .before .before .before .loop-test .taken in let n = c .before .before .before .before .before .before .before .before .before .before .before .before .before .before .before .before .pre .0 in omega (arith, c .before .before .before .before .before .before .loop .inv .small (segmentAt (c .before .before .before .before .before .before .before .before .before .before .before .before .before .before .before .before .args .bases .now) (c .before .before .token .result))))
+layout-event-requires c κs = search needs
 
 add-i : tie.Need-add-i Inv-loop μ-loop
-add-i c = search needs
+add-i c = omega (arith, c .before .before .before .before .before .before .before .before .before .before .loop-test .taken)
 
 loop-less : tie.Need-loop-less Inv-loop μ-loop
-loop-less c = search needs
+loop-less c = omega (arith, c .before .before .before .before .before .before .before .before .before .before .loop-test .taken)
 
 loop-again : tie.Need-loop-again Inv-loop μ-loop
-loop-again c = going-on (c .before .before .before .before .before .before .before .before .before .before .before .before .before .before .before .before .before .before .before .before .before .args .tape .now) (c .before .before .before .before .before .before .before .before .before .before .before .before .before .before .before .before .before .before .before .before .before .args .means .now) (c .before .before .before .before .before .before .before .before .before .before .before .before .before .before .before .before .before .before .before .before .before .args .bases .now) _ (c .before .before .before .before .before .before .before .before .before .before .before .before .before .before .before .before .before .before .before .before .before .args .offsets .now) (c .before .before .before .before .before .before .before .before .before .before .before .loop .inv) (c .before .before .before .before .before .before .before .before .before .before .loop-test .taken) (c .before .before .before .before .before .before .before .before .op .ensures .0) (c .before .before .before .before .before .before .before .token .ensures .0) (c .before .before .before .before .layout-event .ensures) (c .before .before .before .before .layout-event .kept .1 .1 .1 .1 .0) (c .before .before .before .before .layout-event .kept .1 .1 .1 .1 .1 .0)
+loop-again c = (going-on _ _ (c .before .before .before .before .before .before .before .before .before .before .before .loop .inv .0) (c .before .before .before .before .before .before .before .before .before .before .loop-test .taken) (c .before .before .before .before .before .before .before .before .op .ensures .0) (c .before .before .before .before .before .before .before .token .ensures .0) (c .before .before .before .before .layout-event .ensures), c .before .before .before .before .layout-event .kept .1 .1 .0 ∙ c .before .before .before .before .before .before .before .before .before .before .before .loop .inv .1, c .before .before .before .before .layout-event .kept .1 .1 .1 .0 ∙ c .before .before .before .before .before .before .before .before .before .before .before .loop .inv .2)
 
 same-length : tie.Need-same-length Inv-loop μ-loop
-same-length c = (c .before .loop .inv .same-ends) ∙ (c .before .before .before .before .put-wide .kept .0)
+same-length c = c .before .loop .inv .1
 
 same-length-2 : tie.Need-same-length-2 Inv-loop μ-loop
-same-length-2 c = (c .before .loop .inv .same-offsets)
+same-length-2 c = c .before .loop .inv .2 ∙ (c .before .before .before .before .put-written .kept .0 ∙ c .before .before .before .before .before .before .before .before .clear-written .kept .0)
 
 returns : tie.Need-returns Inv-loop μ-loop
-returns c = going-end (c .before .before .before .before .before .before .before .before .before .before .before .args .tape .now) (c .before .before .before .before .before .before .before .before .before .before .before .args .means .now) (c .before .before .before .before .before .before .before .before .before .before .before .args .bases .now) _ (c .before .before .before .before .before .before .before .before .before .before .before .args .offsets .now) (c .before .before .before .before .before .before .before .before .before .before .before .args .ends .now) (c .before .before .before .before .before .before .before .before .before .before .before .pre .1) (c .before .before .before .before .put-wide .ensures) (c .before .loop .inv) (c .loop-test .left)
+returns c = going-end _ _ (c .before .loop .inv .0) (c .loop-test .left) ∙ begun (c .before .before .before .before .before .before .before .before .before .before .before .before .before .args .tape .now) (c .before .before .before .before .before .before .before .before .before .before .before .before .before .args .thin .now) (wideOf (c .before .before .before .before .before .before .before .before .before .before .before .before .before .args .wide .now)) (c .before .before .before .before .before .before .before .before .clear-written .ensures) (c .before .before .before .before .put-written .ensures)
 
 pub layout-spec : {M : Type 1} → statement M
 layout-spec =
@@ -60,7 +66,8 @@ layout-spec =
     (tie.spec
     Inv-loop
     μ-loop
-    put-wide-requires
+    clear-written-requires
+    put-written-requires
     loop-holds
     mul-e
     shared-slice-read-e

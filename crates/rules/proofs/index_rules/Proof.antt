@@ -1,45 +1,29 @@
 use Rattle.rules.proofs.Answers as answers
-use Rattle.rules.proofs.Sorts as sorts
-use mathlib.Core.Path.{_≡_, refl, sym, ap, ap₂, _∙_}
-use native.Mathlib.Omega.{arith}
-use denote.Ref.{now}
 use borrow.Author.Needs.{needs}
 use Rattle.rules.proofs.index_rules.Statement.{statement}
 use Rattle.rules.proofs.index_rules.Tie as tie
-use Rattle.rules.proofs.index_rules.Reads as reads
-use Rattle.rules.proofs.index_rules.Lts as lts
-use Rattle.rules.proofs.none.Reads as none-reads
-use Rattle.rules.proofs.used_register.Reads as used-register-reads
 
--- src/lib.rt:90:44
 add-used-register : tie.Need-add-used-register
 add-used-register c = search needs
 
--- src/lib.rt:90:9
 used-register-requires : tie.Need-used-register-requires
 used-register-requires c κs = search needs
 
--- src/lib.rt:90:9
 returns : tie.Need-returns
 returns c = λ f s. answers.indexed f _ _ _ (answers.index-two _ _ (c .before .if1 .taken)) (c .used-register .ensures f s)
 
--- src/lib.rt:93:44
 add-used-register-2 : tie.Need-add-used-register-2
 add-used-register-2 c = search needs
 
--- src/lib.rt:93:9
 used-register-requires-2 : tie.Need-used-register-requires-2
 used-register-requires-2 c κs = search needs
 
--- src/lib.rt:93:9
 returns-2 : tie.Need-returns-2
 returns-2 c = λ f s. answers.indexed f _ _ _ (answers.index-five _ _ (c .before .if2 .taken)) (c .used-register2 .ensures f s)
 
--- src/lib.rt:95:5
 none-requires : tie.Need-none-requires
 none-requires c κs = search needs
 
--- src/lib.rt:85:1
 returns-3 : tie.Need-returns-3
 returns-3 c = λ f s. answers.no-index f _ _ (answers.index-none _ _ (c .before .before .if1 .left) (c .before .if2 .left)) (c .none .ensures)
 

@@ -1,6 +1,5 @@
 -- A subscript is tested as the definition tests it: its sign, whether it is a multiple of the element's size, and how many elements stand before it.
 use Rattle.rules.proofs.Sorts as sorts
-use native.Mathlib.Omega.{arith}
 use borrow.Author.Needs.{needs}
 use Rattle.rules.proofs.is_inside.Statement.{statement}
 use Rattle.rules.proofs.is_inside.Tie as tie

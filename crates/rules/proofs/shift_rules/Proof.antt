@@ -10,19 +10,19 @@ use borrow.Author.Needs.{needs}
 use Rattle.rules.proofs.shift_rules.Statement.{statement}
 use Rattle.rules.proofs.shift_rules.Tie as tie
 
-key-requires : tie.Need-key-requires
-key-requires c κs = search needs
+value-requires : tie.Need-value-requires
+value-requires c κs = search needs
 
 rule-requires : tie.Need-rule-requires
 rule-requires c κs = search needs
 
 returns : tie.Need-returns
 unfolding shiftRules
-returns c = λ f s v.
+returns c = λ f s.
     rw (
-      answers.a-number _ (c .before .before .before .before .before .before .args .t) (c .before .before .if1 .taken),
-      v .values-is,
-      ← (c .before .key .ensures),
+      answers.a-number _ (c .before .before .before .before .before .args .t) (c .before .before .if1 .taken),
+      s .values-is,
+      ← (c .before .value .ensures),
       from-zero 63 _ (omega arith),
     )
     (c .rule .ensures)
@@ -41,8 +41,8 @@ join-requires c κs = search needs
 
 returns-2 : tie.Need-returns-2
 unfolding shiftRules
-returns-2 c = λ f s v.
-    let t = c .before .before .before .before .before .before .before .before .args .t in
+returns-2 c = λ f s.
+    let t = c .before .before .before .before .before .before .before .args .t in
     let other = c .before .before .before .before .if1 .left in
     rw (answers.a-place _ t other)
     (c .join .ensures
@@ -53,7 +53,7 @@ pub shift-rules-spec : {M : Type 1} → statement M
 shift-rules-spec =
     tie.close
     (tie.spec
-    key-requires
+    value-requires
     rule-requires
     returns
     only-register-requires

@@ -1,7 +1,7 @@
 -- `declare_at` declares at the events that declare. Assumes nothing.
-use borrow.Author.Needs.{needs}
-use Rattle.base.proofs.Tests.{told}
 use Rattle.search.specs.Naming.{declareAt}
+use Rattle.base.proofs.Tests.{told}
+use borrow.Author.Needs.{needs}
 use Rattle.search.proofs.declare_at.Statement.{statement}
 use Rattle.search.proofs.declare_at.Tie as tie
 

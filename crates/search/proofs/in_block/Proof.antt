@@ -1,18 +1,19 @@
 -- `in_block` finds the newest entry with a key. The invariant: what the whole block gives, the entries that are left give. Assumes nothing.
-use mathlib.Core.Path.{_≡_, refl, sym}
-use native.Mathlib.Omega.{arith}
-use borrow.Author.Needs.{needs}
-use Rattle.names.specs.Search.{inBlock}
-use Rattle.search.proofs.Search.{hit, miss, out}
 use Rattle.search.specs.Flat.{span}
+use Rattle.search.proofs.Search.{hit, miss, out}
+use Rattle.names.specs.Search.{inBlock}
+use Rattle.ledger.specs.Book.{wideOf, thinOf}
+use borrow.Author.Needs.{needs}
+use native.Mathlib.Omega.{arith}
+use mathlib.Core.Path.{_≡_, refl, sym}
 use Rattle.search.proofs.in_block.Statement.{statement}
 use Rattle.search.proofs.in_block.Tie as tie
 
 abbrev Inv-loop : tie.InvT-loop
-Inv-loop keys wanted scope lo hi j₀ j = inBlock keys wanted (span scope lo hi) 0 ≡ inBlock keys wanted (span scope lo j) 0
+Inv-loop wide thin wanted lo hi j₀ j = inBlock (wideOf wide .values) wanted (span (thinOf thin .opens) lo hi) 0 ≡ inBlock (wideOf wide .values) wanted (span (thinOf thin .opens) lo j) 0
 
 abbrev μ-loop : tie.MeasureT-loop
-μ-loop keys wanted scope lo hi j₀ j = j
+μ-loop wide thin wanted lo hi j₀ j = j
 
 loop-holds : tie.Need-loop-holds Inv-loop μ-loop
 loop-holds c = refl
@@ -20,20 +21,20 @@ loop-holds c = refl
 sub-j : tie.Need-sub-j Inv-loop μ-loop
 sub-j c = omega arith
 
-get-requires : tie.Need-get-requires Inv-loop μ-loop
-get-requires c κs = search needs
+opens-requires : tie.Need-opens-requires Inv-loop μ-loop
+opens-requires c κs = search needs
 
-key-requires : tie.Need-key-requires Inv-loop μ-loop
-key-requires c κs = search needs
+value-requires : tie.Need-value-requires Inv-loop μ-loop
+value-requires c κs = search needs
 
 returns : tie.Need-returns Inv-loop μ-loop
-returns c = sym (hit _ _ _ _ _ (c .before .before .before .before .loop .j) _ _ (c .before .before .before .loop-test .taken) (c .before .before .get .ensures .0) (c .before .key .ensures) (c .if1 .taken) (c .before .before .before .before .loop .inv))
+returns c = sym (hit _ _ _ _ _ (c .before .before .before .before .loop .j) _ _ (c .before .before .before .loop-test .taken) (c .before .before .opens .ensures .0) (c .before .value .ensures) (c .if1 .taken) (c .before .before .before .before .loop .inv))
 
 loop-less : tie.Need-loop-less Inv-loop μ-loop
 loop-less c = omega arith
 
 loop-again : tie.Need-loop-again Inv-loop μ-loop
-loop-again c = miss _ _ _ _ _ (c .before .before .before .before .loop .j) _ _ (c .before .before .before .loop-test .taken) (c .before .before .get .ensures .0) (c .before .key .ensures) (c .if1 .left) (c .before .before .before .before .loop .inv)
+loop-again c = miss _ _ _ _ _ (c .before .before .before .before .loop .j) _ _ (c .before .before .before .loop-test .taken) (c .before .before .opens .ensures .0) (c .before .value .ensures) (c .if1 .left) (c .before .before .before .before .loop .inv)
 
 returns-2 : tie.Need-returns-2 Inv-loop μ-loop
 returns-2 c = sym (out _ _ _ _ _ (c .before .loop .j) (c .loop-test .left) (c .before .loop .inv))
@@ -46,8 +47,8 @@ in-block-spec =
     μ-loop
     loop-holds
     sub-j
-    get-requires
-    key-requires
+    opens-requires
+    value-requires
     returns
     loop-less
     loop-again

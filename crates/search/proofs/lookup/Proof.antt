@@ -1,24 +1,25 @@
 -- `lookup` finds the declaration that a key means. The invariants: the search through all blocks gives what the search through the blocks, and the entries of the block at hand, that are left gives. Assumes nothing.
-use mathlib.Core.Path.{_≡_, refl, sym, _∙_}
-use native.Mathlib.Omega.{arith}
-use borrow.Author.Needs.{needs}
-use Rattle.names.specs.Search.{inBlock, find}
-use Rattle.search.proofs.Search.{hit, miss, out, find-in, find-end}
 use Rattle.search.specs.Flat.{span, blocksOf}
+use Rattle.search.proofs.Search.{hit, miss, out, find-in, find-end}
+use Rattle.names.specs.Search.{inBlock, find}
+use Rattle.ledger.specs.Book.{wideOf, thinOf}
+use borrow.Author.Needs.{needs}
+use native.Mathlib.Omega.{arith}
+use mathlib.Core.Path.{_≡_, refl, sym, _∙_}
 use Rattle.search.proofs.lookup.Statement.{statement}
 use Rattle.search.proofs.lookup.Tie as tie
 
 abbrev Inv-loop : tie.InvT-loop
-Inv-loop keys wanted scope starts depth count end left found₀ start j₀ found j = (found ≡ 0) × (find keys wanted (blocksOf scope starts depth count) ≡ inBlock keys wanted (span scope start j) (find keys wanted (blocksOf scope starts left start)))
+Inv-loop wide thin wanted depth count end left found₀ start j₀ found j = (found ≡ 0) × (find (wideOf wide .values) wanted (blocksOf (thinOf thin .opens) (thinOf thin .written) depth count) ≡ inBlock (wideOf wide .values) wanted (span (thinOf thin .opens) start j) (find (wideOf wide .values) wanted (blocksOf (thinOf thin .opens) (thinOf thin .written) left start)))
 
 abbrev μ-loop : tie.MeasureT-loop
-μ-loop keys wanted scope starts depth count end left found₀ start j₀ found j = j
+μ-loop wide thin wanted depth count end left found₀ start j₀ found j = j
 
 abbrev Inv-search : tie.InvT-search
-Inv-search keys wanted scope starts depth count end₀ left₀ found₀ end left found = (found ≡ 0) × (find keys wanted (blocksOf scope starts depth count) ≡ find keys wanted (blocksOf scope starts left end))
+Inv-search wide thin wanted depth count end₀ left₀ found₀ end left found = (found ≡ 0) × (find (wideOf wide .values) wanted (blocksOf (thinOf thin .opens) (thinOf thin .written) depth count) ≡ find (wideOf wide .values) wanted (blocksOf (thinOf thin .opens) (thinOf thin .written) left end))
 
 abbrev μ-search : tie.MeasureT-search
-μ-search keys wanted scope starts depth count end₀ left₀ found₀ end left found = left
+μ-search wide thin wanted depth count end₀ left₀ found₀ end left found = left
 
 search-holds : tie.Need-search-holds Inv-loop μ-loop Inv-search μ-search
 search-holds c = (refl, refl)
@@ -26,26 +27,26 @@ search-holds c = (refl, refl)
 sub-left : tie.Need-sub-left Inv-loop μ-loop Inv-search μ-search
 sub-left c = omega arith
 
-get-requires : tie.Need-get-requires Inv-loop μ-loop Inv-search μ-search
-get-requires c κs = search needs
+written-requires : tie.Need-written-requires Inv-loop μ-loop Inv-search μ-search
+written-requires c κs = search needs
 
 loop-holds : tie.Need-loop-holds Inv-loop μ-loop Inv-search μ-search
-loop-holds c = (c .before .before .search .inv .0, c .before .before .search .inv .1 ∙ find-in _ _ _ _ (c .before .before .search .left) _ _ (c .before .search-test .taken) (c .get .ensures .0))
+loop-holds c = (c .before .before .search .inv .0, c .before .before .search .inv .1 ∙ find-in _ _ _ _ (c .before .before .search .left) _ _ (c .before .search-test .taken) (c .written .ensures .0))
 
 sub-j : tie.Need-sub-j Inv-loop μ-loop Inv-search μ-search
 sub-j c = omega arith
 
-get-requires-2 : tie.Need-get-requires-2 Inv-loop μ-loop Inv-search μ-search
-get-requires-2 c κs = search needs
+opens-requires : tie.Need-opens-requires Inv-loop μ-loop Inv-search μ-search
+opens-requires c κs = search needs
 
-key-requires : tie.Need-key-requires Inv-loop μ-loop Inv-search μ-search
-key-requires c κs = search needs
+value-requires : tie.Need-value-requires Inv-loop μ-loop Inv-search μ-search
+value-requires c κs = search needs
 
 loop-less : tie.Need-loop-less Inv-loop μ-loop Inv-search μ-search
 loop-less c = omega arith
 
 loop-again : tie.Need-loop-again Inv-loop μ-loop Inv-search μ-search
-loop-again c = (c .before .before .before .before .loop .inv .0, miss _ _ _ _ _ (c .before .before .before .before .loop .j) _ _ (c .before .before .before .loop-test .taken) (c .before .before .get2 .ensures .0) (c .before .key .ensures) (c .if1 .left) (c .before .before .before .before .loop .inv .1))
+loop-again c = (c .before .before .before .before .loop .inv .0, miss _ _ _ _ _ (c .before .before .before .before .loop .j) _ _ (c .before .before .before .loop-test .taken) (c .before .before .opens .ensures .0) (c .before .value .ensures) (c .if1 .left) (c .before .before .before .before .loop .inv .1))
 
 search-less : tie.Need-search-less Inv-loop μ-loop Inv-search μ-search
 search-less c = omega arith
@@ -57,7 +58,7 @@ returns : tie.Need-returns Inv-loop μ-loop Inv-search μ-search
 returns c = (c .before .search .inv .0 ∙ sym (c .before .search .inv .1 ∙ find-end _ _ _ _ (c .before .search .left) _ (c .search-test .left)), (let z = c .before .search .inv .0 in omega arith))
 
 returns-2 : tie.Need-returns-2 Inv-loop μ-loop Inv-search μ-search
-returns-2 c = (sym (hit _ _ _ _ _ (c .before .before .before .before .loop .j) _ _ (c .before .before .before .loop-test .taken) (c .before .before .get2 .ensures .0) (c .before .key .ensures) (c .if1 .taken) (c .before .before .before .before .loop .inv .1)), c .before .before .get2 .ensures .1)
+returns-2 c = (sym (hit _ _ _ _ _ (c .before .before .before .before .loop .j) _ _ (c .before .before .before .loop-test .taken) (c .before .before .opens .ensures .0) (c .before .value .ensures) (c .if1 .taken) (c .before .before .before .before .loop .inv .1)), c .before .before .opens .ensures .1)
 
 pub lookup-spec : {M : Type 1} → statement M
 lookup-spec =
@@ -69,11 +70,11 @@ lookup-spec =
     μ-search
     search-holds
     sub-left
-    get-requires
+    written-requires
     loop-holds
     sub-j
-    get-requires-2
-    key-requires
+    opens-requires
+    value-requires
     loop-less
     loop-again
     search-less

@@ -1,6 +1,9 @@
 -- `use_at` uses the register and then the name. Assumes nothing.
+use Rattle.search.specs.Flat.{Searching, naming}
+use Rattle.search.specs.Naming.{useAt, usePlace}
+use Rattle.ledger.specs.Book.{wideOf}
+use mathlib.Core.Path.{ap, _∙_}
 use borrow.Author.Needs.{needs}
-use Rattle.search.specs.Naming.{useAt}
 use Rattle.search.proofs.use_at.Statement.{statement}
 use Rattle.search.proofs.use_at.Tie as tie
 
@@ -18,7 +21,7 @@ same-length c = search needs
 
 returns : tie.Need-returns
 unfolding useAt
-returns c = rw (← (c .before .before .before .before .before .before .before .use-register .ensures), ← (c .before .before .before .before .shape .ensures)) (c .before .before .use-place .ensures)
+returns c = rw (← (c .before .before .before .before .shape .ensures)) (c .before .before .use-place .ensures ∙ ap (λ (s : Searching). naming (c .before .before .before .before .before .before .before .before .before .before .before .args .b) (usePlace (wideOf (c .before .before .before .before .before .before .before .before .before .before .before .args .wide .now) .values) (c .before .before .before .before .shape .result) (c .before .before .before .before .before .before .before .before .before .before .before .args .t)) s) (c .before .before .before .before .before .before .before .use-register .ensures))
 
 pub use-at-spec : {M : Type 1} → statement M
 use-at-spec =

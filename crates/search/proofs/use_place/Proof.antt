@@ -1,7 +1,12 @@
 -- `use_place` uses a name, and its index, by the shape. Assumes nothing.
-use borrow.Author.Needs.{needs}
-use borrow.Author.Tests.{eq-eqb, ne-eqb, lt-ltb, le-ltb}
+use Rattle.search.specs.Flat.{Searching, naming}
+use Rattle.names.specs.Names.{useName}
+use Rattle.ledger.specs.Book.{wideOf}
+use Prim.Native.Nat.{_+_}
+use mathlib.Core.Path.{ap, _∙_}
 use Rattle.search.specs.Naming.{usePlace}
+use borrow.Author.Tests.{eq-eqb, ne-eqb, lt-ltb, le-ltb}
+use borrow.Author.Needs.{needs}
 use Rattle.search.proofs.use_place.Statement.{statement}
 use Rattle.search.proofs.use_place.Tie as tie
 
@@ -30,7 +35,7 @@ same-length-2 c = search needs
 
 returns-3 : tie.Need-returns-3
 unfolding usePlace
-returns-3 c = rw (le-ltb 3 _ (c .before .before .before .before .before .before .before .before .before .before .if1 .left), le-ltb _ 2 (c .before .before .before .before .before .if2 .left), eq-eqb _ 2 (c .before .before .before .before .if3 .taken), ← (c .before .before .before .before .before .before .before .before .use-name .ensures)) (c .before .before .use-name2 .ensures)
+returns-3 c = rw (le-ltb 3 _ (c .before .before .before .before .before .before .before .before .before .before .if1 .left), le-ltb _ 2 (c .before .before .before .before .before .if2 .left), eq-eqb _ 2 (c .before .before .before .before .if3 .taken)) (c .before .before .use-name2 .ensures ∙ ap (λ (s : Searching). naming (c .before .before .before .before .before .before .before .before .before .before .before .before .before .args .b) (useName (wideOf (c .before .before .before .before .before .before .before .before .before .before .before .before .before .args .wide .now) .values) (c .before .before .before .before .before .before .before .before .before .before .before .before .before .args .t + 2)) s) (c .before .before .before .before .before .before .before .before .use-name .ensures))
 
 add-use-name-2 : tie.Need-add-use-name-2
 add-use-name-2 c = search needs
@@ -43,7 +48,7 @@ same-length-3 c = search needs
 
 returns-4 : tie.Need-returns-4
 unfolding usePlace
-returns-4 c = rw (le-ltb 3 _ (c .before .before .before .before .before .before .before .before .before .before .if1 .left), le-ltb _ 2 (c .before .before .before .before .before .if2 .left), ne-eqb _ 2 (c .before .before .before .before .if3 .left), ← (c .before .before .before .before .before .before .before .before .use-name .ensures)) (c .before .before .use-name3 .ensures)
+returns-4 c = rw (le-ltb 3 _ (c .before .before .before .before .before .before .before .before .before .before .if1 .left), le-ltb _ 2 (c .before .before .before .before .before .if2 .left), ne-eqb _ 2 (c .before .before .before .before .if3 .left)) (c .before .before .use-name3 .ensures ∙ ap (λ (s : Searching). naming (c .before .before .before .before .before .before .before .before .before .before .before .before .before .args .b) (useName (wideOf (c .before .before .before .before .before .before .before .before .before .before .before .before .before .args .wide .now) .values) (c .before .before .before .before .before .before .before .before .before .before .before .before .before .args .t + 5)) s) (c .before .before .before .before .before .before .before .before .use-name .ensures))
 
 pub use-place-spec : {M : Type 1} → statement M
 use-place-spec =

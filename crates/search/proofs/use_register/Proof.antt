@@ -1,8 +1,8 @@
 -- `use_register` uses the register that stands before or behind the event's token. Assumes nothing.
-use borrow.Author.Needs.{needs}
-use borrow.Author.Tests.{eq-eqb, ne-eqb}
-use Rattle.base.proofs.Tests.{same, other}
 use Rattle.search.specs.Naming.{useRegister}
+use Rattle.base.proofs.Tests.{same, other}
+use borrow.Author.Tests.{eq-eqb, ne-eqb}
+use borrow.Author.Needs.{needs}
 use Rattle.search.proofs.use_register.Statement.{statement}
 use Rattle.search.proofs.use_register.Tie as tie
 
@@ -33,12 +33,7 @@ same-length-2 c = search needs
 
 returns-2 : tie.Need-returns-2
 unfolding useRegister
-returns-2 c =
-    rw (
-      ne-eqb _ 10 (c .before .before .before .before .before .before .before .if1 .left),
-      eq-eqb _ 34 (same (c .before .before .before .before .before .before .family .ensures) (c .before .before .before .before .before .if2 .taken)),
-      ← (c .before .before .before .two-before .ensures),
-    ) (c .before .before .use-name2 .ensures)
+returns-2 c = rw (ne-eqb _ 10 (c .before .before .before .before .before .before .before .if1 .left), eq-eqb _ 34 (same (c .before .before .before .before .before .before .family .ensures) (c .before .before .before .before .before .if2 .taken)), ← (c .before .before .before .two-before .ensures)) (c .before .before .use-name2 .ensures)
 
 returns-3 : tie.Need-returns-3
 unfolding useRegister

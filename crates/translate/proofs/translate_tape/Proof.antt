@@ -21,8 +21,13 @@ settle-requires c κs =
     let back = c .before .before .before .before .before .before .before .before .before .before .before .before .before .before .before in
     let back2 = back .before .before .before .before .before .before .before .before .before .before .before .before .before .before .before in
     let start = back2 .before .before .before in
-    let l = start .pre .2 in (omega (arith, start .pre .1, l .few), omega (arith, start .pre .1, l .offsets-long), omega (arith, start .pre .1, l .ends-long), l
-    .under-long)
+    let l = start .pre .2 in (
+      omega (arith, start .pre .1, l .few),
+      omega (arith, start .pre .1, l .offsets-long),
+      omega (arith, start .pre .1, l .ends-long),
+      l
+          .under-long,
+    )
 
 place-of-requires : tie.Need-place-of-requires
 place-of-requires c κs =
@@ -104,8 +109,16 @@ make-requires c κs =
     let back2 = at-settle .before .before .before .before .before .before .before .before .before .before .before .before .before .before .before in
     let back3 = back2 .before .before .before .before .before .before .before .before .before .before .before .before .before .before .before in
     let start = back3 .before .before .before .before in
-    let l = start .pre .2 in let e = at-settle .settle .ensures .0 in ( omega (arith, start .pre .1, l .few), omega (arith, e .cells-is), omega (arith, e
-    .two-is), omega (arith, e .three-is), )
+    let l = start .pre .2 in let e = at-settle .settle .ensures .0 in (
+      omega (arith, start .pre .1, l .few),
+      omega (arith, e .cells-is),
+      omega (
+        arith,
+        e
+            .two-is,
+      ),
+      omega (arith, e .three-is),
+    )
 
 same-length-9 : tie.Need-same-length-9
 same-length-9 c =

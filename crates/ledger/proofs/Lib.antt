@@ -1,0 +1,4 @@
+-- Laws of the columns.
+pub mod Columns
+pub mod Clearing
+pub mod Bounds
