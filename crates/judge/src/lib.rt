@@ -36,6 +36,8 @@ use rules::register_rule;
 use rules::term_rules;
 use rules::used_register;
 use rules::write_rule;
+use tables::is_cell;
+use tables::is_register;
 use tables::less;
 use tables::number;
 use tables::register;
@@ -221,10 +223,10 @@ fn value_rule(c: Cells, v: u64, t: usize) -> Broken
 fn aim_of(m: u64) -> usize
     ensures { λ r. ⌜ ((n : ℕ) (b : Based) → r ≡ aimOf (unpacked n m b)) ⌝ }
 {
-    if m % 8 == tables::REGISTER {
+    if is_register(m) {
         return number(m) as usize + 2;
     }
-    if tables::CELL <= m % 8 {
+    if is_cell(m) {
         return 1;
     }
     0
@@ -253,10 +255,10 @@ fn aim_rules(shape: u32, wide: &[u64], thin: &[u16], depth: usize, t: usize) -> 
     ensures { λ x. ⌜ ((f : Tables) → Listed f (wideOf (now (wide .entry))) (thinOf (now (thin .entry))) → x ≡ aimBy f (stackOf (wideOf (now (wide .entry)) .offsets) depth) (designatorAt shape t) (meaningAt f t)) ⌝ }
 {
     let m = meaning(wide, thin, t);
-    if m % 8 == tables::REGISTER {
+    if is_register(m) {
         return register_target(shape, wide, depth, m, t);
     }
-    if tables::CELL <= m % 8 {
+    if is_cell(m) {
         return cell_rules(shape, m, wide, thin, t);
     }
     broken(8, t)
@@ -266,7 +268,7 @@ fn control_rules(shape: u32, wide: &[u64], thin: &[u16], depth: usize, t: usize)
     ensures { λ x. ⌜ ((f : Tables) → Listed f (wideOf (now (wide .entry))) (thinOf (now (thin .entry))) → x ≡ controlBy (stackOf (wideOf (now (wide .entry)) .offsets) depth) (designatorAt shape t) (meaningAt f t)) ⌝ }
 {
     let m = meaning(wide, thin, t);
-    if m % 8 == tables::REGISTER {
+    if is_register(m) {
         return register_target(shape, wide, depth, m, t);
     }
     broken(8, t)

@@ -22,6 +22,7 @@ use ledger::written;
 use names::Broken;
 use names::join;
 use names::rule;
+use tables::is_short;
 use tables::number;
 
 // "A segment is at most 4,096 bytes, every cell included."
@@ -37,10 +38,10 @@ const TABLE_BYTES: usize = 16;
 pub fn element_size(m: u64) -> u64
     ensures { λ r. ⌜ (r ≡ elementSize (widthIn m)) × (2 ≤ r) × (r ≤ 4) ⌝ }
 {
-    if m % 2 == 0 {
-        return 4;
+    if is_short(m) {
+        return 2;
     }
-    2
+    4
 }
 
 // The segment of the cell that is declared at a token.

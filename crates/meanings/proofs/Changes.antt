@@ -14,8 +14,9 @@ use Rattle.kinds.specs.Registers.{Registers, noRegisters, addRegister, union}
 use Rattle.kinds.specs.Meaning.{Meaning, nothing, register, routine, meaningOf, registerOf, isLong}
 use Rattle.kinds.specs.Meanings.{Meant, mean, write, writeText, callWrites, openBase}
 use Rattle.tape.specs.Numbers.{formAt}
-use Rattle.tables.specs.Packed.{low, packed, numberIn, basedIn, unpacked, meaningsOf, registerIn, longIn, packedAt, setsOf, grown}
-use Rattle.tables.proofs.Meanings.{by-sort, low-is, long-is, packed-register, packed-routine, meaning-at, meaning-set, meaning-set-both}
+use Rattle.base.proofs.Tests.{never-true}
+use Rattle.tables.specs.Packed.{REGISTER, ROUTINE, low, packed, numberIn, isRoutineIn, basedIn, unpacked, meaningsOf, registerIn, longIn, packedAt, setsOf, grown}
+use Rattle.tables.proofs.Meanings.{as-routine, by-sort, low-is, long-is, packed-register, packed-routine, meaning-at, meaning-set, meaning-set-both}
 use Rattle.meanings.specs.Along.{targetOf, writeTarget, writeLower, isProductAt, writeProduct}
 use Rattle.meanings.specs.Flat.{meantOf, registersNamed, targetIn}
 use Rattle.meanings.proofs.Moves.{register-at}
@@ -47,7 +48,7 @@ module _ (found means bases : List ℕ) (t : ℕ) where
 
 module _ (means bases opens written : List ℕ) (count t : ℕ) where
   pub register-declared :
-      (values : List ℕ) {means′ : List ℕ} (v p : ℕ) → v ≡ getD values (t + 2) 0 → p ≡ packed 1 v → means′ ≡ set means t p
+      (values : List ℕ) {means′ : List ℕ} (v p : ℕ) → v ≡ getD values (t + 2) 0 → p ≡ packed REGISTER 0 v → means′ ≡ set means t p
       → meantOf means′ bases opens written count ≡ mean t (register (low (getD values (t + 2) 0))) (meantOf means bases opens written count)
   register-declared values v p e f g =
       ap (λ (l : List Meaning). record { means = l; opens = opens; written = setsOf written; cells = []; bases = count })
@@ -70,7 +71,7 @@ module _ (means bases opens written : List ℕ) (count t : ℕ) where
       rw (register-at found means bases t, ← f, ← g, add-one count, ← c) (ap₂ (λ (o : List ℕ) (w : List Registers). record { means = meaningsOf means bases; opens = o; written = w; cells = []; bases = suc count }) e h)
 
 pub routine-declared :
-    (found means bases : List ℕ) (t : ℕ) {means′ : List ℕ} (m r p : ℕ) → m ≡ packedAt found means (t + 2) → r ≡ registerIn m → r < 4294967296 → p ≡ packed 2 r → means′ ≡ set means t p
+    (found means bases : List ℕ) (t : ℕ) {means′ : List ℕ} (m r p : ℕ) → m ≡ packedAt found means (t + 2) → r ≡ registerIn m → r < 4294967296 → p ≡ packed ROUTINE 0 r → means′ ≡ set means t p
     → meaningsOf means′ bases ≡ set (meaningsOf means bases) t (routine (registerOf (meaningOf found (meaningsOf means bases) (t + 2))))
 routine-declared found means bases t m r p e f h g k =
     ap (λ (l : List ℕ). meaningsOf l bases) k
@@ -114,24 +115,24 @@ module _ (means bases opens written : List ℕ) (count own : ℕ) where
   lower-written written′ (suc r) l h f e = written-one written′ (r - 1) (rw (f, one-less r) at e)
 
   pub no-call :
-      (found : List ℕ) (t p m : ℕ) → p ≡ getD found t 0 → m ≡ getD means p 0 → (m % 8 ≡ 2 → ⊥)
+      (found : List ℕ) (t p m : ℕ) → p ≡ getD found t 0 → m ≡ getD means p 0 → isRoutineIn m ≡ false
       → meantOf means bases opens written count ≡ callWrites (meaningOf found (meaningsOf means bases) t) own (getD found t 0) (meantOf means bases opens written count)
   unfolding callWrites
   no-call found t p m e f h =
       rw (meant-at found means bases t, ← e, ← f)
-      (by-sort (λ x. meantOf means bases opens written count ≡ callWrites x own p (meantOf means bases opens written count)) _ m _ (λ a. refl) (λ a b. absurd (h (eqb-true _ _ b))) (λ a b c. refl) (λ a b c. refl))
+      (by-sort (λ x. meantOf means bases opens written count ≡ callWrites x own p (meantOf means bases opens written count)) _ m _ (λ a. refl) (λ a b. never-true (sym h ∙ b)) (λ a b c. refl) (λ a b c. refl))
 
   pub call-written :
-      (written′ written″ : List ℕ) (found : List ℕ) (t p m r : ℕ) → p ≡ getD found t 0 → m ≡ getD means p 0 → m % 8 ≡ 2 → r ≡ numberIn m
+      (written′ written″ : List ℕ) (found : List ℕ) (t p m r : ℕ) → p ≡ getD found t 0 → m ≡ getD means p 0 → isRoutineIn m ≡ true → r ≡ numberIn m
       → setsOf written′ ≡ grown own (addRegister r) (setsOf written) → setsOf written″ ≡ grown own (union (getD (setsOf written′) p noRegisters)) (setsOf written′)
       → meantOf means bases opens written″ count ≡ callWrites (meaningOf found (meaningsOf means bases) t) own (getD found t 0) (meantOf means bases opens written count)
-  unfolding callWrites unpacked write writeText
+  unfolding callWrites write writeText
   call-written written′ written″ found t p m r e f h g i j =
-      rw (meant-at found means bases t, ← e, ← f, h, ← g, ← i) (ap (λ (w : List Registers). record { means = meaningsOf means bases; opens = opens; written = w; cells = []; bases = count }) j)
+      rw (meant-at found means bases t, ← e, ← f, as-routine p m (basedIn (getD bases p 0)) h, ← g, ← i) (ap (λ (w : List Registers). record { means = meaningsOf means bases; opens = opens; written = w; cells = []; bases = count }) j)
 
 -- ── the registers' names ──
 
-pub one-named : (means₀ means means′ : List ℕ) (r p : ℕ) → means ≡ registersNamed r means₀ → p ≡ packed 1 r → means′ ≡ set means (r + 1) p → means′ ≡ registersNamed (r + 1) means₀
+pub one-named : (means₀ means means′ : List ℕ) (r p : ℕ) → means ≡ registersNamed r means₀ → p ≡ packed REGISTER 0 r → means′ ≡ set means (r + 1) p → means′ ≡ registersNamed (r + 1) means₀
 unfolding registersNamed
 one-named means₀ means means′ r p e f g = g ∙ rw (f, e, add-one r)
 

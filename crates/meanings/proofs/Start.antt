@@ -14,14 +14,14 @@ use Rattle.tape.specs.Pass.{pass}
 use Rattle.kinds.specs.Registers.{Registers, noRegisters}
 use Rattle.kinds.specs.Meaning.{Meaning, nothing}
 use Rattle.kinds.specs.Meanings.{Meant, meanProgram, standard}
-use Rattle.tables.specs.Packed.{low, packed, numberIn, unpacked, meaningsFrom, meaningsOf, setOf, setsOf}
+use Rattle.tables.specs.Packed.{low, packed, numberIn, isRegisterIn, isRoutineIn, isCellIn, unpacked, meaningsFrom, meaningsOf, setOf, setsOf}
 use Rattle.tables.proofs.Sets.{set-none}
 use Rattle.meanings.specs.Along.{meanEvent, beginning}
 use Rattle.meanings.specs.Flat.{meantOf, registersNamed}
 use Rattle.meanings.proofs.Trees.{tabled, Small, meant-program}
 
 blank-means : (n t : ℕ) (bases : List ℕ) → meaningsFrom t (replicate n 0) bases ≡ replicate n nothing
-unfolding meaningsFrom unpacked
+unfolding meaningsFrom unpacked isRegisterIn isRoutineIn isCellIn
 blank-means zero t bases = refl
 blank-means (suc n) t bases = ap (λ (l : List Meaning). nothing ∷ l) (blank-means n (suc t) bases)
 
@@ -31,7 +31,7 @@ blank-sets zero = refl
 blank-sets (suc n) = ap₂ (λ (x : Registers) (l : List Registers). x ∷ l) set-none (blank-sets n)
 
 named-means : (n : ℕ) (bases : List ℕ) → meaningsOf (registersNamed 16 (replicate (firstToken + n) 0)) bases ≡ standard n .means
-unfolding registersNamed meaningsFrom unpacked packed numberIn low
+unfolding registersNamed meaningsFrom unpacked packed numberIn isRegisterIn isRoutineIn isCellIn low
 named-means n bases =
     let e : 17 + n ≡ suc (suc (suc (suc (suc (suc (suc (suc (suc (suc (suc (suc (suc (suc (suc (suc (suc n)))))))))))))))) = omega arith in
     rw e (rw (blank-means n 17 bases))

@@ -36,7 +36,7 @@ use Rattle.kinds.specs.Meanings.{Meant, write, writeText, callWrites, targetWri
 use Rattle.kinds.proofs.Heeds.{phrase-alike}
 use Rattle.kinds.proofs.Lengths.{event-long}
 use Rattle.kinds.proofs.Stays.{Stays, event-stays}
-use Rattle.tables.specs.Packed.{low, packed, unpacked}
+use Rattle.tables.specs.Packed.{CELL, ARRAY, low, packed, unpacked}
 use Rattle.tables.proofs.Meanings.{low-is, packed-cell}
 use Rattle.meanings.specs.Along.{targetOf, writeTarget, writeLower, withinAfter, formAfter, targetAfter, declaredAfter, isProductAt, writeProduct, writtenAfter, Meaning-walk, meanEvent, beginning}
 
@@ -157,12 +157,12 @@ module _ (kinds values found : List ℕ) where
         let e : r .number ≡ r .name + 2 = omega (arith, h .0, h .2 .1 .0) in
         let n : getD kinds (r .number) 0 ≡ K.NUMBER = rw (h .2 .1 .0) (h .2 .1 .1) in
         (form, target, settle (ownIn p) (ownersIn p) (within b ∷ p) s (meanAt (entry (named r)) (within b ∷ p) s) form target _ g (rw (← e, low-is _ (small (r .number) n))), tt)
-    turn-entry (celled none full) (within b ∷ p) c s form target f g i j h l q o = (packed 4 1, target, refl, λ t b. packed-cell t 1 4 b (omega arith) (omega arith))
-    turn-entry (celled none short) (within b ∷ p) c s form target f g i j h l q o = (packed 5 1, target, refl, λ t b. packed-cell t 1 5 b (omega arith) (omega arith))
+    turn-entry (celled none full) (within b ∷ p) c s form target f g i j h l q o = (packed CELL 0 1, target, refl, λ t b. packed-cell t 1 CELL 0 b (omega arith, omega arith) refl)
+    turn-entry (celled none short) (within b ∷ p) c s form target f g i j h l q o = (packed CELL 1 1, target, refl, λ t b. packed-cell t 1 CELL 1 b (omega arith, omega arith) refl)
     turn-entry (celled (some n) full) (within b ∷ p) c s form target f g i j h l q o =
-        (packed 6 (getD values n 0), target, refl, λ t b. rw (counted n full i j h) at (packed-cell t (getD values n 0) 6 b (omega arith) (omega arith)))
+        (packed ARRAY 0 (getD values n 0), target, refl, λ t b. rw (counted n full i j h) at (packed-cell t (getD values n 0) ARRAY 0 b (omega arith, omega arith) refl))
     turn-entry (celled (some n) short) (within b ∷ p) c s form target f g i j h l q o =
-        (packed 7 (getD values n 0), target, refl, λ t b. rw (counted n short i j h) at (packed-cell t (getD values n 0) 7 b (omega arith) (omega arith)))
+        (packed ARRAY 1 (getD values n 0), target, refl, λ t b. rw (counted n short i j h) at (packed-cell t (getD values n 0) ARRAY 1 b (omega arith, omega arith) refl))
     turn-entry (itemed n w x) (within b ∷ p) (declaring m v ts) s form target f g i j h l q o = (
       form,
       target,

@@ -80,8 +80,8 @@ withinAfter found op t means bases w =
 -- what the cells that follow are, as a packed meaning: a cell declared without ARRAY is one element
 unfoldable pub formAfter : (values : List ℕ) (op t form : ℕ) → ℕ
 formAfter values op t form =
-    if eqb (familyAt op) E.SINGLE-FULL then packed (CELL + formAt op % 2) 1 else
-    if eqb (familyAt op) E.ARRAY-FULL then packed (ARRAY + formAt op % 2) (getD values t 0) else
+    if eqb (familyAt op) E.SINGLE-FULL then packed CELL (formAt op % 2) 1 else
+    if eqb (familyAt op) E.ARRAY-FULL then packed ARRAY (formAt op % 2) (getD values t 0) else
     form
 
 unfoldable pub targetAfter : (found : List ℕ) (op t : ℕ) → List Meaning → ℕ → ℕ

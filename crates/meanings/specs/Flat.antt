@@ -6,7 +6,7 @@ use lib.Dec.{eqb}
 use lib.ListN.{set}
 use Rattle.base.specs.Choose.{if_then_else_}
 use Rattle.kinds.specs.Meanings.{Meant}
-use Rattle.tables.specs.Packed.{packed, numberIn, basedIn, meaningsOf, setsOf}
+use Rattle.tables.specs.Packed.{REGISTER, packed, numberIn, isRegisterIn, basedIn, meaningsOf, setsOf}
 use Rattle.tables.specs.Stacks.{stackOf}
 use Rattle.meanings.specs.declared.Scope.{Scope}
 use Rattle.meanings.specs.Along.{Within}
@@ -44,8 +44,8 @@ pub record Roomy (tape means bases owners outer : ℕ) : Type 0 where
 -- tokens 1 to n mean the registers from 0 on
 unfoldable pub registersNamed : ℕ → List ℕ → List ℕ
 registersNamed zero means = means
-registersNamed (suc n) means = set (registersNamed n means) (suc n) (packed 1 n)
+registersNamed (suc n) means = set (registersNamed n means) (suc n) (packed REGISTER 0 n)
 
 -- of a packed meaning, the register that it is, and one; 0 where it is none
 unfoldable pub targetIn : ℕ → ℕ
-targetIn m = if eqb (m % 8) 1 then suc (numberIn m) else 0
+targetIn m = if isRegisterIn m then suc (numberIn m) else 0

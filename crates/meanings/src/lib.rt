@@ -15,6 +15,8 @@ use arrays::kind;
 use arrays::put;
 use arrays::put_wide;
 use tables::is_long;
+use tables::is_register;
+use tables::is_routine;
 use tables::less;
 use tables::meaning;
 use tables::number;
@@ -141,10 +143,10 @@ fn form_after(op: u32, t: usize, values: &[u64], form: u64) -> u64
     let k = family(op);
     let width = (tape::form(op) % 2) as u64;
     if k == tape::SINGLE_FULL {
-        return packed(tables::CELL + width, 1);
+        return packed(tables::CELL, width, 1);
     }
     if k == tape::ARRAY_FULL {
-        return packed(tables::ARRAY + width, key(values, t));
+        return packed(tables::ARRAY, width, key(values, t));
     }
     form
 }
@@ -153,7 +155,7 @@ fn form_after(op: u32, t: usize, values: &[u64], form: u64) -> u64
 fn target_of(m: u64) -> usize
     ensures { λ r. ⌜ r ≡ targetIn m ⌝ }
 {
-    if m % 8 == tables::REGISTER {
+    if is_register(m) {
         return number(m) as usize + 1;
     }
     0
@@ -194,7 +196,7 @@ fn declare_routine(found: &[u32], means: &mut [u64], t: usize)
     ensures { λ _. ⌜ ((under : List ℕ) → meaningsOf (now (means .exit)) under ≡ set (meaningsOf (now (means .entry)) under) t (routine (registerOf (meaningOf (now (found .entry)) (meaningsOf (now (means .entry)) under) (t + 2))))) ⌝ }
 {
     let r = register(meaning(found, means, t + 2));
-    put_wide(means, t, packed(tables::ROUTINE, r));
+    put_wide(means, t, packed(tables::ROUTINE, 0, r));
 }
 
 fn declared_after(
@@ -216,7 +218,7 @@ fn declared_after(
     let own = s.own;
     let base = s.base;
     if op == tape::REGISTER {
-        put_wide(means, t, packed(tables::REGISTER, key(values, t + 2)));
+        put_wide(means, t, packed(tables::REGISTER, 0, key(values, t + 2)));
         return bases;
     }
     if op == tape::ITEM {
@@ -290,7 +292,7 @@ fn write_call(found: &[u32], means: &[u64], written: &mut [u32], own: usize, t: 
 {
     let p = get(found, t);
     let m = key(means, p);
-    if m % 8 == tables::ROUTINE {
+    if is_routine(m) {
         write(written, own, number(m));
         write_text(written, own, p);
     }
@@ -330,7 +332,7 @@ fn name_registers(means: &mut [u64])
 {
     let mut r: usize = 0;
     while r < 16 {
-        put_wide(means, r + 1, packed(tables::REGISTER, r as u64));
+        put_wide(means, r + 1, packed(tables::REGISTER, 0, r as u64));
         r += 1;
     }
 }

@@ -10,7 +10,7 @@ use lib.ListN.{getD}
 use borrow.Author.Tests.{eqb-true, leb-true, eq-eqb, ne-eqb}
 use Rattle.base.specs.Choose.{choose, if_then_else_}
 use Rattle.base.specs.Lists.{member}
-use Rattle.base.proofs.Tests.{cases}
+use Rattle.base.proofs.Tests.{cases, never-true}
 use Rattle.token.specs.Kinds as K
 use Rattle.grammar.specs.Tree.{Designator, Operand, number, place, Term}
 use Rattle.ledger.specs.Book.{Wide, Thin}
@@ -20,13 +20,13 @@ use Rattle.kinds.specs.Registers.{Registers, noRegisters, spares}
 use Rattle.kinds.specs.Meaning.{Meaning, nothing, register, cell, routine, Based, Cell, meaningOf, registerOf, isLong, longOperand}
 use Rattle.kinds.specs.Tables.{Tables, meaningAt, valueAt, kindAt}
 use Rattle.kinds.specs.Rules.{isRegister, isZero, isShort, isBare, inside, shifts, fullOnly, writeRule, registerRule, zeroRule, indexRules, subscriptRules, placeBy, placeRules, operandRules, onlyRegister, shiftRules, noShort, productRules, termRules, callBy, callRules, baseRules}
-use Rattle.tables.specs.Packed.{numberIn, basedIn, cellIn, unpacked, registerIn, longIn, packedAt, setOf, setsOf}
+use Rattle.tables.specs.Packed.{numberIn, isRegisterIn, isRoutineIn, isCellIn, isShortIn, basedIn, cellIn, unpacked, registerIn, longIn, packedAt, setOf, setsOf}
 use Rattle.tables.specs.Stacks.{stackOf}
-use Rattle.tables.proofs.Meanings.{by-sort, register-is, long-is}
+use Rattle.tables.proofs.Meanings.{by-sort, as-register, as-routine, as-cell, register-is, long-is}
 use Rattle.tables.proofs.Sets.{sets-at}
 use Rattle.rules.specs.Parts.{subscriptAt, indexAt, designatorAt, operandAt, termAt}
 use Rattle.rules.specs.Shows.{Listed}
-use Rattle.rules.proofs.Sorts.{as-register, as-routine, as-cell, register-sort, zero-sort, short-sort, baseAt, meant-at}
+use Rattle.rules.proofs.Sorts.{register-sort, zero-sort, short-sort, baseAt, meant-at}
 
 or-none : (x : Bool) → x ≡ (x || false)
 or-none true = refl
@@ -96,31 +96,29 @@ module _ {f : Tables} {w : Wide} {l : Thin} (s : Listed f w l) (t m : ℕ) (e : 
   unfolding zeroRule
   no-zero p = at (λ (y : Meaning). rule (not (isZero y)) 9 t) p
 
-  pub placed-register : (shape : ℕ) {x : Broken} {bare : Bool} → m % 8 ≡ 1 → ((u : ℕ) → bare ≡ isBare (subscriptAt shape u) (indexAt shape u)) → x ≡ rule bare 8 t → x ≡ placeRules f (designatorAt shape t)
+  pub placed-register : (shape : ℕ) {x : Broken} {bare : Bool} → isRegisterIn m ≡ true → ((u : ℕ) → bare ≡ isBare (subscriptAt shape u) (indexAt shape u)) → x ≡ rule bare 8 t → x ≡ placeRules f (designatorAt shape t)
   unfolding placeRules
   placed-register shape h p q = rw (meant-at s t m e, as-register (getD (l .found) t 0) m (baseAt s t) h) (q ∙ ap (λ (z : Bool). rule z 8 t) (p t))
 
-  pub placed-cell : (shape : ℕ) {x : Broken} → 4 ≤ m % 8 → ((n : ℕ) (b : Based) → x ≡ placeBy f (cell (cellIn n m b)) (designatorAt shape t)) → x ≡ placeRules f (designatorAt shape t)
+  pub placed-cell : (shape : ℕ) {x : Broken} → isCellIn m ≡ true → ((n : ℕ) (b : Based) → x ≡ placeBy f (cell (cellIn n m b)) (designatorAt shape t)) → x ≡ placeRules f (designatorAt shape t)
   unfolding placeRules
   placed-cell shape h p = rw (meant-at s t m e, as-cell (getD (l .found) t 0) m (baseAt s t) h) (p _ _)
 
-  pub placed-nowhere : (shape : ℕ) {x : Broken} → (m % 8 ≡ 1 → ⊥) → m % 8 < 4 → x ≡ broken 8 t → x ≡ placeRules f (designatorAt shape t)
+  pub placed-nowhere : (shape : ℕ) {x : Broken} → isRegisterIn m ≡ false → isCellIn m ≡ false → x ≡ broken 8 t → x ≡ placeRules f (designatorAt shape t)
   unfolding placeRules
   placed-nowhere shape n h q =
       q ∙ at (λ (y : Meaning). placeBy f y (designatorAt shape t))
-      (λ k b. by-sort (λ y. broken 8 t ≡ placeBy f y (designatorAt shape t)) k m b (λ a. absurd (n (eqb-true _ _ a))) (λ a b. refl) (λ a b c. absurd (past (leb-true _ _ c))) (λ a b c. refl))
-    where
-      past : 4 ≤ m % 8 → ⊥
-      past g = omega arith
+      (λ k b. by-sort (λ y. broken 8 t ≡ placeBy f y (designatorAt shape t)) k m b (λ a. never-true (sym n ∙ a)) (λ a b. refl) (λ a b c. never-true (sym h ∙ c)) (λ a b c. refl))
 
-  pub one-register : (shape : ℕ) {x : Broken} {bare : Bool} → (shape ≡ 4 → ⊥) → ((u : ℕ) → bare ≡ isBare (subscriptAt shape u) (indexAt shape u)) → x ≡ rule (eqb (m % 8) 1 && bare) 8 t → x ≡ onlyRegister f (operandAt shape t)
+  pub one-register : (shape : ℕ) {x : Broken} {r bare : Bool} → (shape ≡ 4 → ⊥) → r ≡ isRegisterIn m → ((u : ℕ) → bare ≡ isBare (subscriptAt shape u) (indexAt shape u)) → x ≡ rule (r && bare) 8 t
+      → x ≡ onlyRegister f (operandAt shape t)
   unfolding onlyRegister
-  one-register shape n p q =
-      rw (a-place shape t n, meant-at s t m e) (q ∙ ap₂ (λ (y z : Bool). rule (y && z) 8 t) (register-sort (getD (l .found) t 0) m (baseAt s t)) (p t))
+  one-register shape n r p q =
+      rw (a-place shape t n, meant-at s t m e) (q ∙ ap₂ (λ (y z : Bool). rule (y && z) 8 t) (r ∙ register-sort (getD (l .found) t 0) m (baseAt s t)) (p t))
 
-  pub not-short : (shape : ℕ) {x : Broken} → (shape ≡ 4 → ⊥) → x ≡ rule (not (leb 4 (m % 8) && not (eqb (m % 2) 0))) 8 t → x ≡ noShort f (operandAt shape t)
+  pub not-short : (shape : ℕ) {x : Broken} {c w : Bool} → (shape ≡ 4 → ⊥) → c ≡ isCellIn m → w ≡ isShortIn m → x ≡ rule (not (c && w)) 8 t → x ≡ noShort f (operandAt shape t)
   unfolding noShort
-  not-short shape n q = rw (a-place shape t n, meant-at s t m e) (q ∙ ap (λ (y : Bool). rule (not y) 8 t) (short-sort (getD (l .found) t 0) m (baseAt s t)))
+  not-short shape n c w q = rw (a-place shape t n, meant-at s t m e) (q ∙ ap (λ (y : Bool). rule (not y) 8 t) (ap₂ (λ (y z : Bool). y && z) c w ∙ short-sort (getD (l .found) t 0) m (baseAt s t)))
 
   long-is-at : (shape : ℕ) (l : Bool) → l ≡ longIn m → longOperand (f .found) (f .means) (operandAt shape t) ≡ (eqb shape 4 || l)
   unfolding operandAt
@@ -158,17 +156,17 @@ module _ {f : Tables} {w : Wide} {l : Thin} (s : Listed f w l) (kept : List ℕ)
   packed-is = g ∙ ap (λ (k : ℕ). getD (w .means) k 0) e
 
   pub called :
-      {r u : ℕ} {y : Bool} {a b c : Broken} → m % 8 ≡ 2 → r ≡ numberIn m → u ≡ getD (l .written) p 0 → y ≡ spares (setOf u) kept
+      {r u : ℕ} {y : Bool} {a b c : Broken} → isRoutineIn m ≡ true → r ≡ numberIn m → u ≡ getD (l .written) p 0 → y ≡ spares (setOf u) kept
       → a ≡ writeRule kept r t → b ≡ rule y 10 t → c ≡ a ⊕ b → c ≡ callRules f kept t
   unfolding callRules
   called {r} {u} h i j k a b c =
       rw (meant-at s t m packed-is, as-routine (getD (l .found) t 0) m (baseAt s t) h, s .written-is, s .found-is, ← e, sets-at (l .written) p, ← j, ← k, ← i) (c ∙ ap₂ (λ (v z : Broken). v ⊕ z) a b)
 
-  pub no-routine : {x : Broken} → (m % 8 ≡ 2 → ⊥) → x ≡ broken 8 t → x ≡ callRules f kept t
+  pub no-routine : {x : Broken} → isRoutineIn m ≡ false → x ≡ broken 8 t → x ≡ callRules f kept t
   unfolding callRules
   no-routine n q =
       q ∙ at s t m packed-is (λ (y : Meaning). callBy f y kept t)
-      (λ k b. by-sort (λ y. broken 8 t ≡ callBy f y kept t) k m b (λ a. refl) (λ a b. absurd (n (eqb-true _ _ b))) (λ a b c. refl) (λ a b c. refl))
+      (λ k b. by-sort (λ y. broken 8 t ≡ callBy f y kept t) k m b (λ a. refl) (λ a b. never-true (sym n ∙ b)) (λ a b c. refl) (λ a b c. refl))
 
 -- ── terms ──
 

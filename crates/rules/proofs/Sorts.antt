@@ -18,39 +18,27 @@ use Rattle.kinds.specs.Registers.{Registers, has, spares}
 use Rattle.kinds.specs.Meaning.{Meaning, nothing, register, cell, routine, Based, Cell, elementSize, isFull}
 use Rattle.kinds.specs.Tables.{Tables, meaningAt}
 use Rattle.kinds.specs.Rules.{isRegister, isZero, isShort, isBare, inside}
-use Rattle.tables.specs.Packed.{numberIn, basedIn, cellIn, widthIn, unpacked, meaningsOf, packedAt}
+use Rattle.tables.specs.Packed.{numberIn, isRegisterIn, isCellIn, isShortIn, basedIn, cellIn, widthIn, unpacked, meaningsOf, packedAt}
 use Rattle.tables.specs.Stacks.{stackOf}
-use Rattle.tables.proofs.Meanings.{by-sort, meaning-at}
+use Rattle.tables.proofs.Meanings.{by-sort, register-alone, routine-alone, meaning-at}
 use Rattle.rules.specs.Parts.{subscriptAt, indexAt}
 use Rattle.rules.specs.Shows.{Listed}
 
 -- ── what a name means ──
 
 module _ (n m : ℕ) (b : Based) where
-  pub as-register : m % 8 ≡ 1 → unpacked n m b ≡ register (numberIn m)
-  unfolding unpacked
-  as-register e = rw e
+  pub register-sort : isRegisterIn m ≡ isRegister (unpacked n m b)
+  register-sort = by-sort (λ x. isRegisterIn m ≡ isRegister x) n m b (λ e. e) (λ e f. e) (λ e f g. e) (λ e f g. e)
 
-  pub as-routine : m % 8 ≡ 2 → unpacked n m b ≡ routine (numberIn m)
-  unfolding unpacked
-  as-routine e = rw e
+  pub zero-sort : (isRegisterIn m && eqb (numberIn m) 0) ≡ isZero (unpacked n m b)
+  zero-sort = by-sort (λ x. (isRegisterIn m && eqb (numberIn m) 0) ≡ isZero x) n m b (λ e. rw e) (λ e f. rw e) (λ e f g. rw e) (λ e f g. rw e)
 
-  pub as-cell : 4 ≤ m % 8 → unpacked n m b ≡ cell (cellIn n m b)
-  unfolding unpacked
-  as-cell h = rw (ne-eqb (m % 8) 1 (λ e. omega arith), ne-eqb (m % 8) 2 (λ e. omega arith), le-leb 4 (m % 8) h)
-
-  pub register-sort : eqb (m % 8) 1 ≡ isRegister (unpacked n m b)
-  register-sort = by-sort (λ x. eqb (m % 8) 1 ≡ isRegister x) n m b (λ e. e) (λ e f. e) (λ e f g. e) (λ e f g. e)
-
-  pub zero-sort : (eqb (m % 8) 1 && eqb (numberIn m) 0) ≡ isZero (unpacked n m b)
-  zero-sort = by-sort (λ x. (eqb (m % 8) 1 && eqb (numberIn m) 0) ≡ isZero x) n m b (λ e. rw e) (λ e f. rw e) (λ e f g. rw e) (λ e f g. rw e)
-
-  pub short-sort : (leb 4 (m % 8) && not (eqb (m % 2) 0)) ≡ isShort (unpacked n m b)
+  pub short-sort : (isCellIn m && isShortIn m) ≡ isShort (unpacked n m b)
   short-sort =
-      by-sort (λ x. (leb 4 (m % 8) && not (eqb (m % 2) 0)) ≡ isShort x) n m b (λ e. rw (eqb-true (m % 8) 1 e)) (λ e f. rw (eqb-true (m % 8) 2 f))
-      (λ e f g. rw g (full-is (eqb (m % 2) 0))) (λ e f g. rw g)
+      by-sort (λ x. (isCellIn m && isShortIn m) ≡ isShort x) n m b (λ e. rw (register-alone m e .1)) (λ e f. rw (routine-alone m f .1))
+      (λ e f g. rw g (full-is (isShortIn m))) (λ e f g. rw g)
     where
-      full-is : (x : Bool) → not x ≡ not (isFull (if x then full else short))
+      full-is : (x : Bool) → x ≡ not (isFull (if x then short else full))
       full-is true = refl
       full-is false = refl
 
@@ -79,10 +67,10 @@ bare-is shape t = go (eqb shape 1) (eqb shape 2) (eqb shape 3)
     go false false true = refl
     go false false false = refl
 
-pub size-is : (m : ℕ) (e : ℕ) → e ≡ (if eqb (m % 2) 0 then 4 else 2) → (e ≡ elementSize (widthIn m)) × ((2 ≤ e) × (e ≤ 4))
-size-is m e h = go (eqb (m % 2) 0) h
+pub size-is : (m : ℕ) (x : Bool) (e : ℕ) → x ≡ isShortIn m → e ≡ (if x then 2 else 4) → (e ≡ elementSize (widthIn m)) × ((2 ≤ e) × (e ≤ 4))
+size-is m x e q h = rw (← q) (go x h)
   where
-    go : (x : Bool) → e ≡ (if x then 4 else 2) → (e ≡ elementSize (if x then full else short)) × ((2 ≤ e) × (e ≤ 4))
+    go : (x : Bool) → e ≡ (if x then 2 else 4) → (e ≡ elementSize (if x then short else full)) × ((2 ≤ e) × (e ≤ 4))
     go true h = (h, (omega arith, omega arith))
     go false h = (h, (omega arith, omega arith))
 

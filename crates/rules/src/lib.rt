@@ -24,7 +24,12 @@ use ledger::written;
 use names::Broken;
 use names::join;
 use names::rule;
+use tables::is_array;
+use tables::is_cell;
 use tables::is_long;
+use tables::is_register;
+use tables::is_routine;
+use tables::is_short;
 use tables::less;
 use tables::number;
 use tables::register;
@@ -67,14 +72,14 @@ pub fn write_rule(wide: &[u64], depth: usize, r: u64, t: usize) -> Broken
 pub fn register_rule(m: u64, t: usize) -> Broken
     ensures { λ x. ⌜ ((n : ℕ) (b : Based) → x ≡ ruleOf (isRegister (unpacked n m b)) 8 t) ⌝ }
 {
-    rule(m % 8 == tables::REGISTER, 8, t)
+    rule(is_register(m), 8, t)
 }
 
 // "0 as base, return, index, shift".
 pub fn zero_rule(m: u64, t: usize) -> Broken
     ensures { λ x. ⌜ ((n : ℕ) (b : Based) → x ≡ ruleOf (not (isZero (unpacked n m b))) 9 t) ⌝ }
 {
-    rule(!((m % 8 == tables::REGISTER) & (number(m) == 0)), 9, t)
+    rule(!(is_register(m) & (number(m) == 0)), 9, t)
 }
 
 // A base, a return register or an index.
@@ -104,7 +109,7 @@ fn index_rules(shape: u32, wide: &[u64], thin: &[u16], t: usize) -> Broken
 fn size(m: u64) -> u64
     ensures { λ r. ⌜ (r ≡ elementSize (widthIn m)) × ((2 ≤ r) × (r ≤ 4)) ⌝ }
 {
-    if m % 2 == 0 { 4 } else { 2 }
+    if is_short(m) { 2 } else { 4 }
 }
 
 // "A subscript … is a multiple of the element size, and its element lies inside the array."; its 32 bits are read as signed.
@@ -137,7 +142,7 @@ pub fn cell_rules(shape: u32, m: u64, wide: &[u64], thin: &[u16], t: usize) -> B
     requires { ⌜ t < 4294967296 ⌝ }
     ensures { λ x. ⌜ ((f : Tables) → Listed f (wideOf (now (wide .entry))) (thinOf (now (thin .entry))) → (n : ℕ) (b : Based) → x ≡ placeBy f (cell (cellIn n m b)) (designatorAt shape t)) ⌝ }
 {
-    let fits = rule((tables::ARRAY <= m % 8) | is_bare(shape), 8, t);
+    let fits = rule(is_array(m) | is_bare(shape), 8, t);
     let inside = subscript_rules(shape, m, wide, t);
     join(fits, join(inside, index_rules(shape, wide, thin, t)))
 }
@@ -147,10 +152,10 @@ fn place_rules(shape: u32, wide: &[u64], thin: &[u16], t: usize) -> Broken
     ensures { λ x. ⌜ ((f : Tables) → Listed f (wideOf (now (wide .entry))) (thinOf (now (thin .entry))) → x ≡ placeRules f (designatorAt shape t)) ⌝ }
 {
     let m = meaning(wide, thin, t);
-    if m % 8 == tables::REGISTER {
+    if is_register(m) {
         return rule(is_bare(shape), 8, t);
     }
-    if tables::CELL <= m % 8 {
+    if is_cell(m) {
         return cell_rules(shape, m, wide, thin, t);
     }
     broken(8, t)
@@ -174,7 +179,7 @@ pub fn only_register(shape: u32, wide: &[u64], thin: &[u16], t: usize) -> Broken
         return broken(8, t);
     }
     let m = meaning(wide, thin, t);
-    rule((m % 8 == tables::REGISTER) & is_bare(shape), 8, t)
+    rule(is_register(m) & is_bare(shape), 8, t)
 }
 
 // ── chains ──
@@ -197,7 +202,7 @@ fn no_short(shape: u32, wide: &[u64], thin: &[u16], t: usize) -> Broken
         return none();
     }
     let m = meaning(wide, thin, t);
-    rule(!((tables::CELL <= m % 8) & (m % 2 != 0)), 8, t)
+    rule(!(is_cell(m) & is_short(m)), 8, t)
 }
 
 // "`*` by a number, or by what begins with the name of a register or integer cell, needs an odd target and also writes the register below."
@@ -276,7 +281,7 @@ pub fn call_rules(wide: &[u64], thin: &[u16], depth: usize, t: usize) -> Broken
 {
     let p = found(thin, t);
     let m = mean(wide, p);
-    if m % 8 == tables::ROUTINE {
+    if is_routine(m) {
         let returns = write_rule(wide, depth, number(m), t);
         return join(returns, rule(spares(written(thin, p), wide, depth), 10, t));
     }

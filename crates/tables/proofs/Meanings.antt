@@ -1,19 +1,19 @@
 -- Packed meanings: what was packed comes out, one name's meaning is read or set without the others, and what rules ask is told by the packed number.
 use mathlib.Core.Path.{_≡_, refl, sym, ap, ap₂, _∙_}
-use mathlib.Core.Bool.{Bool, true, false, _&&_, _||_}
+use mathlib.Core.Bool.{Bool, true, false, not, _&&_, _||_}
 use mathlib.Core.List.{List, [], _∷_}
 use Prim.Native.Nat.{ℕ, zero, suc, _+_, _*_, _/_, _%_, _≤_, _<_}
 use native.Mathlib.Omega.{arith}
 use native.Mathlib.Nat.{add-zero, zero-add}
-use lib.Dec.{eqb, leb}
+use lib.Dec.{eqb}
 use lib.ListN.{getD, set, length}
 use lib.Seq.{getD-set-same, getD-set-other}
-use borrow.Author.Tests.{eqb-true, ne-eqb, le-leb}
+use borrow.Author.Tests.{eqb-true}
 use Rattle.base.specs.Choose.{choose, if_then_else_}
-use Rattle.base.proofs.Tests.{by-test}
+use Rattle.base.proofs.Tests.{cases, by-test, never-true}
 use Rattle.grammar.specs.Tree.{full, short}
 use Rattle.kinds.specs.Meaning.{Meaning, nothing, register, cell, routine, Based, registerOf, isFull, isLong}
-use Rattle.tables.specs.Packed.{low, packed, numberIn, basedIn, cellIn, unpacked, meaningsFrom, meaningsOf, registerIn, longIn, packedAt}
+use Rattle.tables.specs.Packed.{REGISTER, ROUTINE, CELL, ARRAY, SORTS, low, packed, sortIn, numberIn, isRegisterIn, isRoutineIn, isArrayIn, isCellIn, isShortIn, basedIn, cellIn, unpacked, meaningsFrom, meaningsOf, registerIn, longIn, packedAt}
 
 pub low-low : (v : ℕ) → low (low v) ≡ low v
 unfolding low
@@ -27,13 +27,40 @@ pub low-lt : (v : ℕ) → low v < 4294967296
 unfolding low
 low-lt v = omega arith
 
-pub packed-number : (sort v : ℕ) → sort < 8 → numberIn (packed sort v) ≡ low v
-unfolding numberIn packed low
-packed-number sort v h = omega arith
+-- ── what was packed comes out ──
 
-pub packed-sort : (sort v : ℕ) → sort < 8 → packed sort v % 8 ≡ sort
-unfolding packed low
-packed-sort sort v h = omega arith
+module _ (sort w v : ℕ) (few : sort < SORTS) (bit : w < 2) where
+  pub packed-number : numberIn (packed sort w v) ≡ low v
+  unfolding numberIn packed low
+  packed-number = omega arith
+
+  packed-sort : sortIn (packed sort w v) ≡ sort
+  unfolding packed low
+  packed-sort = omega arith
+
+  packed-width : packed sort w v / SORTS % 2 ≡ w
+  unfolding packed low
+  packed-width = omega arith
+
+  packed-register-sort : isRegisterIn (packed sort w v) ≡ eqb sort REGISTER
+  unfolding isRegisterIn
+  packed-register-sort = ap (λ (s : ℕ). eqb s REGISTER) packed-sort
+
+  packed-routine-sort : isRoutineIn (packed sort w v) ≡ eqb sort ROUTINE
+  unfolding isRoutineIn
+  packed-routine-sort = ap (λ (s : ℕ). eqb s ROUTINE) packed-sort
+
+  packed-array-sort : isArrayIn (packed sort w v) ≡ eqb sort ARRAY
+  unfolding isArrayIn
+  packed-array-sort = ap (λ (s : ℕ). eqb s ARRAY) packed-sort
+
+  packed-cell-sort : isCellIn (packed sort w v) ≡ (eqb sort CELL || eqb sort ARRAY)
+  unfolding isCellIn
+  packed-cell-sort = ap (λ (s : ℕ). eqb s CELL || eqb s ARRAY) packed-sort
+
+  packed-short : isShortIn (packed sort w v) ≡ eqb w 1
+  unfolding isShortIn
+  packed-short = ap (λ (x : ℕ). eqb x 1) packed-width
 
 pub based-is : (r s : ℕ) → s < 4294967296 → basedIn (r * 4294967296 + s) ≡ record { register = r; segment = s }
 unfolding basedIn
@@ -43,11 +70,42 @@ based-is r s h = ap₂ (λ (x y : ℕ). record { register = x; segment = y }) (o
 
 module _ (P : Meaning → Type 0) (t m : ℕ) (b : Based) where
   pub by-sort :
-      (eqb (m % 8) 1 ≡ true → P (register (numberIn m))) → (eqb (m % 8) 1 ≡ false → eqb (m % 8) 2 ≡ true → P (routine (numberIn m)))
-      → (eqb (m % 8) 1 ≡ false → eqb (m % 8) 2 ≡ false → leb 4 (m % 8) ≡ true → P (cell (cellIn t m b)))
-      → (eqb (m % 8) 1 ≡ false → eqb (m % 8) 2 ≡ false → leb 4 (m % 8) ≡ false → P nothing) → P (unpacked t m b)
+      (isRegisterIn m ≡ true → P (register (numberIn m))) → (isRegisterIn m ≡ false → isRoutineIn m ≡ true → P (routine (numberIn m)))
+      → (isRegisterIn m ≡ false → isRoutineIn m ≡ false → isCellIn m ≡ true → P (cell (cellIn t m b)))
+      → (isRegisterIn m ≡ false → isRoutineIn m ≡ false → isCellIn m ≡ false → P nothing) → P (unpacked t m b)
   unfolding unpacked
-  by-sort f g h k = by-test P (eqb (m % 8) 1) _ _ f (λ x. by-test P (eqb (m % 8) 2) _ _ (g x) (λ y. by-test P (leb 4 (m % 8)) _ _ (h x y) (k x y)))
+  by-sort f g h k = by-test P (isRegisterIn m) _ _ f (λ x. by-test P (isRoutineIn m) _ _ (g x) (λ y. by-test P (isCellIn m) _ _ (h x y) (k x y)))
+
+-- no two of these are one
+pub routine-alone : (m : ℕ) → isRoutineIn m ≡ true → (isRegisterIn m ≡ false) × (isCellIn m ≡ false)
+unfolding isRoutineIn isRegisterIn isCellIn
+routine-alone m e = rw (eqb-true (sortIn m) ROUTINE e) (refl, refl)
+
+pub register-alone : (m : ℕ) → isRegisterIn m ≡ true → (isRoutineIn m ≡ false) × (isCellIn m ≡ false)
+unfolding isRoutineIn isRegisterIn isCellIn
+register-alone m e = rw (eqb-true (sortIn m) REGISTER e) (refl, refl)
+
+pub cell-alone : (m : ℕ) → isCellIn m ≡ true → (isRegisterIn m ≡ false) × (isRoutineIn m ≡ false)
+cell-alone m e =
+    cases (isRegisterIn m) (λ r. never-true (sym (register-alone m r .1) ∙ e)) (λ r.
+    cases (isRoutineIn m) (λ q. never-true (sym (routine-alone m q .1) ∙ e)) (λ q. (r, q)))
+
+module _ (t m : ℕ) (b : Based) where
+  pub as-register : isRegisterIn m ≡ true → unpacked t m b ≡ register (numberIn m)
+  unfolding unpacked
+  as-register e = rw e
+
+  pub as-routine : isRoutineIn m ≡ true → unpacked t m b ≡ routine (numberIn m)
+  unfolding unpacked
+  as-routine e = rw (routine-alone m e .0, e)
+
+  pub as-cell : isCellIn m ≡ true → unpacked t m b ≡ cell (cellIn t m b)
+  unfolding unpacked
+  as-cell e = rw (cell-alone m e .0, cell-alone m e .1, e)
+
+  pub as-nothing : isRegisterIn m ≡ false → isRoutineIn m ≡ false → isCellIn m ≡ false → unpacked t m b ≡ nothing
+  unfolding unpacked
+  as-nothing e f g = rw (e, f, g)
 
 pub register-is : (t m : ℕ) (b : Based) → registerOf (unpacked t m b) ≡ registerIn m
 unfolding registerIn
@@ -55,27 +113,25 @@ register-is t m b = by-sort (λ x. registerOf x ≡ registerIn m) t m b (λ e. r
 
 pub long-is : (t m : ℕ) (b : Based) → isLong (unpacked t m b) ≡ longIn m
 unfolding longIn
-long-is t m b = by-sort (λ x. isLong x ≡ longIn m) t m b (λ e. rw e) (λ e f. rw e (by-full (m % 8) e f)) (λ e f g. rw (e, g) (full-is (eqb (m % 2) 0))) (λ e f g. rw (e, g))
+long-is t m b =
+    by-sort (λ x. isLong x ≡ longIn m) t m b (λ e. rw e) (λ e f. rw (e, routine-alone m f .1)) (λ e f g. rw (e, g) (full-is (isShortIn m))) (λ e f g. rw (e, g))
   where
-    full-is : (x : Bool) → isFull (if x then full else short) ≡ x
+    full-is : (x : Bool) → isFull (if x then short else full) ≡ not x
     full-is true = refl
     full-is false = refl
 
-    by-full : (x : ℕ) → eqb x 1 ≡ false → eqb x 2 ≡ true → false ≡ (leb 4 x && eqb (m % 2) 0)
-    by-full x e f = rw (eqb-true x 2 f)
+pub packed-register : (t v : ℕ) (b : Based) → unpacked t (packed REGISTER 0 v) b ≡ register (low v)
+packed-register t v b =
+    as-register t (packed REGISTER 0 v) b (packed-register-sort REGISTER 0 v (omega arith) (omega arith)) ∙ ap register (packed-number REGISTER 0 v (omega arith) (omega arith))
 
-pub packed-register : (t v : ℕ) (b : Based) → unpacked t (packed 1 v) b ≡ register (low v)
-unfolding unpacked
-packed-register t v b = rw (packed-sort 1 v (omega arith), packed-number 1 v (omega arith))
-
-pub packed-routine : (t v : ℕ) (b : Based) → unpacked t (packed 2 v) b ≡ routine (low v)
-unfolding unpacked
-packed-routine t v b = rw (packed-sort 2 v (omega arith), packed-number 2 v (omega arith))
+pub packed-routine : (t v : ℕ) (b : Based) → unpacked t (packed ROUTINE 0 v) b ≡ routine (low v)
+packed-routine t v b =
+    as-routine t (packed ROUTINE 0 v) b (packed-routine-sort ROUTINE 0 v (omega arith) (omega arith)) ∙ ap routine (packed-number ROUTINE 0 v (omega arith) (omega arith))
 
 -- ── one name's meaning ──
 
 meaning-from : (ms bs : List ℕ) (k i : ℕ) → getD (meaningsFrom k ms bs) i nothing ≡ unpacked (k + i) (getD ms i 0) (basedIn (getD bs (k + i) 0))
-unfolding meaningsFrom unpacked
+unfolding meaningsFrom unpacked isRegisterIn isRoutineIn isCellIn
 meaning-from [] bs k i = refl
 meaning-from (m ∷ ms) bs k zero = rw (add-zero k)
 meaning-from (m ∷ ms) bs k (suc i) = let e : k + suc i ≡ suc k + i = omega arith in rw e (meaning-from ms bs (suc k) i)
@@ -116,14 +172,10 @@ pub meaning-set-both :
 meaning-set-both ms bs i m b h =
     ap (λ (j : ℕ). meaningsOf (set ms i m) (set bs j b)) (sym (zero-add i)) ∙ (both-from ms bs 0 i m b (omega arith) ∙ ap (λ (j : ℕ). set (meaningsOf ms bs) i (unpacked j m (basedIn b))) (zero-add i))
 
-packed-even : (sort v : ℕ) → packed sort v % 2 ≡ sort % 2
-unfolding packed low
-packed-even sort v = omega arith
-
--- what the sorts from 4 on are
+-- cells and arrays
 pub packed-cell :
-    (t v sort : ℕ) (b : Based) → 4 ≤ sort → sort < 8
-    → unpacked t (packed sort v) b ≡ cell (record { name = t; base = b; width = if eqb (sort % 2) 0 then full else short; elements = low v; array = leb 6 sort })
-unfolding unpacked
-packed-cell t v sort b l h =
-    rw (packed-sort sort v h, packed-number sort v h, packed-even sort v, ne-eqb sort 1 (λ e. omega arith), ne-eqb sort 2 (λ e. omega arith), le-leb 4 sort l)
+    (t v sort w : ℕ) (b : Based) → (sort < SORTS) × (w < 2) → (eqb sort CELL || eqb sort ARRAY) ≡ true
+    → unpacked t (packed sort w v) b ≡ cell (record { name = t; base = b; width = if eqb w 1 then short else full; elements = low v; array = eqb sort ARRAY })
+packed-cell t v sort w b (h, k) e =
+    as-cell t (packed sort w v) b (packed-cell-sort sort w v h k ∙ e)
+    ∙ rw (packed-short sort w v h k, packed-number sort w v h k, packed-array-sort sort w v h k)

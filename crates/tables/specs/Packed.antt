@@ -1,8 +1,9 @@
--- What a name means, in one number: eight times a number of 32 bits, and what it is a number of. Sets of registers, in one number: a bit a register.
+-- What a name means, in one number: from the low end its sort, with room for more sorts than there are; the width of a cell's elements; a number of 32 bits. Sets of registers,
+-- in one number: a bit a register.
 use mathlib.Core.List.{List, [], _∷_, map}
-use mathlib.Core.Bool.{Bool, _&&_, _||_}
+use mathlib.Core.Bool.{Bool, not, _&&_, _||_}
 use Prim.Native.Nat.{ℕ, suc, _+_, _*_, _/_, _%_, _^_}
-use lib.Dec.{eqb, leb}
+use lib.Dec.{eqb}
 use lib.ListN.{getD, set}
 use Rattle.base.specs.Choose.{if_then_else_}
 use Rattle.grammar.specs.Tree.{Width, full, short}
@@ -11,45 +12,68 @@ use Rattle.kinds.specs.Meaning.{Meaning, nothing, register, cell, routine, Base
 
 -- ── meanings ──
 
+-- the sorts; 0 is that of what means nothing
 abbrev pub REGISTER : ℕ
 REGISTER = 1
 
 abbrev pub ROUTINE : ℕ
 ROUTINE = 2
 
--- single cells from here on, one more if short; arrays two more
 abbrev pub CELL : ℕ
-CELL = 4
+CELL = 3
 
 abbrev pub ARRAY : ℕ
-ARRAY = 6
+ARRAY = 4
+
+-- as many as there is room for
+abbrev pub SORTS : ℕ
+SORTS = 16
 
 -- a number's 32 bits
 unfoldable pub low : ℕ → ℕ
 low v = v % 4294967296
 
-unfoldable pub packed : (sort number : ℕ) → ℕ
-packed sort v = low v * 8 + sort
+-- the width of a cell's elements is 0, or 1 if they are short; of what is no cell it is 0
+unfoldable pub packed : (sort width number : ℕ) → ℕ
+packed sort w v = (low v * 2 + w) * SORTS + sort
+
+abbrev pub sortIn : ℕ → ℕ
+sortIn m = m % SORTS
 
 unfoldable pub numberIn : ℕ → ℕ
-numberIn m = low (m / 8)
+numberIn m = low (m / SORTS / 2)
+
+unfoldable pub isRegisterIn : ℕ → Bool
+isRegisterIn m = eqb (sortIn m) REGISTER
+
+unfoldable pub isRoutineIn : ℕ → Bool
+isRoutineIn m = eqb (sortIn m) ROUTINE
+
+unfoldable pub isArrayIn : ℕ → Bool
+isArrayIn m = eqb (sortIn m) ARRAY
+
+unfoldable pub isCellIn : ℕ → Bool
+isCellIn m = eqb (sortIn m) CELL || eqb (sortIn m) ARRAY
+
+unfoldable pub isShortIn : ℕ → Bool
+isShortIn m = eqb (m / SORTS % 2) 1
 
 abbrev pub widthIn : ℕ → Width
-widthIn m = if eqb (m % 2) 0 then full else short
+widthIn m = if isShortIn m then short else full
 
 -- a base in force: its register, and below it its segment
 unfoldable pub basedIn : ℕ → Based
 basedIn b = record { register = b / 4294967296; segment = b % 4294967296 }
 
 abbrev pub cellIn : (name packed : ℕ) → Based → Cell
-cellIn t m b = record { name = t; base = b; width = widthIn m; elements = numberIn m; array = leb ARRAY (m % 8) }
+cellIn t m b = record { name = t; base = b; width = widthIn m; elements = numberIn m; array = isArrayIn m }
 
 -- what the name at token t means, with the base that was in force
 unfoldable pub unpacked : (name packed : ℕ) → Based → Meaning
 unpacked t m b =
-    if eqb (m % 8) REGISTER then register (numberIn m) else
-    if eqb (m % 8) ROUTINE then routine (numberIn m) else
-    if leb CELL (m % 8) then cell (cellIn t m b) else
+    if isRegisterIn m then register (numberIn m) else
+    if isRoutineIn m then routine (numberIn m) else
+    if isCellIn m then cell (cellIn t m b) else
     nothing
 
 -- by token, from token t on
@@ -62,11 +86,11 @@ meaningsOf means bases = meaningsFrom 0 means bases
 
 -- the register that a packed meaning is; 0 where it is none
 unfoldable pub registerIn : ℕ → ℕ
-registerIn m = if eqb (m % 8) REGISTER then numberIn m else 0
+registerIn m = if isRegisterIn m then numberIn m else 0
 
 -- "`*` … by what begins with the name of a register or integer cell"
 unfoldable pub longIn : ℕ → Bool
-longIn m = eqb (m % 8) REGISTER || (leb CELL (m % 8) && eqb (m % 2) 0)
+longIn m = isRegisterIn m || (isCellIn m && not (isShortIn m))
 
 -- the packed meaning of the name at token t
 abbrev pub packedAt : List ℕ → List ℕ → ℕ → ℕ

@@ -4,7 +4,7 @@ ghost use Prim.Native.Nat.{_+_, _-_, _<_};
 ghost use lib.ListN.{getD, length};
 ghost use Rattle.base.specs.Choose.{if_then_else_};
 ghost use Rattle.kinds.specs.Registers.{noRegisters, addRegister, union, has as hasOf};
-ghost use Rattle.tables.specs.Packed.{low, packed as packedOf, numberIn, registerIn, longIn, packedAt, setOf, setsOf, grown};
+ghost use Rattle.tables.specs.Packed.{low, packed as packedOf, numberIn, isRegisterIn, isRoutineIn, isArrayIn, isCellIn, isShortIn, registerIn, longIn, packedAt, setOf, setsOf, grown};
 ghost use Rattle.tables.specs.Stacks.{stackOf, top as topOf};
 use arrays::get;
 use arrays::key;
@@ -14,29 +14,62 @@ pub const REGISTER: u64 = 1;
 
 pub const ROUTINE: u64 = 2;
 
-pub const CELL: u64 = 4;
+pub const CELL: u64 = 3;
 
-pub const ARRAY: u64 = 6;
+pub const ARRAY: u64 = 4;
 
-// A number of 32 bits and what it is a number of.
-pub fn packed(sort: u64, v: u64) -> u64
-    requires { ⌜ sort < 8 ⌝ }
-    ensures { λ r. ⌜ r ≡ packedOf sort v ⌝ }
+const SORTS: u64 = 16;
+
+// A number of 32 bits, what it is a number of, and the width of a cell's elements: 1 if they are short.
+pub fn packed(sort: u64, width: u64, v: u64) -> u64
+    requires { ⌜ (sort < 16) × (width < 2) ⌝ }
+    ensures { λ r. ⌜ r ≡ packedOf sort width v ⌝ }
 {
-    v % 4294967296 * 8 + sort
+    (v % 4294967296 * 2 + width) * SORTS + sort
 }
 
 pub fn number(m: u64) -> u64
     ensures { λ r. ⌜ (r ≡ numberIn m) × (r < 4294967296) ⌝ }
 {
-    m / 8 % 4294967296
+    m / SORTS / 2 % 4294967296
+}
+
+pub fn is_register(m: u64) -> bool
+    ensures { λ r. ⌜ r ≡ isRegisterIn m ⌝ }
+{
+    m % SORTS == REGISTER
+}
+
+pub fn is_routine(m: u64) -> bool
+    ensures { λ r. ⌜ r ≡ isRoutineIn m ⌝ }
+{
+    m % SORTS == ROUTINE
+}
+
+pub fn is_array(m: u64) -> bool
+    ensures { λ r. ⌜ r ≡ isArrayIn m ⌝ }
+{
+    m % SORTS == ARRAY
+}
+
+pub fn is_cell(m: u64) -> bool
+    ensures { λ r. ⌜ r ≡ isCellIn m ⌝ }
+{
+    (m % SORTS == CELL) | (m % SORTS == ARRAY)
+}
+
+// The elements of a cell are short.
+pub fn is_short(m: u64) -> bool
+    ensures { λ r. ⌜ r ≡ isShortIn m ⌝ }
+{
+    m / SORTS % 2 == 1
 }
 
 // The register that a packed meaning is, or 0.
 pub fn register(m: u64) -> u64
     ensures { λ r. ⌜ (r ≡ registerIn m) × (r < 4294967296) ⌝ }
 {
-    if m % 8 == REGISTER {
+    if is_register(m) {
         return number(m);
     }
     0
@@ -46,7 +79,7 @@ pub fn register(m: u64) -> u64
 pub fn is_long(m: u64) -> bool
     ensures { λ r. ⌜ r ≡ longIn m ⌝ }
 {
-    (m % 8 == REGISTER) | ((CELL <= m % 8) & (m % 2 == 0))
+    is_register(m) | (is_cell(m) & !is_short(m))
 }
 
 // What the name at token t means.

@@ -1,7 +1,11 @@
 use Rattle.judge.proofs.Answers as answers
+use mathlib.Core.Path.{sym, _∙_}
 use borrow.Author.Needs.{needs}
 use Rattle.judge.proofs.aim_of.Statement.{statement}
 use Rattle.judge.proofs.aim_of.Tie as tie
+
+is-register-requires : tie.Need-is-register-requires
+is-register-requires c κs = search needs
 
 number-requires : tie.Need-number-requires
 number-requires c κs = search needs
@@ -10,13 +14,16 @@ add-result : tie.Need-add-result
 add-result c = search needs
 
 returns : tie.Need-returns
-returns c = answers.aimed-register _ _ (c .before .if1 .taken) (c .number .ensures .0)
+returns c = answers.aimed-register _ _ (sym (c .before .before .is-register .ensures) ∙ c .before .if1 .taken) (c .number .ensures .0)
+
+is-cell-requires : tie.Need-is-cell-requires
+is-cell-requires c κs = search needs
 
 returns-2 : tie.Need-returns-2
-returns-2 c = answers.aimed-cell _ (c .if2 .taken)
+returns-2 c = answers.aimed-cell _ (sym (c .before .is-cell .ensures) ∙ c .if2 .taken)
 
 returns-3 : tie.Need-returns-3
-returns-3 c = answers.aimed-nowhere _ (c .before .if1 .left) (c .if2 .left)
+returns-3 c = answers.aimed-nowhere _ (sym (c .before .before .before .is-register .ensures) ∙ c .before .before .if1 .left) (sym (c .before .is-cell .ensures) ∙ c .if2 .left)
 
 pub aim-of-spec : {M : Type 1} → statement M
-aim-of-spec = tie.close (tie.spec number-requires add-result returns returns-2 returns-3)
+aim-of-spec = tie.close (tie.spec is-register-requires number-requires add-result returns is-cell-requires returns-2 returns-3)

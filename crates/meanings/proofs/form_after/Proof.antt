@@ -14,18 +14,12 @@ form-requires c κs = search needs
 cast-width : tie.Need-cast-width
 cast-width c = search needs
 
-add-packed : tie.Need-add-packed
-add-packed c = search needs
-
 packed-requires : tie.Need-packed-requires
 packed-requires c κs = search needs
 
 returns : tie.Need-returns
 unfolding formAfter
 returns c = rw (← (c .before .before .before .family .ensures), eq-eqb _ 3 (c .before .if1 .taken), ← (c .before .before .form .ensures .0)) (c .packed .ensures)
-
-add-packed-2 : tie.Need-add-packed-2
-add-packed-2 c = search needs
 
 key-requires : tie.Need-key-requires
 key-requires c κs = search needs
@@ -42,4 +36,4 @@ unfolding formAfter
 returns-3 c = rw (← (c .before .before .before .family .ensures), ne-eqb _ 3 (c .before .if1 .left), ne-eqb _ 5 (c .if2 .left))
 
 pub form-after-spec : {M : Type 1} → statement M
-form-after-spec = tie.close (tie.spec family-requires form-requires cast-width add-packed packed-requires returns add-packed-2 key-requires packed-requires-2 returns-2 returns-3)
+form-after-spec = tie.close (tie.spec family-requires form-requires cast-width packed-requires returns key-requires packed-requires-2 returns-2 returns-3)

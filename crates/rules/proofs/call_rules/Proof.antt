@@ -1,4 +1,5 @@
 use Rattle.rules.proofs.Answers as answers
+use mathlib.Core.Path.{sym, _∙_}
 use borrow.Author.Needs.{needs}
 use Rattle.rules.proofs.call_rules.Statement.{statement}
 use Rattle.rules.proofs.call_rules.Tie as tie
@@ -8,6 +9,9 @@ found-requires c κs = search needs
 
 mean-requires : tie.Need-mean-requires
 mean-requires c κs = search needs
+
+is-routine-requires : tie.Need-is-routine-requires
+is-routine-requires c κs = search needs
 
 number-requires : tie.Need-number-requires
 number-requires c κs = search needs
@@ -28,13 +32,13 @@ join-requires : tie.Need-join-requires
 join-requires c κs = search needs
 
 returns : tie.Need-returns
-returns c = λ f s. answers.called s _ _ _ _ (c .before .before .before .before .before .before .before .before .found .ensures .0) (c .before .before .before .before .before .before .before .mean .ensures) (c .before .before .before .before .before .before .if1 .taken) (c .before .before .before .before .before .number .ensures .0) (c .before .before .before .written .ensures .0) (c .before .before .spares .ensures) (c .before .before .before .before .write-rule .ensures) (c .before .rule .ensures) (c .join .ensures)
+returns c = λ f s. answers.called s _ _ _ _ (c .before .before .before .before .before .before .before .before .before .found .ensures .0) (c .before .before .before .before .before .before .before .before .mean .ensures) (sym (c .before .before .before .before .before .before .before .is-routine .ensures) ∙ c .before .before .before .before .before .before .if1 .taken) (c .before .before .before .before .before .number .ensures .0) (c .before .before .before .written .ensures .0) (c .before .before .spares .ensures) (c .before .before .before .before .write-rule .ensures) (c .before .rule .ensures) (c .join .ensures)
 
 broken-requires : tie.Need-broken-requires
 broken-requires c κs = search needs
 
 returns-2 : tie.Need-returns-2
-returns-2 c = λ f s. answers.no-routine s _ _ _ _ (c .before .before .before .found .ensures .0) (c .before .before .mean .ensures) (c .before .if1 .left) (c .broken .ensures)
+returns-2 c = λ f s. answers.no-routine s _ _ _ _ (c .before .before .before .before .found .ensures .0) (c .before .before .before .mean .ensures) (sym (c .before .before .is-routine .ensures) ∙ c .before .if1 .left) (c .broken .ensures)
 
 pub call-rules-spec : {M : Type 1} → statement M
 call-rules-spec =
@@ -42,6 +46,7 @@ call-rules-spec =
     (tie.spec
     found-requires
     mean-requires
+    is-routine-requires
     number-requires
     write-rule-requires
     written-requires

@@ -1,12 +1,13 @@
 use Rattle.names.specs.Broken.{_⊕_, rule}
 use Rattle.names.specs.declared.Broken.{Broken}
-use Prim.Native.Nat.{_%_}
-use lib.Dec.{leb}
 use mathlib.Core.Bool.{Bool, _||_}
-use mathlib.Core.Path.{ap, ap₂, _∙_}
+use mathlib.Core.Path.{ap₂, _∙_}
 use borrow.Author.Needs.{needs}
 use Rattle.rules.proofs.cell_rules.Statement.{statement}
 use Rattle.rules.proofs.cell_rules.Tie as tie
+
+is-array-requires : tie.Need-is-array-requires
+is-array-requires c κs = search needs
 
 is-bare-requires : tie.Need-is-bare-requires
 is-bare-requires c κs = search needs
@@ -27,12 +28,13 @@ join-requires-2 : tie.Need-join-requires-2
 join-requires-2 c κs = search needs
 
 returns : tie.Need-returns
-returns c = λ f s n b. c .join2 .ensures ∙ ap₂ (λ (x y : Broken). x ⊕ y) (c .before .before .before .before .rule .ensures ∙ ap (λ (z : Bool). rule (leb 6 (c .before .before .before .before .before .before .before .before .args .m % 8) || z) 8 (c .before .before .before .before .before .before .before .before .args .t)) (c .before .before .before .before .before .is-bare .ensures (c .before .before .before .before .before .before .before .before .args .t))) (c .before .join .ensures ∙ ap₂ (λ (x y : Broken). x ⊕ y) (c .before .before .before .subscript-rules .ensures f (s .values-is) n b) (c .before .before .index-rules .ensures f s))
+returns c = λ f s n b. c .join2 .ensures ∙ ap₂ (λ (x y : Broken). x ⊕ y) (c .before .before .before .before .rule .ensures ∙ ap₂ (λ (y z : Bool). rule (y || z) 8 (c .before .before .before .before .before .before .before .before .before .before .args .t)) (c .before .before .before .before .before .before .is-array .ensures) (c .before .before .before .before .before .is-bare .ensures (c .before .before .before .before .before .before .before .before .before .before .args .t))) (c .before .join .ensures ∙ ap₂ (λ (x y : Broken). x ⊕ y) (c .before .before .before .subscript-rules .ensures f (s .values-is) n b) (c .before .before .index-rules .ensures f s))
 
 pub cell-rules-spec : {M : Type 1} → statement M
 cell-rules-spec =
     tie.close
     (tie.spec
+    is-array-requires
     is-bare-requires
     rule-requires
     subscript-rules-requires

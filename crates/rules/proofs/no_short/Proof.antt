@@ -14,11 +14,17 @@ returns c = λ f s. rw (answers.a-number _ (c .before .before .before .before .a
 meaning-requires : tie.Need-meaning-requires
 meaning-requires c κs = search needs
 
+is-cell-requires : tie.Need-is-cell-requires
+is-cell-requires c κs = search needs
+
+is-short-requires : tie.Need-is-short-requires
+is-short-requires c κs = search needs
+
 rule-requires : tie.Need-rule-requires
 rule-requires c κs = search needs
 
 returns-2 : tie.Need-returns-2
-returns-2 c = λ f s. answers.not-short s _ _ (c .before .meaning .ensures) _ (c .before .before .if1 .left) (c .rule .ensures)
+returns-2 c = λ f s. answers.not-short s _ _ (c .before .before .before .meaning .ensures) _ (c .before .before .before .before .if1 .left) (c .before .before .is-cell .ensures) (c .before .is-short .ensures) (c .rule .ensures)
 
 pub no-short-spec : {M : Type 1} → statement M
-no-short-spec = tie.close (tie.spec none-requires returns meaning-requires rule-requires returns-2)
+no-short-spec = tie.close (tie.spec none-requires returns meaning-requires is-cell-requires is-short-requires rule-requires returns-2)

@@ -14,6 +14,9 @@ returns c = λ f s. rw (answers.a-number _ (c .before .before .before .before .a
 meaning-requires : tie.Need-meaning-requires
 meaning-requires c κs = search needs
 
+is-register-requires : tie.Need-is-register-requires
+is-register-requires c κs = search needs
+
 is-bare-requires : tie.Need-is-bare-requires
 is-bare-requires c κs = search needs
 
@@ -21,9 +24,9 @@ rule-requires : tie.Need-rule-requires
 rule-requires c κs = search needs
 
 returns-2 : tie.Need-returns-2
-returns-2 c = λ f s. answers.one-register s _ _ (c .before .before .meaning .ensures) _ (c .before .before .before .if1 .left) (c .before .is-bare .ensures) (c .rule .ensures)
+returns-2 c = λ f s. answers.one-register s _ _ (c .before .before .before .meaning .ensures) _ (c .before .before .before .before .if1 .left) (c .before .before .is-register .ensures) (c .before .is-bare .ensures) (c .rule .ensures)
 
 pub only-register-spec : {M : Type 1} → statement M
 only-register-spec =
     tie.close
-    (tie.spec broken-requires returns meaning-requires is-bare-requires rule-requires returns-2)
+    (tie.spec broken-requires returns meaning-requires is-register-requires is-bare-requires rule-requires returns-2)

@@ -1,14 +1,31 @@
+use mathlib.Core.Path.{sym, _∙_}
+use native.Mathlib.Omega.{arith}
 use borrow.Author.Needs.{needs}
 use Rattle.tables.specs.Packed.{longIn}
 use Rattle.tables.proofs.is_long.Statement.{statement}
 use Rattle.tables.proofs.is_long.Tie as tie
 use Rattle.tables.proofs.is_long.Reads as reads
 use Rattle.tables.proofs.is_long.Lts as lts
+use Rattle.tables.proofs.is_cell.Reads as is-cell-reads
+use Rattle.tables.proofs.is_register.Reads as is-register-reads
+use Rattle.tables.proofs.is_short.Reads as is-short-reads
 
--- src/lib.rt:46:1
+-- src/lib.rt:82:5
+is-register-requires : tie.Need-is-register-requires
+is-register-requires c κs = search needs
+
+-- src/lib.rt:82:23
+is-cell-requires : tie.Need-is-cell-requires
+is-cell-requires c κs = search needs
+
+-- src/lib.rt:82:37
+is-short-requires : tie.Need-is-short-requires
+is-short-requires c κs = search needs
+
+-- src/lib.rt:79:1
 returns : tie.Need-returns
 unfolding longIn
-returns c = search needs
+returns c = rw (c .before .before .is-register .ensures, c .before .is-cell .ensures, c .is-short .ensures)
 
 pub is-long-spec : {M : Type 1} → statement M
-is-long-spec = tie.close (tie.spec returns)
+is-long-spec = tie.close (tie.spec is-register-requires is-cell-requires is-short-requires returns)

@@ -1,26 +1,31 @@
-use borrow.Author.Tests.{eq-eqb, ne-eqb}
+use mathlib.Core.Path.{sym, _∙_}
 use native.Mathlib.Omega.{arith}
-use Rattle.tables.specs.Packed.{registerIn}
 use borrow.Author.Needs.{needs}
+use Rattle.tables.specs.Packed.{registerIn}
 use Rattle.tables.proofs.register.Statement.{statement}
 use Rattle.tables.proofs.register.Tie as tie
 use Rattle.tables.proofs.register.Reads as reads
 use Rattle.tables.proofs.register.Lts as lts
+use Rattle.tables.proofs.is_register.Reads as is-register-reads
 use Rattle.tables.proofs.number.Reads as number-reads
 
--- src/lib.rt:40:9
+-- src/lib.rt:72:8
+is-register-requires : tie.Need-is-register-requires
+is-register-requires c κs = search needs
+
+-- src/lib.rt:73:9
 number-requires : tie.Need-number-requires
 number-requires c κs = search needs
 
--- src/lib.rt:40:9
+-- src/lib.rt:73:9
 returns : tie.Need-returns
 unfolding registerIn
-returns c = (rw (eq-eqb _ _ (c .before .if1 .taken)) (c .number .ensures .0), c .number .ensures .1)
+returns c = (rw (sym (c .before .before .is-register .ensures) ∙ c .before .if1 .taken) (c .number .ensures .0), c .number .ensures .1)
 
--- src/lib.rt:36:1
+-- src/lib.rt:69:1
 returns-2 : tie.Need-returns-2
 unfolding registerIn
-returns-2 c = (rw (ne-eqb _ _ (c .if1 .left)), omega arith)
+returns-2 c = (rw (sym (c .before .is-register .ensures) ∙ c .if1 .left), omega arith)
 
 pub register-spec : {M : Type 1} → statement M
-register-spec = tie.close (tie.spec number-requires returns returns-2)
+register-spec = tie.close (tie.spec is-register-requires number-requires returns returns-2)
