@@ -4,11 +4,10 @@ use mathlib.Core.Path.{_≡_, refl, sym, ap, _∙_}
 use mathlib.Core.Bool.{Bool, true, false}
 use mathlib.Core.List.{List, _∷_}
 use mathlib.Core.Option.{Option, none, some}
-use Prim.Native.Nat.{ℕ, zero, suc, _+_, _%_, _<_}
+use Prim.Native.Nat.{ℕ, _+_, _<_}
 use native.Mathlib.Omega.{arith}
 use lib.Dec.{eqb}
 use lib.ListN.{getD}
-use borrow.Author.Tests.{eqb-true}
 use Rattle.base.specs.Choose.{if_then_else_}
 use Rattle.token.specs.Kinds as K
 use Rattle.grammar.specs.Tree.{Designator, Operand, number, place, Width, full, short}
@@ -17,8 +16,8 @@ use Rattle.grammar.specs.Pinned.{headOf}
 use Rattle.tape.specs.Tape.{event, shapeBy, shape, tapeDesignator, tapeOperand}
 use Rattle.kinds.specs.Meaning.{Meaning, nothing, register, cell, routine, Cell, Based, registerOf, isFull, isLong, longOperand}
 use Rattle.kinds.specs.Tables.{Tables, kindAt, valueAt, meaningAt}
-use Rattle.tables.specs.Packed.{low, numberIn, widthIn, basedIn, cellIn, unpacked, meaningsOf, registerIn, packedAt}
-use Rattle.tables.proofs.Meanings.{low-is, by-sort, register-is, meaning-at}
+use Rattle.tables.specs.Packed.{low, numberIn, isShortIn, widthIn, basedIn, cellIn, unpacked, meaningsOf, registerIn, packedAt}
+use Rattle.tables.proofs.Meanings.{low-is, by-sort, register-alone, routine-alone, register-is, meaning-at}
 use Rattle.translator.specs.Instructions.{element, literal}
 use Rattle.translator.specs.Core as C
 use Rattle.translator.specs.Core.{held, stored, absent, returnOf, subscriptOf, useBy, useOf, sourceOf}
@@ -58,13 +57,12 @@ abbrev pub isShort : Width → Bool
 isShort full = false
 isShort short = true
 
-short-is : (m : ℕ) → eqb (m % 2) 1 ≡ isShort (widthIn m)
-short-is m = by-rest (m % 2) (omega arith)
+short-is : (m : ℕ) → isShortIn m ≡ isShort (widthIn m)
+short-is m = by-width (isShortIn m)
   where
-    by-rest : (x : ℕ) → x < 2 → eqb x 1 ≡ isShort (if eqb x 0 then full else short)
-    by-rest zero h = refl
-    by-rest (suc zero) h = refl
-    by-rest (suc (suc x)) h = absurd (omega arith)
+    by-width : (x : Bool) → x ≡ isShort (if x then short else full)
+    by-width true = refl
+    by-width false = refl
 
 -- ── by the tables ──
 
@@ -106,13 +104,10 @@ module _ (f : Tables) (means under : List ℕ) (table : f .means ≡ meaningsOf 
   unfolding returnIn
   return-at n =
       sym (ap returnOf (meaning-is n)
-      ∙ by-sort (λ (x : Meaning). returnOf x ≡ returnIn m) (getD (f .found) n 0) m (baseAt n) (λ e. other (m % 8) e) (λ e g. rw g) (λ e g h. rw g) (λ e g h. rw g))
+      ∙ by-sort (λ (x : Meaning). returnOf x ≡ returnIn m) (getD (f .found) n 0) m (baseAt n) (λ e. rw (register-alone m e .0)) (λ e g. rw g) (λ e g h. rw g) (λ e g h. rw g))
     where
       m : ℕ
       m = packedAt (f .found) means n
-
-      other : (x : ℕ) → eqb x 1 ≡ true → 0 ≡ (if eqb x 2 then numberIn m else 0)
-      other x e = rw (eqb-true x 1 e)
 
   module _ (offsets : List ℕ) (small : Small f) where
     number-low : (s n i : ℕ) → s ≡ n + 2 → s ≡ i → kindAt f i ≡ K.NUMBER → low (valueAt f (n + 2)) ≡ valueAt f s
@@ -143,7 +138,7 @@ module _ (f : Tables) (means under : List ℕ) (table : f .means ≡ meaningsOf 
         rw (meaning-is (d .name))
         (by-sort (λ (x : Meaning). P x (useBy f x d) (placed f means under offsets d)) at m (baseAt (d .name))
         (λ e. rw e (in-register (numberIn m)))
-        (λ e g. rw (e, eqb-true (m % 8) 2 g) (routed (numberIn m)))
+        (λ e g. rw (e, routine-alone m g .1) (routed (numberIn m)))
         (λ e g q. rw (e, q, short-is m, subscript-is (d .name) (d .subscript) (d .index) i j h, index-is (d .name) (d .subscript) (d .index) i j h)
         (in-cell (cellIn at m (baseAt (d .name))) (subscriptOf f (d .subscript)) (C.indexOf f (d .index))))
         (λ e g q. rw (e, q) unmeant))

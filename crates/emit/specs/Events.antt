@@ -3,12 +3,12 @@
 -- and at the token before it behind the loop, at the token after it the control register.
 use mathlib.Core.List.{List}
 use Prim.Native.Nat.{ℕ, _+_, _-_, _/_, _%_}
-use lib.Dec.{eqb, leb}
+use lib.Dec.{eqb}
 use lib.ListN.{getD}
 use Rattle.base.specs.Choose.{if_then_else_}
 use Rattle.tape.specs.Events as E
 use Rattle.tape.specs.Numbers.{familyAt, formAt}
-use Rattle.tables.specs.Packed.{low, numberIn, registerIn, packedAt}
+use Rattle.tables.specs.Packed.{low, numberIn, isRegisterIn, isRoutineIn, isCellIn, isShortIn, registerIn, packedAt}
 use Rattle.translator.specs.Instructions.{addRow, compareRow, falseMask, always}
 use Rattle.translator.specs.Core.{exitMask}
 use Rattle.ledger.specs.Book.{Wide, Thin}
@@ -35,13 +35,13 @@ indexIn found means shape t =
 
 -- an element of the cell that is declared at token d, with the packed meaning m
 unfoldable pub elementIn : (under offsets : List ℕ) (d m subscript index : ℕ) → Use
-elementIn under offsets d m subscript index = Stored (eqb (m % 2) 1) index (getD under d 0 / 4294967296) (low (getD offsets d 0) + low subscript)
+elementIn under offsets d m subscript index = Stored (isShortIn m) index (getD under d 0 / 4294967296) (low (getD offsets d 0) + low subscript)
 
 -- what is declared at token d, by its packed meaning m
 unfoldable pub placeBy : (under offsets : List ℕ) (d m subscript index : ℕ) → Use
 placeBy under offsets d m subscript index =
-    if eqb (m % 8) 1 then Held (numberIn m) else
-    if leb 4 (m % 8) then elementIn under offsets d m subscript index else
+    if isRegisterIn m then Held (numberIn m) else
+    if isCellIn m then elementIn under offsets d m subscript index else
     Absent
 
 module _ (values found means under offsets : List ℕ) where
@@ -56,7 +56,7 @@ module _ (values found means under offsets : List ℕ) where
 
 -- the return register of the procedure that is called
 unfoldable pub returnIn : ℕ → ℕ
-returnIn m = if eqb (m % 8) 2 then numberIn m else 0
+returnIn m = if isRoutineIn m then numberIn m else 0
 
 -- the register: of a procedure two tokens behind its name, of a compare two before its operand, of a call the procedure's; else what the name itself means
 unfoldable pub registerAt : (found means : List ℕ) (family t : ℕ) → ℕ

@@ -21,6 +21,10 @@ use ledger::opens;
 use ledger::under;
 use ledger::value;
 use ledger::written;
+use tables::is_cell;
+use tables::is_register;
+use tables::is_routine;
+use tables::is_short;
 use tables::number;
 use tables::register;
 
@@ -522,7 +526,7 @@ fn element(wide: &[u64], d: usize, m: u64, subscript: u64, index: u64) -> Use
     ensures { λ r. ⌜ r ≡ elementIn (wideOf (now (wide .entry)) .under) (wideOf (now (wide .entry)) .offsets) d m subscript index ⌝ }
 {
     Use::Stored(
-        m % 2 == 1,
+        is_short(m),
         index,
         under(wide, d) / 4294967296,
         offset(wide, d) % 4294967296 + subscript % 4294967296,
@@ -533,10 +537,10 @@ fn element(wide: &[u64], d: usize, m: u64, subscript: u64, index: u64) -> Use
 fn place_by(wide: &[u64], d: usize, m: u64, subscript: u64, index: u64) -> Use
     ensures { λ r. ⌜ r ≡ placeBy (wideOf (now (wide .entry)) .under) (wideOf (now (wide .entry)) .offsets) d m subscript index ⌝ }
 {
-    if m % 8 == tables::REGISTER {
+    if is_register(m) {
         return Use::Held(number(m));
     }
-    if tables::CELL <= m % 8 {
+    if is_cell(m) {
         return element(wide, d, m, subscript, index);
     }
     Use::Absent
@@ -567,7 +571,7 @@ pub fn operand(wide: &[u64], thin: &[u16], shape: u32, t: usize) -> Use
 fn return_register(m: u64) -> u64
     ensures { λ r. ⌜ r ≡ returnIn m ⌝ }
 {
-    if m % 8 == tables::ROUTINE {
+    if is_routine(m) {
         return number(m);
     }
     0

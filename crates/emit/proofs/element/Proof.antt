@@ -5,6 +5,9 @@ use Rattle.emit.specs.Events.{elementIn}
 use Rattle.emit.proofs.element.Statement.{statement}
 use Rattle.emit.proofs.element.Tie as tie
 
+is-short-requires : tie.Need-is-short-requires
+is-short-requires c κs = search needs
+
 under-requires : tie.Need-under-requires
 under-requires c κs = search needs
 
@@ -16,7 +19,7 @@ add-t13 c = search needs
 
 returns : tie.Need-returns
 unfolding elementIn low
-returns c = rw (c .before .under .ensures, c .offset .ensures)
+returns c = rw (c .before .before .is-short .ensures, c .before .under .ensures, c .offset .ensures)
 
 pub element-spec : {M : Type 1} → statement M
-element-spec = tie.close (tie.spec under-requires offset-requires add-t13 returns)
+element-spec = tie.close (tie.spec is-short-requires under-requires offset-requires add-t13 returns)
