@@ -1,3 +1,4 @@
+-- A target by what its name means: a register, a cell, or neither.
 use Rattle.judge.proofs.Answers as answers
 use borrow.Author.Needs.{needs}
 use Rattle.judge.proofs.aim_rules.Statement.{statement}
@@ -22,7 +23,9 @@ broken-requires : tie.Need-broken-requires
 broken-requires c κs = search needs
 
 returns-3 : tie.Need-returns-3
-returns-3 c = λ f s. answers.aims-nowhere s _ _ (c .before .before .before .meaning .ensures) _ _ (c .before .before .if1 .left) (c .before .if2 .left) (c .broken .ensures)
+returns-3 c = λ f s.
+    answers.aims-nowhere s _ _ (c .before .before .before .meaning .ensures) _ _ (c .before .before .if1 .left) (c .before .if2 .left)
+    (c .broken .ensures)
 
 pub aim-rules-spec : {M : Type 1} → statement M
 aim-rules-spec =

@@ -1,3 +1,4 @@
+-- A control is a register or is refused.
 use Rattle.judge.proofs.Answers as answers
 use borrow.Author.Needs.{needs}
 use Rattle.judge.proofs.control_rules.Statement.{statement}
