@@ -2,7 +2,7 @@
 use mathlib.Core.Path.{_≡_, refl, sym, ap, ap₂, subst, _∙_}
 use mathlib.Core.Bool.{Bool, false}
 use mathlib.Core.List.{List, [], _∷_}
-use Prim.Native.Nat.{ℕ, zero, suc, _+_, _/_, _%_, _≤_, _<_}
+use Prim.Native.Nat.{ℕ, zero, suc, _+_, _-_, _/_, _%_, _≤_, _<_}
 use native.Mathlib.Omega.{arith}
 use lib.Dec.{eqb}
 use lib.ListN.{getD, set, length, drop}
@@ -14,6 +14,10 @@ use Rattle.base.proofs.Tests.{by-test}
 use Rattle.tape.specs.Events as E
 use Rattle.tape.specs.Pass.{pass}
 use Rattle.tape.proofs.Pass.{pass-turn, pass-end}
+use Rattle.ledger.specs.Book.{Wide, Thin, wideOf, thinOf, putOffset}
+use Rattle.ledger.specs.Bounds.{blocksOpen, proceduresOpen, Nested}
+use Rattle.ledger.proofs.Bounds.{nested-here, nested-on}
+use Rattle.ledger.proofs.Columns.{wide-length}
 use Rattle.names.specs.declared.Broken.{Broken}
 use Rattle.names.specs.Broken.{_⊕_}
 use Rattle.kinds.specs.Meaning.{registerOf}
@@ -21,10 +25,11 @@ use Rattle.kinds.specs.Tables.{Tables, meaningAt}
 use Rattle.kinds.specs.Rules.{protected}
 use Rattle.tables.specs.Packed.{meaningsOf, setsOf}
 use Rattle.tables.specs.Stacks.{stackOf, top, under}
-use Rattle.rules.specs.Shows.{Names, Values, Shown}
+use Rattle.rules.specs.Shows.{Listed, Shown}
 use Rattle.judge.specs.declared.Cells.{Cells}
 use Rattle.judge.specs.declared.Depths.{Depths}
-use Rattle.judge.specs.Along.{Held, enterBlock, leaveBlock, keepBase, keepReturn, leaveProcedure, heldAfter, cellsAfter, cellsOf, targetAfter, eventRule, Judging, judgeEvent, beginning, heldOf, Moved}
+use Rattle.judge.specs.Along.{Held, enterBlock, leaveBlock, keepBase, keepReturn, leaveProcedure, heldAfter, cellsAfter, cellsOf, targetAfter, eventRule, Judging, judgeEvent, beginning, heldOf, Moved, Stays}
+use Rattle.judge.proofs.Moves.{stays-same, stays-on, offsets-put, put-stays}
 
 -- ── no block has more bases than there were events ──
 
@@ -51,87 +56,159 @@ low-after f op t n h (a, b) =
     (λ _. by-test (Low (n + 1)) (eqb op 10) _ _ (λ _. (omega arith, more n (h .counts) b))
     (λ _. by-test (Low (n + 1)) (eqb op 11) _ _ (λ _. (omega arith, more n (h .counts) b)) (λ _. (omega arith, more n (h .counts) b))))))
 
+-- ── so many blocks are open as the tape has opened and not closed ──
+
+stack-length : (a : List ℕ) (d : ℕ) → length (stackOf a d) ≡ d
+unfolding stackOf
+stack-length a zero = refl
+stack-length a (suc d) = ap suc (stack-length a d)
+
+under-length : (l : List ℕ) → length (under l) ≡ length l - 1
+under-length [] = omega arith
+under-length (x ∷ l) = omega arith
+
+abbrev Opened : ℕ → Held → Held → Type 0
+Opened op h x = length (x .counts) ≡ blocksOpen op (length (h .counts))
+
+opened-after : (f : Tables) (op t : ℕ) (h : Held) → Opened op h (heldAfter f op t h)
+unfolding heldAfter
+opened-after f op t h =
+    by-test (Opened op h) (eqb op 0) _ _ (λ e. rw e)
+    (λ e. by-test (Opened op h) (eqb op 1) _ _ (λ g. rw (e, g) (under-length (h .counts)))
+    (λ g. by-test (Opened op h) (eqb op 9) _ _ (λ _. rw (e, g))
+    (λ _. by-test (Opened op h) (eqb op 10) _ _ (λ _. rw (e, g))
+    (λ _. by-test (Opened op h) (eqb op 11) _ _ (λ _. rw (e, g)) (λ _. rw (e, g))))))
+
 -- ── the loop ──
 
 abbrev judging : Held → Cells → ℕ → Broken → Judging
 judging h c target b = record { held = h; cells = c; target = target; broken = b }
 
--- there are tables that the arrays show
-some-tables : List ℕ → List ℕ → Tables
-some-tables found means = record { kinds = []; values = []; found = found; goes = []; means = meaningsOf means []; opens = []; written = [] }
+-- there are tables that the columns list
+some-tables : Wide → Thin → Tables
+some-tables w b = record { kinds = []; values = w .values; found = b .found; goes = []; means = meaningsOf (w .means) []; opens = b .opens; written = setsOf (b .written) }
 
-some-names : (found means : List ℕ) → Names (some-tables found means) found means
+some-listed : (w : Wide) (b : Thin) → Listed (some-tables w b) w b
 unfolding some-tables
-some-names found means = record { bases = []; found-is = refl; means-is = refl }
+some-listed w b = record { bases = []; found-is = refl; means-is = refl; values-is = refl; opens-is = refl; written-is = refl }
 
-module _ (tape kinds values found means opens written : List ℕ) (others : Broken) where
-  pub record Going (kept counts : List ℕ) (d : Depths) (c : Cells) (target : ℕ) (b : Broken) (i : ℕ) : Type 0 where
-    pub is : (f : Tables) → Shown f kinds values found means opens written → pass (judgeEvent f) (judging (heldOf kept counts d) c target b) (drop i tape) ≡ pass (judgeEvent f) (beginning others) tape
+-- whatever stands in the column of offsets
+listed-after : {f : Tables} {w w′ : Wide} {b : Thin} → Stays w w′ → Listed f w b → Listed f w′ b
+listed-after {f} {w} {w′} {b} e s =
+    subst (λ (x : Wide). Listed f x b) (sym e)
+    (record { bases = s .bases; found-is = s .found-is; means-is = s .means-is; values-is = s .values-is; opens-is = s .opens-is; written-is = s .written-is })
+
+shown-after : {f : Tables} {kinds : List ℕ} {w w′ : Wide} {b : Thin} → Stays w w′ → Shown f kinds w b → Shown f kinds w′ b
+shown-after e s = record { listed = listed-after e (s .listed); kinds-is = s .kinds-is }
+
+module _ (tape kinds wide₀ thin : List ℕ) (others : Broken) where
+  abbrev begun : Tables → Judging
+  begun f = pass (judgeEvent f) (beginning others) tape
+
+  pub record Going (wide counts : List ℕ) (d : Depths) (c : Cells) (target : ℕ) (b : Broken) (i : ℕ) : Type 0 where
+    pub is : (f : Tables) → Shown f kinds (wideOf wide₀) (thinOf thin) → pass (judgeEvent f) (judging (heldOf (wideOf wide .offsets) counts d) c target b) (drop i tape) ≡ begun f
+    pub stays : Stays (wideOf wide₀) (wideOf wide)
     pub inside : i ≤ length tape
     pub deep : d .kept ≤ i + 2
-    pub wide : d .counts ≤ i
-    pub low : Low i (heldOf kept counts d)
+    pub procedures : ℕ
+    pub nested : Nested (length counts) (d .counts) procedures (drop i tape)
+    pub low : Low i (heldOf (wideOf wide .offsets) counts d)
     pub small : length tape < 4294967296
-    pub room : length tape + 2 ≤ length kept
-    pub rooms : length tape ≤ length counts
+    pub room : length tape + 2 ≤ length wide / 4
+
+  module _ {wide counts : List ℕ} {d : Depths} {c : Cells} {target : ℕ} {b : Broken} {i : ℕ} (g : Going wide counts d c target b i) (h : i < length tape) where
+    -- there is room for one more protected register, and for one more block where one opens
+    pub kept-fits : (d .kept < length (wideOf wide .offsets)) × ((d .kept ≤ 4294967296) × (d .count < 4294967296))
+    kept-fits =
+        let deep = g .deep in
+        let room = g .room in
+        let small = g .small in
+        let low = g .low .0 in
+        let long : length (wideOf wide .offsets) ≡ length wide / 4 = wide-length 3 wide in
+        (omega arith, (omega arith, omega arith))
+
+    pub opened-fits : (op : ℕ) → op ≡ getD tape i 0 % E.EVENTS → blocksOpen op (d .counts) ≤ length counts
+    opened-fits op eo = nested-here _ _ _ _ (nested-on (length counts) (d .counts) (g .procedures) op i tape h eo (g .nested)) .0
+
+    pub going-on :
+        {wide′ counts′ : List ℕ} {d′ : Depths} {c′ : Cells} {target′ : ℕ} {b′ r : Broken} (op t : ℕ) → op ≡ getD tape i 0 % E.EVENTS → t ≡ getD tape i 0 / E.EVENTS
+        → ((f : Tables) → Shown f kinds (wideOf wide) (thinOf thin) → r ≡ eventRule f (stackOf (wideOf wide .offsets) (d .kept)) c target op t)
+        → b′ ≡ b ⊕ r
+        → ((f : Tables) → Listed f (wideOf wide) (thinOf thin) → Moved (heldAfter f op t (heldOf (wideOf wide .offsets) counts d)) (wideOf wide′ .offsets) counts′ d d′)
+        → Stays (wideOf wide) (wideOf wide′)
+        → ((f : Tables) → f .values ≡ wideOf wide′ .values → c′ ≡ cellsAfter f op t c)
+        → ((f : Tables) → Listed f (wideOf wide′) (thinOf thin) → target′ ≡ targetAfter f op t target)
+        → length wide′ ≡ length wide → length counts′ ≡ length counts
+        → Going wide′ counts′ d′ c′ target′ b′ (i + 1)
+    unfolding judgeEvent
+    going-on {wide′} {counts′} {d′} {c′} {target′} {b′} {r} op t eo et judged joined moved stayed celled aimed lw lc =
+        let deep = g .deep in
+        let room = g .room in
+        let some = some-tables (wideOf wide) (thinOf thin) in
+        let m = moved some (some-listed (wideOf wide) (thinOf thin)) in
+        let deep′ = m .deep in
+        let opened : d′ .counts ≡ blocksOpen op (d .counts) =
+        sym (stack-length counts′ (d′ .counts)) ∙ (ap (λ (x : Held). length (x .counts)) (m .is)
+        ∙ (opened-after some op t (heldOf (wideOf wide .offsets) counts d) ∙ ap (blocksOpen op) (stack-length counts (d .counts)))) in
+        record {
+          is = λ f s. ap (λ (x : Judging). pass (judgeEvent f) x (drop (i + 1) tape)) (stepped f s) ∙ pass-turn (judgeEvent f) _ tape i op t h eo et (g .is f s);
+          stays = stays-on (wideOf wide₀) (wideOf wide) (wideOf wide′) (g .stays) stayed;
+          inside = omega arith;
+          deep = omega arith;
+          procedures = proceduresOpen op (g .procedures);
+          nested = rw (lc, opened) (nested-on (length counts) (d .counts) (g .procedures) op i tape h eo (g .nested));
+          low = subst (λ (h : Held). Low (i + 1) h) (sym (m .is)) (low-after some op t i (heldOf (wideOf wide .offsets) counts d) (g .low));
+          small = g .small;
+          room = omega arith;
+        }
+      where
+        stepped : (f : Tables) → Shown f kinds (wideOf wide₀) (thinOf thin)
+            → judging (heldOf (wideOf wide′ .offsets) counts′ d′) c′ target′ b′ ≡ judgeEvent f op t (judging (heldOf (wideOf wide .offsets) counts d) c target b)
+        stepped f s =
+            let now = shown-after (g .stays) s in
+            let later = listed-after stayed (now .listed) in
+            rw (moved f (now .listed) .is, celled f (later .values-is), aimed f later, joined, judged f now)
 
   pub going :
-      (kept kept′ kept″ counts : List ℕ) → kept′ ≡ set kept 0 14 → kept″ ≡ set kept′ 1 15 → length kept′ ≡ length kept → length kept″ ≡ length kept′
-      → length tape < 4294967296 → length tape + 2 ≤ length kept → length tape ≤ length counts
-      → Going kept″ counts (record { kept = 2; count = 0; counts = 0 }) (cellsOf false 0 0) 0 others 0
+      (wide wide₁ counts : List ℕ) → wideOf wide₁ ≡ putOffset 0 14 (wideOf wide) → wideOf wide₀ ≡ putOffset 1 15 (wideOf wide₁) → length wide₁ ≡ length wide → length wide₀ ≡ length wide₁
+      → length tape < 4294967296 → length tape + 2 ≤ length wide / 4 → Nested (length counts) 0 0 tape
+      → Going wide₀ counts (record { kept = 2; count = 0; counts = 0 }) (cellsOf false 0 0) 0 others 0
   unfolding stackOf
-  going kept kept′ kept″ counts e f l m h r s = record {
+  going wide wide₁ counts e f l m h r n = record {
     is = λ t q. ap (λ (k : List ℕ). pass (judgeEvent t) (judging (record { kept = k; count = 0; counts = [] }) (cellsOf false 0 0) 0 others) tape) first;
+    stays = stays-same wide₀;
     inside = omega arith;
     deep = omega arith;
-    wide = omega arith;
+    procedures = 0;
+    nested = n;
     low = (omega arith, tt);
     small = h;
     room = omega arith;
-    rooms = s;
   }
     where
-      one : getD kept″ 1 0 ≡ 15
-      one = ap (λ (x : List ℕ). getD x 1 0) f ∙ getD-set-same kept′ 1 15 0 (omega arith)
+      kept₁ : length (wideOf wide .offsets) ≡ length wide / 4
+      kept₁ = wide-length 3 wide
 
-      two : getD kept″ 0 0 ≡ 14
-      two = ap (λ (x : List ℕ). getD x 0 0) f ∙ (getD-set-other kept′ 1 0 15 0 (λ q. absurd (omega arith)) ∙ (ap (λ (x : List ℕ). getD x 0 0) e ∙ getD-set-same kept 0 14 0 (omega arith)))
+      kept₂ : length (wideOf wide₁ .offsets) ≡ length wide₁ / 4
+      kept₂ = wide-length 3 wide₁
 
-      first : getD kept″ 1 0 ∷ getD kept″ 0 0 ∷ [] ≡ protected
+      one : getD (wideOf wide₀ .offsets) 1 0 ≡ 15
+      one = ap (λ (x : List ℕ). getD x 1 0) (offsets-put (wideOf wide₁) (wideOf wide₀) 1 15 f) ∙ getD-set-same (wideOf wide₁ .offsets) 1 15 0 (omega (arith, kept₂, l, r))
+
+      two : getD (wideOf wide₀ .offsets) 0 0 ≡ 14
+      two =
+          ap (λ (x : List ℕ). getD x 0 0) (offsets-put (wideOf wide₁) (wideOf wide₀) 1 15 f)
+          ∙ (getD-set-other (wideOf wide₁ .offsets) 1 0 15 0 (λ q. absurd (omega arith))
+          ∙ (ap (λ (x : List ℕ). getD x 0 0) (offsets-put (wideOf wide) (wideOf wide₁) 0 14 e) ∙ getD-set-same (wideOf wide .offsets) 0 14 0 (omega (arith, kept₁, r))))
+
+      first : getD (wideOf wide₀ .offsets) 1 0 ∷ getD (wideOf wide₀ .offsets) 0 0 ∷ [] ≡ protected
       first = ap₂ (λ (x y : ℕ). x ∷ y ∷ []) one two
 
-  module _ {kept counts : List ℕ} {d : Depths} {c : Cells} {target : ℕ} {b : Broken} {i : ℕ} (g : Going kept counts d c target b i) where
-    pub going-on :
-        {kept′ counts′ : List ℕ} {d′ : Depths} {c′ : Cells} {target′ : ℕ} {b′ r : Broken} (op t : ℕ) → i < length tape → op ≡ getD tape i 0 % E.EVENTS → t ≡ getD tape i 0 / E.EVENTS
-        → ((f : Tables) → Shown f kinds values found means opens written → r ≡ eventRule f (stackOf kept (d .kept)) c target op t)
-        → b′ ≡ b ⊕ r
-        → ((f : Tables) → Names f found means → Moved (heldAfter f op t (heldOf kept counts d)) kept′ counts′ d d′)
-        → ((f : Tables) → Values f values → c′ ≡ cellsAfter f op t c)
-        → ((f : Tables) → Names f found means → target′ ≡ targetAfter f op t target)
-        → length kept′ ≡ length kept → length counts′ ≡ length counts
-        → Going kept′ counts′ d′ c′ target′ b′ (i + 1)
-    unfolding judgeEvent
-    going-on {kept′} {counts′} {d′} {c′} {target′} {b′} {r} op t h eo et judged joined moved celled aimed lk lc =
-        let deep = g .deep in
-        let wide = g .wide in
-        let room = g .room in
-        let rooms = g .rooms in
-        let m = moved (some-tables found means) (some-names found means) in
-        let deep′ = m .deep in
-        let wide′ = m .wide in
-        record {
-          is = λ f s. ap (λ (x : Judging). pass (judgeEvent f) x (drop (i + 1) tape)) (stepped f s) ∙ pass-turn (judgeEvent f) _ tape i op t h eo et (g .is f s);
-          inside = omega arith;
-          deep = omega arith;
-          wide = omega arith;
-          low = subst (λ (h : Held). Low (i + 1) h) (sym (m .is)) (low-after (some-tables found means) op t i (heldOf kept counts d) (g .low));
-          small = g .small;
-          room = omega arith;
-          rooms = omega arith;
-        }
-      where
-        stepped : (f : Tables) → Shown f kinds values found means opens written → judging (heldOf kept′ counts′ d′) c′ target′ b′ ≡ judgeEvent f op t (judging (heldOf kept counts d) c target b)
-        stepped f s = rw (moved f (s .names) .is, celled f (s .values-are), aimed f (s .names), joined, judged f s)
-
-    pub going-end : length tape ≤ i → (f : Tables) → Shown f kinds values found means opens written → b ≡ (pass (judgeEvent f) (beginning others) tape) .broken
-    going-end h f s = ap (λ (x : Judging). x .broken) (pass-end (judgeEvent f) _ tape i h (g .is f s))
+  pub going-end :
+      {wide counts : List ℕ} {d : Depths} {c : Cells} {target : ℕ} {b : Broken} {i : ℕ} (start wide₁ : List ℕ)
+      → wideOf wide₁ ≡ putOffset 0 14 (wideOf start) → wideOf wide₀ ≡ putOffset 1 15 (wideOf wide₁) → Going wide counts d c target b i → length tape ≤ i
+      → ((f : Tables) → Shown f kinds (wideOf start) (thinOf thin) → b ≡ begun f .broken) × Stays (wideOf start) (wideOf wide)
+  going-end {wide} start wide₁ e₁ e₂ g h =
+      let first : Stays (wideOf start) (wideOf wide₀) =
+      stays-on (wideOf start) (wideOf wide₁) (wideOf wide₀) (put-stays (wideOf start) (wideOf wide₁) 0 14 e₁) (put-stays (wideOf wide₁) (wideOf wide₀) 1 15 e₂) in
+      ((λ f s. ap (λ (x : Judging). x .broken) (pass-end (judgeEvent f) _ tape _ h (g .is f (shown-after first s)))), stays-on (wideOf start) (wideOf wide₀) (wideOf wide) first (g .stays))

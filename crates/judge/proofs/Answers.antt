@@ -8,6 +8,7 @@ use native.Mathlib.Numerals.{add-two}
 use lib.Dec.{eqb}
 use lib.ListN.{getD}
 use borrow.Author.Tests.{eqb-true, leb-true}
+use Rattle.ledger.specs.Book.{Wide, Thin}
 use Rattle.names.specs.declared.Broken.{Broken}
 use Rattle.names.specs.Broken.{unbroken, rule, broken, _⊕_}
 use Rattle.grammar.specs.Tree.{Operand}
@@ -17,7 +18,7 @@ use Rattle.kinds.specs.Rules.{isBare, writeRule, placeBy, operandRules, onlyReg
 use Rattle.tables.specs.Packed.{numberIn, unpacked, cellIn, registerIn, packedAt}
 use Rattle.tables.proofs.Meanings.{by-sort, register-is}
 use Rattle.rules.specs.Parts.{subscriptAt, indexAt, designatorAt, operandAt, termAt}
-use Rattle.rules.specs.Shows.{Names}
+use Rattle.rules.specs.Shows.{Listed}
 use Rattle.rules.proofs.Sorts.{as-register, as-cell, baseAt, meant-at}
 use Rattle.judge.specs.Along.{aimOf, registerTarget, aimBy, controlBy, signRule, firstRules, chainRule}
 
@@ -36,7 +37,7 @@ module _ (m : ℕ) where
   pub aimed-nowhere : (m % 8 ≡ 1 → ⊥) → m % 8 < 4 → (n : ℕ) (b : Based) → 0 ≡ aimOf (unpacked n m b)
   aimed-nowhere h g n b = by-sort (λ x. 0 ≡ aimOf x) n m b (λ e. absurd (h (eqb-true _ _ e))) (λ e f. refl) (λ e f l. absurd (past g (leb-true _ _ l))) (λ e f l. refl)
 
-module _ {f : Tables} {found means : List ℕ} (s : Names f found means) (t m : ℕ) (e : m ≡ packedAt found means t) where
+module _ {f : Tables} {w : Wide} {l : Thin} (s : Listed f w l) (t m : ℕ) (e : m ≡ packedAt (l .found) (w .means) t) where
   pub told : (g : Meaning → ℕ) (x : ℕ) → ((n : ℕ) (b : Based) → x ≡ g (unpacked n m b)) → x ≡ g (meaningAt f t)
   told g x p = p _ _ ∙ ap g (sym (meant-at s t m e))
 
@@ -44,23 +45,23 @@ module _ {f : Tables} {found means : List ℕ} (s : Names f found means) (t m : 
   kept-is r h = ap registerOf (meant-at s t m e) ∙ (register-is _ _ _ ∙ sym h)
 
   pub aims-register : (kept : List ℕ) (shape : ℕ) {x : Broken} → m % 8 ≡ 1 → x ≡ registerTarget kept (designatorAt shape t) (numberIn m) → x ≡ aimBy f kept (designatorAt shape t) (meaningAt f t)
-  aims-register kept shape h p = rw (meant-at s t m e, as-register (getD found t 0) m (baseAt s t) h) p
+  aims-register kept shape h p = rw (meant-at s t m e, as-register (getD (l .found) t 0) m (baseAt s t) h) p
 
   pub aims-cell :
       (kept : List ℕ) (shape : ℕ) {x : Broken} → 4 ≤ m % 8 → ((n : ℕ) (b : Based) → x ≡ placeBy f (cell (cellIn n m b)) (designatorAt shape t)) → x ≡ aimBy f kept (designatorAt shape t) (meaningAt f t)
-  aims-cell kept shape h p = rw (meant-at s t m e, as-cell (getD found t 0) m (baseAt s t) h) (p _ _)
+  aims-cell kept shape h p = rw (meant-at s t m e, as-cell (getD (l .found) t 0) m (baseAt s t) h) (p _ _)
 
   pub aims-nowhere : (kept : List ℕ) (shape : ℕ) {x : Broken} → (m % 8 ≡ 1 → ⊥) → m % 8 < 4 → x ≡ broken 8 t → x ≡ aimBy f kept (designatorAt shape t) (meaningAt f t)
   aims-nowhere kept shape h g p =
       p ∙ rw (meant-at s t m e)
-      (by-sort (λ y. broken 8 t ≡ aimBy f kept (designatorAt shape t) y) (getD found t 0) m (baseAt s t) (λ a. absurd (h (eqb-true _ _ a))) (λ a b. refl) (λ a b l. absurd (past m g (leb-true _ _ l))) (λ a b l. refl))
+      (by-sort (λ y. broken 8 t ≡ aimBy f kept (designatorAt shape t) y) (getD (l .found) t 0) m (baseAt s t) (λ a. absurd (h (eqb-true _ _ a))) (λ a b. refl) (λ a b c. absurd (past m g (leb-true _ _ c))) (λ a b c. refl))
 
   pub control-register : (kept : List ℕ) (shape : ℕ) {x : Broken} → m % 8 ≡ 1 → x ≡ registerTarget kept (designatorAt shape t) (numberIn m) → x ≡ controlBy kept (designatorAt shape t) (meaningAt f t)
-  control-register kept shape h p = rw (meant-at s t m e, as-register (getD found t 0) m (baseAt s t) h) p
+  control-register kept shape h p = rw (meant-at s t m e, as-register (getD (l .found) t 0) m (baseAt s t) h) p
 
   pub control-nothing : (kept : List ℕ) (shape : ℕ) {x : Broken} → (m % 8 ≡ 1 → ⊥) → x ≡ broken 8 t → x ≡ controlBy kept (designatorAt shape t) (meaningAt f t)
   control-nothing kept shape h p =
-      p ∙ rw (meant-at s t m e) (by-sort (λ y. broken 8 t ≡ controlBy kept (designatorAt shape t) y) (getD found t 0) m (baseAt s t) (λ a. absurd (h (eqb-true _ _ a))) (λ a b. refl) (λ a b l. refl) (λ a b l. refl))
+      p ∙ rw (meant-at s t m e) (by-sort (λ y. broken 8 t ≡ controlBy kept (designatorAt shape t) y) (getD (l .found) t 0) m (baseAt s t) (λ a. absurd (h (eqb-true _ _ a))) (λ a b. refl) (λ a b c. refl) (λ a b c. refl))
 
 -- ── by the target ──
 

@@ -9,6 +9,7 @@ use Rattle.base.specs.Choose.{if_then_else_}
 use Rattle.tape.specs.Events as E
 use Rattle.tape.specs.Numbers.{PHRASE, layerAt, formAt, familyAt}
 use Rattle.grammar.specs.Tree.{Designator, Operand, Width, full, short}
+use Rattle.ledger.specs.Book.{Wide, onWide}
 use Rattle.names.specs.declared.Broken.{Broken}
 use Rattle.names.specs.Broken.{unbroken, rule, broken, _⊕_}
 use Rattle.kinds.specs.Meaning.{Meaning, nothing, register, cell, routine, registerOf}
@@ -178,4 +179,11 @@ heldOf kept counts d = record { kept = stackOf kept (d .kept); count = d .count;
 pub record Moved (h : Held) (kept counts : List ℕ) (d r : Depths) : Type 0 where
   pub is : heldOf kept counts r ≡ h
   pub deep : r .kept ≤ d .kept + 1
-  pub wide : r .counts ≤ d .counts + 1
+
+-- the column of offsets anew
+abbrev pub withOffsets : List ℕ → Wide → Wide
+withOffsets l w = onWide 3 (λ _. l) w
+
+-- the protected registers stand in the column of offsets: the others are as they were
+abbrev pub Stays : (before after : Wide) → Type 0
+Stays before after = after ≡ withOffsets (after .offsets) before

@@ -2,9 +2,11 @@
 ghost use mathlib.Core.Path.{_≡_};
 ghost use mathlib.Core.List.{List};
 ghost use mathlib.Core.Bool.{Bool};
-ghost use Prim.Native.Nat.{ℕ, _+_, _-_, _≤_, _<_};
+ghost use Prim.Native.Nat.{ℕ, _+_, _-_, _/_, _≤_, _<_};
 ghost use lib.ListN.{length, getD};
 ghost use Rattle.tape.specs.Pass.{pass};
+ghost use Rattle.ledger.specs.Book.{wideOf, thinOf};
+ghost use Rattle.ledger.specs.Bounds.{blocksOpen, Nested};
 ghost use Rattle.names.specs.Broken.{_⊕_};
 ghost use Rattle.kinds.specs.Meaning.{Based};
 ghost use Rattle.kinds.specs.Tables.{Tables, meaningAt};
@@ -12,11 +14,13 @@ ghost use Rattle.kinds.specs.Rules.{registerRule, zeroRule, operandRules};
 ghost use Rattle.tables.specs.Packed.{numberIn, unpacked};
 ghost use Rattle.tables.specs.Stacks.{stackOf};
 ghost use Rattle.rules.specs.Parts.{designatorAt, operandAt};
-ghost use Rattle.rules.specs.Shows.{Names, Values, Kinds, Opens, Written, Shown};
-ghost use Rattle.judge.specs.Along.{enterBlock, leaveBlock, keepBase, keepReturn, leaveProcedure, heldAfter, cellsAfter, valueRule, aimOf, targetAfter, registerTarget, aimBy, controlBy, signRule, firstRules, chainRule, declarationRule, assignmentRule, statementRule, eventRule, judgeEvent, beginning, heldOf, Moved};
-use arrays::key;
+ghost use Rattle.rules.specs.Shows.{Listed, Shown};
+ghost use Rattle.judge.specs.Along.{enterBlock, leaveBlock, keepBase, keepReturn, leaveProcedure, heldAfter, cellsAfter, valueRule, aimOf, targetAfter, registerTarget, aimBy, controlBy, signRule, firstRules, chainRule, declarationRule, assignmentRule, statementRule, eventRule, judgeEvent, beginning, heldOf, Moved, Stays};
 use arrays::kind;
 use arrays::put_wide;
+use ledger::meaning;
+use ledger::put_offset;
+use ledger::value;
 use names::Broken;
 use names::join;
 use names::rule;
@@ -33,7 +37,6 @@ use rules::term_rules;
 use rules::used_register;
 use rules::write_rule;
 use tables::less;
-use tables::meaning;
 use tables::number;
 use tables::register;
 use tables::top;
@@ -87,12 +90,15 @@ fn leave_block(counts: &[u64], d: Depths) -> Depths
     }
 }
 
-fn keep_base(kept: &mut [u64], r: u64, d: Depths) -> Depths
-    requires { ⌜ (d .kept < length (now kept)) × (d .count < 4294967296) ⌝ }
-    ensures { λ x. ⌜ ((counts : List ℕ) → Moved (keepBase r (heldOf (now (kept .entry)) counts d)) (now (kept .exit)) counts d x) ⌝ }
+fn keep_base(wide: &mut [u64], r: u64, d: Depths) -> Depths
+    requires { ⌜ (d .kept < length (wideOf (now wide) .offsets)) × ((d .kept ≤ 4294967296) × (d .count < 4294967296)) ⌝ }
+    ensures { λ x.
+        ⌜ ((counts : List ℕ)
+        → Moved (keepBase r (heldOf (wideOf (now (wide .entry)) .offsets) counts d)) (wideOf (now (wide .exit)) .offsets) counts d x)
+        × Stays (wideOf (now (wide .entry))) (wideOf (now (wide .exit))) ⌝ }
 {
     let depth = d.kept;
-    put_wide(kept, depth, r);
+    put_offset(wide, depth, r);
     Depths {
         kept: depth + 1,
         count: d.count + 1,
@@ -100,12 +106,15 @@ fn keep_base(kept: &mut [u64], r: u64, d: Depths) -> Depths
     }
 }
 
-fn keep_return(kept: &mut [u64], r: u64, d: Depths) -> Depths
-    requires { ⌜ d .kept < length (now kept) ⌝ }
-    ensures { λ x. ⌜ ((counts : List ℕ) → Moved (keepReturn r (heldOf (now (kept .entry)) counts d)) (now (kept .exit)) counts d x) ⌝ }
+fn keep_return(wide: &mut [u64], r: u64, d: Depths) -> Depths
+    requires { ⌜ (d .kept < length (wideOf (now wide) .offsets)) × (d .kept ≤ 4294967296) ⌝ }
+    ensures { λ x.
+        ⌜ ((counts : List ℕ)
+        → Moved (keepReturn r (heldOf (wideOf (now (wide .entry)) .offsets) counts d)) (wideOf (now (wide .exit)) .offsets) counts d x)
+        × Stays (wideOf (now (wide .entry))) (wideOf (now (wide .exit))) ⌝ }
 {
     let depth = d.kept;
-    put_wide(kept, depth, r);
+    put_offset(wide, depth, r);
     Depths {
         kept: depth + 1,
         count: d.count,
@@ -126,14 +135,17 @@ fn leave_procedure(d: Depths) -> Depths
 fn held_after(
     op: u32,
     t: usize,
-    found: &[u32],
-    means: &[u64],
-    kept: &mut [u64],
+    wide: &mut [u64],
+    thin: &[u16],
     counts: &mut [u64],
     d: Depths,
 ) -> Depths
-    requires { ⌜ (t < 4294967296) × ((d .kept < length (now kept)) × ((d .counts < length (now counts)) × (d .count < 4294967296))) ⌝ }
-    ensures { λ r. ⌜ ((f : Tables) → Names f (now (found .entry)) (now (means .entry)) → Moved (heldAfter f op t (heldOf (now (kept .entry)) (now (counts .entry)) d)) (now (kept .exit)) (now (counts .exit)) d r) ⌝ }
+    requires { ⌜ (t < 4294967296) × ((d .kept < length (wideOf (now wide) .offsets))
+        × ((d .kept ≤ 4294967296) × ((d .count < 4294967296) × (blocksOpen op (d .counts) ≤ length (now counts))))) ⌝ }
+    ensures { λ r.
+        ⌜ ((f : Tables) → Listed f (wideOf (now (wide .entry))) (thinOf (now (thin .entry)))
+        → Moved (heldAfter f op t (heldOf (wideOf (now (wide .entry)) .offsets) (now (counts .entry)) d)) (wideOf (now (wide .exit)) .offsets) (now (counts .exit)) d r)
+        × Stays (wideOf (now (wide .entry))) (wideOf (now (wide .exit))) ⌝ }
 {
     if op == tape::BLOCK {
         return enter_block(counts, d);
@@ -142,10 +154,12 @@ fn held_after(
         return leave_block(counts, d);
     }
     if op == tape::BASE {
-        return keep_base(kept, register(meaning(found, means, t)), d);
+        let r = register(meaning(wide, thin, t));
+        return keep_base(wide, r, d);
     }
     if op == tape::PROCEDURE {
-        return keep_return(kept, register(meaning(found, means, t + 2)), d);
+        let r = register(meaning(wide, thin, t + 2));
+        return keep_return(wide, r, d);
     }
     if op == tape::END_PROCEDURE {
         return leave_procedure(d);
@@ -155,8 +169,8 @@ fn held_after(
 
 // ── cells and their values ──
 
-fn cells_after(op: u32, t: usize, values: &[u64], c: Cells) -> Cells
-    ensures { λ r. ⌜ ((f : Tables) → Values f (now (values .entry)) → r ≡ cellsAfter f op t c) ⌝ }
+fn cells_after(op: u32, t: usize, wide: &[u64], c: Cells) -> Cells
+    ensures { λ r. ⌜ ((f : Tables) → f .values ≡ wideOf (now (wide .entry)) .values → r ≡ cellsAfter f op t c) ⌝ }
 {
     let room = c.room;
     let elements = c.elements;
@@ -172,7 +186,7 @@ fn cells_after(op: u32, t: usize, values: &[u64], c: Cells) -> Cells
     if k == tape::ARRAY_FULL {
         return Cells {
             short,
-            elements: key(values, t),
+            elements: value(wide, t),
             room,
         };
     }
@@ -226,59 +240,48 @@ fn aim_of(m: u64) -> usize
     0
 }
 
-fn target_after(op: u32, t: usize, found: &[u32], means: &[u64], target: usize) -> usize
-    ensures { λ r. ⌜ ((f : Tables) → Names f (now (found .entry)) (now (means .entry)) → r ≡ targetAfter f op t target) ⌝ }
+fn target_after(op: u32, t: usize, wide: &[u64], thin: &[u16], target: usize) -> usize
+    ensures { λ r. ⌜ ((f : Tables) → Listed f (wideOf (now (wide .entry))) (thinOf (now (thin .entry))) → r ≡ targetAfter f op t target) ⌝ }
 {
     let k = family(op);
     if (k == tape::TARGET) | (k == tape::CONTROL) {
-        return aim_of(meaning(found, means, t));
+        return aim_of(meaning(wide, thin, t));
     }
     target
 }
 
 // A register that a whole chain goes to.
-fn register_target(shape: u32, kept: &[u64], depth: usize, m: u64, t: usize) -> Broken
-    ensures { λ x. ⌜ x ≡ registerTarget (stackOf (now (kept .entry)) depth) (designatorAt shape t) (numberIn m) ⌝ }
+fn register_target(shape: u32, wide: &[u64], depth: usize, m: u64, t: usize) -> Broken
+    ensures { λ x. ⌜ x ≡ registerTarget (stackOf (wideOf (now (wide .entry)) .offsets) depth) (designatorAt shape t) (numberIn m) ⌝ }
 {
     let bare = rule(is_bare(shape), 8, t);
-    join(bare, write_rule(kept, depth, number(m), t))
+    join(bare, write_rule(wide, depth, number(m), t))
 }
 
-fn aim_rules(
-    shape: u32,
-    values: &[u64],
-    found: &[u32],
-    means: &[u64],
-    kept: &[u64],
-    depth: usize,
-    t: usize,
-) -> Broken
+fn aim_rules(shape: u32, wide: &[u64], thin: &[u16], depth: usize, t: usize) -> Broken
     requires { ⌜ t < 4294967296 ⌝ }
-    ensures { λ x. ⌜ ((f : Tables) → Names f (now (found .entry)) (now (means .entry)) → Values f (now (values .entry)) → x ≡ aimBy f (stackOf (now (kept .entry)) depth) (designatorAt shape t) (meaningAt f t)) ⌝ }
+    ensures { λ x.
+        ⌜ ((f : Tables) → Listed f (wideOf (now (wide .entry))) (thinOf (now (thin .entry)))
+        → x ≡ aimBy f (stackOf (wideOf (now (wide .entry)) .offsets) depth) (designatorAt shape t) (meaningAt f t)) ⌝ }
 {
-    let m = meaning(found, means, t);
+    let m = meaning(wide, thin, t);
     if m % 8 == tables::REGISTER {
-        return register_target(shape, kept, depth, m, t);
+        return register_target(shape, wide, depth, m, t);
     }
     if tables::CELL <= m % 8 {
-        return cell_rules(shape, m, values, found, means, t);
+        return cell_rules(shape, m, wide, thin, t);
     }
     broken(8, t)
 }
 
-fn control_rules(
-    shape: u32,
-    found: &[u32],
-    means: &[u64],
-    kept: &[u64],
-    depth: usize,
-    t: usize,
-) -> Broken
-    ensures { λ x. ⌜ ((f : Tables) → Names f (now (found .entry)) (now (means .entry)) → x ≡ controlBy (stackOf (now (kept .entry)) depth) (designatorAt shape t) (meaningAt f t)) ⌝ }
+fn control_rules(shape: u32, wide: &[u64], thin: &[u16], depth: usize, t: usize) -> Broken
+    ensures { λ x.
+        ⌜ ((f : Tables) → Listed f (wideOf (now (wide .entry))) (thinOf (now (thin .entry)))
+        → x ≡ controlBy (stackOf (wideOf (now (wide .entry)) .offsets) depth) (designatorAt shape t) (meaningAt f t)) ⌝ }
 {
-    let m = meaning(found, means, t);
+    let m = meaning(wide, thin, t);
     if m % 8 == tables::REGISTER {
-        return register_target(shape, kept, depth, m, t);
+        return register_target(shape, wide, depth, m, t);
     }
     broken(8, t)
 }
@@ -292,39 +295,32 @@ fn sign_rule(target: usize, t: usize) -> Broken
     none()
 }
 
-fn first_rules(
-    target: usize,
-    shape: u32,
-    values: &[u64],
-    found: &[u32],
-    means: &[u64],
-    t: usize,
-) -> Broken
+fn first_rules(target: usize, shape: u32, wide: &[u64], thin: &[u16], t: usize) -> Broken
     requires { ⌜ t < 4294967296 ⌝ }
-    ensures { λ x. ⌜ ((f : Tables) → Names f (now (found .entry)) (now (means .entry)) → Values f (now (values .entry)) → x ≡ firstRules f target (operandAt shape t)) ⌝ }
+    ensures { λ x. ⌜ ((f : Tables) → Listed f (wideOf (now (wide .entry))) (thinOf (now (thin .entry))) → x ≡ firstRules f target (operandAt shape t)) ⌝ }
 {
     if target == 0 {
         return none();
     }
     if target == 1 {
-        return only_register(shape, found, means, t);
+        return only_register(shape, wide, thin, t);
     }
-    operand_rules(shape, values, found, means, t)
+    operand_rules(shape, wide, thin, t)
 }
 
 fn chain_rule(
     target: usize,
     shape: u32,
     kinds: &[u8],
-    values: &[u64],
-    found: &[u32],
-    means: &[u64],
-    kept: &[u64],
+    wide: &[u64],
+    thin: &[u16],
     depth: usize,
     t: usize,
 ) -> Broken
     requires { ⌜ t < 4294967296 ⌝ }
-    ensures { λ x. ⌜ ((f : Tables) → Names f (now (found .entry)) (now (means .entry)) → Values f (now (values .entry)) → Kinds f (now (kinds .entry)) → x ≡ chainRule f (stackOf (now (kept .entry)) depth) target shape t) ⌝ }
+    ensures { λ x.
+        ⌜ ((f : Tables) → Shown f (now (kinds .entry)) (wideOf (now (wide .entry))) (thinOf (now (thin .entry)))
+        → x ≡ chainRule f (stackOf (wideOf (now (wide .entry)) .offsets) depth) target shape t) ⌝ }
 {
     if target == 0 {
         return none();
@@ -334,7 +330,7 @@ fn chain_rule(
         return broken(8, operator);
     }
     let k = kind(kinds, operator);
-    term_rules(k, shape, values, found, means, kept, depth, target - 2, t)
+    term_rules(k, shape, wide, thin, depth, target - 2, t)
 }
 
 // ── an event ──
@@ -342,36 +338,28 @@ fn chain_rule(
 // "array count not 1 to 2,048"
 const MOST_ELEMENTS: u64 = 2048;
 
-fn declaration_rule(
-    op: u32,
-    t: usize,
-    values: &[u64],
-    found: &[u32],
-    means: &[u64],
-    opens: &[u32],
-    kept: &[u64],
-    depth: usize,
-    c: Cells,
-) -> Broken
+fn declaration_rule(op: u32, t: usize, wide: &[u64], thin: &[u16], depth: usize, c: Cells) -> Broken
     requires { ⌜ t < 4294967296 ⌝ }
-    ensures { λ x. ⌜ ((f : Tables) → Names f (now (found .entry)) (now (means .entry)) → Values f (now (values .entry)) → Opens f (now (opens .entry)) → x ≡ declarationRule f (stackOf (now (kept .entry)) depth) c op t) ⌝ }
+    ensures { λ x.
+        ⌜ ((f : Tables) → Listed f (wideOf (now (wide .entry))) (thinOf (now (thin .entry)))
+        → x ≡ declarationRule f (stackOf (wideOf (now (wide .entry)) .offsets) depth) c op t) ⌝ }
 {
     let k = family(op);
     if op == tape::REGISTER {
-        return rule(key(values, t + 2) <= 15, 9, t + 2);
+        return rule(value(wide, t + 2) <= 15, 9, t + 2);
     }
     if k == tape::ARRAY_FULL {
-        let v = key(values, t);
+        let v = value(wide, t);
         return rule((1 <= v) & (v <= MOST_ELEMENTS), 11, t);
     }
     if op == tape::VALUE {
-        return value_rule(c, key(values, t), t);
+        return value_rule(c, value(wide, t), t);
     }
     if op == tape::BASE {
-        return base_rules(found, means, opens, kept, depth, t);
+        return base_rules(wide, thin, depth, t);
     }
     if op == tape::PROCEDURE {
-        return used_register(found, means, t + 2);
+        return used_register(wide, thin, t + 2);
     }
     none()
 }
@@ -380,29 +368,29 @@ fn assignment_rule(
     op: u32,
     t: usize,
     kinds: &[u8],
-    values: &[u64],
-    found: &[u32],
-    means: &[u64],
-    kept: &[u64],
+    wide: &[u64],
+    thin: &[u16],
     depth: usize,
     target: usize,
 ) -> Broken
     requires { ⌜ t < 4294967296 ⌝ }
-    ensures { λ x. ⌜ ((f : Tables) → Names f (now (found .entry)) (now (means .entry)) → Values f (now (values .entry)) → Kinds f (now (kinds .entry)) → x ≡ assignmentRule f (stackOf (now (kept .entry)) depth) target op t) ⌝ }
+    ensures { λ x.
+        ⌜ ((f : Tables) → Shown f (now (kinds .entry)) (wideOf (now (wide .entry))) (thinOf (now (thin .entry)))
+        → x ≡ assignmentRule f (stackOf (wideOf (now (wide .entry)) .offsets) depth) target op t) ⌝ }
 {
     let k = family(op);
     let shape = tape::form(op);
     if k == tape::TARGET {
-        return aim_rules(shape, values, found, means, kept, depth, t);
+        return aim_rules(shape, wide, thin, depth, t);
     }
     if k == tape::CONTROL {
-        return control_rules(shape, found, means, kept, depth, t);
+        return control_rules(shape, wide, thin, depth, t);
     }
     if k == tape::FIRST {
-        return first_rules(target, shape, values, found, means, t);
+        return first_rules(target, shape, wide, thin, t);
     }
     if k == tape::TERM {
-        return chain_rule(target, shape, kinds, values, found, means, kept, depth, t);
+        return chain_rule(target, shape, kinds, wide, thin, depth, t);
     }
     if (op == tape::ABS) | ((op == tape::NEG) | (op == tape::NEG_ABS)) {
         return sign_rule(target, t);
@@ -411,97 +399,84 @@ fn assignment_rule(
 }
 
 // The register of a condition stands two tokens before its operand.
-fn compared_rules(shape: u32, values: &[u64], found: &[u32], means: &[u64], t: usize) -> Broken
+fn compared_rules(shape: u32, wide: &[u64], thin: &[u16], t: usize) -> Broken
     requires { ⌜ t < 4294967296 ⌝ }
-    ensures { λ x. ⌜ ((f : Tables) → Names f (now (found .entry)) (now (means .entry)) → Values f (now (values .entry)) → x ≡ registerRule f (t - 2) ⊕ operandRules f (operandAt shape t)) ⌝ }
+    ensures { λ x.
+        ⌜ ((f : Tables) → Listed f (wideOf (now (wide .entry))) (thinOf (now (thin .entry)))
+        → x ≡ registerRule f (t - 2) ⊕ operandRules f (operandAt shape t)) ⌝ }
 {
     let n = fewer(t, 2);
-    let compared = register_rule(meaning(found, means, n), n);
-    join(compared, operand_rules(shape, values, found, means, t))
+    let compared = register_rule(meaning(wide, thin, n), n);
+    join(compared, operand_rules(shape, wide, thin, t))
 }
 
 fn statement_rule(
     op: u32,
     t: usize,
     kinds: &[u8],
-    values: &[u64],
-    found: &[u32],
-    means: &[u64],
-    written: &[u32],
-    kept: &[u64],
+    wide: &[u64],
+    thin: &[u16],
     depth: usize,
     target: usize,
 ) -> Broken
     requires { ⌜ t < 4294967296 ⌝ }
-    ensures { λ x. ⌜ ((f : Tables) → Names f (now (found .entry)) (now (means .entry)) → Values f (now (values .entry)) → Kinds f (now (kinds .entry)) → Written f (now (written .entry)) → x ≡ statementRule f (stackOf (now (kept .entry)) depth) target op t) ⌝ }
+    ensures { λ x.
+        ⌜ ((f : Tables) → Shown f (now (kinds .entry)) (wideOf (now (wide .entry))) (thinOf (now (thin .entry)))
+        → x ≡ statementRule f (stackOf (wideOf (now (wide .entry)) .offsets) depth) target op t) ⌝ }
 {
     let k = family(op);
     if k == tape::COMPARED {
-        return compared_rules(tape::form(op), values, found, means, t);
+        return compared_rules(tape::form(op), wide, thin, t);
     }
     if k == tape::LIMIT {
-        return operand_rules(tape::form(op), values, found, means, t);
+        return operand_rules(tape::form(op), wide, thin, t);
     }
     if op == tape::CALL {
-        return call_rules(found, means, written, kept, depth, t);
+        return call_rules(wide, thin, depth, t);
     }
-    assignment_rule(op, t, kinds, values, found, means, kept, depth, target)
+    assignment_rule(op, t, kinds, wide, thin, depth, target)
 }
 
 fn event_rule(
     op: u32,
     t: usize,
     kinds: &[u8],
-    values: &[u64],
-    found: &[u32],
-    means: &[u64],
-    opens: &[u32],
-    written: &[u32],
-    kept: &[u64],
+    wide: &[u64],
+    thin: &[u16],
     depth: usize,
     c: Cells,
     target: usize,
 ) -> Broken
     requires { ⌜ t < 4294967296 ⌝ }
-    ensures { λ x. ⌜ ((f : Tables) → Shown f (now (kinds .entry)) (now (values .entry)) (now (found .entry)) (now (means .entry)) (now (opens .entry)) (now (written .entry)) → x ≡ eventRule f (stackOf (now (kept .entry)) depth) c target op t) ⌝ }
+    ensures { λ x.
+        ⌜ ((f : Tables) → Shown f (now (kinds .entry)) (wideOf (now (wide .entry))) (thinOf (now (thin .entry)))
+        → x ≡ eventRule f (stackOf (wideOf (now (wide .entry)) .offsets) depth) c target op t) ⌝ }
 {
     if layer(op) == tape::PHRASE {
-        return statement_rule(
-            op,
-            t,
-            kinds,
-            values,
-            found,
-            means,
-            written,
-            kept,
-            depth,
-            target,
-        );
+        return statement_rule(op, t, kinds, wide, thin, depth, target);
     }
-    declaration_rule(op, t, values, found, means, opens, kept, depth, c)
+    declaration_rule(op, t, wide, thin, depth, c)
 }
 
 // ── the tape ──
 
-// The broken rule of a tape that is answered, by the tables of its tokens, with what else is broken in the text.
+// The broken rule of a tape that is answered, by the tables of its tokens, with what else is broken in the text. The protected registers stand in the column
+// of offsets, which is not yet in use.
 pub fn judge(
     tape: &[u32],
     kinds: &[u8],
-    values: &[u64],
-    found: &[u32],
-    means: &[u64],
-    opens: &[u32],
-    written: &[u32],
-    kept: &mut [u64],
+    wide: &mut [u64],
+    thin: &[u16],
     counts: &mut [u64],
     others: Broken,
 ) -> Broken
-    requires { ⌜ (length (now tape) < 4294967296) × ((length (now tape) + 2 ≤ length (now kept)) × (length (now tape) ≤ length (now counts))) ⌝ }
-    ensures { λ r. ⌜ ((f : Tables) → Shown f (now (kinds .entry)) (now (values .entry)) (now (found .entry)) (now (means .entry)) (now (opens .entry)) (now (written .entry)) → r ≡ (pass (judgeEvent f) (beginning others) (now (tape .entry))) .broken) ⌝ }
+    requires { ⌜ (length (now tape) < 4294967296) × ((length (now tape) + 2 ≤ length (now wide) / 4) × Nested (length (now counts)) 0 0 (now tape)) ⌝ }
+    ensures { λ r.
+        ⌜ ((f : Tables) → Shown f (now (kinds .entry)) (wideOf (now (wide .entry))) (thinOf (now (thin .entry)))
+        → r ≡ (pass (judgeEvent f) (beginning others) (now (tape .entry))) .broken) × Stays (wideOf (now (wide .entry))) (wideOf (now (wide .exit))) ⌝ }
 {
-    put_wide(kept, 0, 14);
-    put_wide(kept, 1, 15);
+    put_offset(wide, 0, 14);
+    put_offset(wide, 1, 15);
     let mut d = Depths {
         kept: 2,
         count: 0,
@@ -520,24 +495,11 @@ pub fn judge(
         let op = tape::op(e);
         let t = tape::token(e);
         let depth = d.kept;
-        let r = event_rule(
-            op,
-            t,
-            kinds,
-            values,
-            found,
-            means,
-            opens,
-            written,
-            kept,
-            depth,
-            c,
-            target,
-        );
+        let r = event_rule(op, t, kinds, wide, thin, depth, c, target);
         least = join(least, r);
-        d = held_after(op, t, found, means, kept, counts, d);
-        c = cells_after(op, t, values, c);
-        target = target_after(op, t, found, means, target);
+        d = held_after(op, t, wide, thin, counts, d);
+        c = cells_after(op, t, wide, c);
+        target = target_after(op, t, wide, thin, target);
         i += 1;
     }
     least

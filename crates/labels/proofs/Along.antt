@@ -5,19 +5,20 @@ use Prim.Native.Nat.{ℕ, suc, _+_, _/_, _%_, _≤_, _<_}
 use native.Mathlib.Omega.{arith}
 use native.Mathlib.Numerals.{add-one}
 use lib.Dec.{eqb, ltb}
-use lib.ListN.{getD, set, length, drop}
+use lib.ListN.{getD, length, drop}
 use Rattle.base.proofs.Tests.{by-test}
 use Rattle.tape.specs.Events as E
 use Rattle.tape.specs.Pass.{pass}
 use Rattle.tape.proofs.Pass.{pass-turn, pass-end}
+use Rattle.ledger.specs.Book.{Thin, thinOf, onThin, putGoes}
 use Rattle.names.specs.declared.Broken.{Broken}
 use Rattle.names.specs.declared.Noted.{Noted}
 use Rattle.names.specs.Broken.{rule, _⊕_, unbroken}
 use Rattle.names.specs.Search.{inBlock, find}
 use Rattle.names.specs.Labels.{Labelled, noteLabel, setLabel, mostLabels}
-use Rattle.labels.specs.Chains.{after, chain, blocksIn, labelledIn}
+use Rattle.labels.specs.Chains.{after, chain, blocksIn, labelledIn, Marking, markIn, marking}
 use Rattle.labels.specs.Linking.{Linking, blockAfter, outerAfter, linksAfter, linkOp}
-use Rattle.labels.specs.Labelling.{Labelling, labelAt, labelOp, linked, labelledBy}
+use Rattle.labels.specs.Labelling.{Labelling, labelAt, labelOp, linked, Chained, labelledBy, labelledAlong}
 
 -- ── a label, a GOTO ──
 
@@ -30,11 +31,11 @@ module _ (keys links outer : List ℕ) (t : ℕ) (n : Noted) (key : ℕ) where
   label-set next same once few both all k e s o f j q goes = rw (add-one (n .count), q, j, o, f, s, k, e)
 
   pub bound :
-      (block l : ℕ) (one all : Broken) (goes goes′ : List ℕ) → key ≡ getD keys t 0 → l ≡ find keys key (blocksIn links outer block) → goes′ ≡ set goes t l
+      (block l : ℕ) (one all : Broken) (b b′ : Thin) → b .opens ≡ links → b .written ≡ outer → key ≡ getD keys t 0 → l ≡ find keys key (blocksIn links outer block) → b′ ≡ putGoes t l b
       → one ≡ rule (ltb 0 l) 6 t → all ≡ n .broken ⊕ one
-      → labelledIn goes′ (record { count = n .count; broken = all }) ≡ noteLabel t (find keys (getD keys t 0) (blocksIn links outer block)) (labelledIn goes n)
+      → markIn b′ (record { count = n .count; broken = all }) ≡ marking (λ links outer. noteLabel t (find keys (getD keys t 0) (blocksIn links outer block))) (markIn b n)
   unfolding noteLabel
-  bound block l one all goes goes′ k e s o q = rw (q, o, s, e, k)
+  bound block l one all b b′ x y k e s o q = rw (q, o, s, e, k, x, y)
 
 -- an event sets one label at most
 label-count : (keys links outer : List ℕ) (op t block : ℕ) (s : Labelled) → labelAt keys links outer op t block s .count ≤ suc (s .count)
@@ -53,35 +54,39 @@ label-count keys links outer op t block s = by-test P (eqb op 12) _ _ (λ _. up)
 -- ── the first loop ──
 
 -- i events are passed
-pub record Linked (tape links₀ outer₀ links outer : List ℕ) (block i : ℕ) : Type 0 where
-  pub is : pass linkOp (record { links = links; outer = outer; block = block }) (drop i tape) ≡ linked tape links₀ outer₀
+pub record Linked (tape thin₀ thin : List ℕ) (block i : ℕ) : Type 0 where
+  pub is : pass linkOp (record { links = thinOf thin .opens; outer = thinOf thin .written; block = block }) (drop i tape) ≡ linked tape (thinOf thin₀ .opens) (thinOf thin₀ .written)
   pub inside : i ≤ length tape
-  pub small : block < 4294967296
-  pub same-links : length links ≡ length links₀
-  pub same-outer : length outer ≡ length outer₀
+  pub small : block < 65536
+  pub found-is : thinOf thin .found ≡ thinOf thin₀ .found
+  pub goes-is : thinOf thin .goes ≡ thinOf thin₀ .goes
+  pub same : length thin ≡ length thin₀
 
-pub linking : (tape links outer : List ℕ) → Linked tape links outer links outer 0 0
+pub linking : (tape thin : List ℕ) → Linked tape thin thin 0 0
 unfolding linked
-linking tape links outer = record { is = refl; inside = omega arith; small = omega arith; same-links = refl; same-outer = refl }
+linking tape thin = record { is = refl; inside = omega arith; small = omega arith; found-is = refl; goes-is = refl; same = refl }
 
-module _ {tape links₀ outer₀ links outer : List ℕ} {block i : ℕ} (g : Linked tape links₀ outer₀ links outer block i) where
+module _ {tape thin₀ thin : List ℕ} {block i : ℕ} (g : Linked tape thin₀ thin block i) where
   pub linking-on :
-      {links′ outer′ : List ℕ} {block′ : ℕ} (op t : ℕ) → i < length tape → op ≡ getD tape i 0 % E.EVENTS → t ≡ getD tape i 0 / E.EVENTS
-      → block′ ≡ blockAfter op t outer block → links′ ≡ linksAfter op t block links → outer′ ≡ outerAfter op t block outer
-      → block′ < 4294967296 → length links′ ≡ length links → length outer′ ≡ length outer → Linked tape links₀ outer₀ links′ outer′ block′ (i + 1)
+      (thin₁ : List ℕ) {thin₂ : List ℕ} {block′ : ℕ} (op t : ℕ) → i < length tape → op ≡ getD tape i 0 % E.EVENTS → t ≡ getD tape i 0 / E.EVENTS
+      → block′ ≡ blockAfter op t (thinOf thin .written) block → thinOf thin₁ ≡ onThin 2 (linksAfter op t block) (thinOf thin) → thinOf thin₂ ≡ onThin 3 (outerAfter op t block) (thinOf thin₁)
+      → block′ < 65536 → length thin₁ ≡ length thin → length thin₂ ≡ length thin₁ → Linked tape thin₀ thin₂ block′ (i + 1)
   unfolding linkOp
-  linking-on op t h eo et b l o s p q = record {
-    is = rw (b, l, o) (pass-turn linkOp _ tape i op t h eo et (g .is));
-    inside = omega arith;
-    small = s;
-    same-links = p ∙ g .same-links;
-    same-outer = q ∙ g .same-outer;
-  }
+  linking-on thin₁ {thin₂} op t h eo et b l o s p q =
+      let e : thinOf thin₂ ≡ onThin 3 (outerAfter op t block) (onThin 2 (linksAfter op t block) (thinOf thin)) = o ∙ ap (λ (x : Thin). onThin 3 (outerAfter op t block) x) l in
+      record {
+        is = rw (b, e) (pass-turn linkOp _ tape i op t h eo et (g .is));
+        inside = omega arith;
+        small = s;
+        found-is = ap (λ (x : Thin). x .found) e ∙ g .found-is;
+        goes-is = ap (λ (x : Thin). x .goes) e ∙ g .goes-is;
+        same = q ∙ (p ∙ g .same);
+      }
 
-  pub linking-end : length tape ≤ i → (links ≡ linked tape links₀ outer₀ .links) × (outer ≡ linked tape links₀ outer₀ .outer)
+  pub linking-end : length tape ≤ i → Chained tape (thinOf thin₀) (thinOf thin)
   linking-end h =
       let e = pass-end linkOp _ tape i h (g .is) in
-      (ap (λ (m : Linking). m .links) e, ap (λ (m : Linking). m .outer) e)
+      record { links-are = ap (λ (m : Linking). m .links) e; outer-is = ap (λ (m : Linking). m .outer) e; found-is = g .found-is; goes-is = g .goes-is }
 
 -- ── the second loop ──
 
@@ -89,32 +94,52 @@ abbrev start : List ℕ → Labelling
 start goes = record { block = 0; labelled = record { goes = goes; count = 0; broken = unbroken } }
 
 -- i events are passed
-pub record Binding (tape keys links outer goes₀ goes : List ℕ) (block : ℕ) (n : Noted) (i : ℕ) : Type 0 where
-  pub is : pass (labelOp keys links outer) (record { block = block; labelled = labelledIn goes n }) (drop i tape) ≡ pass (labelOp keys links outer) (start goes₀) tape
+pub record Binding (tape keys thin₀ thin : List ℕ) (block : ℕ) (n : Noted) (i : ℕ) : Type 0 where
+  pub is :
+      pass (labelOp keys (thinOf thin₀ .opens) (thinOf thin₀ .written)) (record { block = block; labelled = labelledIn (thinOf thin .goes) n }) (drop i tape)
+      ≡ pass (labelOp keys (thinOf thin₀ .opens) (thinOf thin₀ .written)) (start (thinOf thin₀ .goes)) tape
   pub inside : i ≤ length tape
-  pub small : block < 4294967296
+  pub small : block < 65536
   pub few : n .count ≤ i
-  pub same : length goes ≡ length goes₀
+  pub links-are : thinOf thin .opens ≡ thinOf thin₀ .opens
+  pub outer-is : thinOf thin .written ≡ thinOf thin₀ .written
+  pub found-is : thinOf thin .found ≡ thinOf thin₀ .found
+  pub same : length thin ≡ length thin₀
 
-pub binding : (tape keys links outer goes : List ℕ) → Binding tape keys links outer goes goes 0 (record { count = 0; broken = unbroken }) 0
-binding tape keys links outer goes = record { is = refl; inside = omega arith; small = omega arith; few = omega arith; same = refl }
+pub binding : (tape keys thin : List ℕ) → Binding tape keys thin thin 0 (record { count = 0; broken = unbroken }) 0
+binding tape keys thin = record { is = refl; inside = omega arith; small = omega arith; few = omega arith; links-are = refl; outer-is = refl; found-is = refl; same = refl }
 
-module _ {tape keys links outer goes₀ goes : List ℕ} {block : ℕ} {n : Noted} {i : ℕ} (g : Binding tape keys links outer goes₀ goes block n i) where
+module _ {tape keys thin₀ thin : List ℕ} {block : ℕ} {n : Noted} {i : ℕ} (g : Binding tape keys thin₀ thin block n i) where
   pub binding-on :
-      {goes′ : List ℕ} {block′ : ℕ} {n′ : Noted} (op t : ℕ) → i < length tape → op ≡ getD tape i 0 % E.EVENTS → t ≡ getD tape i 0 / E.EVENTS
-      → labelledIn goes′ n′ ≡ labelAt keys links outer op t block (labelledIn goes n) → block′ ≡ blockAfter op t outer block
-      → block′ < 4294967296 → length goes′ ≡ length goes → Binding tape keys links outer goes₀ goes′ block′ n′ (i + 1)
+      {thin′ : List ℕ} {block′ : ℕ} {n′ : Noted} (op t : ℕ) → i < length tape → op ≡ getD tape i 0 % E.EVENTS → t ≡ getD tape i 0 / E.EVENTS
+      → markIn (thinOf thin′) n′ ≡ marking (λ links outer. labelAt keys links outer op t block) (markIn (thinOf thin) n) → block′ ≡ blockAfter op t (thinOf thin′ .written) block
+      → block′ < 65536 → length thin′ ≡ length thin → Binding tape keys thin₀ thin′ block′ n′ (i + 1)
   unfolding labelOp
-  binding-on op t h eo et l b s p =
+  binding-on {thin′} {block′} {n′} op t h eo et l b s p =
       let few = g .few in
+      let links = thinOf thin₀ .opens in
+      let outer = thinOf thin₀ .written in
+      let outer′ : thinOf thin′ .written ≡ outer = ap (λ (x : Marking). x .outer) l ∙ g .outer-is in
+      let l′ : labelledIn (thinOf thin′ .goes) n′ ≡ labelAt keys links outer op t block (labelledIn (thinOf thin .goes) n) =
+      ap (λ (x : Marking). x .labelled) l ∙ rw (g .links-are, g .outer-is) in
       record {
-        is = rw (b, l) (pass-turn (labelOp keys links outer) _ tape i op t h eo et (g .is));
+        is = rw (b, outer′, l′) (pass-turn (labelOp keys links outer) _ tape i op t h eo et (g .is));
         inside = omega arith;
         small = s;
-        few = omega (arith, ap (λ (m : Labelled). m .count) l, label-count keys links outer op t block (labelledIn goes n));
+        few = omega (arith, ap (λ (m : Labelled). m .count) l′, label-count keys links outer op t block (labelledIn (thinOf thin .goes) n));
+        links-are = ap (λ (x : Marking). x .links) l ∙ g .links-are;
+        outer-is = outer′;
+        found-is = ap (λ (x : Marking). x .found) l ∙ g .found-is;
         same = p ∙ g .same;
       }
 
-  pub binding-end : length tape ≤ i → labelledIn goes n ≡ labelledBy tape keys links outer goes₀
+  pub binding-end : length tape ≤ i
+      → (labelledIn (thinOf thin .goes) n ≡ labelledBy tape keys (thinOf thin₀ .opens) (thinOf thin₀ .written) (thinOf thin₀ .goes)) × (thinOf thin .found ≡ thinOf thin₀ .found)
   unfolding labelledBy
-  binding-end h = ap (λ (m : Labelling). m .labelled) (pass-end (labelOp keys links outer) _ tape i h (g .is))
+  binding-end h = (ap (λ (m : Labelling). m .labelled) (pass-end (labelOp keys (thinOf thin₀ .opens) (thinOf thin₀ .written)) _ tape i h (g .is)), g .found-is)
+
+-- the one loop after the other
+pub both-loops : (tape keys : List ℕ) (b₀ b₁ : Thin) (goes found : List ℕ) (n : Noted) → Chained tape b₀ b₁ → labelledIn goes n ≡ labelledBy tape keys (b₁ .opens) (b₁ .written) (b₁ .goes) → found ≡ b₁ .found
+    → (labelledIn goes n ≡ labelledAlong tape keys (b₀ .opens) (b₀ .written) (b₀ .goes)) × (found ≡ b₀ .found)
+unfolding labelledAlong
+both-loops tape keys b₀ b₁ goes found n c l f = (l ∙ rw (c .links-are, c .outer-is, c .goes-is), f ∙ c .found-is)

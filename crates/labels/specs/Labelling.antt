@@ -1,4 +1,5 @@
 -- The second loop along the tape: labels are judged as they are set, and each GOTO is bound.
+use mathlib.Core.Path.{_≡_}
 use mathlib.Core.List.{List}
 use Prim.Native.Nat.{ℕ}
 use lib.Dec.{eqb}
@@ -6,6 +7,7 @@ use lib.ListN.{getD}
 use Rattle.base.specs.Choose.{if_then_else_}
 use Rattle.tape.specs.Events as E
 use Rattle.tape.specs.Pass.{pass}
+use Rattle.ledger.specs.Book.{Thin}
 use Rattle.names.specs.Broken.{unbroken}
 use Rattle.names.specs.Search.{find}
 use Rattle.names.specs.Labels.{Labelled, noteLabel, setLabel}
@@ -29,6 +31,13 @@ module _ (keys links outer : List ℕ) where
 -- the loops, from whatever the lists hold
 unfoldable pub linked : List ℕ → List ℕ → List ℕ → Linking
 linked tape links outer = pass linkOp (record { links = links; outer = outer; block = 0 }) tape
+
+-- the chains are made, and what has been found stays
+pub record Chained (tape : List ℕ) (before after : Thin) : Type 0 where
+  pub links-are : after .opens ≡ linked tape (before .opens) (before .written) .links
+  pub outer-is : after .written ≡ linked tape (before .opens) (before .written) .outer
+  pub found-is : after .found ≡ before .found
+  pub goes-is : after .goes ≡ before .goes
 
 unfoldable pub labelledBy : List ℕ → List ℕ → List ℕ → List ℕ → List ℕ → Labelled
 labelledBy tape keys links outer goes =

@@ -1,17 +1,24 @@
 // Document 01, "Names, cells, protected registers": which label each GOTO means, refusals 6, 7 and 13 of labels, in two loops along the tape. "Labels are a
-// separate set, found forward or backward in enclosing blocks, but never past the edge of a procedure body": so the first loop chains them.
+// separate set, found forward or backward in enclosing blocks, but never past the edge of a procedure body": so the first loop chains them. The chains stand in
+// two columns of the ledger: labels in `opens`, and in `written` the blocks around each block.
 ghost use mathlib.Core.Path.{_≡_};
+ghost use mathlib.Core.Bool.{true};
 ghost use mathlib.Core.List.{List};
 ghost use Prim.Native.Nat.{ℕ, _≤_, _<_};
 ghost use lib.ListN.{length, getD};
+ghost use Rattle.ledger.specs.Book.{wideOf, thinOf, onThin};
+ghost use Rattle.ledger.specs.Bounds.{noted, Narrow};
 ghost use Rattle.names.specs.Search.{inBlock, find};
 ghost use Rattle.names.specs.Labels.{noteLabel, setLabel};
-ghost use Rattle.labels.specs.Chains.{after as afterOf, chain, blocksIn, labelledIn};
+ghost use Rattle.labels.specs.Chains.{after as afterOf, chain, blocksIn, labelledIn, markIn, marking};
 ghost use Rattle.labels.specs.Linking.{blockAfter, outerAfter, linksAfter};
-ghost use Rattle.labels.specs.Labelling.{labelAt, linked, labelledBy, labelledAlong};
-use arrays::get;
-use arrays::key;
-use arrays::put;
+ghost use Rattle.labels.specs.Labelling.{labelAt, linked, Chained, labelledBy, labelledAlong};
+use ledger::opens;
+use ledger::put_goes;
+use ledger::put_opens;
+use ledger::put_written;
+use ledger::value;
+use ledger::written;
 use names::Broken;
 use names::Noted;
 use names::join;
@@ -23,52 +30,52 @@ const MOST_LABELS: usize = 256;
 // ── the search ──
 
 // What comes after t in a chain, which falls and ends at 0.
-fn after(a: &[u32], t: usize) -> usize
-    ensures { λ r. ⌜ (r ≡ afterOf (now (a .entry)) t) × (r < 4294967296) ⌝ }
+fn after(next: usize, t: usize) -> usize
+    requires { ⌜ next < 65536 ⌝ }
+    ensures { λ r. ⌜ ((a : List ℕ) → next ≡ getD a t 0 → r ≡ afterOf a t) × (r < 65536) ⌝ }
 {
-    let next = get(a, t);
     if next < t { next } else { 0 }
 }
 
 // The first label from one on, along its chain, that has this key, or 0.
-fn in_chain(keys: &[u64], wanted: u64, links: &[u32], newest: usize) -> usize
-    ensures { λ r. ⌜ r ≡ inBlock (now (keys .entry)) wanted (chain (now (links .entry)) newest) 0 ⌝ }
+fn in_chain(wide: &[u64], thin: &[u16], wanted: u64, newest: usize) -> usize
+    ensures { λ r. ⌜ r ≡ inBlock (wideOf (now (wide .entry)) .values) wanted (chain (thinOf (now (thin .entry)) .opens) newest) 0 ⌝ }
 {
     let mut l = newest;
     while 0 < l {
-        if key(keys, l) == wanted {
+        if value(wide, l) == wanted {
             return l;
         }
-        l = after(links, l);
+        l = after(opens(thin, l), l);
     }
     0
 }
 
 // The search goes outward from a block, as far as the edge of the procedure body, and ends at the first match.
-fn lookup(keys: &[u64], wanted: u64, links: &[u32], outer: &[u32], block: usize) -> usize
-    ensures { λ r. ⌜ (r ≡ find (now (keys .entry)) wanted (blocksIn (now (links .entry)) (now (outer .entry)) block)) × (r < 4294967296) ⌝ }
+fn lookup(wide: &[u64], thin: &[u16], wanted: u64, block: usize) -> usize
+    ensures { λ r. ⌜ (r ≡ find (wideOf (now (wide .entry)) .values) wanted (blocksIn (thinOf (now (thin .entry)) .opens) (thinOf (now (thin .entry)) .written) block)) × (r < 65536) ⌝ }
 {
     let mut b = block;
     let mut found: usize = 0;
     'search: while 0 < b {
-        let mut l = get(links, b);
+        let mut l = opens(thin, b);
         while 0 < l {
-            if key(keys, l) == wanted {
+            if value(wide, l) == wanted {
                 found = l;
                 break 'search;
             }
-            l = after(links, l);
+            l = after(opens(thin, l), l);
         }
-        b = after(outer, b);
+        b = after(written(thin, b), b);
     }
     found
 }
 
 // ── the first loop: chains ──
 
-fn block_after(op: u32, t: usize, outer: &[u32], block: usize) -> usize
-    requires { ⌜ (t < 4294967296) × (block < 4294967296) ⌝ }
-    ensures { λ r. ⌜ (r ≡ blockAfter op t (now (outer .entry)) block) × (r < 4294967296) ⌝ }
+fn block_after(op: u32, t: usize, thin: &[u16], block: usize) -> usize
+    requires { ⌜ (noted op ≡ true → t < 65536) × (block < 65536) ⌝ }
+    ensures { λ r. ⌜ (r ≡ blockAfter op t (thinOf (now (thin .entry)) .written) block) × (r < 65536) ⌝ }
 {
     if op == tape::BLOCK {
         return t;
@@ -77,37 +84,38 @@ fn block_after(op: u32, t: usize, outer: &[u32], block: usize) -> usize
         return 0;
     }
     if (op == tape::END_BLOCK) | (op == tape::END_PROCEDURE) {
-        return get(outer, t);
+        return written(thin, t);
     }
     block
 }
 
-fn enclose(op: u32, t: usize, block: usize, outer: &mut [u32])
-    requires { ⌜ block < 4294967296 ⌝ }
-    ensures { λ _. ⌜ now (outer .exit) ≡ outerAfter op t block (now (outer .entry)) ⌝ }
+fn enclose(op: u32, t: usize, block: usize, thin: &mut [u16])
+    requires { ⌜ block < 65536 ⌝ }
+    ensures { λ _. ⌜ thinOf (now (thin .exit)) ≡ onThin 3 (outerAfter op t block) (thinOf (now (thin .entry))) ⌝ }
 {
     if (op == tape::BLOCK) | (op == tape::PROCEDURE) {
-        put(outer, t, block);
+        put_written(thin, t, block);
     }
 }
 
-fn link(op: u32, t: usize, block: usize, links: &mut [u32])
-    requires { ⌜ t < 4294967296 ⌝ }
-    ensures { λ _. ⌜ now (links .exit) ≡ linksAfter op t block (now (links .entry)) ⌝ }
+fn link(op: u32, t: usize, block: usize, thin: &mut [u16])
+    requires { ⌜ (noted op ≡ true → t < 65536) ⌝ }
+    ensures { λ _. ⌜ thinOf (now (thin .exit)) ≡ onThin 2 (linksAfter op t block) (thinOf (now (thin .entry))) ⌝ }
 {
     if op == tape::BLOCK {
-        put(links, t, 0);
+        put_opens(thin, t, 0);
         return;
     }
     if op == tape::LABEL {
-        let newest = get(links, block);
-        put(links, t, newest);
-        put(links, block, t);
+        let newest = opens(thin, block);
+        put_opens(thin, t, newest);
+        put_opens(thin, block, t);
     }
 }
 
-fn link_all(tape: &[u32], links: &mut [u32], outer: &mut [u32])
-    ensures { λ _. ⌜ (now (links .exit) ≡ linked (now (tape .entry)) (now (links .entry)) (now (outer .entry)) .links) × (now (outer .exit) ≡ linked (now (tape .entry)) (now (links .entry)) (now (outer .entry)) .outer) ⌝ }
+fn link_all(tape: &[u32], thin: &mut [u16])
+    requires { ⌜ Narrow (now tape) ⌝ }
+    ensures { λ _. ⌜ Chained (now (tape .entry)) (thinOf (now (thin .entry))) (thinOf (now (thin .exit))) ⌝ }
 {
     let mut block: usize = 0;
     let mut i: usize = 0;
@@ -115,9 +123,9 @@ fn link_all(tape: &[u32], links: &mut [u32], outer: &mut [u32])
         let e = tape[i];
         let op = tape::op(e);
         let t = tape::token(e);
-        let next = block_after(op, t, outer, block);
-        link(op, t, block, links);
-        enclose(op, t, block, outer);
+        let next = block_after(op, t, thin, block);
+        link(op, t, block, thin);
+        enclose(op, t, block, thin);
         block = next;
         i += 1;
     }
@@ -125,13 +133,14 @@ fn link_all(tape: &[u32], links: &mut [u32], outer: &mut [u32])
 
 // ── the second loop: rules, and what each GOTO means ──
 
-fn set_label(keys: &[u64], links: &[u32], t: usize, n: Noted) -> Noted
+fn set_label(wide: &[u64], thin: &[u16], t: usize, n: Noted) -> Noted
     requires { ⌜ n .count < 4294967296 ⌝ }
-    ensures { λ r. ⌜ ((goes : List ℕ) → labelledIn goes r ≡ setLabel (now (keys .entry)) t (chain (now (links .entry)) (afterOf (now (links .entry)) t)) (labelledIn goes n)) ⌝ }
+    ensures { λ r. ⌜ ((goes : List ℕ) → labelledIn goes r ≡ setLabel (wideOf (now (wide .entry)) .values) t (chain (thinOf (now (thin .entry)) .opens) (afterOf (thinOf (now (thin .entry)) .opens) t)) (labelledIn goes n)) ⌝ }
 {
     let count = n.count;
     let broken = n.broken;
-    let same = in_chain(keys, key(keys, t), links, after(links, t));
+    let earlier = after(opens(thin, t), t);
+    let same = in_chain(wide, thin, value(wide, t), earlier);
     let once = rule(same == 0, 7, t);
     let few = rule(count < MOST_LABELS, 13, t);
     Noted {
@@ -140,52 +149,35 @@ fn set_label(keys: &[u64], links: &[u32], t: usize, n: Noted) -> Noted
     }
 }
 
-fn bind(
-    keys: &[u64],
-    links: &[u32],
-    outer: &[u32],
-    goes: &mut [u32],
-    block: usize,
-    t: usize,
-    n: Noted,
-) -> Noted
-    ensures { λ r. ⌜ labelledIn (now (goes .exit)) r ≡ noteLabel t (find (now (keys .entry)) (getD (now (keys .entry)) t 0) (blocksIn (now (links .entry)) (now (outer .entry)) block)) (labelledIn (now (goes .entry)) n) ⌝ }
+fn bind(wide: &[u64], thin: &mut [u16], block: usize, t: usize, n: Noted) -> Noted
+    ensures { λ r. ⌜ markIn (thinOf (now (thin .exit))) r ≡ marking (λ links outer. noteLabel t (find (wideOf (now (wide .entry)) .values) (getD (wideOf (now (wide .entry)) .values) t 0) (blocksIn links outer block))) (markIn (thinOf (now (thin .entry))) n) ⌝ }
 {
     let count = n.count;
     let broken = n.broken;
-    let l = lookup(keys, key(keys, t), links, outer, block);
-    put(goes, t, l);
+    let l = lookup(wide, thin, value(wide, t), block);
+    put_goes(thin, t, l);
     Noted {
         count,
         broken: join(broken, rule(0 < l, 6, t)),
     }
 }
 
-fn label_at(
-    op: u32,
-    t: usize,
-    keys: &[u64],
-    links: &[u32],
-    outer: &[u32],
-    goes: &mut [u32],
-    block: usize,
-    n: Noted,
-) -> Noted
+fn label_at(op: u32, t: usize, wide: &[u64], thin: &mut [u16], block: usize, n: Noted) -> Noted
     requires { ⌜ n .count < 4294967296 ⌝ }
-    ensures { λ r. ⌜ labelledIn (now (goes .exit)) r ≡ labelAt (now (keys .entry)) (now (links .entry)) (now (outer .entry)) op t block (labelledIn (now (goes .entry)) n) ⌝ }
+    ensures { λ r. ⌜ markIn (thinOf (now (thin .exit))) r ≡ marking (λ links outer. labelAt (wideOf (now (wide .entry)) .values) links outer op t block) (markIn (thinOf (now (thin .entry))) n) ⌝ }
 {
     if op == tape::LABEL {
-        return set_label(keys, links, t, n);
+        return set_label(wide, thin, t, n);
     }
     if op == tape::GOTO {
-        return bind(keys, links, outer, goes, block, t, n);
+        return bind(wide, thin, block, t, n);
     }
     n
 }
 
-fn label_all(tape: &[u32], keys: &[u64], links: &[u32], outer: &[u32], goes: &mut [u32]) -> Noted
-    requires { ⌜ length (now tape) ≤ 4294967296 ⌝ }
-    ensures { λ r. ⌜ labelledIn (now (goes .exit)) r ≡ labelledBy (now (tape .entry)) (now (keys .entry)) (now (links .entry)) (now (outer .entry)) (now (goes .entry)) ⌝ }
+fn label_all(tape: &[u32], wide: &[u64], thin: &mut [u16]) -> Noted
+    requires { ⌜ Narrow (now tape) × (length (now tape) ≤ 4294967296) ⌝ }
+    ensures { λ r. ⌜ (labelledIn (thinOf (now (thin .exit)) .goes) r ≡ labelledBy (now (tape .entry)) (wideOf (now (wide .entry)) .values) (thinOf (now (thin .entry)) .opens) (thinOf (now (thin .entry)) .written) (thinOf (now (thin .entry)) .goes)) × (thinOf (now (thin .exit)) .found ≡ thinOf (now (thin .entry)) .found) ⌝ }
 {
     let mut block: usize = 0;
     let mut n = Noted {
@@ -197,23 +189,17 @@ fn label_all(tape: &[u32], keys: &[u64], links: &[u32], outer: &[u32], goes: &mu
         let e = tape[i];
         let op = tape::op(e);
         let t = tape::token(e);
-        n = label_at(op, t, keys, links, outer, goes, block, n);
-        block = block_after(op, t, outer, block);
+        n = label_at(op, t, wide, thin, block, n);
+        block = block_after(op, t, thin, block);
         i += 1;
     }
     n
 }
 
-pub fn labels(
-    tape: &[u32],
-    keys: &[u64],
-    links: &mut [u32],
-    outer: &mut [u32],
-    goes: &mut [u32],
-) -> Noted
-    requires { ⌜ length (now tape) ≤ 4294967296 ⌝ }
-    ensures { λ r. ⌜ labelledIn (now (goes .exit)) r ≡ labelledAlong (now (tape .entry)) (now (keys .entry)) (now (links .entry)) (now (outer .entry)) (now (goes .entry)) ⌝ }
+pub fn labels(tape: &[u32], wide: &[u64], thin: &mut [u16]) -> Noted
+    requires { ⌜ Narrow (now tape) × (length (now tape) ≤ 4294967296) ⌝ }
+    ensures { λ r. ⌜ (labelledIn (thinOf (now (thin .exit)) .goes) r ≡ labelledAlong (now (tape .entry)) (wideOf (now (wide .entry)) .values) (thinOf (now (thin .entry)) .opens) (thinOf (now (thin .entry)) .written) (thinOf (now (thin .entry)) .goes)) × (thinOf (now (thin .exit)) .found ≡ thinOf (now (thin .entry)) .found) ⌝ }
 {
-    link_all(tape, links, outer);
-    label_all(tape, keys, links, outer, goes)
+    link_all(tape, thin);
+    label_all(tape, wide, thin)
 }

@@ -20,7 +20,9 @@ use Rattle.ledger.proofs.Columns.{thin-length}
 use Rattle.tables.specs.Packed.{widthIn, numberIn}
 use Rattle.translator.specs.Layout.{segmentLimit, roundUp}
 use Rattle.layout.specs.declared.Filling.{Filling}
-use Rattle.layout.specs.Along.{Laying, layingOf, startEnds, segmentAt, placeBy, eventBy, capped, cappedEvent, Book, bookOf, layingIn, withLaying, laidBy, Imaging, imagingOf, nowhere, startCell, layValue, imageEvent}
+use Rattle.layout.specs.Along.{Laying, startEnds, segmentAt, placeBy, eventBy, capped, cappedEvent}
+use Rattle.layout.specs.Along.{Book, bookOf, layingIn, withLaying, laidBy, placeIn, eventIn, layoutIn}
+use Rattle.layout.specs.Along.{Imaging, imagingOf, nowhere, startCell, layValue, imageEvent, startIn, imageIn}
 
 -- ── sizes ──
 
@@ -49,24 +51,26 @@ pub place-is :
     (w : Wide) (b : Thin) (t : ℕ) (r : Broken) {w′ : Wide} {b′ : Thin} {r′ q : Broken} {m size k end offset n v : ℕ} → m ≡ getD (w .means) t 0
     → size ≡ elementSize (widthIn m) → k ≡ segmentAt (w .under) t → end ≡ getD (b .written) k 0 → offset ≡ roundUp size end → n ≡ numberIn m
     → w′ ≡ putOffset t offset w → v ≡ capped (offset + size * n) → b′ ≡ putWritten k v b → q ≡ rule (leb (offset + size * n) segmentLimit) 12 t → r′ ≡ r ⊕ q
-    → bookOf w′ b′ r′ ≡ laidBy (placeBy (w .means) (w .under) capped t) (bookOf w b r)
+    → bookOf w′ b′ r′ ≡ placeIn t (bookOf w b r)
 unfolding placeBy
 place-is w b t r em es ek ee eo en e1 ev e2 e3 e4 = rw (e4, e3, e2, ev, e1, eo, ee, ek, en, es, em)
 
-module _ (means bases : List ℕ) where
-  pub item-is : (op t : ℕ) {x : Book} (l : Book) → op ≡ E.ITEM → x ≡ laidBy (placeBy means bases capped t) l → x ≡ laidBy (cappedEvent means bases op t) l
-  unfolding eventBy
-  item-is op t l h e = rw (eq-eqb op E.ITEM h) e
+pub item-is : (op t : ℕ) {x : Book} (l : Book) → op ≡ E.ITEM → x ≡ placeIn t l → x ≡ eventIn op t l
+unfolding eventBy
+item-is op t l h e = rw (eq-eqb op E.ITEM h) e
 
-  pub other-is : (op t : ℕ) (l : Book) → (op ≡ E.ITEM → ⊥) → l ≡ laidBy (cappedEvent means bases op t) l
-  unfolding eventBy
-  other-is op t l h = rw (ne-eqb op E.ITEM h)
+pub other-is : (op t : ℕ) (l : Book) → (op ≡ E.ITEM → ⊥) → l ≡ eventIn op t l
+unfolding eventBy
+other-is op t l h = rw (ne-eqb op E.ITEM h)
 
 -- ── the loop ──
 
--- the pass over what is left, in the ledger l
+-- a step, and the pass over a tape, that read the ledger w
+abbrev stepOf : Wide → ℕ → ℕ → Laying → Laying
+stepOf w = cappedEvent (w .means) (w .under)
+
 abbrev along : Wide → List ℕ → Book → Book
-along w tape l = laidBy (λ s. pass (cappedEvent (w .means) (w .under)) s tape) l
+along w tape l = laidBy (λ s. pass (stepOf w) s tape) l
 
 -- i events are passed, from the ledger l₀ on
 pub record Going (tape : List ℕ) (l₀ l : Book) (i : ℕ) : Type 0 where
@@ -80,12 +84,11 @@ module _ (tape : List ℕ) (l₀ : Book) where
   going = record { inside = omega arith; is = refl; means-is = refl; under-is = refl }
 
   pub going-on :
-      {l l′ : Book} {i op t : ℕ} → Going tape l₀ l i → i < length tape → op ≡ getD tape i 0 % E.EVENTS → t ≡ getD tape i 0 / E.EVENTS
-      → l′ ≡ laidBy (cappedEvent (l .wide .means) (l .wide .under) op t) l → Going tape l₀ l′ (i + 1)
+      {l l′ : Book} {i op t : ℕ} → Going tape l₀ l i → i < length tape → op ≡ getD tape i 0 % E.EVENTS → t ≡ getD tape i 0 / E.EVENTS → l′ ≡ eventIn op t l
+      → Going tape l₀ l′ (i + 1)
   going-on {l} {l′} {i} {op} {t} g h eo et e =
-      let step = cappedEvent (l₀ .wide .means) (l₀ .wide .under) in
-      let e′ : l′ ≡ laidBy (step op t) l = e ∙ ap₂ (λ (m u : List ℕ). laidBy (cappedEvent m u op t) l) (g .means-is) (g .under-is) in
-      let turned = pass-turn step (layingIn l) tape i op t h eo et refl in
+      let e′ : l′ ≡ laidBy (stepOf (l₀ .wide) op t) l = e ∙ ap₂ (λ (m u : List ℕ). laidBy (cappedEvent m u op t) l) (g .means-is) (g .under-is) in
+      let turned = pass-turn (stepOf (l₀ .wide)) (layingIn l) tape i op t h eo et refl in
       record {
         inside = omega arith;
         is = ap (along (l₀ .wide) (drop (i + 1) tape)) e′ ∙ (ap (λ (s : Laying). withLaying s l) turned ∙ g .is);
@@ -94,15 +97,12 @@ module _ (tape : List ℕ) (l₀ : Book) where
       }
 
   pub going-end : {l : Book} {i : ℕ} → Going tape l₀ l i → length tape ≤ i → l ≡ along (l₀ .wide) tape l₀
-  going-end {l} {i} g h =
-      let step = cappedEvent (l₀ .wide .means) (l₀ .wide .under) in
-      ap (λ (s : Laying). withLaying s l) (pass-end step (layingIn l) tape i h refl) ∙ g .is
+  going-end {l} {i} g h = ap (λ (s : Laying). withLaying s l) (pass-end (stepOf (l₀ .wide)) (layingIn l) tape i h refl) ∙ g .is
 
 -- before the first event the column of ends is cleared, and segment 1 has its table
 pub begun :
     (tape thin : List ℕ) (w : Wide) {b b′ : Thin} → b ≡ onThin 3 zeros (thinOf thin) → b′ ≡ putWritten 1 16 b
-    → along w tape (bookOf w b′ unbroken)
-    ≡ laidBy (λ s. pass (cappedEvent (w .means) (w .under)) (layingOf (startEnds (length thin / 4)) (s .offsets) unbroken) tape) (bookOf w (thinOf thin) unbroken)
+    → along w tape (bookOf w b′ unbroken) ≡ layoutIn (length thin / 4) tape (bookOf w (thinOf thin) unbroken)
 begun tape thin w {b} {b′} e f =
     let ends : b′ ≡ onThin 3 (λ _. startEnds (length thin / 4)) (thinOf thin) = f ∙ rw (e, thin-length 3 thin) in
     ap (λ (x : Thin). along w tape (bookOf w x unbroken)) ends
@@ -118,27 +118,25 @@ pub not-laid : (image : List ℕ) (f : Filling) (v : ℕ) → 4096 ≤ f .at →
 unfolding layValue
 not-laid image f v h = rw (le-ltb (f .at) segmentLimit h)
 
-pub started-is : (k : ℕ) (means bases offsets : List ℕ) (t : ℕ) {g at m size : ℕ} → g ≡ segmentAt bases t → g ≡ k → at ≡ getD offsets t 0 → m ≡ getD means t 0 → size ≡ elementSize (widthIn m)
-    → record { at = at; size = size } ≡ startCell k means bases offsets t
-unfolding startCell
-started-is k means bases offsets t eg h ea em es = rw (eq-eqb (segmentAt bases t) k (sym eg ∙ h), ea, es, em)
+module _ (k : ℕ) (w : Wide) where
+  pub started-is : (t : ℕ) {g at m size : ℕ} → g ≡ segmentAt (w .under) t → g ≡ k → at ≡ getD (w .offsets) t 0 → m ≡ getD (w .means) t 0 → size ≡ elementSize (widthIn m)
+      → record { at = at; size = size } ≡ startIn k w t
+  unfolding startCell
+  started-is t eg h ea em es = rw (eq-eqb (segmentAt (w .under) t) k (sym eg ∙ h), ea, es, em)
 
-pub elsewhere-is : (k : ℕ) (means bases offsets : List ℕ) (t : ℕ) {g : ℕ} → g ≡ segmentAt bases t → (g ≡ k → ⊥) → nowhere ≡ startCell k means bases offsets t
-unfolding startCell
-elsewhere-is k means bases offsets t eg h = rw (ne-eqb (segmentAt bases t) k (λ e. h (eg ∙ e)))
+  pub elsewhere-is : (t : ℕ) {g : ℕ} → g ≡ segmentAt (w .under) t → (g ≡ k → ⊥) → nowhere ≡ startIn k w t
+  unfolding startCell
+  elsewhere-is t eg h = rw (ne-eqb (segmentAt (w .under) t) k (λ e. h (eg ∙ e)))
 
-module _ (k : ℕ) (means bases offsets values : List ℕ) where
-  abbrev step : ℕ → ℕ → Imaging → Imaging
-  step = imageEvent k means bases offsets values
-
-  pub cell-is : (op t : ℕ) (image : List ℕ) (f : Filling) {g : Filling} → op ≡ E.ITEM → g ≡ startCell k means bases offsets t → imagingOf image g ≡ step op t (imagingOf image f)
+  pub cell-is : (op t : ℕ) (image : List ℕ) (f : Filling) {g : Filling} → op ≡ E.ITEM → g ≡ startIn k w t → imagingOf image g ≡ imageIn k w op t (imagingOf image f)
   unfolding imageEvent
   cell-is op t image f h e = rw (eq-eqb op E.ITEM h, e)
 
-  pub value-is : (op t : ℕ) (s : Imaging) {v : ℕ} {x : Imaging} → (op ≡ E.ITEM → ⊥) → op ≡ E.VALUE → v ≡ getD values t 0 → x ≡ layValue v s → x ≡ step op t s
+  pub value-is :
+      (op t : ℕ) (s : Imaging) {v : ℕ} {x : Imaging} → (op ≡ E.ITEM → ⊥) → op ≡ E.VALUE → v ≡ getD (w .values) t 0 → x ≡ layValue v s → x ≡ imageIn k w op t s
   unfolding imageEvent
   value-is op t s n h ev e = e ∙ rw (ne-eqb op E.ITEM n, eq-eqb op E.VALUE h, ev)
 
-  pub neither-is : (op t : ℕ) (s : Imaging) → (op ≡ E.ITEM → ⊥) → (op ≡ E.VALUE → ⊥) → s ≡ step op t s
+  pub neither-is : (op t : ℕ) (s : Imaging) → (op ≡ E.ITEM → ⊥) → (op ≡ E.VALUE → ⊥) → s ≡ imageIn k w op t s
   unfolding imageEvent
   neither-is op t s n h = rw (ne-eqb op E.ITEM n, ne-eqb op E.VALUE h)

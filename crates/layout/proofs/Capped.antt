@@ -5,7 +5,7 @@ use mathlib.Core.Bool.{Bool, true, false}
 use mathlib.Core.List.{List, [], _∷_, map}
 use native.Mathlib.Omega.{arith}
 use lib.Dec.{eqb, leb}
-use lib.ListN.{getD, set, replicate}
+use lib.ListN.{getD, set, replicate, List·getD-map}
 use borrow.Author.Tests.{leb-true, leb-false, lt-leb}
 use Rattle.base.specs.Walk.{fold}
 use Rattle.base.proofs.Tests.{cases}
@@ -18,7 +18,7 @@ use Rattle.tape.specs.Events as E
 use Rattle.tape.specs.Pass.{onEvent, pass}
 use Rattle.tables.specs.Packed.{widthIn, numberIn}
 use Rattle.translator.specs.Layout.{segmentLimit, roundUp}
-use Rattle.layout.specs.Along.{Laying, layingOf, startEnds, segmentAt, sizeAt, offsetAt, endAt, placeBy, placeAt, eventBy, layoutEvent, capped, cappedEvent}
+use Rattle.layout.specs.Along.{Laying, layingOf, startEnds, segmentAt, offsetAt, endAt, placeBy, placeAt, eventBy, layoutEvent, capped, cappedEvent}
 
 -- ── of a list ──
 
@@ -26,11 +26,6 @@ set-map : (f : ℕ → ℕ) (l : List ℕ) (i v : ℕ) → set (map f l) i (f v)
 set-map f [] i v = refl
 set-map f (x ∷ l) zero v = refl
 set-map f (x ∷ l) (suc i) v = ap (λ (r : List ℕ). f x ∷ r) (set-map f l i v)
-
-getD-map : (f : ℕ → ℕ) → f 0 ≡ 0 → (l : List ℕ) (i : ℕ) → getD (map f l) i 0 ≡ f (getD l i 0)
-getD-map f e [] i = sym e
-getD-map f e (x ∷ l) zero = refl
-getD-map f e (x ∷ l) (suc i) = getD-map f e l i
 
 map-zeros : (f : ℕ → ℕ) → f 0 ≡ 0 → (n : ℕ) → map f (replicate n 0) ≡ replicate n 0
 map-zeros f e zero = refl
@@ -53,6 +48,9 @@ cap-none = refl
 cap-table : capped 16 ≡ 16
 unfolding capped
 cap-table = refl
+
+read-capped : (l : List ℕ) (i : ℕ) → getD (map capped l) i 0 ≡ capped (getD l i 0)
+read-capped l i = ap (λ (d : ℕ). getD (map capped l) i d) (sym cap-none) ∙ List·getD-map capped l i 0
 
 -- rounding up takes nothing away
 rounded : (w : Width) (n : ℕ) → n ≤ roundUp (elementSize w) n
@@ -94,17 +92,18 @@ module _ (means bases : List ℕ) where
       let w = widthIn (getD means t 0) in
       let n = numberIn (getD means t 0) in
       let a = alike w n (getD (x .ends) g 0) in
-      let e : getD (k .ends) g 0 ≡ capped (getD (x .ends) g 0) = ap (λ (l : List ℕ). getD l g 0) (c .ends) ∙ getD-map capped cap-none (x .ends) g in
+      let e : getD (k .ends) g 0 ≡ capped (getD (x .ends) g 0) = ap (λ (l : List ℕ). getD l g 0) (c .ends) ∙ read-capped (x .ends) g in
       let end = endAt means bases t (x .ends) in
-      let at-limit : leb (endAt means bases t (k .ends)) segmentLimit ≡ leb end segmentLimit = ap (λ (v : ℕ). leb (endPast w n v) segmentLimit) e ∙ a .limit in
-      let at-end : capped (endAt means bases t (k .ends)) ≡ capped end = ap (λ (v : ℕ). capped (endPast w n v)) e ∙ a .kept in
+      let here = rule (leb end segmentLimit) 12 t in
+      let limit = ap (λ (v : ℕ). leb (endPast w n v) segmentLimit) e ∙ a .limit in
+      let kept = ap (λ (v : ℕ). capped (endPast w n v)) e ∙ a .kept in
       record {
-        ends = ap₂ (λ (l : List ℕ) (v : ℕ). set l g v) (c .ends) at-end ∙ set-map capped (x .ends) g end;
-        broken = ap₂ (λ (r : Broken) (b : Bool). r ⊕ rule b 12 t) (c .broken) at-limit;
+        ends = ap₂ (λ (l : List ℕ) (v : ℕ). set l g v) (c .ends) kept ∙ set-map capped (x .ends) g end;
+        broken = ap₂ (λ (r : Broken) (b : Bool). r ⊕ rule b 12 t) (c .broken) limit;
         same = λ z.
-            let fits = within end (rule-holds (leb end segmentLimit) 12 t (omega arith) (quiet-right (x .broken) (rule (leb end segmentLimit) 12 t) z)) in
-            ap (placeBy means bases capped t) (c .same (quiet-left (x .broken) (rule (leb end segmentLimit) 12 t) z))
-            ∙ ap (λ (v : ℕ). layingOf (set (x .ends) g v) (set (x .offsets) t (offsetAt means bases t (x .ends))) (x .broken ⊕ rule (leb end segmentLimit) 12 t)) fits;
+            let fits = within end (rule-holds (leb end segmentLimit) 12 t (omega arith) (quiet-right (x .broken) here z)) in
+            ap (placeBy means bases capped t) (c .same (quiet-left (x .broken) here z))
+            ∙ ap (λ (v : ℕ). layingOf (set (x .ends) g v) (set (x .offsets) t (offsetAt means bases t (x .ends))) (x .broken ⊕ here)) fits;
       }
 
   step : (op t : ℕ) (x k : Laying) → Capped x k → Capped (layoutEvent means bases op t x) (cappedEvent means bases op t k)
@@ -116,7 +115,7 @@ module _ (means bases : List ℕ) where
   along [] x k c = c
   along (e ∷ es) x k c = along es _ _ (step (e % E.EVENTS) (e / E.EVENTS) x k c)
 
-  start : (n : ℕ) (offsets : List ℕ) → Capped (layingOf (startEnds n) offsets unbroken) (layingOf (startEnds n) offsets unbroken)
+  start : (n : ℕ) (offsets : List ℕ) → let from = layingOf (startEnds n) offsets unbroken in Capped from from
   start n offsets = record {
     ends = ap₂ (λ (l : List ℕ) (v : ℕ). set l 1 v) (sym (map-zeros capped cap-none n)) (sym cap-table) ∙ set-map capped (replicate n 0) 1 16;
     broken = refl;
@@ -124,5 +123,5 @@ module _ (means bases : List ℕ) where
   }
 
   pub capped-layout : (offsets : List ℕ) (n : ℕ) (tape : List ℕ)
-      → Capped (pass (layoutEvent means bases) (layingOf (startEnds n) offsets unbroken) tape) (pass (cappedEvent means bases) (layingOf (startEnds n) offsets unbroken) tape)
+      → let from = layingOf (startEnds n) offsets unbroken in Capped (pass (layoutEvent means bases) from tape) (pass (cappedEvent means bases) from tape)
   capped-layout offsets n tape = along tape _ _ (start n offsets)

@@ -7,11 +7,12 @@ use lib.ListN.{getD, set, replicate}
 use Rattle.base.specs.Choose.{if_then_else_}
 use Rattle.base.specs.Numbers.{stored}
 use Rattle.names.specs.declared.Broken.{Broken}
-use Rattle.names.specs.Broken.{rule, _⊕_}
+use Rattle.names.specs.Broken.{unbroken, rule, _⊕_}
 use Rattle.kinds.specs.Meaning.{elementSize}
 use Rattle.tape.specs.Events as E
+use Rattle.tape.specs.Pass.{pass}
 use Rattle.tables.specs.Packed.{widthIn, numberIn}
-use Rattle.ledger.specs.Book.{Wide, Thin, onWide, onThin}
+use Rattle.ledger.specs.Book.{Wide, Thin, wideOf, thinOf, onWide, onThin}
 use Rattle.translator.specs.Layout.{segmentLimit, tableBytes, roundUp}
 use Rattle.layout.specs.declared.Filling.{Filling}
 
@@ -81,6 +82,9 @@ pub record Book : Type 0 where
 abbrev pub bookOf : Wide → Thin → Broken → Book
 bookOf w b r = record { wide = w; thin = b; broken = r }
 
+abbrev pub bookIn : (wide thin : List ℕ) → Broken → Book
+bookIn wide thin r = bookOf (wideOf wide) (thinOf thin) r
+
 -- the ends stand in the column `written`; all columns but it and the offsets stay
 abbrev pub layingIn : Book → Laying
 layingIn l = layingOf (l .thin .written) (l .wide .offsets) (l .broken)
@@ -88,8 +92,19 @@ layingIn l = layingOf (l .thin .written) (l .wide .offsets) (l .broken)
 abbrev pub withLaying : Laying → Book → Book
 withLaying s l = record { wide = onWide 3 (λ _. s .offsets) (l .wide); thin = onThin 3 (λ _. s .ends) (l .thin); broken = s .broken }
 
+-- the layout of a book, changed
 abbrev pub laidBy : (Laying → Laying) → Book → Book
 laidBy f l = withLaying (f (layingIn l)) l
+
+-- by a cell, by an event, and by a whole tape: n segments' ends are kept, and what stood there goes
+abbrev pub placeIn : (t : ℕ) → Book → Book
+placeIn t l = laidBy (placeBy (l .wide .means) (l .wide .under) capped t) l
+
+abbrev pub eventIn : (op t : ℕ) → Book → Book
+eventIn op t l = laidBy (cappedEvent (l .wide .means) (l .wide .under) op t) l
+
+abbrev pub layoutIn : (n : ℕ) (tape : List ℕ) → Book → Book
+layoutIn n tape l = laidBy (λ s. pass (cappedEvent (l .wide .means) (l .wide .under)) (layingOf (startEnds n) (s .offsets) unbroken) tape) l
 
 -- ── initial values ──
 
@@ -110,10 +125,19 @@ startCell k means bases offsets t = if eqb (segmentAt bases t) k then record { a
 -- a value past the segment's end is not laid
 unfoldable pub layValue : ℕ → Imaging → Imaging
 layValue v s =
-    if ltb (s .next .at) segmentLimit then record { image = stored (s .image) (s .next .at) (s .next .size) v; next = record { at = s .next .at + s .next .size; size = s .next .size } } else s
+    if ltb (s .next .at) segmentLimit then
+    record { image = stored (s .image) (s .next .at) (s .next .size) v; next = record { at = s .next .at + s .next .size; size = s .next .size } }
+    else s
 
 unfoldable pub imageEvent : (k : ℕ) (means bases offsets values : List ℕ) (op t : ℕ) → Imaging → Imaging
 imageEvent k means bases offsets values op t s =
     if eqb op E.ITEM then imagingOf (s .image) (startCell k means bases offsets t) else
     if eqb op E.VALUE then layValue (getD values t 0) s else
     s
+
+-- in the ledger
+abbrev pub startIn : (k : ℕ) → Wide → (t : ℕ) → Filling
+startIn k w = startCell k (w .means) (w .under) (w .offsets)
+
+abbrev pub imageIn : (k : ℕ) → Wide → (op t : ℕ) → Imaging → Imaging
+imageIn k w = imageEvent k (w .means) (w .under) (w .offsets) (w .values)

@@ -7,10 +7,10 @@ ghost use Rattle.base.specs.Numbers.{stored};
 ghost use Rattle.names.specs.Broken.{unbroken};
 ghost use Rattle.kinds.specs.Meaning.{elementSize};
 ghost use Rattle.tape.specs.Pass.{pass};
-ghost use Rattle.ledger.specs.Book.{wideOf, thinOf};
+ghost use Rattle.ledger.specs.Book.{wideOf};
 ghost use Rattle.tables.specs.Packed.{widthIn};
 ghost use Rattle.translator.specs.Layout.{roundUp};
-ghost use Rattle.layout.specs.Along.{layingOf, startEnds, segmentAt, placeBy, capped, cappedEvent, bookOf, laidBy, imagingOf, nowhere, startCell, layValue, imageEvent};
+ghost use Rattle.layout.specs.Along.{segmentAt, capped, bookIn, placeIn, eventIn, layoutIn, imagingOf, nowhere, startIn, layValue, imageIn};
 use ledger::clear_written;
 use ledger::mean;
 use ledger::offset;
@@ -69,7 +69,7 @@ fn cap(end: u64) -> usize
 }
 
 fn place_cell(wide: &mut [u64], thin: &mut [u16], t: usize, broken: Broken) -> Broken
-    ensures { λ r. ⌜ bookOf (wideOf (now (wide .exit))) (thinOf (now (thin .exit))) r ≡ laidBy (placeBy (wideOf (now (wide .entry)) .means) (wideOf (now (wide .entry)) .under) capped t) (bookOf (wideOf (now (wide .entry))) (thinOf (now (thin .entry))) broken) ⌝ }
+    ensures { λ r. ⌜ bookIn (now (wide .exit)) (now (thin .exit)) r ≡ placeIn t (bookIn (now (wide .entry)) (now (thin .entry)) broken) ⌝ }
 {
     let m = mean(wide, t);
     let size = element_size(m);
@@ -82,7 +82,7 @@ fn place_cell(wide: &mut [u64], thin: &mut [u16], t: usize, broken: Broken) -> B
 }
 
 fn layout_event(op: u32, t: usize, wide: &mut [u64], thin: &mut [u16], broken: Broken) -> Broken
-    ensures { λ r. ⌜ bookOf (wideOf (now (wide .exit))) (thinOf (now (thin .exit))) r ≡ laidBy (cappedEvent (wideOf (now (wide .entry)) .means) (wideOf (now (wide .entry)) .under) op t) (bookOf (wideOf (now (wide .entry))) (thinOf (now (thin .entry))) broken) ⌝ }
+    ensures { λ r. ⌜ bookIn (now (wide .exit)) (now (thin .exit)) r ≡ eventIn op t (bookIn (now (wide .entry)) (now (thin .entry)) broken) ⌝ }
 {
     if op == tape::ITEM {
         return place_cell(wide, thin, t, broken);
@@ -92,7 +92,7 @@ fn layout_event(op: u32, t: usize, wide: &mut [u64], thin: &mut [u16], broken: B
 
 // Where cells stand, by token, and where they end, by segment, in the column `written`, whatever stood there.
 pub fn layout(tape: &[u32], wide: &mut [u64], thin: &mut [u16]) -> Broken
-    ensures { λ r. ⌜ bookOf (wideOf (now (wide .exit))) (thinOf (now (thin .exit))) r ≡ laidBy (λ s. pass (cappedEvent (wideOf (now (wide .entry)) .means) (wideOf (now (wide .entry)) .under)) (layingOf (startEnds (length (now (thin .entry)) / 4)) (s .offsets) unbroken) (now (tape .entry))) (bookOf (wideOf (now (wide .entry))) (thinOf (now (thin .entry))) unbroken) ⌝ }
+    ensures { λ r. ⌜ bookIn (now (wide .exit)) (now (thin .exit)) r ≡ layoutIn (length (now (thin .entry)) / 4) (now (tape .entry)) (bookIn (now (wide .entry)) (now (thin .entry)) unbroken) ⌝ }
 {
     clear_written(thin);
     put_written(thin, 1, TABLE_BYTES);
@@ -113,7 +113,7 @@ pub struct Filling {
 }
 
 fn start_cell(k: usize, wide: &[u64], t: usize) -> Filling
-    ensures { λ r. ⌜ (r ≡ startCell k (wideOf (now (wide .entry)) .means) (wideOf (now (wide .entry)) .under) (wideOf (now (wide .entry)) .offsets) t) × (r .size ≤ 4) ⌝ }
+    ensures { λ r. ⌜ (r ≡ startIn k (wideOf (now (wide .entry))) t) × (r .size ≤ 4) ⌝ }
 {
     if segment(wide, t) == k {
         return Filling {
@@ -164,7 +164,7 @@ fn lay_value(image: &mut [u8], v: u64, f: Filling) -> Filling
 
 fn image_event(op: u32, t: usize, k: usize, wide: &[u64], image: &mut [u8], f: Filling) -> Filling
     requires { ⌜ f .size ≤ 4 ⌝ }
-    ensures { λ r. ⌜ (imagingOf (now (image .exit)) r ≡ imageEvent k (wideOf (now (wide .entry)) .means) (wideOf (now (wide .entry)) .under) (wideOf (now (wide .entry)) .offsets) (wideOf (now (wide .entry)) .values) op t (imagingOf (now (image .entry)) f)) × (r .size ≤ 4) ⌝ }
+    ensures { λ r. ⌜ (imagingOf (now (image .exit)) r ≡ imageIn k (wideOf (now (wide .entry))) op t (imagingOf (now (image .entry)) f)) × (r .size ≤ 4) ⌝ }
 {
     if op == tape::ITEM {
         return start_cell(k, wide, t);
@@ -177,7 +177,7 @@ fn image_event(op: u32, t: usize, k: usize, wide: &[u64], image: &mut [u8], f: F
 
 // The initial values of the cells of segment k, laid over its image.
 pub fn fill(tape: &[u32], k: usize, wide: &[u64], image: &mut [u8]) -> Filling
-    ensures { λ r. ⌜ imagingOf (now (image .exit)) r ≡ pass (imageEvent k (wideOf (now (wide .entry)) .means) (wideOf (now (wide .entry)) .under) (wideOf (now (wide .entry)) .offsets) (wideOf (now (wide .entry)) .values)) (imagingOf (now (image .entry)) nowhere) (now (tape .entry)) ⌝ }
+    ensures { λ r. ⌜ imagingOf (now (image .exit)) r ≡ pass (imageIn k (wideOf (now (wide .entry)))) (imagingOf (now (image .entry)) nowhere) (now (tape .entry)) ⌝ }
 {
     let mut f = Filling { at: 0, size: 0 };
     let mut i: usize = 0;

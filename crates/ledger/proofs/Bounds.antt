@@ -45,6 +45,12 @@ declaring-noted op h = rw h (either (eqb op E.BLOCK) (eqb op E.LABEL))
     either false true = refl
     either false false = refl
 
+pub block-noted : (op : ℕ) → op ≡ E.BLOCK → noted op ≡ true
+block-noted op e = rw e
+
+pub label-noted : (op : ℕ) → op ≡ E.LABEL → noted op ≡ true
+label-noted op e = rw e
+
 pub nested-here : (most b p : ℕ) (l : List ℕ) → Nested most b p l → (b ≤ most) × (p ≤ most)
 unfolding Nested
 nested-here most b p [] n = n

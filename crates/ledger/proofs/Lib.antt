@@ -2,3 +2,4 @@
 pub mod Columns
 pub mod Clearing
 pub mod Bounds
+pub mod Cutting

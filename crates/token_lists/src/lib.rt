@@ -12,7 +12,7 @@ use token::kinds;
 
 const TEXT_LIMIT: usize = 32768;
 
-fn is_last(kind: u8) -> bool
+pub fn is_last(kind: u8) -> bool
     ensures { λ r. ⌜ r ≡ T.isLast kind ⌝ }
 {
     (kind == kinds::AT) | (kind == kinds::END_OF_TEXT)

@@ -13,6 +13,7 @@ use Rattle.base.specs.Numbers.{bytesOf}
 use Rattle.base.proofs.Tests.{by-test}
 use Rattle.tape.specs.Events as E
 use Rattle.tape.specs.Pass.{onEvent, pass}
+use Rattle.ledger.specs.Book.{Wide}
 use Rattle.objtext.specs.Object.{Segment, objectText}
 use Rattle.translator.specs.Layout.{segmentLimit}
 use Rattle.translator.specs.Image.{words}
@@ -44,23 +45,23 @@ module _ (k : ℕ) (means under offsets values : List ℕ) where
   pass-long [] s = refl
   pass-long (e ∷ es) s = pass-long es (imageEvent k means under offsets values (e % E.EVENTS) (e / E.EVENTS) s) ∙ event-long (e % E.EVENTS) (e / E.EVENTS) s
 
-module _ (values means under offsets tape : List ℕ) where
-  pub image-long : (k : ℕ) → length (imageAlong values means under offsets tape k) ≡ segmentLimit
+module _ (w : Wide) (tape : List ℕ) where
+  pub image-long : (k : ℕ) → length (imageAlong w tape k) ≡ segmentLimit
   unfolding imageAlong
-  image-long k = pass-long k means under offsets values tape (imagingOf zeros nowhere) ∙ zeros-long
+  image-long k = pass-long k (w .means) (w .under) (w .offsets) (w .values) tape (imagingOf zeros nowhere) ∙ zeros-long
 
-  pub filled-along : (k : ℕ) (image : List ℕ) (f : Filling) → imagingOf image f ≡ pass (imageEvent k means under offsets values) (imagingOf zeros nowhere) tape
-      → image ≡ imageAlong values means under offsets tape k
+  pub filled-along : (k : ℕ) (image : List ℕ) (f : Filling) → imagingOf image f ≡ pass (imageEvent k (w .means) (w .under) (w .offsets) (w .values)) (imagingOf zeros nowhere) tape
+      → image ≡ imageAlong w tape k
   unfolding imageAlong
   filled-along k image f e = ap (λ (s : Imaging). s .image) e
 
   module _ (bases start : ℕ) (code literals : List ℕ) where
     pub written : (out out′ first first₁ second third : List ℕ) (f g h : Filling) (cells last two three : ℕ)
-        → imagingOf first f ≡ pass (imageEvent 1 means under offsets values) (imagingOf zeros nowhere) tape → first₁ ≡ sets first start (words literals)
-        → imagingOf second g ≡ pass (imageEvent 2 means under offsets values) (imagingOf zeros nowhere) tape
-        → imagingOf third h ≡ pass (imageEvent 3 means under offsets values) (imagingOf zeros nowhere) tape
+        → imagingOf first f ≡ pass (imageEvent 1 (w .means) (w .under) (w .offsets) (w .values)) (imagingOf zeros nowhere) tape → first₁ ≡ sets first start (words literals)
+        → imagingOf second g ≡ pass (imageEvent 2 (w .means) (w .under) (w .offsets) (w .values)) (imagingOf zeros nowhere) tape
+        → imagingOf third h ≡ pass (imageEvent 3 (w .means) (w .under) (w .offsets) (w .values)) (imagingOf zeros nowhere) tape
         → out′ ≡ sets out 0 (objectText (objectOf code (take last first₁) cells bases (take two second) (take three third)))
-        → out′ ≡ sets out 0 (objectText (objectCut values means under offsets tape bases start code literals cells last two three))
+        → out′ ≡ sets out 0 (objectText (objectCut w tape bases start code literals cells last two three))
     unfolding objectCut
     written out out′ first first₁ second third f g h cells last two three a l b c e =
         let p = filled-along 1 first f a in
@@ -69,12 +70,12 @@ module _ (values means under offsets tape : List ℕ) where
         rw (l, p, q, r) at e
 
     module _ (ends : List ℕ) (cells last two three : ℕ) (e₁ : cells ≡ endOf ends 1) (el : last ≡ endOfFirst cells start (length literals)) (e₂ : two ≡ endOf ends 2) (e₃ : three ≡ endOf ends 3) where
-      object-is : objectCut values means under offsets tape bases start code literals cells last two three ≡ objectAlong values means under offsets tape bases ends start code literals
+      object-is : objectCut w tape bases start code literals cells last two three ≡ objectAlong w tape bases ends start code literals
       unfolding objectAlong
       object-is = rw (el, e₁, e₂, e₃)
 
       abbrev text : List ℕ
-      text = objectText (objectCut values means under offsets tape bases start code literals cells last two three)
+      text = objectText (objectCut w tape bases start code literals cells last two three)
 
       module _ (fits : (last ≤ segmentLimit) × (two ≤ segmentLimit) × (three ≤ segmentLimit)) (needed : ℕ) (en : needed ≡ lengthFor (length code) last bases two three) (out : List ℕ) where
         text-long : length text ≡ needed
@@ -83,21 +84,21 @@ module _ (values means under offsets tape : List ℕ) where
             let a = image-long 1 in
             let b = image-long 2 in
             let c = image-long 3 in
-            let s = length-sets (imageAlong values means under offsets tape 1) start (words literals) in
-            let l : length (take last (sets (imageAlong values means under offsets tape 1) start (words literals))) ≡ last = omega (arith, length-take last (sets (imageAlong values means under offsets tape 1) start (words literals)), fits) in
-            let t : length (take two (imageAlong values means under offsets tape 2)) ≡ two = omega (arith, length-take two (imageAlong values means under offsets tape 2), fits) in
-            let h : length (take three (imageAlong values means under offsets tape 3)) ≡ three = omega (arith, length-take three (imageAlong values means under offsets tape 3), fits) in
+            let s = length-sets (imageAlong w tape 1) start (words literals) in
+            let l : length (take last (sets (imageAlong w tape 1) start (words literals))) ≡ last = omega (arith, length-take last (sets (imageAlong w tape 1) start (words literals)), fits) in
+            let t : length (take two (imageAlong w tape 2)) ≡ two = omega (arith, length-take two (imageAlong w tape 2), fits) in
+            let h : length (take three (imageAlong w tape 3)) ≡ three = omega (arith, length-take three (imageAlong w tape 3), fits) in
             text-length code _ cells bases _ _ ∙ rw (l, t, h, en)
 
         pub short-room : length out < needed
-            → Gives (inRoom (length out) (accepted (objectText (objectAlong values means under offsets tape bases ends start code literals)))) out out (Refused 16 needed)
+            → Gives (inRoom (length out) (accepted (objectText (objectAlong w tape bases ends start code literals)))) out out (Refused 16 needed)
         unfolding inRoom
         short-room h =
             let n = text-long in
             rw (← object-is, lt-ltb (length out) (length text) (omega arith)) (record { number-is = refl; place-is = sym n; length-is = refl; buffer-is = refl })
 
         pub enough-room : (out′ : List ℕ) → needed ≤ length out → out′ ≡ sets out 0 text
-            → Gives (inRoom (length out) (accepted (objectText (objectAlong values means under offsets tape bases ends start code literals)))) out out′ (Accepted needed)
+            → Gives (inRoom (length out) (accepted (objectText (objectAlong w tape bases ends start code literals)))) out out′ (Accepted needed)
         unfolding inRoom
         enough-room out′ h e =
             let n = text-long in

@@ -4,12 +4,13 @@ use mathlib.Core.List.{List, [], _∷_, _++_}
 use Prim.Native.Nat.{ℕ, _+_, _*_, _≤_, _<_}
 use native.Mathlib.Omega.{arith}
 use native.Mathlib.Numerals.{add-one}
-use lib.ListN.{length, take, drop, getD, set, replicate, drop-of-length-le, length-replicate, replicate-append-replicate}
-use lib.Seq.{sets, take-all, take-suc-set}
+use lib.ListN.{length, drop, getD, set, drop-of-length-le}
+use lib.Seq.{sets}
 use Rattle.base.specs.Numbers.{numberFrom, bytesOf, stored}
 use Rattle.base.proofs.Numbers.{length-bytesOf}
 use Rattle.base.proofs.Parts.{drop-turn, sets-append}
 use Rattle.base.proofs.Lists.{all-getD}
+use Rattle.ledger.specs.Book.{Wide, onWide, putValue}
 use Rattle.names.specs.Search.{inFront}
 use Rattle.translator.specs.Image.{words}
 use Rattle.translator.specs.Translate.{valuesOf}
@@ -21,6 +22,15 @@ lay-turn xs l t v h e q =
 
 pub lay-end : (xs l : List ℕ) (t : ℕ) {z : List ℕ} → length xs ≤ t → sets l t (drop t xs) ≡ z → l ≡ z
 lay-end xs l t h q = sym (ap (λ (ds : List ℕ). sets l t ds) (drop-of-length-le xs h)) ∙ q
+
+-- in the column of values
+pub values-turn : (xs : List ℕ) (w w′ : Wide) (t v : ℕ) {z : Wide} → t < length xs → v ≡ getD xs t 0 → w′ ≡ putValue t v w
+    → onWide 0 (λ (l : List ℕ). sets l t (drop t xs)) w ≡ z → onWide 0 (λ (l : List ℕ). sets l (t + 1) (drop (t + 1) xs)) w′ ≡ z
+values-turn xs w w′ t v h ev e q =
+    ap (onWide 0 (λ (l : List ℕ). sets l (t + 1) (drop (t + 1) xs))) e ∙ (ap (λ (k : List ℕ). onWide 0 (λ (l : List ℕ). k) w) (lay-turn xs (w .values) t v h ev refl) ∙ q)
+
+pub values-end : (xs : List ℕ) (w : Wide) (t : ℕ) {z : Wide} → length xs ≤ t → onWide 0 (λ (l : List ℕ). sets l t (drop t xs)) w ≡ z → w ≡ z
+values-end xs w t h q = ap (λ (k : List ℕ). onWide 0 (λ (l : List ℕ). k) w) (lay-end xs (w .values) t h refl) ∙ q
 
 module _ (vs image : List ℕ) (start i : ℕ) where
   pub words-start : sets image (start + 4 * 0) (words (drop 0 vs)) ≡ sets image start (words vs)
@@ -39,19 +49,6 @@ module _ (vs image : List ℕ) (start i : ℕ) where
   pub words-end : {z : List ℕ} → length vs ≤ i → sets image (start + 4 * i) (words (drop i vs)) ≡ z → image ≡ z
   unfolding words
   words-end h q = sym (ap (λ (ds : List ℕ). sets image (start + 4 * i) (words ds)) (drop-of-length-le vs h)) ∙ q
-
--- ── zeros, one after the other ──
-
-pub zeros-turn : (l : List ℕ) (i : ℕ) → i < length l → take i l ≡ replicate i 0 → take (i + 1) (set l i 0) ≡ replicate (i + 1) 0
-zeros-turn l i h e =
-    ap (λ (n : ℕ). take n (set l i 0)) (add-one i)
-    ∙ (take-suc-set l i 0 h ∙ (ap (λ (k : List ℕ). k ++ (0 ∷ [])) e ∙ replicate-append-replicate i 1 0))
-
-pub zeros-end : (l before : List ℕ) (i : ℕ) → length l ≤ i → i ≤ length before → length l ≡ length before → take i l ≡ replicate i 0 → l ≡ replicate (length before) 0
-zeros-end l before i h k e z = let n : i ≡ length before = omega arith in sym (take-all i l h) ∙ (z ∙ ap (λ (j : ℕ). replicate j 0) n)
-
-pub zeros-again : (l : List ℕ) (n : ℕ) → l ≡ replicate n 0 → l ≡ replicate (length l) 0
-zeros-again l n e = e ∙ ap (λ (j : ℕ). replicate j 0) (sym (ap length e ∙ length-replicate {A = ℕ} n 0))
 
 -- ── the names in front ──
 

@@ -1,17 +1,18 @@
--- A text that is a program, as arrays by token; and the tables of the definition as the passes leave them in arrays.
+-- A text that is a program, as the ledger and the tape have it; and the tables of the definition as the passes leave them there.
 use mathlib.Core.Path.{_≡_}
 use mathlib.Core.List.{List, [], _++_, map}
-use Prim.Native.Nat.{ℕ, _+_, _*_, _≤_, _<_}
-use lib.ListN.{length, take, getD, replicate}
+use Prim.Native.Nat.{ℕ, _+_, _*_, _/_, _≤_, _<_}
+use lib.ListN.{length, take, drop, getD, replicate}
 use Rattle.token.specs.Kinds as K
 use Rattle.token.specs.Text.{Reading, tokensOf}
-use Rattle.token.specs.Answers.{summaryOf, summed}
+use Rattle.token.specs.Answers.{summaryOf, summed, laid, kindOf, valueOf}
 use Rattle.token.specs.declared.Token.{Token}
 use Rattle.token.specs.declared.Tokens.{Tokens}
 use Rattle.token.specs.declared.Tokens.the-variants.{Read}
 use Rattle.grammar.specs.Tree.{Statement}
 use Rattle.grammar.specs.Derives.{isProgram}
 use Rattle.tape.specs.Tape.{tapeStatement}
+use Rattle.ledger.specs.Book.{Wide, Thin, onWide}
 use Rattle.names.specs.declared.Broken.{Broken}
 use Rattle.names.specs.Broken.{_⊕_}
 use Rattle.names.specs.Search.{inFront, firstToken}
@@ -20,7 +21,7 @@ use Rattle.names.specs.Labels.{Labelled}
 use Rattle.kinds.specs.Meanings.{Meant}
 use Rattle.kinds.specs.Tables.{Tables}
 use Rattle.kinds.specs.Kinds.{rulesOf}
-use Rattle.tables.specs.Packed.{meaningsOf, setsOf}
+use Rattle.tables.specs.Packed.{meaningsOf}
 use Rattle.translator.specs.Layout.{placeCells, offsetOf}
 use Rattle.translator.specs.Translate.{kindsOf, valuesOf, placeAt, named, labelled, meant, tablesOf}
 use Rattle.made.specs.Making.{endOf}
@@ -34,12 +35,27 @@ allTokens source = inFront ++ tokensOf source .tokens
 abbrev pub placesOf : List Token → List ℕ
 placesOf ts = map (λ (t : Token). t .place) ts
 
+-- one part of each token of a source, laid behind the register names
+pub record LaidBehind (part : Token → ℕ) (source before after : List ℕ) : Type 0 where
+  pub front : take firstToken after ≡ take firstToken before
+  pub behind : drop firstToken after ≡ laid part (tokensOf source .tokens) (drop firstToken before)
+
+-- but for the values as it was
+abbrev pub ButValues : (before after : Wide) → Type 0
+ButValues before after = after ≡ onWide 0 (λ (values : List ℕ). after .values) before
+
+-- the tokens of a source are laid behind the register names, as far as a refusal
+pub record Behind (source kinds kinds′ : List ℕ) (w w′ : Wide) (r : Tokens) : Type 0 where
+  pub is : summaryOf r ≡ summed (tokensOf source)
+  pub kinds-laid : LaidBehind kindOf source kinds kinds′
+  pub values-laid : LaidBehind valueOf source (w .values) (w′ .values)
+  pub same : ButValues w w′
+
 -- the tokens of a source behind the register names, or its refusal
-pub record Fronted (source kinds values places : List ℕ) (r : Tokens) : Type 0 where
+pub record Fronted (source kinds values : List ℕ) (r : Tokens) : Type 0 where
   pub is : summaryOf r ≡ summed (tokensOf source)
   pub kinds-are : (n : ℕ) → r ≡ Read n → take (firstToken + n) kinds ≡ kindsOf (allTokens source)
   pub values-are : (n : ℕ) → r ≡ Read n → take (firstToken + n) values ≡ valuesOf (allTokens source)
-  pub places-are : (n : ℕ) → r ≡ Read n → take (firstToken + n) places ≡ placesOf (allTokens source)
 
 -- ── a program ──
 
@@ -58,16 +74,21 @@ abbrev pub Blank : List Token → List ℕ → Type 0
 Blank ts l = l ≡ replicate (length ts) 0
 
 -- what is to be filled by token
-pub record Blanks (ts : List Token) (found goes means : List ℕ) : Type 0 where
-  pub no-found : Blank ts found
-  pub no-goes : Blank ts goes
-  pub no-means : Blank ts means
+pub record Blanks (ts : List Token) (w : Wide) (b : Thin) : Type 0 where
+  pub no-means : Blank ts (w .means)
+  pub no-found : Blank ts (b .found)
+  pub no-goes : Blank ts (b .goes)
 
 -- which declaration each name and which label each GOTO means, and the rules that are broken by them
-pub record Bound (ts : List Token) (x : Statement) (found goes : List ℕ) (b : Broken) : Type 0 where
-  pub found-is : found ≡ named ts x .found
-  pub goes-is : goes ≡ labelled ts x .goes
-  pub broken-is : b ≡ named ts x .broken ⊕ labelled ts x .broken
+pub record Bound (ts : List Token) (x : Statement) (b : Thin) (r : Broken) : Type 0 where
+  pub found-is : b .found ≡ named ts x .found
+  pub goes-is : b .goes ≡ labelled ts x .goes
+  pub broken-is : r ≡ named ts x .broken ⊕ labelled ts x .broken
+
+-- columns that were worked in are left as zeros
+pub record Cleared (before : List ℕ) (after : Thin) : Type 0 where
+  pub opens-are : after .opens ≡ replicate (length before / 4) 0
+  pub written-are : after .written ≡ replicate (length before / 4) 0
 
 abbrev pub meantIn : List Token → Statement → Meant
 meantIn ts x = meant ts (named ts x) x
@@ -75,15 +96,21 @@ meantIn ts x = meant ts (named ts x) x
 abbrev pub tablesIn : List Token → Statement → Tables
 tablesIn ts x = tablesOf ts (named ts x) (labelled ts x) (meantIn ts x)
 
--- what names mean and where cells stand, and the rules that are broken by them, with others
-pub record Settled (ts : List Token) (x : Statement) (means under opens written ends offsets : List ℕ) (others : Broken) (r : Judged) : Type 0 where
-  pub means-are : meaningsOf means under ≡ meantIn ts x .means
-  pub opens-are : opens ≡ meantIn ts x .opens
-  pub written-are : setsOf written ≡ meantIn ts x .written
+-- What names mean, and the rules that are broken by it and by where cells stand, with others. Where none is broken, the ends of segments stand in the column of
+-- what procedures write, and where cells stand is right.
+pub record Settled (ts : List Token) (x : Statement) (w : Wide) (b : Thin) (others : Broken) (r : Judged) : Type 0 where
+  pub means-are : meaningsOf (w .means) (w .under) ≡ meantIn ts x .means
+  pub opens-are : b .opens ≡ meantIn ts x .opens
   pub bases-are : r .bases ≡ meantIn ts x .bases
-  pub ends-are : (k : ℕ) → getD ends k 0 ≡ getD (placeCells (meantIn ts x .bases) (meantIn ts x .cells) .ends) k 0
-  pub offsets-are : (t : ℕ) → getD offsets t 0 ≡ offsetOf (placeCells (meantIn ts x .bases) (meantIn ts x .cells) .placed) t
   pub broken-is : r .broken ≡ (others ⊕ rulesOf (tablesIn ts x) x) ⊕ placeCells (meantIn ts x .bases) (meantIn ts x .cells) .broken
+  pub ends-are : r .broken .number ≡ 0 → (k : ℕ) → getD (b .written) k 0 ≡ getD (placeCells (meantIn ts x .bases) (meantIn ts x .cells) .ends) k 0
+  pub offsets-are : r .broken .number ≡ 0 → (t : ℕ) → getD (w .offsets) t 0 ≡ offsetOf (placeCells (meantIn ts x .bases) (meantIn ts x .cells) .placed) t
+
+-- what stays while that is settled
+pub record Stays (w w′ : Wide) (b b′ : Thin) : Type 0 where
+  pub values-stay : w′ .values ≡ w .values
+  pub found-stays : b′ .found ≡ b .found
+  pub goes-stays : b′ .goes ≡ b .goes
 
 -- where the cells of segments 1 to 3 end
 pub record Ended (ends : List ℕ) (r : Judged) : Type 0 where
@@ -96,33 +123,18 @@ pub record Ended (ends : List ℕ) (r : Judged) : Type 0 where
 abbrev pub Zeros : List ℕ → Type 0
 Zeros l = l ≡ replicate (length l) 0
 
--- a list that has served is left as zeros
-abbrev pub Cleared : (before after : List ℕ) → Type 0
-Cleared before after = after ≡ replicate (length before) 0
-
--- what is lent for n tokens, to be worked in and filled
-pub record Lent (n : ℕ) (opens written means under offsets ends : List ℕ) : Type 0 where
+-- the rows of n tokens
+pub record Lent (n : ℕ) (wide thin : List ℕ) : Type 0 where
   pub few : n ≤ 65536
-  pub opens-long : length opens ≡ n
-  pub written-long : length written ≡ n
-  pub under-long : length means ≤ length under
-  pub offsets-long : length offsets ≡ n
-  pub ends-long : n ≤ length ends
+  pub wide-long : length wide ≡ 4 * n
+  pub thin-long : length thin ≡ 4 * n
 
 -- what is lent for a text of n bytes
-pub record Rooms (n : ℕ) (kinds values tape found goes opens written means under offsets ends : List ℕ) : Type 0 where
+pub record Rooms (n : ℕ) (kinds tape wide thin : List ℕ) : Type 0 where
   pub short : n ≤ 32768
   pub for-kinds : n + 18 ≤ length kinds
-  pub for-values : n + 18 ≤ length values
   pub for-tape : n + 18 ≤ length tape
-  pub for-found : n + 18 ≤ length found
-  pub for-goes : n + 18 ≤ length goes
-  pub for-opens : n + 18 ≤ length opens
-  pub for-written : n + 18 ≤ length written
-  pub for-means : n + 18 ≤ length means
-  pub for-under : n + 18 ≤ length under
-  pub for-offsets : n + 18 ≤ length offsets
-  pub for-ends : n + 18 ≤ length ends
-  pub no-found : Zeros found
-  pub no-goes : Zeros goes
-  pub no-means : Zeros means
+  pub for-wide : 4 * (n + 18) ≤ length wide
+  pub for-thin : 4 * (n + 18) ≤ length thin
+  pub no-wide : Zeros wide
+  pub no-thin : Zeros thin

@@ -2,27 +2,33 @@
 // refusal is decided.
 ghost use mathlib.Core.Path.{_≡_};
 ghost use mathlib.Core.List.{List};
-ghost use Prim.Native.Nat.{ℕ, _+_, _*_, _≤_, _<_, min};
-ghost use lib.ListN.{length, getD, replicate};
+ghost use Prim.Native.Nat.{ℕ, _+_, _*_, _/_, _≤_, _<_};
+ghost use lib.ListN.{length, getD};
 ghost use lib.Seq.{sets};
 ghost use Rattle.token.specs.declared.Token.{Token};
-ghost use Rattle.token.specs.Text.{isLast, tokensOf};
+ghost use Rattle.token.specs.Text.{tokensOf};
 ghost use Rattle.grammar.specs.Tree.{Statement};
 ghost use Rattle.grammar.specs.Grammar.{program};
 ghost use Rattle.names.specs.Search.{inFront, firstToken};
+ghost use Rattle.ledger.specs.Book.{wideOf, thinOf, onWide};
+ghost use Rattle.ledger.specs.Bounds.{Narrow, Nested};
 ghost use Rattle.translator.specs.Image.{words};
 ghost use Rattle.translator.specs.Translate.{kindsOf, valuesOf, accepted, inRoom, named, make, judge, afterTokens, translate as translation};
 ghost use Rattle.objtext.specs.Object.{objectText};
 ghost use Rattle.frames.specs.Frames.{lengthFor};
 ghost use Rattle.translate.specs.Answers.{Gives, outcome, defined};
-ghost use Rattle.translate.specs.Texts.{allTokens, placesOf, Fronted, Small, Text, Blank, Blanks, Bound, Settled, Ended, Cleared, Lent, Rooms};
+ghost use Rattle.translate.specs.Texts.{allTokens, placesOf, Behind, Fronted, ButValues, Small, Text, Blank, Blanks, Bound, Cleared, Settled, Ended, Stays, Lent, Rooms};
 ghost use Rattle.made.specs.Making.{endOf, endOfFirst, objectCut, objectAlong, madeAlong};
-use arrays::get;
-use arrays::key;
+use ledger::clear_offsets;
+use ledger::clear_opens;
+use ledger::clear_written;
+use ledger::put_value;
+use ledger::written;
 use names::Broken;
 use names::join;
 use token::Next;
 use token::Tokens;
+use token_lists::is_last;
 
 // The bytes written; or a refusal's number and place.
 pub enum Answer {
@@ -63,73 +69,63 @@ const FRONT_KEYS: [u64; 17] = [
     987,
 ];
 
-fn put_front(kinds: &mut [u8], values: &mut [u64], places: &mut [u32])
-    requires { ⌜ (17 ≤ length (now kinds)) × (17 ≤ length (now values)) × (17 ≤ length (now places)) ⌝ }
-    ensures { λ _. ⌜ (now (kinds .exit) ≡ sets (now (kinds .entry)) 0 (kindsOf inFront)) × (now (values .exit) ≡ sets (now (values .entry)) 0 (valuesOf inFront)) × (now (places .exit) ≡ sets (now (places .entry)) 0 (placesOf inFront)) ⌝ }
+fn put_front(kinds: &mut [u8], wide: &mut [u64])
+    requires { ⌜ 17 ≤ length (now kinds) ⌝ }
+    ensures { λ _. ⌜ (now (kinds .exit) ≡ sets (now (kinds .entry)) 0 (kindsOf inFront)) × (wideOf (now (wide .exit)) ≡ onWide 0 (λ values. sets values 0 (valuesOf inFront)) (wideOf (now (wide .entry)))) ⌝ }
 {
     let mut t: usize = 0;
     while t < FIRST_TOKEN {
         kinds[t] = FRONT_KINDS[t];
-        values[t] = FRONT_KEYS[t];
-        places[t] = 0;
+        put_value(wide, t, FRONT_KEYS[t]);
         t += 1;
     }
 }
 
-fn read(src: &[u8], kinds: &mut [u8], values: &mut [u64], places: &mut [u32]) -> Tokens
-    requires { ⌜ (length (now src) + 18 ≤ length (now kinds)) × (length (now src) + 18 ≤ length (now values)) × (length (now src) + 18 ≤ length (now places)) ⌝ }
-    ensures { λ r. ⌜ Fronted (now (src .entry)) (now (kinds .exit)) (now (values .exit)) (now (places .exit)) r ⌝ }
+// The text's own tokens, one after the other as far as a refusal.
+fn lay_tokens(src: &[u8], kinds: &mut [u8], wide: &mut [u64]) -> Tokens
+    requires { ⌜ (length (now src) ≤ 32768) × (length (now src) + 18 ≤ length (now kinds)) ⌝ }
+    ensures { λ r. ⌜ Behind (now (src .entry)) (now (kinds .entry)) (now (kinds .exit)) (wideOf (now (wide .entry))) (wideOf (now (wide .exit))) r ⌝ }
 {
-    put_front(kinds, values, places);
-    token_lists::read_tokens(
-        src,
-        &mut kinds[FIRST_TOKEN..],
-        &mut values[FIRST_TOKEN..],
-        &mut places[FIRST_TOKEN..],
-    )
-}
-
-// ── lists in turn ──
-
-// A list that has served is lent again, as zeros.
-fn clear(a: &mut [u32])
-    ensures { λ _. ⌜ now (a .exit) ≡ replicate (length (now (a .entry))) 0 ⌝ }
-{
-    let mut i: usize = 0;
-    while i < a.len() {
-        a[i] = 0;
-        i += 1;
+    let mut at: usize = 0;
+    let mut n: usize = 0;
+    loop {
+        let next = scanner::next_token(&src[at..]);
+        match next {
+            Next::Token(t, end) => {
+                let kind = t.kind;
+                kinds[FIRST_TOKEN + n] = kind;
+                put_value(wide, FIRST_TOKEN + n, t.value);
+                n += 1;
+                if is_last(kind) {
+                    return Tokens::Read(n);
+                }
+                at += end;
+            }
+            Next::NoToken(place) => return Tokens::NoToken(at + place),
+            Next::OutOfRange(place) => return Tokens::OutOfRange(at + place),
+        }
     }
 }
 
-fn clear_wide(a: &mut [u64])
-    ensures { λ _. ⌜ now (a .exit) ≡ replicate (length (now (a .entry))) 0 ⌝ }
+fn read(src: &[u8], kinds: &mut [u8], wide: &mut [u64]) -> Tokens
+    requires { ⌜ (length (now src) ≤ 32768) × (length (now src) + 18 ≤ length (now kinds)) × (4 * (length (now src) + 18) ≤ length (now wide)) ⌝ }
+    ensures { λ r. ⌜ Fronted (now (src .entry)) (now (kinds .exit)) (wideOf (now (wide .exit)) .values) r × ButValues (wideOf (now (wide .entry))) (wideOf (now (wide .exit))) ⌝ }
 {
-    let mut i: usize = 0;
-    while i < a.len() {
-        a[i] = 0;
-        i += 1;
-    }
+    put_front(kinds, wide);
+    lay_tokens(src, kinds, wide)
 }
 
 // ── the rules ──
 
-// Which declaration each name and which label each GOTO means; the broken rules. Two lists are worked in, and left as zeros.
-fn bind(
-    tape: &[u32],
-    values: &[u64],
-    first: &mut [u32],
-    second: &mut [u32],
-    found: &mut [u32],
-    goes: &mut [u32],
-) -> Broken
-    requires { ⌜ (17 + length (now tape) ≤ length (now values)) × (length (now first) ≡ length (now values)) × (length (now second) ≡ length (now values)) × (length (now values) ≤ 65536) ⌝ }
-    ensures { λ r. ⌜ (Cleared (now (first .entry)) (now (first .exit)) × Cleared (now (second .entry)) (now (second .exit))) × ((ts : List Token) (x : Statement) → Text ts x (now (values .entry)) (now (tape .entry)) → Blank ts (now (found .entry)) → Blank ts (now (goes .entry)) → Bound ts x (now (found .exit)) (now (goes .exit)) r) ⌝ }
+// Which declaration each name and which label each GOTO means; the broken rules. Two columns are worked in, and left as zeros.
+fn bind(tape: &[u32], wide: &[u64], thin: &mut [u16]) -> Broken
+    requires { ⌜ Narrow (now tape) × (4 * (17 + length (now tape)) ≤ length (now thin)) × (length (now thin) ≤ 262144) × (length (now wide) ≤ length (now thin)) ⌝ }
+    ensures { λ r. ⌜ Cleared (now (thin .entry)) (thinOf (now (thin .exit))) × ((ts : List Token) (x : Statement) → Text ts x (wideOf (now (wide .entry)) .values) (now (tape .entry)) → Blank ts (thinOf (now (thin .entry)) .found) → Blank ts (thinOf (now (thin .entry)) .goes) → Bound ts x (thinOf (now (thin .exit))) r) ⌝ }
 {
-    let n = search::names(tape, values, first, second, found);
-    let l = labels::labels(tape, values, first, second, goes);
-    clear(first);
-    clear(second);
+    let n = search::names(tape, wide, thin);
+    let l = labels::labels(tape, wide, thin);
+    clear_opens(thin);
+    clear_written(thin);
     join(n.broken, l.broken)
 }
 
@@ -142,67 +138,38 @@ struct Judged {
     three: usize,
 }
 
-fn end_of(ends: &[u64], k: usize) -> usize
-    ensures { λ r. ⌜ (r ≡ endOf (now (ends .entry)) k) × (r ≤ 4096) ⌝ }
+// Layout leaves the ends of segments in the column of what procedures write.
+fn end_of(thin: &[u16], k: usize) -> usize
+    ensures { λ r. ⌜ (r ≡ endOf (thinOf (now (thin .entry)) .written) k) × (r ≤ 4096) ⌝ }
 {
-    let end = key(ends, k);
-    if end < 4096 {
-        end as usize
-    } else {
-        SEGMENT_LIMIT
+    let end = written(thin, k);
+    if end < SEGMENT_LIMIT {
+        return end;
     }
+    SEGMENT_LIMIT
 }
 
-// What is settled along the tape: the lists of offsets and of ends serve meanings and rules as stacks before.
-fn settle(
-    tape: &[u32],
-    kinds: &[u8],
-    values: &[u64],
-    found: &[u32],
-    means: &mut [u64],
-    under: &mut [u64],
-    opens: &mut [u32],
-    written: &mut [u32],
-    offsets: &mut [u64],
-    ends: &mut [u64],
-    others: Broken,
-) -> Judged
-    requires { ⌜ (length (now tape) ≤ 65536) × (length (now tape) + 2 ≤ length (now offsets)) × (length (now tape) + 2 ≤ length (now ends)) × (length (now means) ≤ length (now under)) ⌝ }
-    ensures { λ r. ⌜ Ended (now (ends .exit)) r × ((ts : List Token) (x : Statement) → Text ts x (now (values .entry)) (now (tape .entry)) → now (kinds .entry) ≡ kindsOf ts → now (found .entry) ≡ named ts x .found → Blank ts (now (means .entry)) → Blank ts (now (opens .entry)) → Blank ts (now (written .entry)) → length (now (offsets .entry)) ≡ length ts → Settled ts x (now (means .exit)) (now (under .exit)) (now (opens .exit)) (now (written .exit)) (now (ends .exit)) (now (offsets .exit)) others r) ⌝ }
+// "BEGIN, IF, WHILE, FOR or PROCEDURE inside 64 such constructs": so many blocks, or procedures, are open at most.
+const NESTING: usize = 64;
+
+// What is settled along the tape.
+fn settle(tape: &[u32], kinds: &[u8], wide: &mut [u64], thin: &mut [u16], others: Broken) -> Judged
+    requires { ⌜ Nested 64 0 0 (now tape) × (length (now tape) < 65534) × (4 * (length (now tape) + 2) ≤ length (now wide)) × (4 * (length (now tape) + 2) ≤ length (now thin)) ⌝ }
+    ensures { λ r. ⌜ Ended (thinOf (now (thin .exit)) .written) r × Stays (wideOf (now (wide .entry))) (wideOf (now (wide .exit))) (thinOf (now (thin .entry))) (thinOf (now (thin .exit))) × ((ts : List Token) (x : Statement) → Text ts x (wideOf (now (wide .entry)) .values) (now (tape .entry)) → now (kinds .entry) ≡ kindsOf ts → thinOf (now (thin .entry)) .found ≡ named ts x .found → Blank ts (wideOf (now (wide .entry)) .means) → Blank ts (thinOf (now (thin .entry)) .opens) → Blank ts (thinOf (now (thin .entry)) .written) → length (now (wide .entry)) / 4 ≡ length ts → Settled ts x (wideOf (now (wide .exit))) (thinOf (now (thin .exit))) others r) ⌝ }
 {
-    let bases = meanings::meanings(
-        tape,
-        kinds,
-        values,
-        found,
-        means,
-        under,
-        opens,
-        written,
-        offsets,
-        ends,
-    );
-    let ruled = judge::judge(
-        tape,
-        kinds,
-        values,
-        found,
-        means,
-        opens,
-        written,
-        offsets,
-        ends,
-        others,
-    );
-    clear_wide(offsets);
-    clear_wide(ends);
-    let placed = layout::layout(tape, means, under, ends, offsets);
+    let mut owners = [0u64; NESTING + 1];
+    let mut outer = [0u64; NESTING + 1];
+    let mut counts = [0u64; NESTING];
+    let bases = meanings::meanings(tape, kinds, wide, thin, &mut owners, &mut outer);
+    let ruled = judge::judge(tape, kinds, wide, thin, &mut counts, others);
+    clear_offsets(wide);
+    let placed = layout::layout(tape, wide, thin);
     Judged {
         broken: join(ruled, placed),
         bases,
-        cells: end_of(ends, 1),
-        two: end_of(ends, 2),
-        three: end_of(ends, 3),
+        cells: end_of(thin, 1),
+        two: end_of(thin, 2),
+        three: end_of(thin, 3),
     }
 }
 
@@ -231,39 +198,35 @@ fn end_of_first(cells: usize, start: usize, literals: usize) -> usize
     start + 4 * literals
 }
 
-// The images of the segments, and the object of them.
+// The images of the segments, and the object of them; segment 1 ends at `last`.
 fn write(
     tape: &[u32],
-    values: &[u64],
-    means: &[u64],
-    under: &[u64],
-    offsets: &[u64],
+    wide: &[u64],
     code: &[u8],
     literals: &[u64],
     start: usize,
-    bases: usize,
-    cells: usize,
     last: usize,
-    two: usize,
-    three: usize,
+    s: Judged,
     out: &mut [u8],
 )
-    requires { ⌜ (length (now code) ≤ 4096) × (start + 4 * length (now literals) ≤ 4096) × (last ≤ 4096) × (two ≤ 4096) × (three ≤ 4096) × (lengthFor (length (now code)) last bases two three ≤ length (now out)) ⌝ }
-    ensures { λ _. ⌜ now (out .exit) ≡ sets (now (out .entry)) 0 (objectText (objectCut (now (values .entry)) (now (means .entry)) (now (under .entry)) (now (offsets .entry)) (now (tape .entry)) bases start (now (code .entry)) (now (literals .entry)) cells last two three)) ⌝ }
+    requires { ⌜ (length (now code) ≤ 4096) × (start + 4 * length (now literals) ≤ 4096) × (last ≤ 4096) × (s .two ≤ 4096) × (s .three ≤ 4096) × (lengthFor (length (now code)) last (s .bases) (s .two) (s .three) ≤ length (now out)) ⌝ }
+    ensures { λ _. ⌜ now (out .exit) ≡ sets (now (out .entry)) 0 (objectText (objectCut (wideOf (now (wide .entry))) (now (tape .entry)) (s .bases) start (now (code .entry)) (now (literals .entry)) (s .cells) last (s .two) (s .three))) ⌝ }
 {
     let mut first = [0u8; SEGMENT_LIMIT];
     let mut second = [0u8; SEGMENT_LIMIT];
     let mut third = [0u8; SEGMENT_LIMIT];
-    layout::fill(tape, 1, means, under, offsets, values, &mut first);
+    layout::fill(tape, 1, wide, &mut first);
     lay_literals(&mut first, start, literals);
-    layout::fill(tape, 2, means, under, offsets, values, &mut second);
-    layout::fill(tape, 3, means, under, offsets, values, &mut third);
+    layout::fill(tape, 2, wide, &mut second);
+    layout::fill(tape, 3, wide, &mut third);
+    let two = s.two;
+    let three = s.three;
     frames::write_object(
         out,
         code,
         &first[..last],
-        cells,
-        bases,
+        s.cells,
+        s.bases,
         &second[..two],
         &third[..three],
     );
@@ -272,10 +235,7 @@ fn write(
 // "16: buffer shorter than the object text … length needed"
 fn deliver(
     tape: &[u32],
-    values: &[u64],
-    means: &[u64],
-    under: &[u64],
-    offsets: &[u64],
+    wide: &[u64],
     code: &[u8],
     literals: &[u64],
     start: usize,
@@ -283,33 +243,14 @@ fn deliver(
     out: &mut [u8],
 ) -> Answer
     requires { ⌜ (length (now code) ≤ 4096) × (start + 4 * length (now literals) ≤ 4096) × (s .cells ≤ 4096) × (s .two ≤ 4096) × (s .three ≤ 4096) ⌝ }
-    ensures { λ r. ⌜ ((ends : List ℕ) → Ended ends s → Gives (inRoom (length (now (out .entry))) (accepted (objectText (objectAlong (now (values .entry)) (now (means .entry)) (now (under .entry)) (now (offsets .entry)) (now (tape .entry)) (s .bases) ends start (now (code .entry)) (now (literals .entry)))))) (now (out .entry)) (now (out .exit)) r) ⌝ }
+    ensures { λ r. ⌜ ((ends : List ℕ) → Ended ends s → Gives (inRoom (length (now (out .entry))) (accepted (objectText (objectAlong (wideOf (now (wide .entry))) (now (tape .entry)) (s .bases) ends start (now (code .entry)) (now (literals .entry)))))) (now (out .entry)) (now (out .exit)) r) ⌝ }
 {
-    let cells = s.cells;
-    let last = end_of_first(cells, start, literals.len());
-    let two = s.two;
-    let three = s.three;
-    let bases = s.bases;
-    let needed = frames::text_length(code.len(), last, bases, two, three);
+    let last = end_of_first(s.cells, start, literals.len());
+    let needed = frames::text_length(code.len(), last, s.bases, s.two, s.three);
     if out.len() < needed {
         return Answer::Refused(16, needed);
     }
-    write(
-        tape,
-        values,
-        means,
-        under,
-        offsets,
-        code,
-        literals,
-        start,
-        bases,
-        cells,
-        last,
-        two,
-        three,
-        out,
-    );
+    write(tape, wide, code, literals, start, last, s, out);
     Answer::Accepted(needed)
 }
 
@@ -319,50 +260,19 @@ const LITERALS: usize = 1025;
 fn make(
     tape: &[u32],
     kinds: &[u8],
-    values: &[u64],
-    found: &[u32],
-    goes: &[u32],
-    means: &[u64],
-    under: &[u64],
-    opens: &[u32],
-    offsets: &[u64],
-    marks: &mut [u32],
+    wide: &[u64],
+    thin: &mut [u16],
     s: Judged,
     out: &mut [u8],
 ) -> Answer
     requires { ⌜ (length (now tape) ≤ 65536) × (s .cells ≤ 4096) × (s .two ≤ 4096) × (s .three ≤ 4096) ⌝ }
-    ensures { λ r. ⌜ ((ends : List ℕ) → Ended ends s → Gives (madeAlong (now (kinds .entry)) (now (values .entry)) (now (found .entry)) (now (goes .entry)) (now (means .entry)) (now (under .entry)) (now (opens .entry)) (now (offsets .entry)) ends (now (marks .entry)) (now (tape .entry)) (s .bases) (length (now (out .entry)))) (now (out .entry)) (now (out .exit)) r) ⌝ }
+    ensures { λ r. ⌜ ((ends : List ℕ) → Ended ends s → Gives (madeAlong (now (kinds .entry)) (wideOf (now (wide .entry))) (thinOf (now (thin .entry))) ends (now (tape .entry)) (s .bases) (length (now (out .entry)))) (now (out .entry)) (now (out .exit)) r) ⌝ }
 {
     let mut image = [0u8; SEGMENT_LIMIT];
     let mut literals = [0u64; LITERALS];
     let start = layout::round_up(4, s.cells as u64);
-    code::places(
-        tape,
-        kinds,
-        values,
-        found,
-        goes,
-        means,
-        under,
-        opens,
-        offsets,
-        marks,
-    );
-    let e = code::write_code(
-        tape,
-        kinds,
-        values,
-        found,
-        goes,
-        means,
-        under,
-        opens,
-        offsets,
-        marks,
-        start,
-        &mut image,
-        &mut literals,
-    );
+    code::places(tape, kinds, wide, thin);
+    let e = code::write_code(tape, kinds, wide, thin, start, &mut image, &mut literals);
     let size = e.length;
     let count = e.literals;
     let from = start as usize;
@@ -372,27 +282,10 @@ fn make(
     if SEGMENT_LIMIT < from + 4 * count {
         return Answer::Refused(15, 0);
     }
-    deliver(
-        tape,
-        values,
-        means,
-        under,
-        offsets,
-        &image[..size],
-        &literals[..count],
-        from,
-        s,
-        out,
-    )
+    deliver(tape, wide, &image[..size], &literals[..count], from, s, out)
 }
 
 // ── the groups ──
-
-fn is_last(kind: u8) -> bool
-    ensures { λ r. ⌜ r ≡ isLast kind ⌝ }
-{
-    (kind == token::kinds::AT) | (kind == token::kinds::END_OF_TEXT)
-}
 
 // The place of a token of a text that was read, which is read again as far as that.
 fn place_in(src: &[u8], wanted: usize) -> usize
@@ -438,136 +331,70 @@ fn translate_tape(
     src: &[u8],
     tape: &[u32],
     kinds: &[u8],
-    values: &[u64],
-    found: &mut [u32],
-    goes: &mut [u32],
-    opens: &mut [u32],
-    written: &mut [u32],
-    means: &mut [u64],
-    under: &mut [u64],
-    offsets: &mut [u64],
-    ends: &mut [u64],
+    wide: &mut [u64],
+    thin: &mut [u16],
     out: &mut [u8],
 ) -> Answer
-    requires { ⌜ (tokensOf (now src) .number ≡ 0) × (17 + length (now tape) ≤ length (now values)) × Lent (length (now values)) (now opens) (now written) (now means) (now under) (now offsets) (now ends) ⌝ }
-    ensures { λ r. ⌜ (let ts = allTokens (now (src .entry)) in (x : Statement) → Text ts x (now (values .entry)) (now (tape .entry)) → now (kinds .entry) ≡ kindsOf ts → Blanks ts (now (found .entry)) (now (goes .entry)) (now (means .entry)) → Gives (inRoom (length (now (out .entry))) (judge ts (make ts x))) (now (out .entry)) (now (out .exit)) r) ⌝ }
+    requires { ⌜ (tokensOf (now src) .number ≡ 0) × (17 + length (now tape) ≤ length (now kinds)) × Narrow (now tape) × Nested 64 0 0 (now tape) × Lent (length (now kinds)) (now wide) (now thin) ⌝ }
+    ensures { λ r. ⌜ (let ts = allTokens (now (src .entry)) in (x : Statement) → Text ts x (wideOf (now (wide .entry)) .values) (now (tape .entry)) → now (kinds .entry) ≡ kindsOf ts → Blanks ts (wideOf (now (wide .entry))) (thinOf (now (thin .entry))) → Gives (inRoom (length (now (out .entry))) (judge ts (make ts x))) (now (out .entry)) (now (out .exit)) r) ⌝ }
 {
-    let others = bind(tape, values, opens, written, found, goes);
-    let s = settle(
-        tape,
-        kinds,
-        values,
-        found,
-        means,
-        under,
-        opens,
-        written,
-        offsets,
-        ends,
-        others,
-    );
+    let others = bind(tape, wide, thin);
+    let s = settle(tape, kinds, wide, thin, others);
     let broken = s.broken;
     let number = broken.number;
     let at = broken.at;
     if number != 0 {
         return Answer::Refused(number, place_of(src, at));
     }
-    clear(written);
-    make(
-        tape,
-        kinds,
-        values,
-        found,
-        goes,
-        means,
-        under,
-        opens,
-        offsets,
-        written,
-        s,
-        out,
-    )
+    clear_written(thin);
+    make(tape, kinds, wide, thin, s, out)
 }
 
 // The tokens: 4 and 5, then the rest.
 fn translate_tokens(
     src: &[u8],
     kinds: &[u8],
-    values: &[u64],
     tape: &mut [u32],
-    found: &mut [u32],
-    goes: &mut [u32],
-    places: &mut [u32],
-    written: &mut [u32],
-    means: &mut [u64],
-    under: &mut [u64],
-    offsets: &mut [u64],
-    ends: &mut [u64],
+    wide: &mut [u64],
+    thin: &mut [u16],
     out: &mut [u8],
 ) -> Answer
-    requires { ⌜ (tokensOf (now src) .number ≡ 0) × (17 ≤ length (now kinds)) × (length (now kinds) ≡ length (now values)) × (length (now tape) ≡ length (now values)) × Lent (length (now values)) (now places) (now written) (now means) (now under) (now offsets) (now ends) ⌝ }
-    ensures { λ r. ⌜ (let ts = allTokens (now (src .entry)) in now (kinds .entry) ≡ kindsOf ts → now (values .entry) ≡ valuesOf ts → now (places .entry) ≡ placesOf ts → Small ts → Blanks ts (now (found .entry)) (now (goes .entry)) (now (means .entry)) → Gives (inRoom (length (now (out .entry))) (afterTokens ts (program (now (kinds .entry)) firstToken))) (now (out .entry)) (now (out .exit)) r) ⌝ }
+    requires { ⌜ (tokensOf (now src) .number ≡ 0) × (17 ≤ length (now kinds)) × (length (now tape) ≡ length (now kinds)) × Lent (length (now kinds)) (now wide) (now thin) ⌝ }
+    ensures { λ r. ⌜ (let ts = allTokens (now (src .entry)) in now (kinds .entry) ≡ kindsOf ts → wideOf (now (wide .entry)) .values ≡ valuesOf ts → Small ts → Blanks ts (wideOf (now (wide .entry))) (thinOf (now (thin .entry))) → Gives (inRoom (length (now (out .entry))) (afterTokens ts (program (now (kinds .entry)) firstToken))) (now (out .entry)) (now (out .exit)) r) ⌝ }
 {
     let p = parse::program(kinds, FIRST_TOKEN, tape);
     let number = p.number;
     let at = p.at;
     let size = p.value;
     if number != 0 {
-        return Answer::Refused(number as usize, get(places, at));
+        return Answer::Refused(number as usize, place_of(src, at));
     }
-    translate_tape(
-        src,
-        &tape[..size],
-        kinds,
-        values,
-        found,
-        goes,
-        places,
-        written,
-        means,
-        under,
-        offsets,
-        ends,
-        out,
-    )
+    translate_tape(src, &tape[..size], kinds, wide, thin, out)
 }
 
-// The text: 1 to 3, then the rest, in lists by token with room for any text of its length. The list of opened segments holds the places at first.
+// The text: 1 to 3, then the rest, in lists with room for any text of its length, cut to its tokens.
 fn translate_in(
     src: &[u8],
     kinds: &mut [u8],
-    values: &mut [u64],
     tape: &mut [u32],
-    found: &mut [u32],
-    goes: &mut [u32],
-    opens: &mut [u32],
-    written: &mut [u32],
-    means: &mut [u64],
-    under: &mut [u64],
-    offsets: &mut [u64],
-    ends: &mut [u64],
+    wide: &mut [u64],
+    thin: &mut [u16],
     out: &mut [u8],
 ) -> Answer
-    requires { ⌜ Rooms (length (now src)) (now kinds) (now values) (now tape) (now found) (now goes) (now opens) (now written) (now means) (now under) (now offsets) (now ends) ⌝ }
+    requires { ⌜ Rooms (length (now src)) (now kinds) (now tape) (now wide) (now thin) ⌝ }
     ensures { λ r. ⌜ Gives (translation (now (src .entry)) (length (now (out .entry)))) (now (out .entry)) (now (out .exit)) r ⌝ }
 {
-    let tokens = read(src, kinds, values, opens);
+    let tokens = read(src, kinds, wide);
     match tokens {
         Tokens::Read(n) => {
             let m = FIRST_TOKEN + n;
+            let rows = 4 * m;
             translate_tokens(
                 src,
                 &kinds[..m],
-                &values[..m],
                 &mut tape[..m],
-                &mut found[..m],
-                &mut goes[..m],
-                &mut opens[..m],
-                &mut written[..m],
-                &mut means[..m],
-                &mut under[..m],
-                &mut offsets[..m],
-                ends,
+                &mut wide[..rows],
+                &mut thin[..rows],
                 out,
             )
         }
@@ -592,31 +419,10 @@ fn short(src: &[u8], out: &mut [u8]) -> Answer
     ensures { λ r. ⌜ Gives (translation (now (src .entry)) (length (now (out .entry)))) (now (out .entry)) (now (out .exit)) r ⌝ }
 {
     let mut kinds = [0u8; SHORT + MORE];
-    let mut values = [0u64; SHORT + MORE];
     let mut tape = [0u32; SHORT + MORE];
-    let mut found = [0u32; SHORT + MORE];
-    let mut goes = [0u32; SHORT + MORE];
-    let mut opens = [0u32; SHORT + MORE];
-    let mut written = [0u32; SHORT + MORE];
-    let mut means = [0u64; SHORT + MORE];
-    let mut under = [0u64; SHORT + MORE];
-    let mut offsets = [0u64; SHORT + MORE];
-    let mut ends = [0u64; SHORT + MORE];
-    translate_in(
-        src,
-        &mut kinds,
-        &mut values,
-        &mut tape,
-        &mut found,
-        &mut goes,
-        &mut opens,
-        &mut written,
-        &mut means,
-        &mut under,
-        &mut offsets,
-        &mut ends,
-        out,
-    )
+    let mut wide = [0u64; 4 * (SHORT + MORE)];
+    let mut thin = [0u16; 4 * (SHORT + MORE)];
+    translate_in(src, &mut kinds, &mut tape, &mut wide, &mut thin, out)
 }
 
 fn middling(src: &[u8], out: &mut [u8]) -> Answer
@@ -624,31 +430,10 @@ fn middling(src: &[u8], out: &mut [u8]) -> Answer
     ensures { λ r. ⌜ Gives (translation (now (src .entry)) (length (now (out .entry)))) (now (out .entry)) (now (out .exit)) r ⌝ }
 {
     let mut kinds = [0u8; MIDDLING + MORE];
-    let mut values = [0u64; MIDDLING + MORE];
     let mut tape = [0u32; MIDDLING + MORE];
-    let mut found = [0u32; MIDDLING + MORE];
-    let mut goes = [0u32; MIDDLING + MORE];
-    let mut opens = [0u32; MIDDLING + MORE];
-    let mut written = [0u32; MIDDLING + MORE];
-    let mut means = [0u64; MIDDLING + MORE];
-    let mut under = [0u64; MIDDLING + MORE];
-    let mut offsets = [0u64; MIDDLING + MORE];
-    let mut ends = [0u64; MIDDLING + MORE];
-    translate_in(
-        src,
-        &mut kinds,
-        &mut values,
-        &mut tape,
-        &mut found,
-        &mut goes,
-        &mut opens,
-        &mut written,
-        &mut means,
-        &mut under,
-        &mut offsets,
-        &mut ends,
-        out,
-    )
+    let mut wide = [0u64; 4 * (MIDDLING + MORE)];
+    let mut thin = [0u16; 4 * (MIDDLING + MORE)];
+    translate_in(src, &mut kinds, &mut tape, &mut wide, &mut thin, out)
 }
 
 fn long(src: &[u8], out: &mut [u8]) -> Answer
@@ -656,31 +441,10 @@ fn long(src: &[u8], out: &mut [u8]) -> Answer
     ensures { λ r. ⌜ Gives (translation (now (src .entry)) (length (now (out .entry)))) (now (out .entry)) (now (out .exit)) r ⌝ }
 {
     let mut kinds = [0u8; TEXT_LIMIT + MORE];
-    let mut values = [0u64; TEXT_LIMIT + MORE];
     let mut tape = [0u32; TEXT_LIMIT + MORE];
-    let mut found = [0u32; TEXT_LIMIT + MORE];
-    let mut goes = [0u32; TEXT_LIMIT + MORE];
-    let mut opens = [0u32; TEXT_LIMIT + MORE];
-    let mut written = [0u32; TEXT_LIMIT + MORE];
-    let mut means = [0u64; TEXT_LIMIT + MORE];
-    let mut under = [0u64; TEXT_LIMIT + MORE];
-    let mut offsets = [0u64; TEXT_LIMIT + MORE];
-    let mut ends = [0u64; TEXT_LIMIT + MORE];
-    translate_in(
-        src,
-        &mut kinds,
-        &mut values,
-        &mut tape,
-        &mut found,
-        &mut goes,
-        &mut opens,
-        &mut written,
-        &mut means,
-        &mut under,
-        &mut offsets,
-        &mut ends,
-        out,
-    )
+    let mut wide = [0u64; 4 * (TEXT_LIMIT + MORE)];
+    let mut thin = [0u16; 4 * (TEXT_LIMIT + MORE)];
+    translate_in(src, &mut kinds, &mut tape, &mut wide, &mut thin, out)
 }
 
 // By length. A function that calls itself takes none with large arrays into its own frame: so each of the three has a frame of its own, and a short text

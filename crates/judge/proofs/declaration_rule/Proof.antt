@@ -9,11 +9,11 @@ use Rattle.judge.proofs.declaration_rule.Tie as tie
 family-requires : tie.Need-family-requires
 family-requires c κs = search needs
 
-add-key : tie.Need-add-key
-add-key c = search needs
+add-value : tie.Need-add-value
+add-value c = search needs
 
-key-requires : tie.Need-key-requires
-key-requires c κs = search needs
+value-requires : tie.Need-value-requires
+value-requires c κs = search needs
 
 add-rule : tie.Need-add-rule
 add-rule c = search needs
@@ -23,35 +23,42 @@ rule-requires c κs = search needs
 
 returns : tie.Need-returns
 unfolding declarationRule
-returns c = λ f s v o. rw (c .before .before .if1 .taken, v .values-is, ← (c .before .key .ensures)) (c .rule .ensures)
+returns c = λ f s. rw (c .before .before .if1 .taken, s .values-is, ← (c .before .value .ensures)) (c .rule .ensures)
 
-key-requires-2 : tie.Need-key-requires-2
-key-requires-2 c κs = search needs
+value-requires-2 : tie.Need-value-requires-2
+value-requires-2 c κs = search needs
 
 rule-requires-2 : tie.Need-rule-requires-2
 rule-requires-2 c κs = search needs
 
 returns-2 : tie.Need-returns-2
 unfolding declarationRule
-returns-2 c = λ f s v o.
-    rw (ne-eqb _ 2 (c .before .before .before .if1 .left), ← (c .before .before .before .before .family .ensures), eq-eqb _ 5 (c .before .before .if2 .taken), v .values-is, ← (c .before .key2 .ensures)) (c .rule2 .ensures)
+returns-2 c = λ f s.
+    rw (
+      ne-eqb _ 2 (c .before .before .before .if1 .left),
+      ← (c .before .before .before .before .family .ensures),
+      eq-eqb _ 5
+          (c .before .before .if2 .taken),
+      s .values-is,
+      ← (c .before .value2 .ensures),
+    ) (c .rule2 .ensures)
 
-key-requires-3 : tie.Need-key-requires-3
-key-requires-3 c κs = search needs
+value-requires-3 : tie.Need-value-requires-3
+value-requires-3 c κs = search needs
 
 value-rule-requires : tie.Need-value-rule-requires
 value-rule-requires c κs = search needs
 
 returns-3 : tie.Need-returns-3
 unfolding declarationRule formAt
-returns-3 c = λ f s v o. rw (c .before .before .if3 .taken, v .values-is, ← (c .before .key3 .ensures)) (c .value-rule .ensures)
+returns-3 c = λ f s. rw (c .before .before .if3 .taken, s .values-is, ← (c .before .value3 .ensures)) (c .value-rule .ensures)
 
 base-rules-requires : tie.Need-base-rules-requires
 base-rules-requires c κs = search needs
 
 returns-4 : tie.Need-returns-4
 unfolding declarationRule formAt
-returns-4 c = λ f s v o. rw (c .before .if4 .taken) (c .base-rules .ensures f s o)
+returns-4 c = λ f s. rw (c .before .if4 .taken) (c .base-rules .ensures f s)
 
 add-used-register : tie.Need-add-used-register
 add-used-register c = search needs
@@ -61,14 +68,14 @@ used-register-requires c κs = search needs
 
 returns-5 : tie.Need-returns-5
 unfolding declarationRule formAt
-returns-5 c = λ f s v o. rw (c .before .if5 .taken) (c .used-register .ensures f s)
+returns-5 c = λ f s. rw (c .before .if5 .taken) (c .used-register .ensures f s)
 
 none-requires : tie.Need-none-requires
 none-requires c κs = search needs
 
 returns-6 : tie.Need-returns-6
 unfolding declarationRule
-returns-6 c = λ f s v o.
+returns-6 c = λ f s.
     rw (
       ne-eqb _ 2 (c .before .before .before .before .before .if1 .left),
       ← (c .before .before .before .before .before .before .family .ensures),
@@ -80,4 +87,4 @@ returns-6 c = λ f s v o.
     (c .none .ensures)
 
 pub declaration-rule-spec : {M : Type 1} → statement M
-declaration-rule-spec = tie.close (tie.spec family-requires add-key key-requires add-rule rule-requires returns key-requires-2 rule-requires-2 returns-2 key-requires-3 value-rule-requires returns-3 base-rules-requires returns-4 add-used-register used-register-requires returns-5 none-requires returns-6)
+declaration-rule-spec = tie.close (tie.spec family-requires add-value value-requires add-rule rule-requires returns value-requires-2 rule-requires-2 returns-2 value-requires-3 value-rule-requires returns-3 base-rules-requires returns-4 add-used-register used-register-requires returns-5 none-requires returns-6)

@@ -1,100 +1,111 @@
-use Rattle.judge.proofs.Along.{Going, going, going-on, going-end}
+-- The loop goes along the tape as the definition's pass does, with the protected registers in the column of offsets; `Going` says what stands after i events.
+use Rattle.judge.proofs.Along.{Going, kept-fits, opened-fits, going, going-on, going-end}
 use lib.ListN.{length}
 use Prim.Native.Nat.{_-_}
-use mathlib.Core.Path.{_≡_, refl, sym, ap, _∙_}
+use mathlib.Core.Path.{_≡_, refl, _∙_}
 use native.Mathlib.Omega.{arith}
 use borrow.Author.Needs.{needs}
 use denote.Ref.{now}
 use Rattle.judge.proofs.judge.Statement.{statement}
 use Rattle.judge.proofs.judge.Tie as tie
-use Rattle.judge.proofs.judge.Reads as reads
-use Rattle.judge.proofs.judge.Lts as lts
-use Rattle.arrays.proofs.put_wide.Reads as put-wide-reads
-use Rattle.judge.proofs.cells_after.Reads as cells-after-reads
-use Rattle.judge.proofs.event_rule.Reads as event-rule-reads
-use Rattle.judge.proofs.held_after.Reads as held-after-reads
-use Rattle.judge.proofs.target_after.Reads as target-after-reads
-use Rattle.names.proofs.join.Reads as join-reads
-use Rattle.tape.proofs.op.Reads as op-reads
-use Rattle.tape.proofs.token.Reads as token-reads
 
 abbrev Inv-loop : tie.InvT-loop
-Inv-loop tape kinds values found means opens written kept₀ counts₀ d₀ c₀ target₀ least₀ i₀ kept counts d c target least i = Going tape kinds values found means opens written least₀ kept counts d c target least i × ((length kept ≡ length kept₀) × (length counts ≡ length counts₀))
+Inv-loop tape kinds wide₀ thin counts₀ d₀ c₀ target₀ least₀ i₀ wide counts d c target least i =
+    Going tape kinds wide₀ thin least₀ wide counts d c target least i × ((length wide ≡ length wide₀) × (length counts ≡ length counts₀))
 
 abbrev μ-loop : tie.MeasureT-loop
-μ-loop tape kinds values found means opens written kept₀ counts₀ d₀ c₀ target₀ least₀ i₀ kept counts d c target least i = length tape - i
+μ-loop tape kinds wide₀ thin counts₀ d₀ c₀ target₀ least₀ i₀ wide counts d c target least i = length tape - i
 
--- src/lib.rt:506:5
-put-wide-requires : tie.Need-put-wide-requires Inv-loop μ-loop
-put-wide-requires c κs = search needs
+put-offset-requires : tie.Need-put-offset-requires Inv-loop μ-loop
+put-offset-requires c κs = search needs
 
--- src/lib.rt:507:5
-put-wide-requires-2 : tie.Need-put-wide-requires-2 Inv-loop μ-loop
-put-wide-requires-2 c κs = search needs
+put-offset-requires-2 : tie.Need-put-offset-requires-2 Inv-loop μ-loop
+put-offset-requires-2 c κs = search needs
 
--- src/lib.rt:521:5
 loop-holds : tie.Need-loop-holds Inv-loop μ-loop
-loop-holds c = (going _ _ _ _ _ _ _ _ (now (c .before .before .before .before .before .before .before .before .before .before .before .before .before .before .before .before .before .args .kept)) _ _ _ (c .before .before .before .before .before .before .put-wide .ensures) (c .before .before .put-wide2 .ensures) (c .before .before .before .before .before .before .put-wide .kept .0) (c .before .before .put-wide2 .kept .0) (c .before .before .before .before .before .before .before .before .before .before .before .before .before .before .before .before .before .pre .0) (c .before .before .before .before .before .before .before .before .before .before .before .before .before .before .before .before .before .pre .1 .0) (c .before .before .before .before .before .before .before .before .before .before .before .before .before .before .before .before .before .pre .1 .1), (refl, refl))
+loop-holds c =
+    let first = c .before .before .before .before .before .before .put-offset in
+    let second = c .before .before .put-offset2 in
+    let asked = c .before .before .before .before .before .before .before .before .before .before .before .before .before .pre in (
+      going _ _ _ _ _ (now (c .before .before .before .before .before .before .before .before .before .before .before .before .before .args .wide)) _ _
+          (first .ensures) (second .ensures) (first .kept .0) (second .kept .0) (asked .0) (asked .1 .0) (asked .1 .1),
+      (refl, refl),
+    )
 
--- src/lib.rt:522:17
 mul-e : tie.Need-mul-e Inv-loop μ-loop
 mul-e c = search needs
 
--- src/lib.rt:522:17
 shared-slice-read-e : tie.Need-shared-slice-read-e Inv-loop μ-loop
 shared-slice-read-e c = search needs
 
--- src/lib.rt:523:13
 op-requires : tie.Need-op-requires Inv-loop μ-loop
 op-requires c κs = search needs
 
--- src/lib.rt:524:13
 token-requires : tie.Need-token-requires Inv-loop μ-loop
 token-requires c κs = search needs
 
--- src/lib.rt:526:13
 event-rule-requires : tie.Need-event-rule-requires Inv-loop μ-loop
 event-rule-requires c κs = omega (arith, c .before .token .ensures .1)
 
--- src/lib.rt:540:9
 join-requires : tie.Need-join-requires Inv-loop μ-loop
 join-requires c κs = search needs
 
--- src/lib.rt:541:9
 held-after-requires : tie.Need-held-after-requires Inv-loop μ-loop
-held-after-requires c κs = (let g = c .before .before .before .before .before .before .before .before .before .loop .inv .0 in let h = c .before .before .before .before .before .before .before .before .loop-test .taken in (omega (arith, c .before .before .before .before .before .token .ensures .1), (omega (arith, g .deep, g .room, h), (omega (arith, g .wide, g .rooms, h), omega (arith, g .low .0, g .small, h)))))
+held-after-requires c κs =
+    let g = c .before .before .before .before .before .before .before .before .before .loop .inv .0 in
+    let h = c .before .before .before .before .before .before .before .before .loop-test .taken in
+    let (deep, (small, few)) = kept-fits _ _ _ _ _ g h in (
+      omega (arith, c .before .before .before .before .before .token .ensures .1),
+      (deep, (small, (few, opened-fits _ _ _ _ _ g h _ (c .before .before .before .before .before .before .op .ensures .0)))),
+    )
 
--- src/lib.rt:542:9
 cells-after-requires : tie.Need-cells-after-requires Inv-loop μ-loop
 cells-after-requires c κs = search needs
 
--- src/lib.rt:543:9
 target-after-requires : tie.Need-target-after-requires Inv-loop μ-loop
 target-after-requires c κs = search needs
 
--- src/lib.rt:544:9
 add-i : tie.Need-add-i Inv-loop μ-loop
-add-i c = omega (arith, c .before .before .before .before .before .before .before .before .before .before .before .before .before .before .before .before .loop .inv .0 .small, c .before .before .before .before .before .before .before .before .before .before .before .before .before .before .before .loop-test .taken)
+add-i c =
+    let g = c .before .before .before .before .before .before .before .before .before .before .before .before .before .before .before .before .before .before .loop .inv .0 in
+    let h = c .before .before .before .before .before .before .before .before .before .before .before .before .before .before .before .before .before .loop-test .taken in
+    omega (arith, g .small, h)
 
--- src/lib.rt:521:5
 loop-less : tie.Need-loop-less Inv-loop μ-loop
-loop-less c = omega (arith, c .before .before .before .before .before .before .before .before .before .before .before .before .before .before .before .loop-test .taken)
+loop-less c =
+    let h = c .before .before .before .before .before .before .before .before .before .before .before .before .before .before .before .before .before .loop-test .taken in
+    omega (arith, h)
 
--- src/lib.rt:521:5
 loop-again : tie.Need-loop-again Inv-loop μ-loop
-loop-again c = (going-on _ _ _ _ _ _ _ _ (c .before .before .before .before .before .before .before .before .before .before .before .before .before .before .before .before .loop .inv .0) _ _ (c .before .before .before .before .before .before .before .before .before .before .before .before .before .before .before .loop-test .taken) (c .before .before .before .before .before .before .before .before .before .before .before .before .before .op .ensures .0) (c .before .before .before .before .before .before .before .before .before .before .before .before .token .ensures .0) (c .before .before .before .before .before .before .before .before .before .before .event-rule .ensures) (c .before .before .before .before .before .before .before .before .before .join .ensures) (c .before .before .before .before .before .before .held-after .ensures) (c .before .cells-after .ensures) (c .target-after .ensures) (c .before .before .before .before .before .before .held-after .kept .1 .1 .1 .1 .0) (c .before .before .before .before .before .before .held-after .kept .1 .1 .1 .1 .1 .0), (c .before .before .before .before .before .before .held-after .kept .1 .1 .1 .1 .0 ∙ c .before .before .before .before .before .before .before .before .before .before .before .before .before .before .before .before .loop .inv .1 .0, c .before .before .before .before .before .before .held-after .kept .1 .1 .1 .1 .1 .0 ∙ c .before .before .before .before .before .before .before .before .before .before .before .before .before .before .before .before .loop .inv .1 .1))
+loop-again c =
+    let before = c .before .before .before .before .before .before .before .before .before .before .before .before .before .before .before .before .before .before .loop .inv in
+    let held = c .before .before .before .before .before .before .before .before .held-after in
+    let wides = held .kept .1 .1 .0 in
+    let countings = held .kept .1 .1 .1 .1 .0 in (
+      going-on _ _ _ _ _ (before .0)
+          (c .before .before .before .before .before .before .before .before .before .before .before .before .before .before .before .before .before .loop-test .taken) _ _
+          (c .before .before .before .before .before .before .before .before .before .before .before .before .before .before .before .op .ensures .0)
+          (c .before .before .before .before .before .before .before .before .before .before .before .before .before .before .token .ensures .0)
+          (c .before .before .before .before .before .before .before .before .before .before .before .before .event-rule .ensures)
+          (c .before .before .before .before .before .before .before .before .before .before .before .join .ensures)
+          (held .ensures .0) (held .ensures .1) (c .before .before .cells-after .ensures) (c .target-after .ensures) wides countings,
+      (wides ∙ before .1 .0, countings ∙ before .1 .1),
+    )
 
--- src/lib.rt:491:1
 same-length : tie.Need-same-length Inv-loop μ-loop
-same-length c = c .before .loop .inv .1 .0 ∙ (c .before .before .before .before .put-wide2 .kept .0 ∙ c .before .before .before .before .before .before .before .before .put-wide .kept .0)
+same-length c =
+    c .before .loop .inv .1 .0 ∙ (c .before .before .before .before .put-offset2 .kept .0
+    ∙ c .before .before .before .before .before .before .before .before .put-offset .kept .0)
 
--- src/lib.rt:491:1
 same-length-2 : tie.Need-same-length-2 Inv-loop μ-loop
 same-length-2 c = c .before .loop .inv .1 .1
 
--- src/lib.rt:491:1
 returns : tie.Need-returns Inv-loop μ-loop
-returns c = going-end _ _ _ _ _ _ _ _ (c .before .loop .inv .0) (c .loop-test .left)
+returns c =
+    going-end _ _ _ _ _
+    (now (c .before .before .before .before .before .before .before .before .before .before .before .before .before .before .before .args .wide)) _
+    (c .before .before .before .before .before .before .before .before .put-offset .ensures) (c .before .before .before .before .put-offset2 .ensures)
+    (c .before .loop .inv .0) (c .loop-test .left)
 
 pub judge-spec : {M : Type 1} → statement M
 judge-spec =
@@ -102,8 +113,8 @@ judge-spec =
     (tie.spec
     Inv-loop
     μ-loop
-    put-wide-requires
-    put-wide-requires-2
+    put-offset-requires
+    put-offset-requires-2
     loop-holds
     mul-e
     shared-slice-read-e

@@ -1,17 +1,19 @@
 -- `bind` notes what the search finds. Assumes nothing.
-use borrow.Author.Needs.{needs}
 use Rattle.labels.proofs.Along.{bound}
+use Rattle.ledger.specs.Book.{wideOf, thinOf}
+use mathlib.Core.Path.{refl}
+use borrow.Author.Needs.{needs}
 use Rattle.labels.proofs.bind.Statement.{statement}
 use Rattle.labels.proofs.bind.Tie as tie
 
-key-requires : tie.Need-key-requires
-key-requires c κs = search needs
+value-requires : tie.Need-value-requires
+value-requires c κs = search needs
 
 lookup-requires : tie.Need-lookup-requires
 lookup-requires c κs = search needs
 
-put-requires : tie.Need-put-requires
-put-requires c κs = search needs
+put-goes-requires : tie.Need-put-goes-requires
+put-goes-requires c κs = search needs
 
 rule-requires : tie.Need-rule-requires
 rule-requires c κs = search needs
@@ -23,15 +25,15 @@ same-length : tie.Need-same-length
 same-length c = search needs
 
 returns : tie.Need-returns
-returns c = bound _ _ _ _ (c .before .before .before .before .before .before .before .before .before .before .before .before .before .args .n) _ _ _ _ _ _ _ (c .before .before .before .before .before .before .before .key .ensures) (c .before .before .before .before .before .before .lookup .ensures .0) (c .before .before .before .before .put .ensures) (c .before .rule .ensures) (c .join .ensures)
+returns c = bound _ _ _ _ (c .before .before .before .before .before .before .before .before .before .before .before .before .args .n) _ _ _ _ _ (thinOf (c .before .before .before .before .before .before .before .before .before .before .before .before .args .thin .now)) _ refl refl (c .before .before .before .before .before .before .before .value .ensures) (c .before .before .before .before .before .before .lookup .ensures .0) (c .before .before .before .before .put-goes .ensures) (c .before .rule .ensures) (c .join .ensures)
 
 pub bind-spec : {M : Type 1} → statement M
 bind-spec =
     tie.close
     (tie.spec
-    key-requires
+    value-requires
     lookup-requires
-    put-requires
+    put-goes-requires
     rule-requires
     join-requires
     same-length

@@ -1,37 +1,40 @@
 -- `in_chain` finds the first label of a chain with a key. The invariant: what the whole chain gives, the rest of it gives. Assumes nothing.
-use mathlib.Core.Path.{_≡_, refl, sym}
-use native.Mathlib.Omega.{arith}
-use denote.Ref.{now}
-use borrow.Author.Needs.{needs}
-use Rattle.names.specs.Search.{inBlock}
-use Rattle.labels.proofs.Chains.{after-less, hit, miss, out}
 use Rattle.labels.specs.Chains.{chain}
+use Rattle.labels.proofs.Chains.{after-less, hit, miss, out}
+use Rattle.names.specs.Search.{inBlock}
+use borrow.Author.Needs.{needs}
+use Rattle.ledger.specs.Book.{wideOf, thinOf}
+use native.Mathlib.Omega.{arith}
+use mathlib.Core.Path.{_≡_, refl, sym}
 use Rattle.labels.proofs.in_chain.Statement.{statement}
 use Rattle.labels.proofs.in_chain.Tie as tie
 
 abbrev Inv-loop : tie.InvT-loop
-Inv-loop keys wanted links newest l₀ l = inBlock keys wanted (chain links newest) 0 ≡ inBlock keys wanted (chain links l) 0
+Inv-loop wide thin wanted newest l₀ l = inBlock (wideOf wide .values) wanted (chain (thinOf thin .opens) newest) 0 ≡ inBlock (wideOf wide .values) wanted (chain (thinOf thin .opens) l) 0
 
 abbrev μ-loop : tie.MeasureT-loop
-μ-loop keys wanted links newest l₀ l = l
+μ-loop wide thin wanted newest l₀ l = l
 
 loop-holds : tie.Need-loop-holds Inv-loop μ-loop
 loop-holds c = refl
 
-key-requires : tie.Need-key-requires Inv-loop μ-loop
-key-requires c κs = search needs
+value-requires : tie.Need-value-requires Inv-loop μ-loop
+value-requires c κs = search needs
 
 returns : tie.Need-returns Inv-loop μ-loop
-returns c = sym (hit _ _ _ _ (c .before .before .before .loop .l) _ (c .before .before .loop-test .taken) (c .before .key .ensures) (c .if1 .taken) (c .before .before .before .loop .inv))
+returns c = sym (hit _ _ _ _ (c .before .before .before .loop .l) _ (c .before .before .loop-test .taken) (c .before .value .ensures) (c .if1 .taken) (c .before .before .before .loop .inv))
+
+opens-requires : tie.Need-opens-requires Inv-loop μ-loop
+opens-requires c κs = search needs
 
 after-requires : tie.Need-after-requires Inv-loop μ-loop
 after-requires c κs = search needs
 
 loop-less : tie.Need-loop-less Inv-loop μ-loop
-loop-less c = omega (arith, c .after .ensures .0, after-less (now (c .before .before .before .before .before .before .before .args .links)) (c .before .before .before .before .loop .l) (c .before .before .before .loop-test .taken))
+loop-less c = omega (arith, c .after .ensures .0 (thinOf (c .before .before .before .before .before .before .before .before .args .thin .now) .opens) (c .before .opens .ensures .0), after-less (thinOf (c .before .before .before .before .before .before .before .before .args .thin .now) .opens) (c .before .before .before .before .before .loop .l) (c .before .before .before .before .loop-test .taken))
 
 loop-again : tie.Need-loop-again Inv-loop μ-loop
-loop-again c = miss _ _ _ _ (c .before .before .before .before .loop .l) _ _ (c .before .before .before .loop-test .taken) (c .before .before .key .ensures) (c .before .if1 .left) (c .after .ensures .0) (c .before .before .before .before .loop .inv)
+loop-again c = miss _ _ _ _ (c .before .before .before .before .before .loop .l) _ _ (c .before .before .before .before .loop-test .taken) (c .before .before .before .value .ensures) (c .before .before .if1 .left) (c .after .ensures .0 _ (c .before .opens .ensures .0)) (c .before .before .before .before .before .loop .inv)
 
 returns-2 : tie.Need-returns-2 Inv-loop μ-loop
 returns-2 c = sym (out _ _ _ _ (c .before .loop .l) (c .loop-test .left) (c .before .loop .inv))
@@ -43,8 +46,9 @@ in-chain-spec =
     Inv-loop
     μ-loop
     loop-holds
-    key-requires
+    value-requires
     returns
+    opens-requires
     after-requires
     loop-less
     loop-again

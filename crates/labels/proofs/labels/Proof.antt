@@ -1,6 +1,7 @@
 -- `labels` is the one loop after the other. Assumes nothing.
+use Rattle.labels.proofs.Along.{both-loops}
+use Rattle.ledger.specs.Book.{thinOf}
 use borrow.Author.Needs.{needs}
-use Rattle.labels.specs.Labelling.{labelledAlong}
 use Rattle.labels.proofs.labels.Statement.{statement}
 use Rattle.labels.proofs.labels.Tie as tie
 
@@ -13,17 +14,8 @@ label-all-requires c κs = search needs
 same-length : tie.Need-same-length
 same-length c = search needs
 
-same-length-2 : tie.Need-same-length-2
-same-length-2 c = search needs
-
-same-length-3 : tie.Need-same-length-3
-same-length-3 c = search needs
-
 returns : tie.Need-returns
-unfolding labelledAlong
-returns c = rw (← (c .before .before .before .before .before .before .before .before .before .before .link-all .ensures .0), ← (c .before .before .before .before .before .before .before .before .before .before .link-all .ensures .1)) (c .before .before .label-all .ensures)
+returns c = both-loops _ _ (thinOf (c .before .before .before .before .before .before .before .before .before .before .before .args .thin .now)) _ _ _ _ (c .before .before .before .before .before .before .link-all .ensures) (c .before .before .label-all .ensures .0) (c .before .before .label-all .ensures .1)
 
 pub labels-spec : {M : Type 1} → statement M
-labels-spec =
-    tie.close
-    (tie.spec link-all-requires label-all-requires same-length same-length-2 same-length-3 returns)
+labels-spec = tie.close (tie.spec link-all-requires label-all-requires same-length returns)

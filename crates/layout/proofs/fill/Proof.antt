@@ -1,5 +1,5 @@
 -- `fill` is the pass. The invariant: the pass over what is left makes the whole. Assumes nothing.
-use Rattle.layout.specs.Along.{imagingOf, nowhere, imageEvent}
+use Rattle.layout.specs.Along.{imagingOf, nowhere, imageIn}
 use Rattle.tape.proofs.Pass.{pass-turn, pass-end}
 use Rattle.tape.specs.Pass.{pass}
 use Rattle.ledger.specs.Book.{wideOf}
@@ -12,7 +12,7 @@ use Rattle.layout.proofs.fill.Tie as tie
 
 abbrev Inv-loop : tie.InvT-loop
 Inv-loop tape k wide image₀ f₀ i₀ image f i =
-    let step = imageEvent k (wideOf wide .means) (wideOf wide .under) (wideOf wide .offsets) (wideOf wide .values) in
+    let step = imageIn k (wideOf wide) in
     (i ≤ length tape) × (length image ≡ length image₀) × (f .size ≤ 4) × (pass step (imagingOf image f) (drop i tape) ≡ pass step (imagingOf image₀ nowhere) tape)
 
 abbrev μ-loop : tie.MeasureT-loop
@@ -43,13 +43,13 @@ loop-less : tie.Need-loop-less Inv-loop μ-loop
 loop-less c = search needs
 
 loop-again : tie.Need-loop-again Inv-loop μ-loop
-loop-again c = (search needs, search needs, search needs, rw (c .before .before .image-event .ensures .0) (pass-turn (imageEvent (c .before .before .before .before .before .before .before .before .before .before .before .before .args .k) (wideOf (c .before .before .before .before .before .before .before .before .before .before .before .before .args .wide .now) .means) (wideOf (c .before .before .before .before .before .before .before .before .before .before .before .before .args .wide .now) .under) (wideOf (c .before .before .before .before .before .before .before .before .before .before .before .before .args .wide .now) .offsets) (wideOf (c .before .before .before .before .before .before .before .before .before .before .before .before .args .wide .now) .values)) (imagingOf (c .before .before .before .before .before .before .before .before .loop .image) (c .before .before .before .before .before .before .before .before .loop .f)) (c .before .before .before .before .before .before .before .before .before .before .before .before .args .tape .now) (c .before .before .before .before .before .before .before .before .loop .i) (c .before .before .before .before .before .op .result) (c .before .before .before .before .token .result) (c .before .before .before .before .before .before .before .loop-test .taken) (c .before .before .before .before .before .op .ensures .0) (c .before .before .before .before .token .ensures .0) (c .before .before .before .before .before .before .before .before .loop .inv .3)))
+loop-again c = (search needs, search needs, search needs, rw (c .before .before .image-event .ensures .0) (pass-turn (imageIn (c .before .before .before .before .before .before .before .before .before .before .before .before .args .k) (wideOf (c .before .before .before .before .before .before .before .before .before .before .before .before .args .wide .now))) (imagingOf (c .before .before .before .before .before .before .before .before .loop .image) (c .before .before .before .before .before .before .before .before .loop .f)) (c .before .before .before .before .before .before .before .before .before .before .before .before .args .tape .now) (c .before .before .before .before .before .before .before .before .loop .i) (c .before .before .before .before .before .op .result) (c .before .before .before .before .token .result) (c .before .before .before .before .before .before .before .loop-test .taken) (c .before .before .before .before .before .op .ensures .0) (c .before .before .before .before .token .ensures .0) (c .before .before .before .before .before .before .before .before .loop .inv .3)))
 
 same-length : tie.Need-same-length Inv-loop μ-loop
 same-length c = search needs
 
 returns : tie.Need-returns Inv-loop μ-loop
-returns c = pass-end (imageEvent (c .before .before .before .before .before .args .k) (wideOf (c .before .before .before .before .before .args .wide .now) .means) (wideOf (c .before .before .before .before .before .args .wide .now) .under) (wideOf (c .before .before .before .before .before .args .wide .now) .offsets) (wideOf (c .before .before .before .before .before .args .wide .now) .values)) (imagingOf (c .before .loop .image) (c .before .loop .f)) (c .before .before .before .before .before .args .tape .now) (c .before .loop .i) (c .loop-test .left) (c .before .loop .inv .3)
+returns c = pass-end (imageIn (c .before .before .before .before .before .args .k) (wideOf (c .before .before .before .before .before .args .wide .now))) (imagingOf (c .before .loop .image) (c .before .loop .f)) (c .before .before .before .before .before .args .tape .now) (c .before .loop .i) (c .loop-test .left) (c .before .loop .inv .3)
 
 pub fill-spec : {M : Type 1} → statement M
 fill-spec =

@@ -1,8 +1,8 @@
 -- `layout` is the pass. The invariant `Going`: the pass over what is left makes the whole, and what it reads stays. Assumes nothing.
 use Rattle.layout.proofs.Along.{Going, going, going-on, going-end, begun}
-use Rattle.layout.specs.Along.{bookOf}
+use Rattle.layout.specs.Along.{bookIn}
 use Rattle.names.specs.Broken.{unbroken}
-use Rattle.ledger.specs.Book.{wideOf, thinOf}
+use Rattle.ledger.specs.Book.{wideOf}
 use borrow.Author.Needs.{needs}
 use lib.ListN.{length}
 use native.Mathlib.Omega.{arith}
@@ -13,7 +13,7 @@ use Rattle.layout.proofs.layout.Tie as tie
 
 abbrev Inv-loop : tie.InvT-loop
 Inv-loop tape wide₀ thin₀ broken₀ i₀ wide thin broken i =
-    Going tape (bookOf (wideOf wide₀) (thinOf thin₀) unbroken) (bookOf (wideOf wide) (thinOf thin) broken) i × (length wide ≡ length wide₀) × (length thin ≡ length thin₀)
+    Going tape (bookIn wide₀ thin₀ unbroken) (bookIn wide thin broken) i × (length wide ≡ length wide₀) × (length thin ≡ length thin₀)
 
 abbrev μ-loop : tie.MeasureT-loop
 μ-loop tape wide₀ thin₀ broken₀ i₀ wide thin broken i = length tape - i

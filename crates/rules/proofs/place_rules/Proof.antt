@@ -1,3 +1,4 @@
+-- A designator by what its name means: a register, a cell, or neither.
 use Rattle.rules.proofs.Answers as answers
 use borrow.Author.Needs.{needs}
 use Rattle.rules.proofs.place_rules.Statement.{statement}
@@ -13,7 +14,9 @@ rule-requires : tie.Need-rule-requires
 rule-requires c κs = search needs
 
 returns : tie.Need-returns
-returns c = λ f s. answers.placed-register s _ _ (c .before .before .before .meaning .ensures) _ (c .before .before .if1 .taken) (c .before .is-bare .ensures) (c .rule .ensures)
+returns c = λ f s.
+    answers.placed-register s _ _ (c .before .before .before .meaning .ensures) _ (c .before .before .if1 .taken) (c .before .is-bare .ensures)
+    (c .rule .ensures)
 
 cell-rules-requires : tie.Need-cell-rules-requires
 cell-rules-requires c κs = search needs
@@ -25,7 +28,9 @@ broken-requires : tie.Need-broken-requires
 broken-requires c κs = search needs
 
 returns-3 : tie.Need-returns-3
-returns-3 c = λ f s. answers.placed-nowhere s _ _ (c .before .before .before .meaning .ensures) _ (c .before .before .if1 .left) (c .before .if2 .left) (c .broken .ensures)
+returns-3 c = λ f s.
+    answers.placed-nowhere s _ _ (c .before .before .before .meaning .ensures) _ (c .before .before .if1 .left) (c .before .if2 .left)
+    (c .broken .ensures)
 
 pub place-rules-spec : {M : Type 1} → statement M
 place-rules-spec =

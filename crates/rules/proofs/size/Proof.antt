@@ -1,3 +1,4 @@
+-- A cell's packed number tells its width by its last bit.
 use borrow.Author.Tests.{eq-eqb, ne-eqb}
 use Rattle.rules.proofs.Sorts as sorts
 use Rattle.rules.proofs.size.Statement.{statement}

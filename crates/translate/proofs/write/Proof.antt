@@ -1,7 +1,8 @@
 -- `write` fills an image of zeros for each segment, and lays the object of their parts. Assumes nothing.
-use native.Mathlib.Omega.{arith}
-use mathlib.Core.Path.{_∙_}
 use Rattle.translate.proofs.Delivering.{zeros-long, cut-long, write-fits, written}
+use mathlib.Core.Path.{_∙_}
+use native.Mathlib.Omega.{arith}
+use Rattle.ledger.specs.Book.{wideOf}
 use borrow.Author.Needs.{needs}
 use Rattle.translate.proofs.write.Statement.{statement}
 use Rattle.translate.proofs.write.Tie as tie
@@ -34,43 +35,41 @@ array-share-prefix-first : tie.Need-array-share-prefix-first
 array-share-prefix-first c =
     let at-lay-literals = c .before .before .before .before .before .before .before .before in
     let at-fill = at-lay-literals .before .before .before in
-    let start = at-fill .before .before .before .before .before .before .before .before .before .before in
-    omega (arith, start .pre .2, (at-lay-literals .lay-literals .kept .0 ∙ (at-fill .fill .kept .1 .1 .1 .1 .1 .1 .0 ∙ zeros-long)))
+    let start = at-fill .before .before .before .before .before .before .before in
+    omega (arith, start .pre .2, (at-lay-literals .lay-literals .kept .0 ∙ (at-fill .fill .kept .1 .1 .1 .0 ∙ zeros-long)))
 
 slice-aggregate-write-object : tie.Need-slice-aggregate-write-object
 slice-aggregate-write-object c =
     let at-lay-literals = c .before .before .before .before .before .before .before .before .before in
     let at-fill = at-lay-literals .before .before .before in
-    let start = at-fill .before .before .before .before .before .before .before .before .before .before in
-    cut-long _ 4096 _ (start .pre .2) (at-lay-literals .lay-literals .kept .0 ∙ (at-fill .fill .kept .1 .1 .1 .1 .1 .1 .0 ∙ zeros-long))
+    let start = at-fill .before .before .before .before .before .before .before in
+    cut-long _ 4096 _ (start .pre .2) (at-lay-literals .lay-literals .kept .0 ∙ (at-fill .fill .kept .1 .1 .1 .0 ∙ zeros-long))
 
 array-share-prefix-second : tie.Need-array-share-prefix-second
 array-share-prefix-second c =
     let at-fill2 = c .before .before .before .before .before .before in
-    let back = at-fill2 .before .before .before .before .before .before .before .before .before .before .before .before .before .before .before in
-    let start = back .before in
-    omega (arith, start .pre .3, (at-fill2 .fill2 .kept .1 .1 .1 .1 .1 .1 .0 ∙ zeros-long))
+    let start = at-fill2 .before .before .before .before .before .before .before .before .before .before .before .before .before in
+    omega (arith, start .pre .3, (at-fill2 .fill2 .kept .1 .1 .1 .0 ∙ zeros-long))
 
 slice-aggregate-write-object-2 : tie.Need-slice-aggregate-write-object-2
 slice-aggregate-write-object-2 c =
     let at-fill2 = c .before .before .before .before .before .before .before in
-    let back = at-fill2 .before .before .before .before .before .before .before .before .before .before .before .before .before .before .before in
-    let start = back .before in
-    cut-long _ 4096 _ (start .pre .3) (at-fill2 .fill2 .kept .1 .1 .1 .1 .1 .1 .0 ∙ zeros-long)
+    let start = at-fill2 .before .before .before .before .before .before .before .before .before .before .before .before .before in
+    cut-long _ 4096 _ (start .pre .3) (at-fill2 .fill2 .kept .1 .1 .1 .0 ∙ zeros-long)
 
 array-share-prefix-third : tie.Need-array-share-prefix-third
 array-share-prefix-third c =
     let at-fill3 = c .before .before .before .before in
     let back = at-fill3 .before .before .before .before .before .before .before .before .before .before .before .before .before .before .before in
-    let start = back .before .before .before .before in
-    omega (arith, start .pre .4, (at-fill3 .fill3 .kept .1 .1 .1 .1 .1 .1 .0 ∙ zeros-long))
+    let start = back .before in
+    omega (arith, start .pre .4, (at-fill3 .fill3 .kept .1 .1 .1 .0 ∙ zeros-long))
 
 slice-aggregate-write-object-3 : tie.Need-slice-aggregate-write-object-3
 slice-aggregate-write-object-3 c =
     let at-fill3 = c .before .before .before .before .before in
     let back = at-fill3 .before .before .before .before .before .before .before .before .before .before .before .before .before .before .before in
-    let start = back .before .before .before .before in
-    cut-long _ 4096 _ (start .pre .4) (at-fill3 .fill3 .kept .1 .1 .1 .1 .1 .1 .0 ∙ zeros-long)
+    let start = back .before in
+    cut-long _ 4096 _ (start .pre .4) (at-fill3 .fill3 .kept .1 .1 .1 .0 ∙ zeros-long)
 
 write-object-requires : tie.Need-write-object-requires
 write-object-requires c κs =
@@ -78,17 +77,12 @@ write-object-requires c κs =
     let at-fill2 = at-fill3 .before .before .before in
     let at-lay-literals = at-fill2 .before .before .before in
     let at-fill = at-lay-literals .before .before .before in
-    let start = at-fill .before .before .before .before .before .before .before .before .before .before in
-    write-fits (start .args .code .now) (at-lay-literals .lay-literals .last .0) (at-fill2 .fill2 .last .1 .1 .1 .1 .1 .1 .0) (at-fill3 .fill3 .last .1 .1 .1 .1 .1 .1 .0)
-    (start .args .out .now) (start .args .bases) (start .args .last) (start .args .two) (start .args .three) (
-      start .pre .0,
-      cut-long (start .args .last) 4096 _
-          (start .pre .2) (at-lay-literals .lay-literals .kept .0 ∙ (at-fill .fill .kept .1 .1 .1 .1 .1 .1 .0 ∙ zeros-long)),
-      cut-long (start .args .two) 4096 _ (start .pre .3)
-          (at-fill2 .fill2 .kept .1 .1 .1 .1 .1 .1 .0 ∙ zeros-long),
-      cut-long (start .args .three) 4096 _ (start .pre .4) (at-fill3 .fill3 .kept .1 .1 .1 .1 .1 .1 .0 ∙
-          zeros-long),
-    ) (start .pre .2, start .pre .3, start .pre .4) (start .pre .5)
+    let start = at-fill .before .before .before .before .before .before .before in
+    write-fits (start .args .code .now) (at-lay-literals .lay-literals .last .0) (at-fill2 .fill2 .last .1 .1 .1 .0) (at-fill3 .fill3 .last .1 .1 .1 .0) (start
+    .args .out .now) (start .args .s .bases) (start .args .last) (start .args .s .two) (start .args .s .three) ( start .pre .0, cut-long (start .args .last)
+    4096 _ (start .pre .2) (at-lay-literals .lay-literals .kept .0 ∙ (at-fill .fill .kept .1 .1 .1 .0 ∙ zeros-long)), cut-long (start .args .s .two) 4096 _
+    (start .pre .3) (at-fill2 .fill2 .kept .1 .1 .1 .0 ∙ zeros-long), cut-long (start .args .s .three) 4096 _ (start .pre .4) (at-fill3 .fill3 .kept .1 .1 .1 .0
+    ∙ zeros-long), ) (start .pre .2, start .pre .3, start .pre .4) (start .pre .5)
 
 same-length : tie.Need-same-length
 same-length c = search needs
@@ -100,9 +94,9 @@ returns c =
     let at-fill2 = at-fill3 .before .before .before in
     let at-lay-literals = at-fill2 .before .before .before in
     let at-fill = at-lay-literals .before .before .before in
-    let start = at-fill .before .before .before .before .before .before .before .before .before .before in
-    written (start .args .values .now) (start .args .means .now) (start .args .under .now) (start .args .offsets .now) (start .args .tape .now) _ _ _ _ _ _ _ _ _ _ _
-    _ _ _ _ _ _ (at-fill .fill .ensures) (at-lay-literals .lay-literals .ensures) (at-fill2 .fill2 .ensures) (at-fill3 .fill3 .ensures) (at-write-object .write-object .ensures)
+    let start = at-fill .before .before .before .before .before .before .before in
+    written (wideOf (start .args .wide .now)) (start .args .tape .now) _ _ _ _ _ _ _ _ _ _ _ _ _ _ _ _ _ (at-fill .fill .ensures) (at-lay-literals .lay-literals
+    .ensures) (at-fill2 .fill2 .ensures) (at-fill3 .fill3 .ensures) (at-write-object .write-object .ensures)
 
 pub write-spec : {M : Type 1} → statement M
 write-spec =
