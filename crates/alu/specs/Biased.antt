@@ -1,5 +1,5 @@
 -- How the code is worked out without signs: a word's signed reading and 2 ^ 31 is a number from 0 up, and so is a sum of two such.
-use Prim.Native.Nat.{ℕ, _+_, _%_, _^_, _*_}
+use Prim.Native.Nat.{ℕ, _+_, _%_, _^_}
 use lib.Dec.{ltb, eqb}
 use Rattle.base.specs.Choose.{choose}
 

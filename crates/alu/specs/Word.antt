@@ -1,8 +1,6 @@
 -- Arithmetic on 32-bit words with the condition code, as IBM's Principles of Operation gives it. A word is a number below 2 ^ 32; `signed` is what it
 -- says in two's complement. Document 01: "sums wrap at 32 bits and set the code as IBM says", "program mask zero".
-use mathlib.Core.Bool.{Bool, true, false}
 use Prim.Native.Nat.{ℕ, suc, _+_, _-_, _*_, _/_, _%_, _^_}
-use lib.Bits.{bitAnd, bitOr, bitXor}
 use lib.Dec.{ltb, eqb}
 use lib.IntN.{ℤ, pos, negsuc, _+ℤ_, _-ℤ_, _*ℤ_, negℤ, natAbs}
 use lib.Signed.{mag, shrZ}

@@ -1,6 +1,6 @@
 -- An operand as instructions name it is the definition's, with the places of cells. What stands at a fixed distance from an operand's token does so by the
 -- grammar; the numbers of a text have 32 bits. Assumes nothing.
-use mathlib.Core.Path.{_≡_, refl, sym, ap, _∙_}
+use mathlib.Core.Path.{_≡_, refl, sym, ap, subst, _∙_}
 use mathlib.Core.Bool.{Bool, true, false}
 use mathlib.Core.List.{List, _∷_}
 use mathlib.Core.Option.{Option, none, some}
@@ -139,8 +139,8 @@ module _ (f : Tables) (means under : List ℕ) (table : f .means ≡ meaningsOf 
         (by-sort (λ (x : Meaning). P x (useBy f x d) (placed f means under offsets d)) at m (baseAt (d .name))
         (λ e. rw e (in-register (numberIn m)))
         (λ e g. rw (e, routine-alone m g .1) (routed (numberIn m)))
-        (λ e g q. rw (e, q, short-is m, subscript-is (d .name) (d .subscript) (d .index) i j h, index-is (d .name) (d .subscript) (d .index) i j h)
-        (in-cell (cellIn at m (baseAt (d .name))) (subscriptOf f (d .subscript)) (C.indexOf f (d .index))))
+        (λ e g q. rw (e, q, subscript-is (d .name) (d .subscript) (d .index) i j h, index-is (d .name) (d .subscript) (d .index) i j h)
+        (subst (λ (y : Bool). P (cell its) (stored (its .width) (element its o x)) (Stored y x (its .base .register) (offsetAt offsets at + o))) (sym (short-is m)) (in-cell its o x)))
         (λ e g q. rw (e, q) unmeant))
       where
         at : ℕ
@@ -148,6 +148,15 @@ module _ (f : Tables) (means under : List ℕ) (table : f .means ≡ meaningsOf 
 
         m : ℕ
         m = packedAt (f .found) means (d .name)
+
+        its : Cell
+        its = cellIn at m (baseAt (d .name))
+
+        o : ℕ
+        o = subscriptOf f (d .subscript)
+
+        x : ℕ
+        x = C.indexOf f (d .index)
 
     -- with the register that it is, its number, and whether a product by it is long
     pub by-use :

@@ -525,12 +525,8 @@ fn index(wide: &[u64], thin: &[u16], shape: u32, t: usize) -> u64
 fn element(wide: &[u64], d: usize, m: u64, subscript: u64, index: u64) -> Use
     ensures { λ r. ⌜ r ≡ elementIn (wideOf (now (wide .entry)) .under) (wideOf (now (wide .entry)) .offsets) d m subscript index ⌝ }
 {
-    Use::Stored(
-        is_short(m),
-        index,
-        under(wide, d) / 4294967296,
-        offset(wide, d) % 4294967296 + subscript % 4294967296,
-    )
+    let displacement = offset(wide, d) % 4294967296 + subscript % 4294967296;
+    Use::Stored(is_short(m), index, under(wide, d) / 4294967296, displacement)
 }
 
 // What is declared at token d, by its packed meaning m.

@@ -32,22 +32,24 @@ fn short(op: u8, rx: u8, regs: &mut [u32; 16], code: u64, at: u32) -> Next
 {
     let r = (rx / 16) as usize;
     let x = (rx % 16) as usize;
+    let v = get(regs, x);
+    let next = at + 2;
     match op {
         0x07 => branch_register_step(regs, r, x, code, at),
         0x0A => service_step(rx, code, at),
-        0x10 => execute(Fun::Positive, regs, r, get(regs, x), code, at + 2),
-        0x11 => execute(Fun::Negative, regs, r, get(regs, x), code, at + 2),
-        0x13 => execute(Fun::Complement, regs, r, get(regs, x), code, at + 2),
-        0x14 => execute(Fun::And, regs, r, get(regs, x), code, at + 2),
-        0x16 => execute(Fun::Or, regs, r, get(regs, x), code, at + 2),
-        0x17 => execute(Fun::ExclusiveOr, regs, r, get(regs, x), code, at + 2),
-        0x18 => execute(Fun::Load, regs, r, get(regs, x), code, at + 2),
-        0x19 => execute(Fun::Compare, regs, r, get(regs, x), code, at + 2),
-        0x1A => execute(Fun::Add, regs, r, get(regs, x), code, at + 2),
-        0x1B => execute(Fun::Subtract, regs, r, get(regs, x), code, at + 2),
+        0x10 => execute(Fun::Positive, regs, r, v, code, next),
+        0x11 => execute(Fun::Negative, regs, r, v, code, next),
+        0x13 => execute(Fun::Complement, regs, r, v, code, next),
+        0x14 => execute(Fun::And, regs, r, v, code, next),
+        0x16 => execute(Fun::Or, regs, r, v, code, next),
+        0x17 => execute(Fun::ExclusiveOr, regs, r, v, code, next),
+        0x18 => execute(Fun::Load, regs, r, v, code, next),
+        0x19 => execute(Fun::Compare, regs, r, v, code, next),
+        0x1A => execute(Fun::Add, regs, r, v, code, next),
+        0x1B => execute(Fun::Subtract, regs, r, v, code, next),
         0x1C => multiply_step(regs, r, x, code, at),
-        0x1E => execute(Fun::AddLogical, regs, r, get(regs, x), code, at + 2),
-        0x1F => execute(Fun::SubtractLogical, regs, r, get(regs, x), code, at + 2),
+        0x1E => execute(Fun::AddLogical, regs, r, v, code, next),
+        0x1F => execute(Fun::SubtractLogical, regs, r, v, code, next),
         _ => halt(4, code, at),
     }
 }
@@ -170,13 +172,16 @@ pub fn step(
     if ROOM + program < i + 2 {
         return halt(4, code, at);
     }
-    if s[i] < 64 {
-        return short(s[i], s[i + 1], regs, code, at);
+    let op = s[i];
+    let rx = s[i + 1];
+    if op < 64 {
+        return short(op, rx, regs, code, at);
     }
     if ROOM + program < i + 4 {
         return halt(4, code, at);
     }
-    let b = upper(s[i + 2]);
-    let d = displacement(s[i + 2], s[i + 3]);
-    long(s[i], s[i + 1], b, d, end, from, to, regs, s, code, at)
+    let third = s[i + 2];
+    let b = upper(third);
+    let d = displacement(third, s[i + 3]);
+    long(op, rx, b, d, end, from, to, regs, s, code, at)
 }

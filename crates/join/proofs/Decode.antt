@@ -22,11 +22,15 @@ first-field r x h = omega arith
 pub second-field : (r x : ℕ) → x < 16 → (r * 16 + x) % 16 ≡ x
 second-field r x h = omega arith
 
+-- a displacement has 12 bits
+abbrev pub displacements : ℕ
+displacements = 4096
+
 -- base and displacement
-base-field : (b d : ℕ) → d < 4096 → (b * 16 + d / 256) / 16 ≡ b
+base-field : (b d : ℕ) → d < displacements → (b * 16 + d / 256) / 16 ≡ b
 base-field b d h = omega arith
 
-displacement-field : (b d : ℕ) → d < 4096 → (b * 16 + d / 256) % 16 * 256 + d % 256 ≡ d
+displacement-field : (b d : ℕ) → d < displacements → (b * 16 + d / 256) % 16 * 256 + d % 256 ≡ d
 displacement-field b d h = omega arith
 
 module _ (m : Space) (c : Cpu) (s : List ℕ) where
@@ -34,7 +38,7 @@ module _ (m : Space) (c : Cpu) (s : List ℕ) where
   first b bs h = let e : c .counter + 0 ≡ c .counter = omega arith in rw e at (h 0 (omega arith))
 
   -- the address that the machine makes of an instruction's fields
-  pub decode-address : (op r x b d : ℕ) → x < 16 → d < 4096 → StandAt s (c .counter) (fourBytes op r x b d) → operandAddress c s ≡ address (c .regs) x b d
+  pub decode-address : (op r x b d : ℕ) → x < 16 → d < displacements → StandAt s (c .counter) (fourBytes op r x b d) → operandAddress c s ≡ address (c .regs) x b d
   decode-address op r x b d hx hd h =
       let e1 = h 1 (omega arith) in
       let e2 = h 2 (omega arith) in
@@ -49,7 +53,7 @@ module _ (m : Space) (c : Cpu) (s : List ℕ) where
         → step m c s ≡ stepped (shortBy (shortKind op) (r * 16 + x) c) s
     decode-two op r x ho hp h = step-short m c s even low op (first op ((r * 16 + x) ∷ []) h) ho hp ∙ rw (h 1 (omega arith))
 
-    pub decode-four : (op r x b d : ℕ) → 64 ≤ op → d < 4096 → c .counter + 4 ≤ origin 0 + m .program → StandAt s (c .counter) (fourBytes op r x b d)
+    pub decode-four : (op r x b d : ℕ) → 64 ≤ op → d < displacements → c .counter + 4 ≤ origin 0 + m .program → StandAt s (c .counter) (fourBytes op r x b d)
         → step m c s ≡ longBy (longKind op) m (r * 16 + x) b d c s
     decode-four op r x b d ho hd hp h =
         let e1 = h 1 (omega arith) in

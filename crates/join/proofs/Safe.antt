@@ -21,6 +21,7 @@ use Rattle.translator.specs.Bytes.{programBase}
 use Rattle.translator.proofs.Rooms.{CellAt}
 use Rattle.join.specs.Writes.{writes}
 use Rattle.join.specs.Points.{Within, Writes, Point, withBase, inBody, procedureOf}
+use Rattle.join.proofs.Decode.{displacements}
 
 -- ── registers ──
 
@@ -62,7 +63,7 @@ FitsDatum l p k r (entry n) = ⊥
 abbrev pub Fits : Layout → Point → Instruction → Type 0
 Fits l p (rr op r s) = (op < 64) × PlainShort (shortKind op) r × (s < 16)
 Fits l p (rx op r a) = (64 ≤ op) × FitsDatum l p (longKind op) r a
-Fits l p (shift op r s d) = (64 ≤ op) × ((f : Shift) × (longKind op ≡ shifts f)) × (d < 4096)
+Fits l p (shift op r s d) = (64 ≤ op) × ((f : Shift) × (longKind op ≡ shifts f)) × (d < displacements)
 Fits l p (branch m t) = ⊥
 Fits l p (link r t) = ⊥
 Fits l p stop = ⊥

@@ -45,7 +45,7 @@ use Rattle.join.proofs.Flows.{Under, Good, Enters, Calls, Onward, Opens
 use Rattle.join.proofs.Chain.{Holds, afterCall, Chain, outermost, called}
 use Rattle.join.proofs.ChainMoves.{chain-holds, chain-kept, chain-at, chain-under, chain-call, Back, chain-return}
 use Rattle.join.proofs.Loading.{Mapped}
-use Rattle.join.proofs.Decode.{StandAt, first-field, second-field, decode-address, decode-opcode, decode-two, decode-four}
+use Rattle.join.proofs.Decode.{StandAt, displacements, first-field, second-field, decode-address, decode-opcode, decode-two, decode-four}
 
 -- ── a program in storage ──
 
@@ -266,7 +266,7 @@ module _ (n : ℕ) (l : Layout) (e : ℕ) (w : List Placed) (m : Space) (s₀ : 
 
     -- ── four bytes ──
 
-    decode : (i : Instruction) (op r x b d : ℕ) → here .instruction ≡ i → encode l i ≡ fourBytes op r x b d → size i ≡ 4 → 64 ≤ op → d < 4096
+    decode : (i : Instruction) (op r x b d : ℕ) → here .instruction ≡ i → encode l i ≡ fourBytes op r x b d → size i ≡ 4 → 64 ≤ op → d < displacements
         → step m c s ≡ longBy (longKind op) m (r * 16 + x) b d c s
     decode i op r x b d q en z h g =
         let hi = high i q in
@@ -535,7 +535,7 @@ module _ (n : ℕ) (l : Layout) (e : ℕ) (w : List Placed) (m : Space) (s₀ : 
 
     -- ── operands ──
 
-    whole : (op r : ℕ) (a : Datum) (b d : ℕ) → here .instruction ≡ rx op r a → encode l (rx op r a) ≡ fourBytes op r 0 b d → d < 4096
+    whole : (op r : ℕ) (a : Datum) (b d : ℕ) → here .instruction ≡ rx op r a → encode l (rx op r a) ≡ fourBytes op r 0 b d → d < displacements
         → address (c .regs) 0 b d ≡ namedFrom l a + namedAt a → (z : ℕ) → 0 < z → operandBytes (longKind op) ≡ z → namedAt a + z ≤ namedBytes a → Whole l c s a
     whole op r a b d q en h ad z pos k wi =
         let by = subst (λ (bs : List ℕ). StandAt s (c .counter) bs) en (stand (rx op r a) q) in

@@ -4,7 +4,7 @@ use mathlib.Core.List.{List}
 use Prim.Native.Nat.{ℕ, _+_, _*_, _≤_, _<_}
 use lib.ListN.{getD}
 use Rattle.base.specs.Runs.{indexOf}
-use Rattle.kinds.specs.Meaning.{Cell, elementSize}
+use Rattle.kinds.specs.Meaning.{elementSize}
 use Rattle.machine.specs.Space.{origin}
 use Rattle.machine.specs.Instructions.{longKind}
 use Rattle.machine.specs.Step.{Cpu}

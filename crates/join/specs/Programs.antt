@@ -2,7 +2,7 @@
 use mathlib.Core.Path.{_≡_}
 use mathlib.Core.Logic.{_⊎_}
 use mathlib.Core.List.{List, _++_}
-use mathlib.Core.Option.{Option, some}
+use mathlib.Core.Option.{some}
 use Prim.Native.Nat.{ℕ, suc, _+_, _%_, _^_, _≤_, _<_}
 use lib.ListN.{length, getD, take}
 use Rattle.base.specs.Lists.{_∈_}
@@ -19,7 +19,7 @@ use Rattle.machine.specs.Step.{Cpu, cpu, atEnd, forbidden, misaligned}
 use Rattle.machine.specs.Run.{budgetUsed}
 use Rattle.runner.specs.Runner.{Outcome}
 use Rattle.translator.specs.Instructions.{Instruction, link, stop, sizes}
-use Rattle.translator.specs.Core.{Core, coreStatement}
+use Rattle.translator.specs.Core.{coreStatement}
 use Rattle.translator.specs.Layout.{Layout, tableBytes, literalsEnd}
 use Rattle.translator.specs.Image.{segments}
 use Rattle.translator.specs.Translate.{kindsOf, Made, make}

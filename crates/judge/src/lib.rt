@@ -94,7 +94,10 @@ fn leave_block(counts: &[u64], d: Depths) -> Depths
 
 fn keep_base(wide: &mut [u64], r: u64, d: Depths) -> Depths
     requires { ⌜ (d .kept < length (wideOf (now wide) .offsets)) × ((d .kept ≤ 4294967296) × (d .count < 4294967296)) ⌝ }
-    ensures { λ x. ⌜ ((counts : List ℕ) → Moved (keepBase r (heldOf (wideOf (now (wide .entry)) .offsets) counts d)) (wideOf (now (wide .exit)) .offsets) counts d x) × Stays (wideOf (now (wide .entry))) (wideOf (now (wide .exit))) ⌝ }
+    ensures { λ x.
+        ⌜ ((counts : List ℕ)
+        → Moved (keepBase r (heldOf (wideOf (now (wide .entry)) .offsets) counts d)) (wideOf (now (wide .exit)) .offsets) counts d x)
+        × Stays (wideOf (now (wide .entry))) (wideOf (now (wide .exit))) ⌝ }
 {
     let depth = d.kept;
     put_offset(wide, depth, r);
@@ -107,7 +110,10 @@ fn keep_base(wide: &mut [u64], r: u64, d: Depths) -> Depths
 
 fn keep_return(wide: &mut [u64], r: u64, d: Depths) -> Depths
     requires { ⌜ (d .kept < length (wideOf (now wide) .offsets)) × (d .kept ≤ 4294967296) ⌝ }
-    ensures { λ x. ⌜ ((counts : List ℕ) → Moved (keepReturn r (heldOf (wideOf (now (wide .entry)) .offsets) counts d)) (wideOf (now (wide .exit)) .offsets) counts d x) × Stays (wideOf (now (wide .entry))) (wideOf (now (wide .exit))) ⌝ }
+    ensures { λ x.
+        ⌜ ((counts : List ℕ)
+        → Moved (keepReturn r (heldOf (wideOf (now (wide .entry)) .offsets) counts d)) (wideOf (now (wide .exit)) .offsets) counts d x)
+        × Stays (wideOf (now (wide .entry))) (wideOf (now (wide .exit))) ⌝ }
 {
     let depth = d.kept;
     put_offset(wide, depth, r);
@@ -136,8 +142,12 @@ fn held_after(
     counts: &mut [u64],
     d: Depths,
 ) -> Depths
-    requires { ⌜ (t < 4294967296) × ((d .kept < length (wideOf (now wide) .offsets)) × ((d .kept ≤ 4294967296) × ((d .count < 4294967296) × (blocksOpen op (d .counts) ≤ length (now counts))))) ⌝ }
-    ensures { λ r. ⌜ ((f : Tables) → Listed f (wideOf (now (wide .entry))) (thinOf (now (thin .entry))) → Moved (heldAfter f op t (heldOf (wideOf (now (wide .entry)) .offsets) (now (counts .entry)) d)) (wideOf (now (wide .exit)) .offsets) (now (counts .exit)) d r) × Stays (wideOf (now (wide .entry))) (wideOf (now (wide .exit))) ⌝ }
+    requires { ⌜ (t < 4294967296) × ((d .kept < length (wideOf (now wide) .offsets))
+        × ((d .kept ≤ 4294967296) × ((d .count < 4294967296) × (blocksOpen op (d .counts) ≤ length (now counts))))) ⌝ }
+    ensures { λ r.
+        ⌜ ((f : Tables) → Listed f (wideOf (now (wide .entry))) (thinOf (now (thin .entry)))
+        → Moved (heldAfter f op t (heldOf (wideOf (now (wide .entry)) .offsets) (now (counts .entry)) d)) (wideOf (now (wide .exit)) .offsets) (now (counts .exit)) d r)
+        × Stays (wideOf (now (wide .entry))) (wideOf (now (wide .exit))) ⌝ }
 {
     if op == tape::BLOCK {
         return enter_block(counts, d);
@@ -252,7 +262,9 @@ fn register_target(shape: u32, wide: &[u64], depth: usize, m: u64, t: usize) -> 
 
 fn aim_rules(shape: u32, wide: &[u64], thin: &[u16], depth: usize, t: usize) -> Broken
     requires { ⌜ t < 4294967296 ⌝ }
-    ensures { λ x. ⌜ ((f : Tables) → Listed f (wideOf (now (wide .entry))) (thinOf (now (thin .entry))) → x ≡ aimBy f (stackOf (wideOf (now (wide .entry)) .offsets) depth) (designatorAt shape t) (meaningAt f t)) ⌝ }
+    ensures { λ x.
+        ⌜ ((f : Tables) → Listed f (wideOf (now (wide .entry))) (thinOf (now (thin .entry)))
+        → x ≡ aimBy f (stackOf (wideOf (now (wide .entry)) .offsets) depth) (designatorAt shape t) (meaningAt f t)) ⌝ }
 {
     let m = meaning(wide, thin, t);
     if is_register(m) {
@@ -265,7 +277,9 @@ fn aim_rules(shape: u32, wide: &[u64], thin: &[u16], depth: usize, t: usize) -> 
 }
 
 fn control_rules(shape: u32, wide: &[u64], thin: &[u16], depth: usize, t: usize) -> Broken
-    ensures { λ x. ⌜ ((f : Tables) → Listed f (wideOf (now (wide .entry))) (thinOf (now (thin .entry))) → x ≡ controlBy (stackOf (wideOf (now (wide .entry)) .offsets) depth) (designatorAt shape t) (meaningAt f t)) ⌝ }
+    ensures { λ x.
+        ⌜ ((f : Tables) → Listed f (wideOf (now (wide .entry))) (thinOf (now (thin .entry)))
+        → x ≡ controlBy (stackOf (wideOf (now (wide .entry)) .offsets) depth) (designatorAt shape t) (meaningAt f t)) ⌝ }
 {
     let m = meaning(wide, thin, t);
     if is_register(m) {
@@ -306,7 +320,9 @@ fn chain_rule(
     t: usize,
 ) -> Broken
     requires { ⌜ t < 4294967296 ⌝ }
-    ensures { λ x. ⌜ ((f : Tables) → Shown f (now (kinds .entry)) (wideOf (now (wide .entry))) (thinOf (now (thin .entry))) → x ≡ chainRule f (stackOf (wideOf (now (wide .entry)) .offsets) depth) target shape t) ⌝ }
+    ensures { λ x.
+        ⌜ ((f : Tables) → Shown f (now (kinds .entry)) (wideOf (now (wide .entry))) (thinOf (now (thin .entry)))
+        → x ≡ chainRule f (stackOf (wideOf (now (wide .entry)) .offsets) depth) target shape t) ⌝ }
 {
     if target == 0 {
         return none();
@@ -326,7 +342,9 @@ const MOST_ELEMENTS: u64 = 2048;
 
 fn declaration_rule(op: u32, t: usize, wide: &[u64], thin: &[u16], depth: usize, c: Cells) -> Broken
     requires { ⌜ t < 4294967296 ⌝ }
-    ensures { λ x. ⌜ ((f : Tables) → Listed f (wideOf (now (wide .entry))) (thinOf (now (thin .entry))) → x ≡ declarationRule f (stackOf (wideOf (now (wide .entry)) .offsets) depth) c op t) ⌝ }
+    ensures { λ x.
+        ⌜ ((f : Tables) → Listed f (wideOf (now (wide .entry))) (thinOf (now (thin .entry)))
+        → x ≡ declarationRule f (stackOf (wideOf (now (wide .entry)) .offsets) depth) c op t) ⌝ }
 {
     let k = family(op);
     if op == tape::REGISTER {
@@ -358,7 +376,9 @@ fn assignment_rule(
     target: usize,
 ) -> Broken
     requires { ⌜ t < 4294967296 ⌝ }
-    ensures { λ x. ⌜ ((f : Tables) → Shown f (now (kinds .entry)) (wideOf (now (wide .entry))) (thinOf (now (thin .entry))) → x ≡ assignmentRule f (stackOf (wideOf (now (wide .entry)) .offsets) depth) target op t) ⌝ }
+    ensures { λ x.
+        ⌜ ((f : Tables) → Shown f (now (kinds .entry)) (wideOf (now (wide .entry))) (thinOf (now (thin .entry)))
+        → x ≡ assignmentRule f (stackOf (wideOf (now (wide .entry)) .offsets) depth) target op t) ⌝ }
 {
     let k = family(op);
     let shape = tape::form(op);
@@ -383,7 +403,9 @@ fn assignment_rule(
 // The register of a condition stands two tokens before its operand.
 fn compared_rules(shape: u32, wide: &[u64], thin: &[u16], t: usize) -> Broken
     requires { ⌜ t < 4294967296 ⌝ }
-    ensures { λ x. ⌜ ((f : Tables) → Listed f (wideOf (now (wide .entry))) (thinOf (now (thin .entry))) → x ≡ registerRule f (t - 2) ⊕ operandRules f (operandAt shape t)) ⌝ }
+    ensures { λ x.
+        ⌜ ((f : Tables) → Listed f (wideOf (now (wide .entry))) (thinOf (now (thin .entry)))
+        → x ≡ registerRule f (t - 2) ⊕ operandRules f (operandAt shape t)) ⌝ }
 {
     let n = fewer(t, 2);
     let compared = register_rule(meaning(wide, thin, n), n);
@@ -400,7 +422,9 @@ fn statement_rule(
     target: usize,
 ) -> Broken
     requires { ⌜ t < 4294967296 ⌝ }
-    ensures { λ x. ⌜ ((f : Tables) → Shown f (now (kinds .entry)) (wideOf (now (wide .entry))) (thinOf (now (thin .entry))) → x ≡ statementRule f (stackOf (wideOf (now (wide .entry)) .offsets) depth) target op t) ⌝ }
+    ensures { λ x.
+        ⌜ ((f : Tables) → Shown f (now (kinds .entry)) (wideOf (now (wide .entry))) (thinOf (now (thin .entry)))
+        → x ≡ statementRule f (stackOf (wideOf (now (wide .entry)) .offsets) depth) target op t) ⌝ }
 {
     let k = family(op);
     if k == tape::COMPARED {
@@ -426,7 +450,9 @@ fn event_rule(
     target: usize,
 ) -> Broken
     requires { ⌜ t < 4294967296 ⌝ }
-    ensures { λ x. ⌜ ((f : Tables) → Shown f (now (kinds .entry)) (wideOf (now (wide .entry))) (thinOf (now (thin .entry))) → x ≡ eventRule f (stackOf (wideOf (now (wide .entry)) .offsets) depth) c target op t) ⌝ }
+    ensures { λ x.
+        ⌜ ((f : Tables) → Shown f (now (kinds .entry)) (wideOf (now (wide .entry))) (thinOf (now (thin .entry)))
+        → x ≡ eventRule f (stackOf (wideOf (now (wide .entry)) .offsets) depth) c target op t) ⌝ }
 {
     if layer(op) == tape::PHRASE {
         return statement_rule(op, t, kinds, wide, thin, depth, target);
@@ -447,7 +473,9 @@ pub fn judge(
     others: Broken,
 ) -> Broken
     requires { ⌜ (length (now tape) < 4294967296) × ((length (now tape) + 2 ≤ length (now wide) / 4) × Nested (length (now counts)) 0 0 (now tape)) ⌝ }
-    ensures { λ r. ⌜ ((f : Tables) → Shown f (now (kinds .entry)) (wideOf (now (wide .entry))) (thinOf (now (thin .entry))) → r ≡ (pass (judgeEvent f) (beginning others) (now (tape .entry))) .broken) × Stays (wideOf (now (wide .entry))) (wideOf (now (wide .exit))) ⌝ }
+    ensures { λ r.
+        ⌜ ((f : Tables) → Shown f (now (kinds .entry)) (wideOf (now (wide .entry))) (thinOf (now (thin .entry)))
+        → r ≡ (pass (judgeEvent f) (beginning others) (now (tape .entry))) .broken) × Stays (wideOf (now (wide .entry))) (wideOf (now (wide .exit))) ⌝ }
 {
     put_offset(wide, 0, 14);
     put_offset(wide, 1, 15);

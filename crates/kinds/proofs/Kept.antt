@@ -1,13 +1,20 @@
--- What is protected at a place: the bases of its blocks, the return registers of its procedures, and whatever is protected around it.
-use mathlib.Core.Path.{refl, ap}
+-- What is protected at a place: the bases of its blocks, the return registers of its procedures, and whatever is protected around it. A call that breaks no rule
+-- writes nothing that is protected.
+use mathlib.Core.Path.{_≡_, refl, ap}
 use mathlib.Core.Logic.{inl, inr}
+use mathlib.Core.Bool.{true}
 use mathlib.Core.List.{List, [], _∷_, map}
 use Prim.Native.Nat.{ℕ}
+use native.Mathlib.Omega.{arith}
+use lib.ListN.{getD}
 use Rattle.base.specs.Lists.{_∈_}
 use Rattle.base.proofs.Lists.{in-left, in-right}
 use Rattle.grammar.specs.Places.{Block, within, body, Place}
-use Rattle.kinds.specs.Meaning.{registerOf}
+use Rattle.names.proofs.Joins.{quiet-right, rule-holds}
+use Rattle.kinds.specs.Registers.{noRegisters, spares}
+use Rattle.kinds.specs.Meaning.{routine, registerOf}
 use Rattle.kinds.specs.Tables.{Tables, meaningAt}
+use Rattle.kinds.specs.Rules.{writeRule, callBy}
 use Rattle.kinds.specs.Kinds.{keptIn}
 
 module _ (f : Tables) where
@@ -36,3 +43,7 @@ module _ (f : Tables) where
 
   pub kept-in-body : (n r : ℕ) (p : Place) (s : ℕ) → s ∈ keptIn f p → s ∈ keptIn f (body n r ∷ p)
   kept-in-body n r p s h = inr h
+
+  -- "No … call may write a protected register", by what the called procedure's text writes
+  pub called-spares : (r : ℕ) (kept : List ℕ) (n : ℕ) → callBy f (routine r) kept n .number ≡ 0 → spares (getD (f .written) (getD (f .found) n 0) noRegisters) kept ≡ true
+  called-spares r kept n e = rule-holds _ 10 n (omega arith) (quiet-right (writeRule kept r n) _ e)

@@ -2,7 +2,7 @@
 use mathlib.Core.List.{List}
 use Prim.Native.Nat.{ℕ}
 use Rattle.machine.specs.declared.Next.{Next}
-use Rattle.machine.specs.Step.{Cpu, cpu, Turn, Stepped, stepped}
+use Rattle.machine.specs.Step.{cpu, Turn}
 
 abbrev pub turn : Next → List ℕ → Turn
 turn q rs = record { stop = q .stop; cpu = cpu rs (q .code) (q .at) }

@@ -4,7 +4,7 @@ use mathlib.Core.List.{List}
 use Prim.Native.Nat.{ℕ, zero, suc, _+_}
 use lib.Dec.{eqb}
 use Rattle.machine.specs.Space.{Space}
-use Rattle.machine.specs.Step.{Cpu, Turn, Stepped, completed, step}
+use Rattle.machine.specs.Step.{Cpu, Stepped, completed, step}
 
 -- "The result gives stop, counter, registers, code and the count of completed instructions."
 pub record Result : Type 0 where

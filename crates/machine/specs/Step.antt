@@ -1,5 +1,5 @@
 -- One instruction of the machine. "A stopped instruction changes nothing."
-use mathlib.Core.Bool.{Bool, true, false, _&&_}
+use mathlib.Core.Bool.{Bool}
 use mathlib.Core.List.{List}
 use Prim.Native.Nat.{ℕ, _+_, _*_, _/_, _%_, _^_}
 use lib.Bits.{bitAnd, bitOr, bitXor}
@@ -13,7 +13,7 @@ use Rattle.machine.specs.declared.Fun.{Fun}
 use Rattle.machine.specs.declared.Fun.the-variants.{Load, Add, Subtract, AddLogical, SubtractLogical, And, Or, ExclusiveOr, Compare, Positive, Negative, Complement, MultiplyHalf}
 use Rattle.machine.specs.declared.Shift.{Shift}
 use Rattle.machine.specs.declared.Shift.the-variants.{RightLogical, LeftLogical, Right, Left}
-use Rattle.machine.specs.Space.{Space, room, origin, readable, writable}
+use Rattle.machine.specs.Space.{Space, origin, readable, writable}
 use Rattle.machine.specs.Instructions.{Short, applies, multiplies, branches, ends, unlisted, Long, appliesTo, multipliesBy, stores, branchesTo, links, shifts, unlistedLong, shortKind, longKind}
 
 -- ── states ──

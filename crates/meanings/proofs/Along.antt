@@ -1,10 +1,9 @@
--- The loop along the tape: i events are passed, and what the arrays show is what the definition has after them.
-use mathlib.Core.Path.{_≡_, refl, sym, ap, _∙_}
+-- The loop along the tape: i events are passed, and what the ledger shows is what the definition has after them.
+use mathlib.Core.Path.{_≡_, ap, _∙_}
 use mathlib.Core.List.{List, []}
 use Prim.Native.Nat.{ℕ, _+_, _/_, _%_, _≤_, _<_}
 use native.Mathlib.Omega.{arith}
-use lib.ListN.{getD, set, length, drop}
-use Rattle.tape.specs.Events as E
+use lib.ListN.{getD, length, drop}
 use Rattle.tape.specs.Pass.{pass}
 use Rattle.tape.proofs.Pass.{pass-turn, pass-end}
 use Rattle.kinds.specs.Meanings.{Meant, dataBase}
@@ -12,74 +11,86 @@ use Rattle.tables.specs.Packed.{basedIn, meaningsOf}
 use Rattle.tables.specs.Stacks.{stackOf}
 use Rattle.meanings.specs.declared.Scope.{Scope}
 use Rattle.meanings.specs.Along.{Within, Meaning-walk, withinAfter, formAfter, targetAfter, declaredAfter, writtenAfter, meanEvent, beginning}
-use Rattle.meanings.specs.Flat.{withinOf, meantOf, Moved, Roomy}
+use Rattle.grammar.specs.Grammar.{nesting}
+use Rattle.tape.specs.Events as E
+use Rattle.ledger.specs.Book.{Wide, Thin}
+use Rattle.ledger.specs.Bounds.{blocksOpen, proceduresOpen, Nested}
+use Rattle.ledger.proofs.Bounds.{nested-here, nested-on}
+use Rattle.meanings.specs.Flat.{withinOf, Moved, Roomy, View, viewOf, changed}
 
 abbrev walk : Within → (form target : ℕ) → Meant → Meaning-walk
 walk w form target s = record { within = w; form = form; target = target; meant = s }
 
 -- what is lent keeps its lengths
-pub record Same (means₀ under₀ opens₀ written₀ owners₀ outer₀ means under opens written owners outer : List ℕ) : Type 0 where
-  pub same-means : length means ≡ length means₀
-  pub same-under : length under ≡ length under₀
-  pub same-opens : length opens ≡ length opens₀
-  pub same-written : length written ≡ length written₀
+pub record Same (wide₀ thin₀ owners₀ outer₀ wide thin owners outer : List ℕ) : Type 0 where
+  pub same-wide : length wide ≡ length wide₀
+  pub same-thin : length thin ≡ length thin₀
   pub same-owners : length owners ≡ length owners₀
   pub same-outer : length outer ≡ length outer₀
 
-module _ (tape kinds values found : List ℕ) (start : Meant) where
-  pub record Going (means under opens written owners outer : List ℕ) (s : Scope) (form target bases i : ℕ) : Type 0 where
-    pub is :
-        pass (meanEvent kinds values found) (walk (withinOf owners outer s) form target (meantOf means under opens written bases)) (drop i tape)
-        ≡ pass (meanEvent kinds values found) (beginning start) tape
-    pub room : Roomy (length tape) (length means) (length under) (length owners) (length outer)
+module _ (tape kinds : List ℕ) (start : View) where
+  abbrev event : (op t : ℕ) → Meaning-walk → Meaning-walk
+  event = meanEvent kinds (start .values) (start .found)
+
+  pub record Going (w : Wide) (b : Thin) (owners outer : List ℕ) (s : Scope) (form target bases i : ℕ) : Type 0 where
+    pub is : pass event (walk (withinOf owners outer s) form target (viewOf w b bases .meant)) (drop i tape) ≡ pass event (beginning (start .meant)) tape
+    pub still : changed (λ _. start .meant) (viewOf w b bases) ≡ start
+    pub room : Roomy tape (length owners) (length outer)
+    pub nested : Nested nesting (s .outer) (s .owners) (drop i tape)
     pub inside : i ≤ length tape
     pub few : bases ≤ i
-    pub deep : s .owners ≤ i
-    pub wide : s .outer ≤ i
 
-  pub going : (means under opens written owners outer : List ℕ) (base : ℕ) → start ≡ meantOf means under opens written 0 → basedIn base ≡ dataBase → Roomy (length tape) (length means) (length under) (length owners) (length outer)
-      → Going means under opens written owners outer (record { own = 0; owners = 0; base = base; outer = 0 }) 0 0 0 0
+  pub going : (w : Wide) (b : Thin) (owners outer : List ℕ) (base : ℕ) → viewOf w b 0 ≡ start → basedIn base ≡ dataBase → Roomy tape (length owners) (length outer)
+      → Going w b owners outer (record { own = 0; owners = 0; base = base; outer = 0 }) 0 0 0 0
   unfolding stackOf
-  going means under opens written owners outer base e f r = record {
-    is = rw (e, f);
+  going w b owners outer base e f r = record {
+    is = rw (f, ← e);
+    still = ap (changed (λ _. start .meant)) e;
     room = r;
+    nested = r .nested;
     inside = omega arith;
     few = omega arith;
-    deep = omega arith;
-    wide = omega arith;
   }
 
-  module _ {means under opens written owners outer : List ℕ} {s : Scope} {form target bases i : ℕ} (g : Going means under opens written owners outer s form target bases i) where
+  module _ {w : Wide} {b : Thin} {owners outer : List ℕ} {s : Scope} {form target bases i : ℕ} (g : Going w b owners outer s form target bases i) where
     pub going-on :
-        {owners′ outer′ means′ under′ opens′ written″ : List ℕ} {s′ : Scope} {form′ target′ bases′ : ℕ} (written′ : List ℕ) (op t : ℕ) → i < length tape → op ≡ getD tape i 0 % E.EVENTS → t ≡ getD tape i 0 / E.EVENTS
-        → ((u : List ℕ) → Moved (withinAfter found op t (meaningsOf means u) bases (withinOf owners outer s)) owners′ outer′ s s′)
-        → form′ ≡ formAfter values op t form
-        → ((u : List ℕ) → target′ ≡ targetAfter found op t (meaningsOf means u) target)
-        → meantOf means′ under′ opens′ written′ bases′ ≡ declaredAfter values found op t (s′ .own) (basedIn (s′ .base)) form′ (meantOf means under opens written bases)
+        {w′ : Wide} {b″ : Thin} {owners′ outer′ : List ℕ} {s′ : Scope} {form′ target′ bases′ : ℕ} (b′ : Thin) (op t : ℕ) → i < length tape → op ≡ getD tape i 0 % E.EVENTS → t ≡ getD tape i 0 / E.EVENTS
+        → ((u : List ℕ) → Moved (withinAfter (b .found) op t (meaningsOf (w .means) u) bases (withinOf owners outer s)) owners′ outer′ (blocksOpen op (s .outer)) (proceduresOpen op (s .owners)) s′)
+        → form′ ≡ formAfter (w .values) op t form
+        → ((u : List ℕ) → target′ ≡ targetAfter (b .found) op t (meaningsOf (w .means) u) target)
+        → viewOf w′ b′ bases′ ≡ changed (declaredAfter (w .values) (b .found) op t (s′ .own) (basedIn (s′ .base)) form′) (viewOf w b bases)
         → bases′ ≤ bases + 1
-        → ((u o : List ℕ) (n : ℕ) → meantOf means′ u o written″ n ≡ writtenAfter kinds found op t (s′ .own) target′ (meantOf means′ u o written′ n))
-        → length means′ ≡ length means → length under′ ≡ length under → length owners′ ≡ length owners → length outer′ ≡ length outer
-        → Going means′ under′ opens′ written″ owners′ outer′ s′ form′ target′ bases′ (i + 1)
+        → ((n : ℕ) → viewOf w′ b″ n ≡ changed (writtenAfter kinds (b′ .found) op t (s′ .own) target′) (viewOf w′ b′ n))
+        → length owners′ ≡ length owners → length outer′ ≡ length outer
+        → Going w′ b″ owners′ outer′ s′ form′ target′ bases′ (i + 1)
     unfolding meanEvent
-    going-on {owners′} {outer′} {means′} {under′} {opens′} {written″} {s′} {form′} {target′} {bases′} written′ op t h eo et moved formed targeted declared few′ wrote lm lu lw lo =
+    going-on {w′} {b″} {owners′} {outer′} {s′} {form′} {target′} {bases′} b′ op t h eo et moved formed targeted declared few′ wrote lw lo =
         let few = g .few in
-        let deep = g .deep in
-        let wide = g .wide in
-        let deep′ = moved under .deep in
-        let wide′ = moved under .wide in
         record {
-          is = ap (λ (m : Meaning-walk). pass (meanEvent kinds values found) m (drop (i + 1) tape)) stepped ∙ pass-turn (meanEvent kinds values found) _ tape i op t h eo et (g .is);
-          room = let r = g .room in record { small = r .small; beside = omega (arith, r .beside); deep = omega (arith, r .deep); wide = omega (arith, r .wide) };
+          is = ap (λ (m : Meaning-walk). pass event m (drop (i + 1) tape)) stepped ∙ pass-turn event _ tape i op t h eo et (g .is);
+          still = ap (changed (λ _. start .meant)) (wrote bases′) ∙ (ap (changed (λ _. start .meant)) declared ∙ g .still);
+          room = let r = g .room in record { small = r .small; nested = r .nested; deep = omega (arith, r .deep); wide = omega (arith, r .wide) };
+          nested = rw (moved [] .blocks-are, moved [] .procedures-are) (nested-on nesting (s .outer) (s .owners) op i tape h eo (g .nested));
           inside = omega arith;
           few = omega arith;
-          deep = omega arith;
-          wide = omega arith;
         }
       where
-        stepped :
-            walk (withinOf owners′ outer′ s′) form′ target′ (meantOf means′ under′ opens′ written″ bases′)
-            ≡ meanEvent kinds values found op t (walk (withinOf owners outer s) form target (meantOf means under opens written bases))
-        stepped = rw (wrote under′ opens′ bases′, declared, ← (moved under .is), ← formed, ← (targeted under))
+        found-is : b .found ≡ start .found
+        found-is = ap (λ (v : View). v .found) (g .still)
 
-    pub going-end : length tape ≤ i → meantOf means under opens written bases ≡ (pass (meanEvent kinds values found) (beginning start) tape) .meant
-    going-end h = ap (λ (m : Meaning-walk). m .meant) (pass-end (meanEvent kinds values found) _ tape i h (g .is))
+        values-is : w .values ≡ start .values
+        values-is = ap (λ (v : View). v .values) (g .still)
+
+        found′-is : b′ .found ≡ b .found
+        found′-is = ap (λ (v : View). v .found) declared
+
+        stepped : walk (withinOf owners′ outer′ s′) form′ target′ (viewOf w′ b″ bases′ .meant) ≡ event op t (walk (withinOf owners outer s) form target (viewOf w b bases .meant))
+        stepped =
+            rw (← found-is, ← values-is, ap (λ (v : View). v .meant) (wrote bases′), found′-is, ap (λ (v : View). v .meant) declared, ← (moved (w .under) .is), ← formed, ← (targeted (w .under)))
+
+    pub going-end : length tape ≤ i → viewOf w b bases ≡ changed (λ s. (pass event (beginning s) tape) .meant) start
+    going-end h = ap (changed (λ _. viewOf w b bases .meant)) (g .still) ∙ ap (λ (m : Meaning-walk). changed (λ _. m .meant) start) (pass-end event _ tape i h (g .is))
+
+    -- a stack has room for one more
+    pub room-for-one : (s .owners < length owners) × (s .outer < length outer)
+    room-for-one = let (b, p) = nested-here nesting (s .outer) (s .owners) (drop i tape) (g .nested) in let r = g .room in (omega (arith, r .deep), omega (arith, r .wide))

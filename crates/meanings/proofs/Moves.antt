@@ -32,47 +32,47 @@ register-at found means bases t = ap registerOf (meaning-at means bases (getD fo
 module _ (owners outer : List ℕ) (s : Scope) where
   pub entered-block :
       {outer′ : List ℕ} → s .outer < length outer → outer′ ≡ set outer (s .outer) (s .base)
-      → Moved (enterBlock (withinOf owners outer s)) owners outer′ s (scope (s .own) (s .owners) (s .base) (s .outer + 1))
+      → Moved (enterBlock (withinOf owners outer s)) owners outer′ (suc (s .outer)) (s .owners) (scope (s .own) (s .owners) (s .base) (s .outer + 1))
   entered-block h e = record {
     is = ap (λ (l : List ℕ). record { own = s .own; owners = stackOf owners (s .owners); base = basedIn (s .base); outer = map basedIn l })
         (ap (λ (a : List ℕ). stackOf a (s .outer + 1)) e ∙ pushed outer (s .outer) (s .base) h);
-    deep = omega arith;
-    wide = omega arith;
+    blocks-are = omega arith;
+    procedures-are = omega arith;
   }
 
-  pub left-block : (b d : ℕ) → b ≡ top (stackOf outer (s .outer)) → d ≡ s .outer - 1 → Moved (leaveBlock (withinOf owners outer s)) owners outer s (scope (s .own) (s .owners) b d)
+  pub left-block : (b d : ℕ) → b ≡ top (stackOf outer (s .outer)) → d ≡ s .outer - 1 → Moved (leaveBlock (withinOf owners outer s)) owners outer (s .outer - 1) (s .owners) (scope (s .own) (s .owners) b d)
   left-block b d e f = record {
     is = ap₂ (λ (x : Based) (l : List Based). record { own = s .own; owners = stackOf owners (s .owners); base = x; outer = l })
         (ap basedIn e ∙ first-is (stackOf outer (s .outer))) (ap (λ (n : ℕ). map basedIn (stackOf outer n)) f ∙ (ap (λ (l : List ℕ). map basedIn l) (popped outer (s .outer)) ∙ later-is (stackOf outer (s .outer))));
-    deep = omega arith;
-    wide = omega arith;
+    blocks-are = omega arith;
+    procedures-are = omega arith;
   }
 
   pub entered-procedure :
       {owners′ : List ℕ} (t : ℕ) → s .owners < length owners → owners′ ≡ set owners (s .owners) (s .own)
-      → Moved (enterProcedure t (withinOf owners outer s)) owners′ outer s (scope t (s .owners + 1) (s .base) (s .outer))
+      → Moved (enterProcedure t (withinOf owners outer s)) owners′ outer (s .outer) (suc (s .owners)) (scope t (s .owners + 1) (s .base) (s .outer))
   entered-procedure t h e = record {
     is = ap (λ (l : List ℕ). record { own = t; owners = l; base = basedIn (s .base); outer = map basedIn (stackOf outer (s .outer)) })
         (ap (λ (a : List ℕ). stackOf a (s .owners + 1)) e ∙ pushed owners (s .owners) (s .own) h);
-    deep = omega arith;
-    wide = omega arith;
+    blocks-are = omega arith;
+    procedures-are = omega arith;
   }
 
   pub left-procedure :
-      (own d : ℕ) → own ≡ top (stackOf owners (s .owners)) → d ≡ s .owners - 1 → Moved (leaveProcedure (withinOf owners outer s)) owners outer s (scope own d (s .base) (s .outer))
+      (own d : ℕ) → own ≡ top (stackOf owners (s .owners)) → d ≡ s .owners - 1 → Moved (leaveProcedure (withinOf owners outer s)) owners outer (s .outer) (s .owners - 1) (scope own d (s .base) (s .outer))
   left-procedure own d e f = record {
     is = ap₂ (λ (x : ℕ) (l : List ℕ). record { own = x; owners = l; base = basedIn (s .base); outer = map basedIn (stackOf outer (s .outer)) })
         e (ap (λ (n : ℕ). stackOf owners n) f ∙ popped owners (s .owners));
-    deep = omega arith;
-    wide = omega arith;
+    blocks-are = omega arith;
+    procedures-are = omega arith;
   }
 
   pub changed-base :
       (found means bases : List ℕ) (t count r m : ℕ) → count < 4294967294 → m ≡ packedAt found means t → r ≡ registerIn m
-      → Moved (changeBase (registerOf (meaningOf found (meaningsOf means bases) t)) count (withinOf owners outer s)) owners outer s (scope (s .own) (s .owners) (r * 4294967296 + (count + 2)) (s .outer))
+      → Moved (changeBase (registerOf (meaningOf found (meaningsOf means bases) t)) count (withinOf owners outer s)) owners outer (s .outer) (s .owners) (scope (s .own) (s .owners) (r * 4294967296 + (count + 2)) (s .outer))
   changed-base found means bases t count r m h e f = record {
     is = ap (λ (b : Based). record { own = s .own; owners = stackOf owners (s .owners); base = b; outer = map basedIn (stackOf outer (s .outer)) })
         (based-is r (count + 2) (omega arith) ∙ ap₂ (λ (x y : ℕ). record { register = x; segment = y }) (f ∙ (ap registerIn e ∙ sym (register-at found means bases t))) (omega arith));
-    deep = omega arith;
-    wide = omega arith;
+    blocks-are = omega arith;
+    procedures-are = omega arith;
   }

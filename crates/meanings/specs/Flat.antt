@@ -1,10 +1,13 @@
--- The state of the walk as arrays.
+-- The state of the walk as arrays, and what the ledger shows of the tables.
 use mathlib.Core.Path.{_≡_}
 use mathlib.Core.List.{List, [], map}
 use Prim.Native.Nat.{ℕ, zero, suc, _+_, _%_, _≤_, _<_}
 use lib.Dec.{eqb}
-use lib.ListN.{set}
+use lib.ListN.{set, length}
 use Rattle.base.specs.Choose.{if_then_else_}
+use Rattle.grammar.specs.Grammar.{nesting}
+use Rattle.ledger.specs.Book.{Wide, Thin, onWide}
+use Rattle.ledger.specs.Bounds.{Nested}
 use Rattle.kinds.specs.Meanings.{Meant}
 use Rattle.tables.specs.Packed.{REGISTER, packed, numberIn, isRegisterIn, basedIn, meaningsOf, setsOf}
 use Rattle.tables.specs.Stacks.{stackOf}
@@ -28,18 +31,18 @@ meantOf means bases opens written count = record {
   bases = count;
 }
 
--- what a move leaves
-pub record Moved (w : Within) (owners outer : List ℕ) (s r : Scope) : Type 0 where
+-- what a move leaves, with so many blocks and procedures open
+pub record Moved (w : Within) (owners outer : List ℕ) (blocks procedures : ℕ) (r : Scope) : Type 0 where
   pub is : withinOf owners outer r ≡ w
-  pub deep : r .owners ≤ s .owners + 1
-  pub wide : r .outer ≤ s .outer + 1
+  pub blocks-are : r .outer ≡ blocks
+  pub procedures-are : r .owners ≡ procedures
 
--- the lengths of the tape and of what is lent: stacks hold what a tape opens, and a cell's base stands beside its meaning
-pub record Roomy (tape means bases owners outer : ℕ) : Type 0 where
-  pub small : tape < 4294967294
-  pub beside : means ≤ bases
-  pub deep : tape ≤ owners
-  pub wide : tape ≤ outer
+-- a tape, and the lengths of the stacks that are lent: they hold what a program opens
+pub record Roomy (tape : List ℕ) (owners outer : ℕ) : Type 0 where
+  pub small : length tape < 65534
+  pub nested : Nested nesting 0 0 tape
+  pub deep : nesting < owners
+  pub wide : nesting < outer
 
 -- tokens 1 to n mean the registers from 0 on
 unfoldable pub registersNamed : ℕ → List ℕ → List ℕ
@@ -49,3 +52,22 @@ registersNamed (suc n) means = set (registersNamed n means) (suc n) (packed REGI
 -- of a packed meaning, the register that it is, and one; 0 where it is none
 unfoldable pub targetIn : ℕ → ℕ
 targetIn m = if isRegisterIn m then suc (numberIn m) else 0
+
+-- ── what the ledger shows: the tables that this pass makes, beside the lists that it leaves ──
+
+pub record View : Type 0 where
+  pub values : List ℕ
+  pub found : List ℕ
+  pub goes : List ℕ
+  pub offsets : List ℕ
+  pub meant : Meant
+
+abbrev pub viewOf : Wide → Thin → ℕ → View
+viewOf w b count = record { values = w .values; found = b .found; goes = b .goes; offsets = w .offsets; meant = meantOf (w .means) (w .under) (b .opens) (b .written) count }
+
+-- the tables changed, all else as it was
+abbrev pub changed : (Meant → Meant) → View → View
+changed f v = record { values = v .values; found = v .found; goes = v .goes; offsets = v .offsets; meant = f (v .meant) }
+
+abbrev pub namedTo : ℕ → Wide → Wide
+namedTo n w = onWide 1 (registersNamed n) w

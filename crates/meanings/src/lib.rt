@@ -1,30 +1,36 @@
 // Document 01, "Names, cells, protected registers": what names mean and which registers each procedure's text writes, in one loop along the tape.
 ghost use mathlib.Core.Path.{_≡_};
 ghost use mathlib.Core.List.{List};
-ghost use Prim.Native.Nat.{ℕ, _+_, _-_, _≤_, _<_};
-ghost use lib.ListN.{length, getD, set};
+ghost use Prim.Native.Nat.{ℕ, suc, _+_, _-_, _≤_, _<_};
+ghost use lib.ListN.{length, getD};
 ghost use Rattle.tape.specs.Pass.{pass};
+ghost use Rattle.kinds.specs.Registers.{addRegister};
 ghost use Rattle.kinds.specs.Meaning.{meaningOf, registerOf, routine};
-ghost use Rattle.kinds.specs.Meanings.{callWrites, openBase};
-ghost use Rattle.tables.specs.Packed.{meaningsOf, basedIn};
+ghost use Rattle.kinds.specs.Meanings.{callWrites, openBase, mean as meanAt, write as writeOne, writeText};
+ghost use Rattle.tables.specs.Packed.{meaningsOf, basedIn, setOf};
+ghost use Rattle.ledger.specs.Book.{Wide, wideOf, thinOf};
+ghost use Rattle.ledger.specs.Bounds.{blocksOpen, proceduresOpen};
 ghost use Rattle.meanings.specs.Along.{enterBlock, leaveBlock, enterProcedure, leaveProcedure, changeBase, writeTarget, writeLower, withinAfter, formAfter, targetAfter, declaredAfter, isProductAt, writeProduct, writtenAfter, meanEvent, beginning};
-ghost use Rattle.meanings.specs.Flat.{withinOf, meantOf, Moved, Roomy, registersNamed, targetIn};
-use arrays::get;
-use arrays::key;
+ghost use Rattle.meanings.specs.Flat.{withinOf, Moved, targetIn, viewOf, changed, namedTo, Roomy};
 use arrays::kind;
-use arrays::put;
 use arrays::put_wide;
+use ledger::found;
+use ledger::mean;
+use ledger::meaning;
+use ledger::put_mean;
+use ledger::put_opens;
+use ledger::put_under;
+use ledger::put_written;
+use ledger::value;
+use ledger::written;
 use tables::is_long;
 use tables::is_register;
 use tables::is_routine;
 use tables::less;
-use tables::meaning;
 use tables::number;
 use tables::packed;
 use tables::register;
 use tables::top;
-use tables::write;
-use tables::write_text;
 use tape::family;
 
 // The innermost open procedure and how many are around it; the base in force, its register times 2^32 and its segment, and how many blocks are open.
@@ -39,7 +45,7 @@ pub struct Scope {
 
 fn enter_block(outer: &mut [u64], s: Scope) -> Scope
     requires { ⌜ s .outer < length (now outer) ⌝ }
-    ensures { λ r. ⌜ ((owners : List ℕ) → Moved (enterBlock (withinOf owners (now (outer .entry)) s)) owners (now (outer .exit)) s r) ⌝ }
+    ensures { λ r. ⌜ ((owners : List ℕ) → Moved (enterBlock (withinOf owners (now (outer .entry)) s)) owners (now (outer .exit)) (suc (s .outer)) (s .owners) r) ⌝ }
 {
     let depth = s.outer;
     let base = s.base;
@@ -53,7 +59,7 @@ fn enter_block(outer: &mut [u64], s: Scope) -> Scope
 }
 
 fn leave_block(outer: &[u64], s: Scope) -> Scope
-    ensures { λ r. ⌜ ((owners : List ℕ) → Moved (leaveBlock (withinOf owners (now (outer .entry)) s)) owners (now (outer .entry)) s r) ⌝ }
+    ensures { λ r. ⌜ ((owners : List ℕ) → Moved (leaveBlock (withinOf owners (now (outer .entry)) s)) owners (now (outer .entry)) (s .outer - 1) (s .owners) r) ⌝ }
 {
     let depth = s.outer;
     Scope {
@@ -66,7 +72,7 @@ fn leave_block(outer: &[u64], s: Scope) -> Scope
 
 fn enter_procedure(owners: &mut [u64], t: usize, s: Scope) -> Scope
     requires { ⌜ s .owners < length (now owners) ⌝ }
-    ensures { λ r. ⌜ ((outer : List ℕ) → Moved (enterProcedure t (withinOf (now (owners .entry)) outer s)) (now (owners .exit)) outer s r) ⌝ }
+    ensures { λ r. ⌜ ((outer : List ℕ) → Moved (enterProcedure t (withinOf (now (owners .entry)) outer s)) (now (owners .exit)) outer (s .outer) (suc (s .owners)) r) ⌝ }
 {
     let depth = s.owners;
     let own = s.own;
@@ -80,7 +86,7 @@ fn enter_procedure(owners: &mut [u64], t: usize, s: Scope) -> Scope
 }
 
 fn leave_procedure(owners: &[u64], s: Scope) -> Scope
-    ensures { λ r. ⌜ ((outer : List ℕ) → Moved (leaveProcedure (withinOf (now (owners .entry)) outer s)) (now (owners .entry)) outer s r) ⌝ }
+    ensures { λ r. ⌜ ((outer : List ℕ) → Moved (leaveProcedure (withinOf (now (owners .entry)) outer s)) (now (owners .entry)) outer (s .outer) (s .owners - 1) r) ⌝ }
 {
     let depth = s.owners;
     Scope {
@@ -91,11 +97,11 @@ fn leave_procedure(owners: &[u64], s: Scope) -> Scope
     }
 }
 
-fn change_base(found: &[u32], means: &[u64], bases: usize, t: usize, s: Scope) -> Scope
-    requires { ⌜ bases < 4294967294 ⌝ }
-    ensures { λ r. ⌜ ((under owners outer : List ℕ) → Moved (changeBase (registerOf (meaningOf (now (found .entry)) (meaningsOf (now (means .entry)) under) t)) bases (withinOf owners outer s)) owners outer s r) ⌝ }
+fn change_base(wide: &[u64], thin: &[u16], bases: usize, t: usize, s: Scope) -> Scope
+    requires { ⌜ bases < 65534 ⌝ }
+    ensures { λ r. ⌜ ((under owners outer : List ℕ) → Moved (changeBase (registerOf (meaningOf (thinOf (now (thin .entry)) .found) (meaningsOf (wideOf (now (wide .entry)) .means) under) t)) bases (withinOf owners outer s)) owners outer (s .outer) (s .owners) r) ⌝ }
 {
-    let r = register(meaning(found, means, t));
+    let r = register(meaning(wide, thin, t));
     Scope {
         own: s.own,
         owners: s.owners,
@@ -107,15 +113,15 @@ fn change_base(found: &[u32], means: &[u64], bases: usize, t: usize, s: Scope) -
 fn within_after(
     op: u32,
     t: usize,
-    found: &[u32],
-    means: &[u64],
+    wide: &[u64],
+    thin: &[u16],
     bases: usize,
     owners: &mut [u64],
     outer: &mut [u64],
     s: Scope,
 ) -> Scope
-    requires { ⌜ (s .owners < length (now owners)) × ((s .outer < length (now outer)) × (bases < 4294967294)) ⌝ }
-    ensures { λ r. ⌜ ((under : List ℕ) → Moved (withinAfter (now (found .entry)) op t (meaningsOf (now (means .entry)) under) bases (withinOf (now (owners .entry)) (now (outer .entry)) s)) (now (owners .exit)) (now (outer .exit)) s r) ⌝ }
+    requires { ⌜ (s .owners < length (now owners)) × ((s .outer < length (now outer)) × (bases < 65534)) ⌝ }
+    ensures { λ r. ⌜ ((under : List ℕ) → Moved (withinAfter (thinOf (now (thin .entry)) .found) op t (meaningsOf (wideOf (now (wide .entry)) .means) under) bases (withinOf (now (owners .entry)) (now (outer .entry)) s)) (now (owners .exit)) (now (outer .exit)) (blocksOpen op (s .outer)) (proceduresOpen op (s .owners)) r) ⌝ }
 {
     if op == tape::BLOCK {
         return enter_block(outer, s);
@@ -124,7 +130,7 @@ fn within_after(
         return leave_block(outer, s);
     }
     if op == tape::BASE {
-        return change_base(found, means, bases, t, s);
+        return change_base(wide, thin, bases, t, s);
     }
     if op == tape::PROCEDURE {
         return enter_procedure(owners, t, s);
@@ -137,8 +143,8 @@ fn within_after(
 
 // ── what a declaration's and an assignment's later events need ──
 
-fn form_after(op: u32, t: usize, values: &[u64], form: u64) -> u64
-    ensures { λ r. ⌜ r ≡ formAfter (now (values .entry)) op t form ⌝ }
+fn form_after(op: u32, t: usize, wide: &[u64], form: u64) -> u64
+    ensures { λ r. ⌜ r ≡ formAfter (wideOf (now (wide .entry)) .values) op t form ⌝ }
 {
     let k = family(op);
     let width = (tape::form(op) % 2) as u64;
@@ -146,7 +152,7 @@ fn form_after(op: u32, t: usize, values: &[u64], form: u64) -> u64
         return packed(tables::CELL, width, 1);
     }
     if k == tape::ARRAY_FULL {
-        return packed(tables::ARRAY, width, key(values, t));
+        return packed(tables::ARRAY, width, value(wide, t));
     }
     form
 }
@@ -161,80 +167,95 @@ fn target_of(m: u64) -> usize
     0
 }
 
-fn target_after(op: u32, t: usize, found: &[u32], means: &[u64], target: usize) -> usize
-    ensures { λ r. ⌜ ((under : List ℕ) → r ≡ targetAfter (now (found .entry)) op t (meaningsOf (now (means .entry)) under) target) ⌝ }
+fn target_after(op: u32, t: usize, wide: &[u64], thin: &[u16], target: usize) -> usize
+    ensures { λ r. ⌜ ((under : List ℕ) → r ≡ targetAfter (thinOf (now (thin .entry)) .found) op t (meaningsOf (wideOf (now (wide .entry)) .means) under) target) ⌝ }
 {
     let k = family(op);
     if (k == tape::TARGET) | (k == tape::CONTROL) {
-        return target_of(meaning(found, means, t));
+        return target_of(meaning(wide, thin, t));
     }
     target
+}
+
+// ── sets of registers ──
+
+// A set with one register more; only 0 to 15 are in sets.
+fn with_register(m: usize, r: u64) -> usize
+    requires { ⌜ m < 65536 ⌝ }
+    ensures { λ x. ⌜ (setOf x ≡ addRegister r (setOf m)) × (x < 65536) ⌝ }
+{
+    if r < 16 {
+        return m | (1usize << r);
+    }
+    m
+}
+
+// The text of procedure own writes register r.
+fn write(thin: &mut [u16], own: usize, r: u64)
+    ensures { λ _. ⌜ ((w : Wide) (n : ℕ) → viewOf w (thinOf (now (thin .exit))) n ≡ changed (writeOne own r) (viewOf w (thinOf (now (thin .entry))) n)) ⌝ }
+{
+    put_written(thin, own, with_register(written(thin, own), r));
+}
+
+// The text of procedure own writes all that the text of p writes.
+fn write_text(thin: &mut [u16], own: usize, p: usize)
+    ensures { λ _. ⌜ ((w : Wide) (n : ℕ) → viewOf w (thinOf (now (thin .exit))) n ≡ changed (writeText own p) (viewOf w (thinOf (now (thin .entry))) n)) ⌝ }
+{
+    put_written(thin, own, written(thin, p) | written(thin, own));
 }
 
 // ── declarations ──
 
 // A base declaration opens a segment.
-fn open_base(
-    found: &[u32],
-    means: &[u64],
-    opens: &mut [u32],
-    written: &mut [u32],
-    own: usize,
-    t: usize,
-    bases: usize,
-) -> usize
-    requires { ⌜ bases < 4294967294 ⌝ }
-    ensures { λ r. ⌜ ((under : List ℕ) → meantOf (now (means .entry)) under (now (opens .exit)) (now (written .exit)) r ≡ openBase own (registerOf (meaningOf (now (found .entry)) (meaningsOf (now (means .entry)) under) t)) t (meantOf (now (means .entry)) under (now (opens .entry)) (now (written .entry)) bases)) × (r ≡ bases + 1) ⌝ }
+fn open_base(wide: &[u64], thin: &mut [u16], own: usize, t: usize, bases: usize) -> usize
+    requires { ⌜ bases < 65534 ⌝ }
+    ensures { λ r. ⌜ (viewOf (wideOf (now (wide .entry))) (thinOf (now (thin .exit))) r ≡ changed (openBase own (registerOf (meaningOf (thinOf (now (thin .entry)) .found) (meaningsOf (wideOf (now (wide .entry)) .means) (wideOf (now (wide .entry)) .under)) t)) t) (viewOf (wideOf (now (wide .entry))) (thinOf (now (thin .entry))) bases)) × (r ≡ bases + 1) ⌝ }
 {
-    put(opens, t, bases + 2);
-    write(written, own, register(meaning(found, means, t)));
+    put_opens(thin, t, bases + 2);
+    write(thin, own, register(meaning(wide, thin, t)));
     bases + 1
 }
 
-fn declare_routine(found: &[u32], means: &mut [u64], t: usize)
+fn declare_routine(wide: &mut [u64], thin: &[u16], t: usize)
     requires { ⌜ t < 4294967296 ⌝ }
-    ensures { λ _. ⌜ ((under : List ℕ) → meaningsOf (now (means .exit)) under ≡ set (meaningsOf (now (means .entry)) under) t (routine (registerOf (meaningOf (now (found .entry)) (meaningsOf (now (means .entry)) under) (t + 2))))) ⌝ }
+    ensures { λ _. ⌜ ((n : ℕ) → viewOf (wideOf (now (wide .exit))) (thinOf (now (thin .entry))) n ≡ changed (meanAt t (routine (registerOf (meaningOf (thinOf (now (thin .entry)) .found) (meaningsOf (wideOf (now (wide .entry)) .means) (wideOf (now (wide .entry)) .under)) (t + 2))))) (viewOf (wideOf (now (wide .entry))) (thinOf (now (thin .entry))) n)) ⌝ }
 {
-    let r = register(meaning(found, means, t + 2));
-    put_wide(means, t, packed(tables::ROUTINE, 0, r));
+    let r = register(meaning(wide, thin, t + 2));
+    put_mean(wide, t, packed(tables::ROUTINE, 0, r));
 }
 
 fn declared_after(
     op: u32,
     t: usize,
-    values: &[u64],
-    found: &[u32],
-    means: &mut [u64],
-    under: &mut [u64],
-    opens: &mut [u32],
-    written: &mut [u32],
+    wide: &mut [u64],
+    thin: &mut [u16],
     s: Scope,
     form: u64,
     bases: usize,
 ) -> usize
-    requires { ⌜ (t < 4294967296) × ((bases < 4294967294) × (length (now means) ≤ length (now under))) ⌝ }
-    ensures { λ r. ⌜ (meantOf (now (means .exit)) (now (under .exit)) (now (opens .exit)) (now (written .exit)) r ≡ declaredAfter (now (values .entry)) (now (found .entry)) op t (s .own) (basedIn (s .base)) form (meantOf (now (means .entry)) (now (under .entry)) (now (opens .entry)) (now (written .entry)) bases)) × (r ≤ bases + 1) ⌝ }
+    requires { ⌜ (t < 4294967296) × (bases < 65534) ⌝ }
+    ensures { λ r. ⌜ (viewOf (wideOf (now (wide .exit))) (thinOf (now (thin .exit))) r ≡ changed (declaredAfter (wideOf (now (wide .entry)) .values) (thinOf (now (thin .entry)) .found) op t (s .own) (basedIn (s .base)) form) (viewOf (wideOf (now (wide .entry))) (thinOf (now (thin .entry))) bases)) × (r ≤ bases + 1) ⌝ }
 {
     let own = s.own;
     let base = s.base;
     if op == tape::REGISTER {
-        put_wide(means, t, packed(tables::REGISTER, 0, key(values, t + 2)));
+        put_mean(wide, t, packed(tables::REGISTER, 0, value(wide, t + 2)));
         return bases;
     }
     if op == tape::ITEM {
-        put_wide(means, t, form);
-        put_wide(under, t, base);
+        put_mean(wide, t, form);
+        put_under(wide, t, base);
         return bases;
     }
     if op == tape::BASE {
-        return open_base(found, means, opens, written, own, t, bases);
+        return open_base(wide, thin, own, t, bases);
     }
     if op == tape::PROCEDURE {
-        declare_routine(found, means, t);
+        declare_routine(wide, thin, t);
         return bases;
     }
     if op == tape::END_PROCEDURE {
-        write_text(written, own, t);
+        write_text(thin, own, t);
         return bases;
     }
     bases
@@ -242,59 +263,58 @@ fn declared_after(
 
 // ── what statements write ──
 
-fn write_target(written: &mut [u32], own: usize, target: usize)
-    ensures { λ _. ⌜ ((means under opens : List ℕ) (bases : ℕ) → meantOf means under opens (now (written .exit)) bases ≡ writeTarget own target (meantOf means under opens (now (written .entry)) bases)) ⌝ }
+fn write_target(thin: &mut [u16], own: usize, target: usize)
+    ensures { λ _. ⌜ ((w : Wide) (n : ℕ) → viewOf w (thinOf (now (thin .exit))) n ≡ changed (writeTarget own target) (viewOf w (thinOf (now (thin .entry))) n)) ⌝ }
 {
     if target == 0 {
         return;
     }
-    write(written, own, (target - 1) as u64);
+    write(thin, own, (target - 1) as u64);
 }
 
-fn write_lower(written: &mut [u32], own: usize, target: usize)
-    ensures { λ _. ⌜ ((means under opens : List ℕ) (bases : ℕ) → meantOf means under opens (now (written .exit)) bases ≡ writeLower own target (meantOf means under opens (now (written .entry)) bases)) ⌝ }
+fn write_lower(thin: &mut [u16], own: usize, target: usize)
+    ensures { λ _. ⌜ ((w : Wide) (n : ℕ) → viewOf w (thinOf (now (thin .exit))) n ≡ changed (writeLower own target) (viewOf w (thinOf (now (thin .entry))) n)) ⌝ }
 {
     if target == 0 {
         return;
     }
-    write(written, own, less(target - 1) as u64);
+    write(thin, own, less(target - 1) as u64);
 }
 
 // The operator stands before its operand.
-fn is_product(op: u32, t: usize, kinds: &[u8], found: &[u32], means: &[u64]) -> bool
-    ensures { λ r. ⌜ ((under : List ℕ) → r ≡ isProductAt (now (kinds .entry)) (now (found .entry)) op t (meaningsOf (now (means .entry)) under)) ⌝ }
+fn is_product(op: u32, t: usize, kinds: &[u8], wide: &[u64], thin: &[u16]) -> bool
+    ensures { λ r. ⌜ ((under : List ℕ) → r ≡ isProductAt (now (kinds .entry)) (thinOf (now (thin .entry)) .found) op t (meaningsOf (wideOf (now (wide .entry)) .means) under)) ⌝ }
 {
     let times = kind(kinds, less(t)) == token::kinds::TIMES;
     let number = tape::form(op) == 4;
-    times & (number | is_long(meaning(found, means, t)))
+    times & (number | is_long(meaning(wide, thin, t)))
 }
 
 fn write_product(
     op: u32,
     t: usize,
     kinds: &[u8],
-    found: &[u32],
-    means: &[u64],
-    written: &mut [u32],
+    wide: &[u64],
+    thin: &mut [u16],
     own: usize,
     target: usize,
 )
-    ensures { λ _. ⌜ ((under opens : List ℕ) (bases : ℕ) → meantOf (now (means .entry)) under opens (now (written .exit)) bases ≡ writeProduct (now (kinds .entry)) (now (found .entry)) op t own target (meantOf (now (means .entry)) under opens (now (written .entry)) bases)) ⌝ }
+    ensures { λ _. ⌜ ((n : ℕ) → viewOf (wideOf (now (wide .entry))) (thinOf (now (thin .exit))) n ≡ changed (writeProduct (now (kinds .entry)) (thinOf (now (thin .entry)) .found) op t own target) (viewOf (wideOf (now (wide .entry))) (thinOf (now (thin .entry))) n)) ⌝ }
 {
-    if is_product(op, t, kinds, found, means) {
-        write_lower(written, own, target);
+    if is_product(op, t, kinds, wide, thin) {
+        write_lower(thin, own, target);
     }
 }
 
 // "A call writes the procedure's return register and all that its body's text writes".
-fn write_call(found: &[u32], means: &[u64], written: &mut [u32], own: usize, t: usize)
-    ensures { λ _. ⌜ ((under opens : List ℕ) (bases : ℕ) → meantOf (now (means .entry)) under opens (now (written .exit)) bases ≡ callWrites (meaningOf (now (found .entry)) (meaningsOf (now (means .entry)) under) t) own (getD (now (found .entry)) t 0) (meantOf (now (means .entry)) under opens (now (written .entry)) bases)) ⌝ }
+fn write_call(wide: &[u64], thin: &mut [u16], own: usize, t: usize)
+    ensures { λ _. ⌜ ((n : ℕ) → viewOf (wideOf (now (wide .entry))) (thinOf (now (thin .exit))) n ≡ changed (callWrites (meaningOf (thinOf (now (thin .entry)) .found) (meaningsOf (wideOf (now (wide .entry)) .means) (wideOf (now (wide .entry)) .under)) t) own (getD (thinOf (now (thin .entry)) .found) t 0)) (viewOf (wideOf (now (wide .entry))) (thinOf (now (thin .entry))) n)) ⌝ }
 {
-    let p = get(found, t);
-    let m = key(means, p);
+    let p = found(thin, t);
+    let m = mean(wide, p);
     if is_routine(m) {
-        write(written, own, number(m));
-        write_text(written, own, p);
+        write(thin, own, number(m));
+        write_text(thin, own, p);
     }
 }
 
@@ -302,37 +322,36 @@ fn written_after(
     op: u32,
     t: usize,
     kinds: &[u8],
-    found: &[u32],
-    means: &[u64],
-    written: &mut [u32],
+    wide: &[u64],
+    thin: &mut [u16],
     own: usize,
     target: usize,
 )
-    ensures { λ _. ⌜ ((under opens : List ℕ) (bases : ℕ) → meantOf (now (means .entry)) under opens (now (written .exit)) bases ≡ writtenAfter (now (kinds .entry)) (now (found .entry)) op t own target (meantOf (now (means .entry)) under opens (now (written .entry)) bases)) ⌝ }
+    ensures { λ _. ⌜ ((n : ℕ) → viewOf (wideOf (now (wide .entry))) (thinOf (now (thin .exit))) n ≡ changed (writtenAfter (now (kinds .entry)) (thinOf (now (thin .entry)) .found) op t own target) (viewOf (wideOf (now (wide .entry))) (thinOf (now (thin .entry))) n)) ⌝ }
 {
     let k = family(op);
     if (k == tape::TARGET) | (k == tape::CONTROL) {
-        write_target(written, own, target);
+        write_target(thin, own, target);
         return;
     }
     if k == tape::TERM {
-        write_product(op, t, kinds, found, means, written, own, target);
+        write_product(op, t, kinds, wide, thin, own, target);
         return;
     }
     if op == tape::CALL {
-        write_call(found, means, written, own, t);
+        write_call(wide, thin, own, t);
     }
 }
 
 // ── the tape ──
 
 // "R0 to R9 and RA to RF are declared in a block around the program."
-fn name_registers(means: &mut [u64])
-    ensures { λ _. ⌜ now (means .exit) ≡ registersNamed 16 (now (means .entry)) ⌝ }
+fn name_registers(wide: &mut [u64])
+    ensures { λ _. ⌜ wideOf (now (wide .exit)) ≡ namedTo 16 (wideOf (now (wide .entry))) ⌝ }
 {
     let mut r: usize = 0;
     while r < 16 {
-        put_wide(means, r + 1, packed(tables::REGISTER, 0, r as u64));
+        put_mean(wide, r + 1, packed(tables::REGISTER, 0, r as u64));
         r += 1;
     }
 }
@@ -344,19 +363,15 @@ const DATA_BASE: u64 = 60129542145;
 pub fn meanings(
     tape: &[u32],
     kinds: &[u8],
-    values: &[u64],
-    found: &[u32],
-    means: &mut [u64],
-    under: &mut [u64],
-    opens: &mut [u32],
-    written: &mut [u32],
+    wide: &mut [u64],
+    thin: &mut [u16],
     owners: &mut [u64],
     outer: &mut [u64],
 ) -> usize
-    requires { ⌜ Roomy (length (now tape)) (length (now means)) (length (now under)) (length (now owners)) (length (now outer)) ⌝ }
-    ensures { λ r. ⌜ meantOf (now (means .exit)) (now (under .exit)) (now (opens .exit)) (now (written .exit)) r ≡ (pass (meanEvent (now (kinds .entry)) (now (values .entry)) (now (found .entry))) (beginning (meantOf (registersNamed 16 (now (means .entry))) (now (under .entry)) (now (opens .entry)) (now (written .entry)) 0)) (now (tape .entry))) .meant ⌝ }
+    requires { ⌜ Roomy (now tape) (length (now owners)) (length (now outer)) ⌝ }
+    ensures { λ r. ⌜ viewOf (wideOf (now (wide .exit))) (thinOf (now (thin .exit))) r ≡ changed (λ s. (pass (meanEvent (now (kinds .entry)) (wideOf (now (wide .entry)) .values) (thinOf (now (thin .entry)) .found)) (beginning s) (now (tape .entry))) .meant) (viewOf (namedTo 16 (wideOf (now (wide .entry)))) (thinOf (now (thin .entry))) 0) ⌝ }
 {
-    name_registers(means);
+    name_registers(wide);
     let mut s = Scope {
         own: 0,
         owners: 0,
@@ -371,24 +386,12 @@ pub fn meanings(
         let e = tape[i];
         let op = tape::op(e);
         let t = tape::token(e);
-        s = within_after(op, t, found, means, bases, owners, outer, s);
-        form = form_after(op, t, values, form);
-        target = target_after(op, t, found, means, target);
-        bases = declared_after(
-            op,
-            t,
-            values,
-            found,
-            means,
-            under,
-            opens,
-            written,
-            s,
-            form,
-            bases,
-        );
+        s = within_after(op, t, wide, thin, bases, owners, outer, s);
+        form = form_after(op, t, wide, form);
+        target = target_after(op, t, wide, thin, target);
+        bases = declared_after(op, t, wide, thin, s, form, bases);
         let own = s.own;
-        written_after(op, t, kinds, found, means, written, own, target);
+        written_after(op, t, kinds, wide, thin, own, target);
         i += 1;
     }
     bases

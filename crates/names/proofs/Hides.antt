@@ -1,15 +1,20 @@
--- A label of the block that a GOTO stands in is found before those outside, whether it has been set or is still to come. Assumes nothing.
+-- A label of the block that a GOTO stands in is found before those outside, whether it has been set or is still to come; and a block may declare again what blocks
+-- around it have. Assumes nothing.
 use mathlib.Core.Path.{_≡_, refl}
 use mathlib.Core.Bool.{Bool, true, false}
 use mathlib.Core.List.{List, [], _∷_}
-use Prim.Native.Nat.{ℕ, suc}
+use Prim.Native.Nat.{ℕ, suc, _<_}
 use native.Mathlib.Omega.{arith}
-use lib.Dec.{eqb}
+use lib.Dec.{eqb, ltb}
 use lib.ListN.{getD}
+use borrow.Author.Tests.{eq-eqb, lt-ltb}
 use Rattle.base.proofs.Tests.{cases}
 use Rattle.grammar.specs.Places.{Block, within, body, Place}
-use Rattle.names.specs.Search.{inBlock, find}
+use Rattle.names.specs.Broken.{unbroken}
+use Rattle.names.specs.Search.{inBlock, find, innermost}
+use Rattle.names.specs.Names.{Named, mostNames, declareName}
 use Rattle.names.specs.Labels.{labelsIn}
+use Rattle.names.proofs.Joins.{rule-true, join-right}
 
 module _ (keys : List ℕ) where
   -- what a block has is found there, whatever is found further out
@@ -24,3 +29,10 @@ module _ (keys : List ℕ) where
   pub inner-hides : (b : Block) (p : Place) (key l : ℕ) → inBlock keys key (b .labels) 0 ≡ suc l → find keys key (labelsIn (within b ∷ p)) ≡ suc l
   unfolding find
   inner-hides b p key l e = found-here key (b .labels) (find keys key (labelsIn p)) l e
+
+  -- "7: declared … twice in a block": what blocks around it have may be declared again
+  pub may-repeat : (t : ℕ) (bs : List (List ℕ)) (s : Named) → inBlock keys (getD keys t 0) (innermost bs) 0 ≡ 0 → s .count < mostNames → declareName keys t bs s .broken ≡ s .broken
+  unfolding declareName
+  may-repeat t bs s e h =
+      let once = rule-true (eqb (inBlock keys (getD keys t 0) (innermost bs) 0) 0) 7 t (eq-eqb _ 0 e) in
+      rw (once, rule-true (ltb (s .count) mostNames) 13 t (lt-ltb _ _ h), join-right unbroken) (join-right (s .broken))

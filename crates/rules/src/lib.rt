@@ -123,7 +123,9 @@ fn is_inside(m: u64, v: u64) -> bool
 
 fn subscript_rules(shape: u32, m: u64, wide: &[u64], t: usize) -> Broken
     requires { ⌜ t < 4294967296 ⌝ }
-    ensures { λ x. ⌜ ((f : Tables) → f .values ≡ wideOf (now (wide .entry)) .values → (n : ℕ) (b : Based) → x ≡ subscriptRules f (cellIn n m b) (subscriptAt shape t)) ⌝ }
+    ensures { λ x.
+        ⌜ ((f : Tables) → f .values ≡ wideOf (now (wide .entry)) .values → (n : ℕ) (b : Based)
+        → x ≡ subscriptRules f (cellIn n m b) (subscriptAt shape t)) ⌝ }
 {
     if (shape == 1) | (shape == 3) {
         return rule(is_inside(m, value(wide, t + 2)), 11, t + 2);
@@ -140,7 +142,9 @@ pub fn is_bare(shape: u32) -> bool
 // "A subscript … belongs only to arrays (else 8 at the name before it)", and so does an index.
 pub fn cell_rules(shape: u32, m: u64, wide: &[u64], thin: &[u16], t: usize) -> Broken
     requires { ⌜ t < 4294967296 ⌝ }
-    ensures { λ x. ⌜ ((f : Tables) → Listed f (wideOf (now (wide .entry))) (thinOf (now (thin .entry))) → (n : ℕ) (b : Based) → x ≡ placeBy f (cell (cellIn n m b)) (designatorAt shape t)) ⌝ }
+    ensures { λ x.
+        ⌜ ((f : Tables) → Listed f (wideOf (now (wide .entry))) (thinOf (now (thin .entry))) → (n : ℕ) (b : Based)
+        → x ≡ placeBy f (cell (cellIn n m b)) (designatorAt shape t)) ⌝ }
 {
     let fits = rule(is_array(m) | is_bare(shape), 8, t);
     let inside = subscript_rules(shape, m, wide, t);
@@ -207,7 +211,9 @@ fn no_short(shape: u32, wide: &[u64], thin: &[u16], t: usize) -> Broken
 
 // "`*` by a number, or by what begins with the name of a register or integer cell, needs an odd target and also writes the register below."
 fn product_rules(shape: u32, wide: &[u64], thin: &[u16], depth: usize, r: usize, t: usize) -> Broken
-    ensures { λ x. ⌜ ((f : Tables) → Listed f (wideOf (now (wide .entry))) (thinOf (now (thin .entry))) → x ≡ productRules f (stackOf (wideOf (now (wide .entry)) .offsets) depth) r (termAt shape t)) ⌝ }
+    ensures { λ x.
+        ⌜ ((f : Tables) → Listed f (wideOf (now (wide .entry))) (thinOf (now (thin .entry)))
+        → x ≡ productRules f (stackOf (wideOf (now (wide .entry)) .offsets) depth) r (termAt shape t)) ⌝ }
 {
     if (shape == 4) | is_long(meaning(wide, thin, t)) {
         let operator = less(t);
@@ -244,7 +250,9 @@ pub fn term_rules(
     t: usize,
 ) -> Broken
     requires { ⌜ t < 4294967296 ⌝ }
-    ensures { λ x. ⌜ ((f : Tables) → Listed f (wideOf (now (wide .entry))) (thinOf (now (thin .entry))) → k ≡ getD (f .kinds) (t - 1) 0 → x ≡ termRules f (stackOf (wideOf (now (wide .entry)) .offsets) depth) r (termAt shape t)) ⌝ }
+    ensures { λ x.
+        ⌜ ((f : Tables) → Listed f (wideOf (now (wide .entry))) (thinOf (now (thin .entry))) → k ≡ getD (f .kinds) (t - 1) 0
+        → x ≡ termRules f (stackOf (wideOf (now (wide .entry)) .offsets) depth) r (termAt shape t)) ⌝ }
 {
     if is_shift(k) {
         return shift_rules(shape, wide, thin, t);
@@ -277,7 +285,9 @@ fn spares(set: usize, wide: &[u64], depth: usize) -> bool
 
 // "A call writes the procedure's return register and all that its body's text writes".
 pub fn call_rules(wide: &[u64], thin: &[u16], depth: usize, t: usize) -> Broken
-    ensures { λ x. ⌜ ((f : Tables) → Listed f (wideOf (now (wide .entry))) (thinOf (now (thin .entry))) → x ≡ callRules f (stackOf (wideOf (now (wide .entry)) .offsets) depth) t) ⌝ }
+    ensures { λ x.
+        ⌜ ((f : Tables) → Listed f (wideOf (now (wide .entry))) (thinOf (now (thin .entry)))
+        → x ≡ callRules f (stackOf (wideOf (now (wide .entry)) .offsets) depth) t) ⌝ }
 {
     let p = found(thin, t);
     let m = mean(wide, p);
@@ -289,7 +299,9 @@ pub fn call_rules(wide: &[u64], thin: &[u16], depth: usize, t: usize) -> Broken
 }
 
 pub fn base_rules(wide: &[u64], thin: &[u16], depth: usize, t: usize) -> Broken
-    ensures { λ x. ⌜ ((f : Tables) → Listed f (wideOf (now (wide .entry))) (thinOf (now (thin .entry))) → x ≡ baseRules f (stackOf (wideOf (now (wide .entry)) .offsets) depth) t) ⌝ }
+    ensures { λ x.
+        ⌜ ((f : Tables) → Listed f (wideOf (now (wide .entry))) (thinOf (now (thin .entry)))
+        → x ≡ baseRules f (stackOf (wideOf (now (wide .entry)) .offsets) depth) t) ⌝ }
 {
     let m = meaning(wide, thin, t);
     let writes = write_rule(wide, depth, register(m), t);

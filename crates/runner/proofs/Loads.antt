@@ -40,12 +40,12 @@ module _ (t : List ℕ) (count k at : ℕ) (h : k < count) where
   more = omega arith
 
   pub place-on : (s : List ℕ) {x : List ℕ} → placed k (dataList (count - k) (drop at t)) s ≡ x
-      → placed (k + 1) (dataList (count - (k + 1)) (drop (behind t at) t)) (sets s (4096 * (k + 1)) (contentAt (framesFor (headLength (drop at t))) (headLength (drop at t)) (drop (at + 17) t))) ≡ x
+      → placed (k + 1) (dataList (count - (k + 1)) (drop (behind t at) t)) (sets s (origin k) (contentAt (framesFor (headLength (drop at t))) (headLength (drop at t)) (drop (at + 17) t))) ≡ x
   unfolding dataAt
   place-on s {x} e =
       let g = contentAt (framesFor (headLength (drop at t))) (headLength (drop at t)) (drop 17 (drop at t)) in
       rw (after-data-place t at, ← drop-drop 17 at t)
-      (subst (λ (j : ℕ). placed j (dataList (count - j) (afterData (drop at t))) (sets s (4096 * (k + 1)) g) ≡ x) (sym (add-one k)) (rw more at e))
+      (subst (λ (j : ℕ). placed j (dataList (count - j) (afterData (drop at t))) (sets s (origin k) g) ≡ x) (sym (add-one k)) (rw more at e))
 
   pub list-on : (o : ℕ) (l : List ℕ) {x : List ℕ} → listed o (count - k) k (drop at t) l ≡ x
       → listed o (count - (k + 1)) (k + 1) (drop (behind t at) t) (set l (k + 1) (twoOf (drop (at + o) t))) ≡ x
@@ -68,7 +68,7 @@ module _ (count k : ℕ) (h : count ≤ k) where
 
 -- the program first
 pub placed-all : (t : List ℕ) (count : ℕ) (s : List ℕ) {r : List ℕ} → 0 < count
-    → r ≡ placed 1 (dataList (count - 1) (afterProgram t)) (sets s 4096 (contentAt (framesFor (headLength t)) (headLength t) (drop 9 t))) → r ≡ placed 0 (segmentList count t) s
+    → r ≡ placed 1 (dataList (count - 1) (afterProgram t)) (sets s (origin 0) (contentAt (framesFor (headLength t)) (headLength t) (drop 9 t))) → r ≡ placed 0 (segmentList count t) s
 unfolding programAt
 placed-all t zero s h e = absurd (omega arith)
 placed-all t (suc n) s h e = let w : suc n - 1 ≡ n = omega arith in rw w at e

@@ -12,7 +12,7 @@ use Rattle.objtext.specs.Object.{Segment, contentOf, framesFor}
 use Rattle.objtext.specs.Reader.{twoOf, headLength, headFrom, headTo, contentAt, dataAt, afterData, programAt, afterProgram, dataList, segmentList}
 use Rattle.objtext.proofs.Places.{length-content, length-place}
 use Rattle.objtext.proofs.Walks.{length-list}
-use Rattle.machine.specs.Space.{Space, entry, spaceBy}
+use Rattle.machine.specs.Space.{Space, needed, entry, spaceBy}
 use Rattle.runner.specs.Load.{placed, tabled, loaded, endOf, fromOf, toOf, byPage, programLength, spaceOf}
 use Rattle.runner.specs.Tables.{listed}
 
@@ -93,12 +93,12 @@ space-is (suc n) t h l =
     })
 
 pub loaded-is : (n : ℕ) (t s : List ℕ) (at l : ℕ) → 2 ≤ n → drop at t ≡ afterProgram t → l ≡ twoOf (drop (at + 4) t)
-    → tabled l n 0 (placed 0 (segmentList n t) (replicate 20480 0 ++ drop 20480 s)) ≡ loaded (segmentList n t) s
+    → tabled l n 0 (placed 0 (segmentList n t) (replicate needed 0 ++ drop needed s)) ≡ loaded (segmentList n t) s
 unfolding loaded
 loaded-is zero t s at l h e q = absurd (omega arith)
 loaded-is (suc zero) t s at l h e q = absurd (omega arith)
 loaded-is (suc (suc n)) t s at l h e q =
-    let u = placed 0 (segmentList (suc (suc n)) t) (replicate 20480 0 ++ drop 20480 s) in
+    let u = placed 0 (segmentList (suc (suc n)) t) (replicate needed 0 ++ drop needed s) in
     let a : l ≡ length (contentOf (dataAt (afterProgram t))) = q ∙ length-place t at ∙ ap headLength e ∙ sym (content-end (afterProgram t)) in
     let b : suc (suc n) ≡ length (segmentList (suc (suc n)) t) = ap suc (sym (length-list (suc n) (afterProgram t))) in
     ap₂ (λ (x m : ℕ). tabled x m 0 u) a b

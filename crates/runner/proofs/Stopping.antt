@@ -10,7 +10,7 @@ use lib.ListN.{getD}
 use borrow.Author.Tests.{leb-true, le-leb, eq-eqb, ne-eqb, eqb-true, eqb-false}
 use Rattle.base.specs.Choose.{choose}
 use Rattle.base.proofs.Tests.{cases, by-test}
-use Rattle.machine.specs.Space.{Space, origin, readable, writable}
+use Rattle.machine.specs.Space.{Space, room, origin, readable, writable}
 use Rattle.machine.specs.Instructions.{Short, applies, multiplies, branches, ends, unlisted, Long, appliesTo, multipliesBy, stores, branchesTo, links, shifts, unlistedLong, shortKind, longKind}
 use Rattle.machine.specs.Step.{Cpu, Turn, Stepped, stepped, went, halted, address, asked, completed, shortBy, longBy, step}
 use Rattle.machine.specs.Run.{Result, result, counted, onward, run}
@@ -206,7 +206,7 @@ module _ (c : Cpu) (s : List ℕ) where
   long-24 (shifts f) m rx b d h = omega arith
   long-24 unlistedLong m rx b d h = omega arith
 
-  pub step-24 : (m : Space) → m .program ≤ 4096 → c .counter < 2 ^ 24 → step m c s .turn .cpu .counter < 2 ^ 24
+  pub step-24 : (m : Space) → m .program ≤ room → c .counter < 2 ^ 24 → step m c s .turn .cpu .counter < 2 ^ 24
   unfolding step
   step-24 m p h =
       let i = c .counter in
@@ -225,6 +225,6 @@ module _ (c : Cpu) (s : List ℕ) where
       h)
       h
 
-pub reached-24 : (n : ℕ) (m : Space) (c : Cpu) (s : List ℕ) → m .program ≤ 4096 → c .counter < 2 ^ 24 → reached n m c s .cpu .counter < 2 ^ 24
+pub reached-24 : (n : ℕ) (m : Space) (c : Cpu) (s : List ℕ) → m .program ≤ room → c .counter < 2 ^ 24 → reached n m c s .cpu .counter < 2 ^ 24
 reached-24 zero m c s p h = h
 reached-24 (suc n) m c s p h = reached-24 n m (step m c s .turn .cpu) (step m c s .store) p (step-24 c s m p h)

@@ -8,7 +8,7 @@ use mathlib.Core.Logic.{_↔_}
 use native.Mathlib.Omega.{arith}
 use lib.ListN.{length, getD}
 use Rattle.objtext.specs.Object.{Segment, Object, objectText}
-use Rattle.machine.specs.Space.{Space, needed, writable}
+use Rattle.machine.specs.Space.{Space, room, needed, writable}
 use Rattle.machine.specs.Step.{Cpu, completed, address, link, step}
 use Rattle.machine.specs.Run.{result, counted, run}
 use Rattle.machine.proofs.Outside.{run-keeps}
@@ -68,7 +68,7 @@ module _ (m : Space) (c : Cpu) (s : List ℕ) where
   count n = run-counts n m c s
 
   -- "Addresses keep 24 bits": operands', and the counter's in every state that is reached
-  pub counter-24 : (n : ℕ) → m .program ≤ 4096 → c .counter < 2 ^ 24 → reached n m c s .cpu .counter < 2 ^ 24
+  pub counter-24 : (n : ℕ) → m .program ≤ room → c .counter < 2 ^ 24 → reached n m c s .cpu .counter < 2 ^ 24
   counter-24 n p h = reached-24 n m c s p h
 
   -- "what is stored in its writable part": every other byte stays

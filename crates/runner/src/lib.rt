@@ -12,11 +12,11 @@ ghost use Rattle.runner.specs.Numbers.{stopOf};
 ghost use Rattle.runner.specs.Runner.{runner, outcome, refusal, accepted};
 
 // "Segment k goes to 4096·(k+1)", and what four of them need.
-const ROOM: usize = 4096;
+const ROOM: usize = machine::ROOM;
 
-const PAGES: usize = 5;
+const PAGES: usize = machine::PAGES;
 
-const NEEDED: usize = 20480;
+const NEEDED: usize = ROOM * PAGES;
 
 const PROGRAM_ORIGIN: u32 = 4096;
 
@@ -169,7 +169,7 @@ fn started(t: &[u8], count: usize, given: [u32; 16], code: u64, budget: u32, s: 
         &tos,
         regs,
         code,
-        4096,
+        PROGRAM_ORIGIN,
         budget,
         s,
     );

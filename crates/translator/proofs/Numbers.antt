@@ -33,8 +33,8 @@ make-ruled ts x =
 
 -- ── and so has each rule that is broken ──
 
-somewhere-is : {S : Type 0} (f : Event → Place → S → S) {Q : Event → Place → S → Type 0} {A : Type 0} → ((e : Event) (p : Place) (s : S) → Q e p s → A) → (es : List Event) (p : Place) (s : S)
-    → Somewhere f Q es p s → A
+somewhere-is : {S : Type 0} (f : Event → Place → S → S) {Q : Event → Place → S → Type 0} {A : Type 0} → ((e : Event) (p : Place) (s : S) → Q e p s → A)
+    → (es : List Event) (p : Place) (s : S) → Somewhere f Q es p s → A
 unfolding Somewhere
 somewhere-is f g [] p s h = absurd h
 somewhere-is f g (e ∷ es) p s (inl h) = g e p s h

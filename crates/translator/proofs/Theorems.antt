@@ -37,7 +37,8 @@ module _ (source : List ℕ) (room : ℕ) where
   pub given-exactly : (a : Answer) → translate source room ≡ a ↔ Given source room a
   given-exactly a = (λ e. subst (Given source room) e (row-given source room), row-answered source room a)
 
-  -- "6 to 13 …": the number and the place of a rule that the program breaks, of which no other is before it. "Inside a group the smallest place wins, then the smaller number."
+  -- "6 to 13 …": the number and the place of a rule that the program breaks, before which no other is broken. "Inside a group the smallest place wins, then the smaller
+  -- number."
   pub rules-given : (n p : ℕ) → 6 ≤ n → n ≤ 13 → translate source room ≡ refused n p ↔ BrokenAt source n p
   rules-given n p l h =
       let g = given-exactly (refused n p) in

@@ -1,5 +1,5 @@
--- The tokens that a text is translated by, with the names in front of it: how many there are, that its numbers have 32 bits, and that a later token stands at a greater
--- place.
+-- The tokens that a text is translated by, with the names in front of it: how many there are, that its numbers have 32 bits, and that a later token stands at a
+-- greater place.
 use mathlib.Core.Path.{_≡_, ap}
 use mathlib.Core.List.{List, [], _∷_, _++_, map}
 use Prim.Native.Nat.{ℕ, zero, suc, _+_, _-_, _≤_, _<_}

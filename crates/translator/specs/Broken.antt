@@ -1,5 +1,5 @@
--- Document 01, "Numbers answered", rows 6 to 13: the rules that a program breaks, each by the event at which it is broken, with its number and its token. That the least of
--- them is answered is shown in proofs/Theorems.
+-- Document 01, "Numbers answered", rows 6 to 13: the rules that a program breaks, each by the event at which it is broken, with its number and its token. That the
+-- least of them is answered is shown in proofs/Theorems.
 use mathlib.Core.Path.{_≡_}
 use mathlib.Core.Logic.{_⊎_}
 use mathlib.Core.List.{List, [], _∷_}
@@ -64,7 +64,9 @@ module _ (ts : List Token) (x : Statement) (n t : ℕ) where
       Somewhere (labelEvent (valuesOf ts)) (λ e p s. LabelBroken (valuesOf ts) e p s n t) (eventsOf x) [] start
 
   abbrev pub KindsBroken : Type 0
-  KindsBroken = let f = tablesOf ts (named ts x) (labels ts x) (meant ts (named ts x) x) in Somewhere (ruleEvent f) (λ e p s. KindBroken f e p n t) (eventsOf x) [] unbroken
+  KindsBroken =
+      let f = tablesOf ts (named ts x) (labels ts x) (meant ts (named ts x) x) in
+      Somewhere (ruleEvent f) (λ e p s. KindBroken f e p n t) (eventsOf x) [] unbroken
 
   abbrev pub CellsBroken : Type 0
   CellsBroken = let m = meant ts (named ts x) x in CellBroken (m .bases) (m .cells) n t

@@ -5,21 +5,21 @@ use Rattle.emit.specs.Events.{elementIn}
 use Rattle.emit.proofs.element.Statement.{statement}
 use Rattle.emit.proofs.element.Tie as tie
 
+offset-requires : tie.Need-offset-requires
+offset-requires c κs = search needs
+
+add-displacement : tie.Need-add-displacement
+add-displacement c = search needs
+
 is-short-requires : tie.Need-is-short-requires
 is-short-requires c κs = search needs
 
 under-requires : tie.Need-under-requires
 under-requires c κs = search needs
 
-offset-requires : tie.Need-offset-requires
-offset-requires c κs = search needs
-
-add-t13 : tie.Need-add-t13
-add-t13 c = search needs
-
 returns : tie.Need-returns
 unfolding elementIn low
-returns c = rw (c .before .before .is-short .ensures, c .before .under .ensures, c .offset .ensures)
+returns c = rw (c .before .before .offset .ensures, c .before .is-short .ensures, c .under .ensures)
 
 pub element-spec : {M : Type 1} → statement M
-element-spec = tie.close (tie.spec is-short-requires under-requires offset-requires add-t13 returns)
+element-spec = tie.close (tie.spec offset-requires add-displacement is-short-requires under-requires returns)

@@ -46,7 +46,9 @@ same-length : tie.Need-same-length
 same-length c = search needs
 
 returns : tie.Need-returns
-returns c = λ p. rw (c .before .before .before .before .before .match .keys1) (c .before .before .store-step .ensures ∙ rw (c .before .before .before .before .before .before .address .ensures .0))
+returns c = λ p.
+    rw (c .before .before .before .before .before .match .keys1)
+    (c .before .before .store-step .ensures ∙ rw (c .before .before .before .before .before .before .address .ensures .0))
 
 returns-2 : tie.Need-returns-2
 returns-2 c = λ p. rw (c .before .before .match .keys2) (kept (c .link-step .ensures ∙ rw (c .before .before .before .address .ensures .0)))

@@ -1,8 +1,8 @@
 -- `step` makes the definition's tests of the counter in its order, then calls `short` or `long`. Assumes nothing.
-use borrow.Author.Needs.{needs}
-use borrow.Author.Tests.{lt-ltb, le-ltb, le-leb, lt-leb, eq-eqb, ne-eqb}
-use Rattle.machine.proofs.Operands.{kept}
 use Rattle.machine.specs.Step.{step}
+use Rattle.machine.proofs.Operands.{kept}
+use borrow.Author.Tests.{lt-ltb, le-ltb, le-leb, lt-leb, eq-eqb, ne-eqb}
+use borrow.Author.Needs.{needs}
 use Rattle.instruction.proofs.step.Statement.{statement}
 use Rattle.instruction.proofs.step.Tie as tie
 
@@ -33,24 +33,28 @@ returns-3 : tie.Need-returns-3
 unfolding step
 returns-3 c = rw (eq-eqb _ _ (c .before .before .before .if1 .left), le-leb _ _ (c .before .before .if2 .left), lt-leb _ _ (c .before .if3 .taken), c .halt3 .ensures)
 
-slice-read-if4 : tie.Need-slice-read-if4
-slice-read-if4 c = search needs
+slice-read-op : tie.Need-slice-read-op
+slice-read-op c = search needs
 
-slice-read-short : tie.Need-slice-read-short
-slice-read-short c = search needs
+add-rx : tie.Need-add-rx
+add-rx c = search needs
 
-add-short : tie.Need-add-short
-add-short c = search needs
-
-slice-read-short-2 : tie.Need-slice-read-short-2
-slice-read-short-2 c = search needs
+slice-read-rx : tie.Need-slice-read-rx
+slice-read-rx c = search needs
 
 short-requires : tie.Need-short-requires
 short-requires c κs = search needs
 
 returns-4 : tie.Need-returns-4
 unfolding step
-returns-4 c = rw (eq-eqb _ _ (c .before .before .before .before .before .before .before .before .if1 .left), le-leb _ _ (c .before .before .before .before .before .before .before .if2 .left), le-leb _ _ (c .before .before .before .before .before .before .if3 .left), lt-ltb _ _ (c .before .before .before .before .if4 .taken)) (kept (c .short .ensures))
+returns-4 c =
+    let a = c .before .before in
+    rw (
+      eq-eqb _ _ (a .before .before .before .before .before .if1 .left),
+      le-leb _ _ (a .before .before .before .before .if2 .left),
+      le-leb _ _ (a .before .before .before .if3 .left),
+      lt-ltb _ _ (a .if4 .taken),
+    ) (kept (c .short .ensures))
 
 add-if5 : tie.Need-add-if5
 add-if5 c = search needs
@@ -63,13 +67,22 @@ halt-requires-4 c κs = search needs
 
 returns-5 : tie.Need-returns-5
 unfolding step
-returns-5 c = rw (eq-eqb _ _ (c .before .before .before .before .before .before .if1 .left), le-leb _ _ (c .before .before .before .before .before .if2 .left), le-leb _ _ (c .before .before .before .before .if3 .left), le-ltb _ _ (c .before .before .if4 .left), lt-leb _ _ (c .before .if5 .taken), c .halt4 .ensures)
+returns-5 c =
+    let a = c .before in
+    rw (
+      eq-eqb _ _ (a .before .before .before .before .before .before .if1 .left),
+      le-leb _ _ (a .before .before .before .before .before .if2 .left),
+      le-leb _ _ (a .before .before .before .before .if3 .left),
+      le-ltb _ _ (a .before .if4 .left),
+      lt-leb _ _ (a .if5 .taken),
+      c .halt4 .ensures,
+    )
 
-add-upper : tie.Need-add-upper
-add-upper c = search needs
+add-third : tie.Need-add-third
+add-third c = search needs
 
-slice-read-upper : tie.Need-slice-read-upper
-slice-read-upper c = search needs
+slice-read-third : tie.Need-slice-read-third
+slice-read-third c = search needs
 
 upper-requires : tie.Need-upper-requires
 upper-requires c κs = search needs
@@ -80,23 +93,8 @@ add-displacement c = search needs
 slice-read-displacement : tie.Need-slice-read-displacement
 slice-read-displacement c = search needs
 
-add-displacement-2 : tie.Need-add-displacement-2
-add-displacement-2 c = search needs
-
-slice-read-displacement-2 : tie.Need-slice-read-displacement-2
-slice-read-displacement-2 c = search needs
-
 displacement-requires : tie.Need-displacement-requires
 displacement-requires c κs = search needs
-
-slice-read-long : tie.Need-slice-read-long
-slice-read-long c = search needs
-
-add-long : tie.Need-add-long
-add-long c = search needs
-
-slice-read-long-2 : tie.Need-slice-read-long-2
-slice-read-long-2 c = search needs
 
 long-requires : tie.Need-long-requires
 long-requires c κs = search needs
@@ -106,7 +104,18 @@ same-length c = search needs
 
 returns-6 : tie.Need-returns-6
 unfolding step
-returns-6 c = rw (eq-eqb _ _ (c .before .before .before .before .before .before .before .before .before .before .before .before .before .before .before .before .before .if1 .left), le-leb _ _ (c .before .before .before .before .before .before .before .before .before .before .before .before .before .before .before .before .if2 .left), le-leb _ _ (c .before .before .before .before .before .before .before .before .before .before .before .before .before .before .before .if3 .left), le-ltb _ _ (c .before .before .before .before .before .before .before .before .before .before .before .before .before .if4 .left), le-leb _ _ (c .before .before .before .before .before .before .before .before .before .before .before .before .if5 .left), ← c .before .before .before .before .before .before .before .before .before .before .upper .ensures .0, ← c .before .before .before .before .before .before .before .displacement .ensures .0) (c .before .before .long .ensures (c .before .before .before .before .before .before .before .before .before .before .before .before .before .before .before .before .before .before .before .args .program))
+returns-6 c =
+    let e = c .before .before .before .before .before in
+    let a = e .before .before .before .before in
+    rw (
+      eq-eqb _ _ (a .before .before .before .before .before .before .if1 .left),
+      le-leb _ _ (a .before .before .before .before .before .if2 .left),
+      le-leb _ _ (a .before .before .before .before .if3 .left),
+      le-ltb _ _ (a .before .if4 .left),
+      le-leb _ _ (a .if5 .left),
+      ← e .before .before .upper .ensures .0,
+      ← e .displacement .ensures .0,
+    ) (c .before .before .long .ensures (a .before .before .before .before .before .before .before .before .args .program))
 
 pub step-spec : {M : Type 1} → statement M
 step-spec =
@@ -120,27 +129,21 @@ step-spec =
     add-if3-2
     halt-requires-3
     returns-3
-    slice-read-if4
-    slice-read-short
-    add-short
-    slice-read-short-2
+    slice-read-op
+    add-rx
+    slice-read-rx
     short-requires
     returns-4
     add-if5
     add-if5-2
     halt-requires-4
     returns-5
-    add-upper
-    slice-read-upper
+    add-third
+    slice-read-third
     upper-requires
     add-displacement
     slice-read-displacement
-    add-displacement-2
-    slice-read-displacement-2
     displacement-requires
-    slice-read-long
-    add-long
-    slice-read-long-2
     long-requires
     same-length
     returns-6)

@@ -55,7 +55,9 @@ same-length : tie.Need-same-length
 same-length c = search needs
 
 returns : tie.Need-returns
-returns c = λ p. rw (c .before .before .before .before .before .match .keys1) (c .before .before .store-step .ensures ∙ rw (c .before .before .before .before .before .before .address .ensures .0))
+returns c = λ p.
+    rw (c .before .before .before .before .before .match .keys1)
+    (c .before .before .store-step .ensures ∙ rw (c .before .before .before .before .before .before .address .ensures .0))
 
 same-length-2 : tie.Need-same-length-2
 same-length-2 c = search needs

@@ -1,3 +1,4 @@
+-- What is aimed at is told by the packed meaning.
 use Rattle.judge.proofs.Answers as answers
 use mathlib.Core.Path.{sym, _∙_}
 use borrow.Author.Needs.{needs}

@@ -1,3 +1,4 @@
+-- A target by what its name means: a register, a cell, or neither.
 use Rattle.judge.proofs.Answers as answers
 use mathlib.Core.Path.{sym, _∙_}
 use borrow.Author.Needs.{needs}
@@ -29,7 +30,10 @@ broken-requires : tie.Need-broken-requires
 broken-requires c κs = search needs
 
 returns-3 : tie.Need-returns-3
-returns-3 c = λ f s. answers.aims-nowhere s _ _ (c .before .before .before .before .before .meaning .ensures) _ _ (sym (c .before .before .before .before .is-register .ensures) ∙ c .before .before .before .if1 .left) (sym (c .before .before .is-cell .ensures) ∙ c .before .if2 .left) (c .broken .ensures)
+returns-3 c = λ f s.
+    answers.aims-nowhere s _ _ (c .before .before .before .before .before .meaning .ensures) _ _
+    (sym (c .before .before .before .before .is-register .ensures) ∙ c .before .before .before .if1 .left) (sym (c .before .before .is-cell .ensures) ∙ c .before .if2 .left)
+    (c .broken .ensures)
 
 pub aim-rules-spec : {M : Type 1} → statement M
 aim-rules-spec =

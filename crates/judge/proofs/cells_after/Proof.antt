@@ -22,7 +22,15 @@ value-requires c κs = search needs
 returns-2 : tie.Need-returns-2
 unfolding cellsAfter
 returns-2 c = λ f v.
-    rw (← (c .before .before .before .before .family .ensures), ne-eqb _ 3 (c .before .before .if1 .left), eq-eqb _ 5 (c .before .if2 .taken), ← (c .before .before .before .form .ensures .0), v, ← (c .value .ensures))
+    rw (
+      ← (c .before .before .before .before .family .ensures),
+      ne-eqb _ 3 (c .before .before .if1 .left),
+      eq-eqb _ 5 (c .before .if2 .taken),
+      ←
+          (c .before .before .before .form .ensures .0),
+      v,
+      ← (c .value .ensures),
+    )
 
 returns-3 : tie.Need-returns-3
 unfolding cellsAfter formAt
@@ -38,7 +46,14 @@ returns-4 c = λ f v. rw (c .before .if4 .taken, c .one-less .ensures)
 returns-5 : tie.Need-returns-5
 unfolding cellsAfter
 returns-5 c = λ f v.
-    rw (← (c .before .before .before .before .before .family .ensures), ne-eqb _ 3 (c .before .before .before .if1 .left), ne-eqb _ 5 (c .before .before .if2 .left), ne-eqb _ 7 (c .before .if3 .left), ne-eqb _ 8 (c .if4 .left))
+    rw (
+      ← (c .before .before .before .before .before .family .ensures),
+      ne-eqb _ 3 (c .before .before .before .if1 .left),
+      ne-eqb _ 5
+          (c .before .before .if2 .left),
+      ne-eqb _ 7 (c .before .if3 .left),
+      ne-eqb _ 8 (c .if4 .left),
+    )
 
 pub cells-after-spec : {M : Type 1} → statement M
 cells-after-spec = tie.close (tie.spec family-requires form-requires returns value-requires returns-2 returns-3 one-less-requires returns-4 returns-5)

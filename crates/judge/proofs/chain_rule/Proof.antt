@@ -1,3 +1,4 @@
+-- A term is judged by the target: nothing, a cell, or the register of the chain.
 use Rattle.judge.specs.Along.{chainRule}
 use Rattle.judge.proofs.Answers as answers
 use borrow.Author.Needs.{needs}
@@ -31,7 +32,9 @@ term-rules-requires : tie.Need-term-rules-requires
 term-rules-requires c κs = search needs
 
 returns-3 : tie.Need-returns-3
-returns-3 c = λ f s. answers.chain-else f _ _ _ _ (c .before .before .before .before .if1 .left) (c .before .before .if2 .left) (c .term-rules .ensures f (s .listed) (rw (s .kinds-is, ← (c .before .before .before .less .ensures)) (c .before .kind .ensures)))
+returns-3 c = λ f s.
+    answers.chain-else f _ _ _ _ (c .before .before .before .before .if1 .left) (c .before .before .if2 .left)
+    (c .term-rules .ensures f (s .listed) (rw (s .kinds-is, ← (c .before .before .before .less .ensures)) (c .before .kind .ensures)))
 
 pub chain-rule-spec : {M : Type 1} → statement M
 chain-rule-spec =

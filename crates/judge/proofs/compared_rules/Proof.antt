@@ -1,3 +1,4 @@
+-- The register of a condition, then its operand.
 use Rattle.rules.proofs.Answers as rules
 use Rattle.names.specs.Broken.{_⊕_}
 use Rattle.names.specs.declared.Broken.{Broken}
@@ -22,7 +23,10 @@ join-requires : tie.Need-join-requires
 join-requires c κs = search needs
 
 returns : tie.Need-returns
-returns c = λ f s. rw (← (c .before .before .before .before .fewer .ensures)) (c .join .ensures ∙ ap₂ (λ (x y : Broken). x ⊕ y) (rules.a-register s _ _ (c .before .before .before .meaning .ensures) (c .before .before .register-rule .ensures)) (c .before .operand-rules .ensures f s))
+returns c = λ f s.
+    rw (← (c .before .before .before .before .fewer .ensures)) (c .join .ensures ∙ ap₂ (λ (x y : Broken). x ⊕ y)
+    (rules.a-register s _ _ (c .before .before .before .meaning .ensures) (c .before .before .register-rule .ensures))
+    (c .before .operand-rules .ensures f s))
 
 pub compared-rules-spec : {M : Type 1} → statement M
 compared-rules-spec =

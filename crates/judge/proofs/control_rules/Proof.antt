@@ -1,3 +1,4 @@
+-- A control is a register or is refused.
 use Rattle.judge.proofs.Answers as answers
 use mathlib.Core.Path.{sym, _∙_}
 use borrow.Author.Needs.{needs}

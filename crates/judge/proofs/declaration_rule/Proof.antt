@@ -34,7 +34,14 @@ rule-requires-2 c κs = search needs
 returns-2 : tie.Need-returns-2
 unfolding declarationRule
 returns-2 c = λ f s.
-    rw (ne-eqb _ 2 (c .before .before .before .if1 .left), ← (c .before .before .before .before .family .ensures), eq-eqb _ 5 (c .before .before .if2 .taken), s .values-is, ← (c .before .value2 .ensures)) (c .rule2 .ensures)
+    rw (
+      ne-eqb _ 2 (c .before .before .before .if1 .left),
+      ← (c .before .before .before .before .family .ensures),
+      eq-eqb _ 5
+          (c .before .before .if2 .taken),
+      s .values-is,
+      ← (c .before .value2 .ensures),
+    ) (c .rule2 .ensures)
 
 value-requires-3 : tie.Need-value-requires-3
 value-requires-3 c κs = search needs

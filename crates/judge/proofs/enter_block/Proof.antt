@@ -1,3 +1,4 @@
+-- A block's count is pushed, and the new one is 0.
 use Rattle.judge.proofs.Moves as moves
 use denote.Ref.{now}
 use borrow.Author.Needs.{needs}
@@ -14,7 +15,9 @@ same-length : tie.Need-same-length
 same-length c = search needs
 
 returns : tie.Need-returns
-returns c = λ kept. moves.entered-block kept (now (c .before .before .before .before .before .args .counts)) (c .before .before .before .before .before .args .d) (c .before .before .before .before .before .pre) (c .before .before .put-wide .ensures)
+returns c = λ kept.
+    moves.entered-block kept (now (c .before .before .before .before .before .args .counts)) (c .before .before .before .before .before .args .d)
+    (c .before .before .before .before .before .pre) (c .before .before .put-wide .ensures)
 
 pub enter-block-spec : {M : Type 1} → statement M
 enter-block-spec = tie.close (tie.spec put-wide-requires add-t9 same-length returns)

@@ -1,3 +1,4 @@
+-- The first operand is judged by the target: nothing, a cell, or a register.
 use Rattle.judge.specs.Along.{firstRules}
 use Rattle.judge.proofs.Answers as answers
 use borrow.Author.Needs.{needs}

@@ -45,7 +45,16 @@ same-length-3 c = search needs
 
 returns-3 : tie.Need-returns-3
 unfolding heldAfter
-returns-3 c = ((λ f s. rw (c .before .before .before .before .before .before .before .if3 .taken, answers.kept-is s (c .before .before .before .before .before .before .before .before .before .before .before .before .before .args .t) _ (c .before .before .before .before .before .meaning .ensures) _ (c .before .before .before .before .register .ensures .0)) (c .before .before .keep-base .ensures .0 _)), c .before .before .keep-base .ensures .1)
+returns-3 c = (
+  (λ f s. rw (
+    c .before .before .before .before .before .before .before .if3 .taken,
+    answers.kept-is s
+        (c .before .before .before .before .before .before .before .before .before .before .before .before .before .args .t) _
+        (c .before .before .before .before .before .meaning .ensures) _ (c .before .before .before .before .register .ensures .0),
+  )
+      (c .before .before .keep-base .ensures .0 _)),
+  c .before .before .keep-base .ensures .1,
+)
 
 add-meaning : tie.Need-add-meaning
 add-meaning c = search needs
@@ -64,7 +73,16 @@ same-length-4 c = search needs
 
 returns-4 : tie.Need-returns-4
 unfolding heldAfter
-returns-4 c = ((λ f s. rw (c .before .before .before .before .before .before .before .if4 .taken, answers.kept-is s (c .before .before .before .before .before .before .before .before .before .before .before .before .before .before .args .t + 2) _ (c .before .before .before .before .before .meaning2 .ensures) _ (c .before .before .before .before .register2 .ensures .0)) (c .before .before .keep-return .ensures .0 _)), c .before .before .keep-return .ensures .1)
+returns-4 c = (
+  (λ f s. rw (
+    c .before .before .before .before .before .before .before .if4 .taken,
+    answers.kept-is s
+        (c .before .before .before .before .before .before .before .before .before .before .before .before .before .before .args .t + 2) _
+        (c .before .before .before .before .before .meaning2 .ensures) _ (c .before .before .before .before .register2 .ensures .0),
+  )
+      (c .before .before .keep-return .ensures .0 _)),
+  c .before .before .keep-return .ensures .1,
+)
 
 leave-procedure-requires : tie.Need-leave-procedure-requires
 leave-procedure-requires c κs = search needs
@@ -77,7 +95,14 @@ returns-6 : tie.Need-returns-6
 unfolding heldAfter
 returns-6 c = (
   (λ f s.
-      rw (ne-eqb _ 0 (c .before .before .before .before .if1 .left), ne-eqb _ 1 (c .before .before .before .if2 .left), ne-eqb _ 9 (c .before .before .if3 .left), ne-eqb _ 10 (c .before .if4 .left), ne-eqb _ 11 (c .if5 .left))
+      rw (
+        ne-eqb _ 0 (c .before .before .before .before .if1 .left),
+        ne-eqb _ 1 (c .before .before .before .if2 .left),
+        ne-eqb _ 9
+            (c .before .before .if3 .left),
+        ne-eqb _ 10 (c .before .if4 .left),
+        ne-eqb _ 11 (c .if5 .left),
+      )
       (record { is = refl; deep = omega arith })),
   stays-same _,
 )

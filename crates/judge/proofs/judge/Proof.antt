@@ -26,8 +26,11 @@ loop-holds : tie.Need-loop-holds Inv-loop μ-loop
 loop-holds c =
     let first = c .before .before .before .before .before .before .put-offset in
     let second = c .before .before .put-offset2 in
-    let asked = c .before .before .before .before .before .before .before .before .before .before .before .before .before .pre in
-    (going _ _ _ _ _ (now (c .before .before .before .before .before .before .before .before .before .before .before .before .before .args .wide)) _ _ (first .ensures) (second .ensures) (first .kept .0) (second .kept .0) (asked .0) (asked .1 .0) (asked .1 .1), (refl, refl))
+    let asked = c .before .before .before .before .before .before .before .before .before .before .before .before .before .pre in (
+      going _ _ _ _ _ (now (c .before .before .before .before .before .before .before .before .before .before .before .before .before .args .wide)) _ _
+          (first .ensures) (second .ensures) (first .kept .0) (second .kept .0) (asked .0) (asked .1 .0) (asked .1 .1),
+      (refl, refl),
+    )
 
 mul-e : tie.Need-mul-e Inv-loop μ-loop
 mul-e c = search needs
@@ -51,8 +54,10 @@ held-after-requires : tie.Need-held-after-requires Inv-loop μ-loop
 held-after-requires c κs =
     let g = c .before .before .before .before .before .before .before .before .before .loop .inv .0 in
     let h = c .before .before .before .before .before .before .before .before .loop-test .taken in
-    let (deep, (small, few)) = kept-fits _ _ _ _ _ g h in
-    (omega (arith, c .before .before .before .before .before .token .ensures .1), (deep, (small, (few, opened-fits _ _ _ _ _ g h _ (c .before .before .before .before .before .before .op .ensures .0)))))
+    let (deep, (small, few)) = kept-fits _ _ _ _ _ g h in (
+      omega (arith, c .before .before .before .before .before .token .ensures .1),
+      (deep, (small, (few, opened-fits _ _ _ _ _ g h _ (c .before .before .before .before .before .before .op .ensures .0)))),
+    )
 
 cells-after-requires : tie.Need-cells-after-requires Inv-loop μ-loop
 cells-after-requires c κs = search needs
@@ -61,10 +66,15 @@ target-after-requires : tie.Need-target-after-requires Inv-loop μ-loop
 target-after-requires c κs = search needs
 
 add-i : tie.Need-add-i Inv-loop μ-loop
-add-i c = omega (arith, c .before .before .before .before .before .before .before .before .before .before .before .before .before .before .before .before .before .before .loop .inv .0 .small, c .before .before .before .before .before .before .before .before .before .before .before .before .before .before .before .before .before .loop-test .taken)
+add-i c =
+    let g = c .before .before .before .before .before .before .before .before .before .before .before .before .before .before .before .before .before .before .loop .inv .0 in
+    let h = c .before .before .before .before .before .before .before .before .before .before .before .before .before .before .before .before .before .loop-test .taken in
+    omega (arith, g .small, h)
 
 loop-less : tie.Need-loop-less Inv-loop μ-loop
-loop-less c = omega (arith, c .before .before .before .before .before .before .before .before .before .before .before .before .before .before .before .before .before .loop-test .taken)
+loop-less c =
+    let h = c .before .before .before .before .before .before .before .before .before .before .before .before .before .before .before .before .before .loop-test .taken in
+    omega (arith, h)
 
 loop-again : tie.Need-loop-again Inv-loop μ-loop
 loop-again c =
@@ -72,19 +82,30 @@ loop-again c =
     let held = c .before .before .before .before .before .before .before .before .held-after in
     let wides = held .kept .1 .1 .0 in
     let countings = held .kept .1 .1 .1 .1 .0 in (
-      going-on _ _ _ _ _ (before .0) (c .before .before .before .before .before .before .before .before .before .before .before .before .before .before .before .before .before .loop-test .taken) _ _ (c .before .before .before .before .before .before .before .before .before .before .before .before .before .before .before .op .ensures .0) (c .before .before .before .before .before .before .before .before .before .before .before .before .before .before .token .ensures .0) (c .before .before .before .before .before .before .before .before .before .before .before .before .event-rule .ensures) (c .before .before .before .before .before .before .before .before .before .before .before .join .ensures)
+      going-on _ _ _ _ _ (before .0)
+          (c .before .before .before .before .before .before .before .before .before .before .before .before .before .before .before .before .before .loop-test .taken) _ _
+          (c .before .before .before .before .before .before .before .before .before .before .before .before .before .before .before .op .ensures .0)
+          (c .before .before .before .before .before .before .before .before .before .before .before .before .before .before .token .ensures .0)
+          (c .before .before .before .before .before .before .before .before .before .before .before .before .event-rule .ensures)
+          (c .before .before .before .before .before .before .before .before .before .before .before .join .ensures)
           (held .ensures .0) (held .ensures .1) (c .before .before .cells-after .ensures) (c .target-after .ensures) wides countings,
       (wides ∙ before .1 .0, countings ∙ before .1 .1),
     )
 
 same-length : tie.Need-same-length Inv-loop μ-loop
-same-length c = c .before .loop .inv .1 .0 ∙ (c .before .before .before .before .put-offset2 .kept .0 ∙ c .before .before .before .before .before .before .before .before .put-offset .kept .0)
+same-length c =
+    c .before .loop .inv .1 .0 ∙ (c .before .before .before .before .put-offset2 .kept .0
+    ∙ c .before .before .before .before .before .before .before .before .put-offset .kept .0)
 
 same-length-2 : tie.Need-same-length-2 Inv-loop μ-loop
 same-length-2 c = c .before .loop .inv .1 .1
 
 returns : tie.Need-returns Inv-loop μ-loop
-returns c = going-end _ _ _ _ _ (now (c .before .before .before .before .before .before .before .before .before .before .before .before .before .before .before .args .wide)) _ (c .before .before .before .before .before .before .before .before .put-offset .ensures) (c .before .before .before .before .put-offset2 .ensures) (c .before .loop .inv .0) (c .loop-test .left)
+returns c =
+    going-end _ _ _ _ _
+    (now (c .before .before .before .before .before .before .before .before .before .before .before .before .before .before .before .args .wide)) _
+    (c .before .before .before .before .before .before .before .before .put-offset .ensures) (c .before .before .before .before .put-offset2 .ensures)
+    (c .before .loop .inv .0) (c .loop-test .left)
 
 pub judge-spec : {M : Type 1} → statement M
 judge-spec =

@@ -22,8 +22,11 @@ returns : tie.Need-returns
 returns c =
     let a = c .before .before .before .before .before .before .args in
     let w = wideOf (now (a .wide)) in
-    let put = c .before .before .before .put-offset .ensures in
-    ((λ counts. moves.kept-base (w .offsets) counts (a .d) (a .r) (c .before .before .before .before .before .before .pre .0) (moves.offsets-put w _ (a .d .kept) (a .r) put)), moves.put-stays w _ (a .d .kept) (a .r) put)
+    let put = c .before .before .before .put-offset .ensures in (
+      (λ counts. moves.kept-base (w .offsets) counts (a .d) (a .r) (c .before .before .before .before .before .before .pre .0)
+          (moves.offsets-put w _ (a .d .kept) (a .r) put)),
+      moves.put-stays w _ (a .d .kept) (a .r) put,
+    )
 
 pub keep-base-spec : {M : Type 1} → statement M
 keep-base-spec = tie.close (tie.spec put-offset-requires add-t8 add-t9 same-length returns)

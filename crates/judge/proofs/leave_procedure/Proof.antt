@@ -1,3 +1,4 @@
+-- The return register is taken away.
 use Rattle.judge.proofs.Moves as moves
 use borrow.Author.Needs.{needs}
 use Rattle.judge.proofs.leave_procedure.Statement.{statement}

@@ -1,3 +1,4 @@
+-- A target register stands alone and is not protected.
 use Rattle.ledger.specs.Book.{wideOf}
 use Rattle.tables.specs.Stacks.{stackOf}
 use Rattle.kinds.specs.Rules.{writeRule}
@@ -27,7 +28,13 @@ join-requires : tie.Need-join-requires
 join-requires c κs = search needs
 
 returns : tie.Need-returns
-returns c = c .join .ensures ∙ ap₂ (λ (x y : Broken). x ⊕ y) (c .before .before .before .rule .ensures ∙ ap (λ (z : Bool). rule z 8 (c .before .before .before .before .before .before .args .t)) (c .before .before .before .before .is-bare .ensures (c .before .before .before .before .before .before .args .t))) (c .before .write-rule .ensures ∙ ap (λ (r : ℕ). writeRule (stackOf (wideOf (now (c .before .before .before .before .before .before .args .wide)) .offsets) (c .before .before .before .before .before .before .args .depth)) r (c .before .before .before .before .before .before .args .t)) (c .before .before .number .ensures .0))
+returns c =
+    c .join .ensures ∙ ap₂ (λ (x y : Broken). x ⊕ y) (c .before .before .before .rule .ensures ∙ ap
+    (λ (z : Bool). rule z 8 (c .before .before .before .before .before .before .args .t))
+    (c .before .before .before .before .is-bare .ensures (c .before .before .before .before .before .before .args .t)))
+    (c .before .write-rule .ensures ∙ ap (λ (r : ℕ). writeRule (stackOf (wideOf
+    (now (c .before .before .before .before .before .before .args .wide)) .offsets) (c .before .before .before .before .before .before .args .depth)) r
+    (c .before .before .before .before .before .before .args .t)) (c .before .before .number .ensures .0))
 
 pub register-target-spec : {M : Type 1} → statement M
 register-target-spec =

@@ -1,3 +1,4 @@
+-- A sign is refused where the target is a cell.
 use Rattle.judge.specs.Along.{signRule}
 use Rattle.judge.proofs.Answers as answers
 use borrow.Author.Needs.{needs}

@@ -17,7 +17,9 @@ compared-rules-requires c κs = search needs
 
 returns : tie.Need-returns
 unfolding statementRule
-returns c = λ f s. rw (← (c .before .before .before .family .ensures), eq-eqb _ 34 (c .before .before .if1 .taken), ← (c .before .form .ensures .0)) (c .compared-rules .ensures f (s .listed))
+returns c = λ f s.
+    rw (← (c .before .before .before .family .ensures), eq-eqb _ 34 (c .before .before .if1 .taken), ← (c .before .form .ensures .0))
+    (c .compared-rules .ensures f (s .listed))
 
 form-requires-2 : tie.Need-form-requires-2
 form-requires-2 c κs = search needs
@@ -28,7 +30,13 @@ operand-rules-requires c κs = search needs
 returns-2 : tie.Need-returns-2
 unfolding statementRule
 returns-2 c = λ f s.
-    rw (← (c .before .before .before .before .family .ensures), ne-eqb _ 34 (c .before .before .before .if1 .left), eq-eqb _ 39 (c .before .before .if2 .taken), ← (c .before .form2 .ensures .0)) (c .operand-rules .ensures f (s .listed))
+    rw (
+      ← (c .before .before .before .before .family .ensures),
+      ne-eqb _ 34 (c .before .before .before .if1 .left),
+      eq-eqb _ 39
+          (c .before .before .if2 .taken),
+      ← (c .before .form2 .ensures .0),
+    ) (c .operand-rules .ensures f (s .listed))
 
 call-rules-requires : tie.Need-call-rules-requires
 call-rules-requires c κs = search needs
@@ -43,7 +51,13 @@ assignment-rule-requires c κs = search needs
 returns-4 : tie.Need-returns-4
 unfolding statementRule
 returns-4 c = λ f s.
-    rw (← (c .before .before .before .before .family .ensures), ne-eqb _ 34 (c .before .before .before .if1 .left), ne-eqb _ 39 (c .before .before .if2 .left), ne-eqb _ 51 (c .before .if3 .left)) (c .assignment-rule .ensures f s)
+    rw (
+      ← (c .before .before .before .before .family .ensures),
+      ne-eqb _ 34 (c .before .before .before .if1 .left),
+      ne-eqb _ 39
+          (c .before .before .if2 .left),
+      ne-eqb _ 51 (c .before .if3 .left),
+    ) (c .assignment-rule .ensures f s)
 
 pub statement-rule-spec : {M : Type 1} → statement M
 statement-rule-spec = tie.close (tie.spec family-requires form-requires compared-rules-requires returns form-requires-2 operand-rules-requires returns-2 call-rules-requires returns-3 assignment-rule-requires returns-4)

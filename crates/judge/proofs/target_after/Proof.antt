@@ -17,7 +17,8 @@ aim-of-requires c κs = search needs
 returns : tie.Need-returns
 unfolding targetAfter
 returns c = λ f s.
-    rw (← (c .before .before .before .family .ensures), c .before .before .if1 .taken) (answers.told s (c .before .before .before .before .before .before .args .t) _ (c .before .meaning .ensures) aimOf _ (c .aim-of .ensures))
+    rw (← (c .before .before .before .family .ensures), c .before .before .if1 .taken)
+    (answers.told s (c .before .before .before .before .before .before .args .t) _ (c .before .meaning .ensures) aimOf _ (c .aim-of .ensures))
 
 returns-2 : tie.Need-returns-2
 unfolding targetAfter

@@ -1,25 +1,19 @@
-use Rattle.meanings.proofs.Moves as moves
+-- A procedure keeps the one around it. Assumes nothing.
 use denote.Ref.{now}
+use Rattle.meanings.proofs.Moves as moves
 use borrow.Author.Needs.{needs}
 use Rattle.meanings.proofs.enter_procedure.Statement.{statement}
 use Rattle.meanings.proofs.enter_procedure.Tie as tie
-use Rattle.meanings.proofs.enter_procedure.Reads as reads
-use Rattle.meanings.proofs.enter_procedure.Lts as lts
-use Rattle.arrays.proofs.put_wide.Reads as put-wide-reads
 
--- src/lib.rt:70:5
 put-wide-requires : tie.Need-put-wide-requires
 put-wide-requires c κs = search needs
 
--- src/lib.rt:73:17
 add-t10 : tie.Need-add-t10
 add-t10 c = search needs
 
--- src/lib.rt:64:1
 same-length : tie.Need-same-length
 same-length c = search needs
 
--- src/lib.rt:64:1
 returns : tie.Need-returns
 returns c = λ outer. moves.entered-procedure (now (c .before .before .before .before .before .args .owners)) outer (c .before .before .before .before .before .args .s) (c .before .before .before .before .before .args .t) (c .before .before .before .before .before .pre) (c .before .before .put-wide .ensures)
 

@@ -1,6 +1,6 @@
 -- What the cells that follow are: the family says whether an array, the form how wide.
-use Rattle.meanings.specs.Along.{formAfter}
 use borrow.Author.Tests.{eq-eqb, ne-eqb}
+use Rattle.meanings.specs.Along.{formAfter}
 use borrow.Author.Needs.{needs}
 use Rattle.meanings.proofs.form_after.Statement.{statement}
 use Rattle.meanings.proofs.form_after.Tie as tie
@@ -21,19 +21,30 @@ returns : tie.Need-returns
 unfolding formAfter
 returns c = rw (← (c .before .before .before .family .ensures), eq-eqb _ 3 (c .before .if1 .taken), ← (c .before .before .form .ensures .0)) (c .packed .ensures)
 
-key-requires : tie.Need-key-requires
-key-requires c κs = search needs
+value-requires : tie.Need-value-requires
+value-requires c κs = search needs
 
 packed-requires-2 : tie.Need-packed-requires-2
 packed-requires-2 c κs = search needs
 
 returns-2 : tie.Need-returns-2
 unfolding formAfter
-returns-2 c = rw (← (c .before .before .before .before .before .family .ensures), ne-eqb _ 3 (c .before .before .before .if1 .left), eq-eqb _ 5 (c .before .before .if2 .taken), ← (c .before .before .before .before .form .ensures .0), ← (c .before .key .ensures)) (c .packed2 .ensures)
+returns-2 c = rw (← (c .before .before .before .before .before .family .ensures), ne-eqb _ 3 (c .before .before .before .if1 .left), eq-eqb _ 5 (c .before .before .if2 .taken), ← (c .before .before .before .before .form .ensures .0), ← (c .before .value .ensures)) (c .packed2 .ensures)
 
 returns-3 : tie.Need-returns-3
 unfolding formAfter
 returns-3 c = rw (← (c .before .before .before .family .ensures), ne-eqb _ 3 (c .before .if1 .left), ne-eqb _ 5 (c .if2 .left))
 
 pub form-after-spec : {M : Type 1} → statement M
-form-after-spec = tie.close (tie.spec family-requires form-requires cast-width packed-requires returns key-requires packed-requires-2 returns-2 returns-3)
+form-after-spec =
+    tie.close
+    (tie.spec
+    family-requires
+    form-requires
+    cast-width
+    packed-requires
+    returns
+    value-requires
+    packed-requires-2
+    returns-2
+    returns-3)

@@ -1,6 +1,7 @@
 -- The operator stands before its operand; a number has form 4.
-use Rattle.meanings.proofs.Changes as changes
 use denote.Ref.{now}
+use Rattle.meanings.proofs.Changes as changes
+use Rattle.ledger.specs.Book.{wideOf, thinOf}
 use borrow.Author.Needs.{needs}
 use Rattle.meanings.proofs.is_product.Statement.{statement}
 use Rattle.meanings.proofs.is_product.Tie as tie
@@ -21,10 +22,9 @@ is-long-requires : tie.Need-is-long-requires
 is-long-requires c κs = search needs
 
 returns : tie.Need-returns
-returns c = λ under.
-    let args = c .before .before .before .before .before .before .before .before .args in
-    changes.product-at (now (args .found)) (now (args .means)) under (args .t) (now (args .kinds)) (args .op) _ _ _ _ _
-    (c .before .before .form .ensures .0) (c .before .before .before .before .less .ensures) (c .before .before .before .kind .ensures) (c .before .meaning .ensures) (c .is-long .ensures)
+returns c = λ under. let args = c .before .before .before .before .before .before .before .before .args in changes.product-at (thinOf (now (args .thin)) .found) (wideOf (now (args .wide)) .means) under (args .t) (now (args .kinds)) (args .op) _ _ _ _ _ (c .before .before .form .ensures .0) (c .before .before .before .before .less .ensures) (c .before .before .before .kind .ensures) (c .before .meaning .ensures) (c .is-long .ensures)
 
 pub is-product-spec : {M : Type 1} → statement M
-is-product-spec = tie.close (tie.spec less-requires kind-requires form-requires meaning-requires is-long-requires returns)
+is-product-spec =
+    tie.close
+    (tie.spec less-requires kind-requires form-requires meaning-requires is-long-requires returns)

@@ -1,62 +1,49 @@
-use mathlib.Core.Path.{refl}
-use Rattle.meanings.proofs.Changes as changes
+-- A base declaration opens the next segment and writes its register. Assumes nothing.
 use denote.Ref.{now}
+use mathlib.Core.Path.{refl, ap, _∙_}
+use Rattle.meanings.proofs.Views as views
+use Rattle.ledger.specs.Book.{Thin, wideOf, thinOf}
+use Rattle.meanings.specs.Flat.{viewOf, changed}
+use Prim.Native.Nat.{_+_}
+use Rattle.kinds.specs.Meanings.{write}
+use Rattle.tables.specs.Packed.{packedAt}
 use borrow.Author.Needs.{needs}
 use Rattle.meanings.proofs.open_base.Statement.{statement}
 use Rattle.meanings.proofs.open_base.Tie as tie
-use Rattle.meanings.proofs.open_base.Reads as reads
-use Rattle.meanings.proofs.open_base.Lts as lts
-use Rattle.arrays.proofs.put.Reads as put-reads
-use Rattle.tables.proofs.meaning.Reads as meaning-reads
-use Rattle.tables.proofs.register.Reads as register-reads
-use Rattle.tables.proofs.write.Reads as write-reads
 
--- src/lib.rt:189:19
-add-put : tie.Need-add-put
-add-put c = search needs
+add-put-opens : tie.Need-add-put-opens
+add-put-opens c = search needs
 
--- src/lib.rt:189:5
-put-requires : tie.Need-put-requires
-put-requires c κs = search needs
+put-opens-requires : tie.Need-put-opens-requires
+put-opens-requires c κs = search needs
 
--- src/lib.rt:190:34
 meaning-requires : tie.Need-meaning-requires
 meaning-requires c κs = search needs
 
--- src/lib.rt:190:25
 register-requires : tie.Need-register-requires
 register-requires c κs = search needs
 
--- src/lib.rt:190:5
 write-requires : tie.Need-write-requires
 write-requires c κs = search needs
 
--- src/lib.rt:191:5
 add-result : tie.Need-add-result
 add-result c = search needs
 
--- src/lib.rt:177:1
 same-length : tie.Need-same-length
 same-length c = search needs
 
--- src/lib.rt:177:1
-same-length-2 : tie.Need-same-length-2
-same-length-2 c = search needs
-
--- src/lib.rt:177:1
 returns : tie.Need-returns
-returns c = (λ under. changes.base-opened (now (c .before .before .before .before .before .before .before .before .before .before .before .before .before .before .args .means)) under (now (c .before .before .before .before .before .before .before .before .before .before .before .before .before .before .args .opens)) (now (c .before .before .before .before .before .before .before .before .before .before .before .before .before .before .args .written)) (c .before .before .before .before .before .before .before .before .before .before .before .before .before .before .args .bases) (c .before .before .before .before .before .before .before .before .before .before .before .before .before .before .args .t) (now (c .before .before .before .before .before .before .before .before .before .before .before .before .before .before .args .found)) _ _ (c .before .before .before .before .before .before .before .before .before .before .before .before .before .before .args .own) _ _ (c .before .before .before .before .before .before .before .before .put .ensures) (c .before .before .before .before .meaning .ensures) (c .before .before .before .register .ensures .0) (c .before .before .write .ensures), refl)
+returns c = (c .before .before .write .ensures (wideOf (now (c .before .before .before .before .before .before .before .before .before .before .before .before .before .args .wide))) (c .before .before .before .before .before .before .before .before .before .before .before .before .before .args .bases + 1) ∙ (ap (λ (b : Thin). changed (write (c .before .before .before .before .before .before .before .before .before .before .before .before .before .args .own) (c .before .before .before .register .result)) (viewOf (wideOf (now (c .before .before .before .before .before .before .before .before .before .before .before .before .before .args .wide))) b (c .before .before .before .before .before .before .before .before .before .before .before .before .before .args .bases + 1))) (c .before .before .before .before .before .before .before .before .before .put-opens .ensures) ∙ views.base-opened (wideOf (now (c .before .before .before .before .before .before .before .before .before .before .before .before .before .args .wide))) (thinOf (now (c .before .before .before .before .before .before .before .before .before .before .before .before .before .args .thin))) (c .before .before .before .before .before .before .before .before .before .before .before .before .before .args .bases) (c .before .before .before .before .before .before .before .before .before .before .before .before .before .args .own) (c .before .before .before .before .before .before .before .before .before .before .before .before .before .args .t) _ _ (c .before .before .before .before .meaning .ensures ∙ ap (λ (b : Thin). packedAt (b .found) (wideOf (now (c .before .before .before .before .before .before .before .before .before .before .before .before .before .args .wide)) .means) (c .before .before .before .before .before .before .before .before .before .before .before .before .before .args .t)) (c .before .before .before .before .before .before .before .before .before .put-opens .ensures)) (c .before .before .before .register .ensures .0)), refl)
 
 pub open-base-spec : {M : Type 1} → statement M
 open-base-spec =
     tie.close
     (tie.spec
-    add-put
-    put-requires
+    add-put-opens
+    put-opens-requires
     meaning-requires
     register-requires
     write-requires
     add-result
     same-length
-    same-length-2
     returns)

@@ -1,7 +1,8 @@
 -- A target and a control name a new target, by what they mean; every other event leaves it.
-use Rattle.meanings.specs.Along.{targetAfter}
-use Rattle.meanings.proofs.Changes as changes
 use denote.Ref.{now}
+use Rattle.meanings.proofs.Changes as changes
+use Rattle.meanings.specs.Along.{targetAfter}
+use Rattle.ledger.specs.Book.{wideOf, thinOf}
 use borrow.Author.Needs.{needs}
 use Rattle.meanings.proofs.target_after.Statement.{statement}
 use Rattle.meanings.proofs.target_after.Tie as tie
@@ -17,13 +18,12 @@ target-of-requires c κs = search needs
 
 returns : tie.Need-returns
 unfolding targetAfter
-returns c = λ under.
-    let args = c .before .before .before .before .before .before .args in
-    rw (← (c .before .before .before .family .ensures), c .before .before .if1 .taken) (changes.target-at (now (args .found)) (now (args .means)) under (args .t) _ _ (c .before .meaning .ensures) (c .target-of .ensures))
+returns c = λ under. let args = c .before .before .before .before .before .before .args in rw (← (c .before .before .before .family .ensures), c .before .before .if1 .taken) (changes.target-at (thinOf (now (args .thin)) .found) (wideOf (now (args .wide)) .means) under (args .t) _ _ (c .before .meaning .ensures) (c .target-of .ensures))
 
 returns-2 : tie.Need-returns-2
 unfolding targetAfter
 returns-2 c = λ under. rw (← (c .before .family .ensures), c .if1 .left)
 
 pub target-after-spec : {M : Type 1} → statement M
-target-after-spec = tie.close (tie.spec family-requires meaning-requires target-of-requires returns returns-2)
+target-after-spec =
+    tie.close (tie.spec family-requires meaning-requires target-of-requires returns returns-2)

@@ -1,84 +1,63 @@
-use Rattle.meanings.specs.Along.{withinAfter}
-use borrow.Author.Tests.{ne-eqb}
-use mathlib.Core.Path.{refl}
+-- Where the walk is after an event: one law for each return. Assumes nothing.
 use native.Mathlib.Omega.{arith}
 use denote.Ref.{now}
+use mathlib.Core.Path.{refl}
+use Rattle.meanings.specs.Along.{withinAfter}
+use borrow.Author.Tests.{ne-eqb}
 use borrow.Author.Needs.{needs}
 use Rattle.meanings.proofs.within_after.Statement.{statement}
 use Rattle.meanings.proofs.within_after.Tie as tie
-use Rattle.meanings.proofs.within_after.Reads as reads
-use Rattle.meanings.proofs.within_after.Lts as lts
-use Rattle.meanings.proofs.change_base.Reads as change-base-reads
-use Rattle.meanings.proofs.enter_block.Reads as enter-block-reads
-use Rattle.meanings.proofs.enter_procedure.Reads as enter-procedure-reads
-use Rattle.meanings.proofs.leave_block.Reads as leave-block-reads
-use Rattle.meanings.proofs.leave_procedure.Reads as leave-procedure-reads
 
--- src/lib.rt:118:9
 enter-block-requires : tie.Need-enter-block-requires
 enter-block-requires c κs = search needs
 
--- src/lib.rt:118:9
 same-length : tie.Need-same-length
 same-length c = search needs
 
--- src/lib.rt:118:9
 returns : tie.Need-returns
 unfolding withinAfter
 returns c = λ under. rw (c .before .before .before .before .if1 .taken) (c .before .before .enter-block .ensures (now (c .before .before .before .before .before .before .before .before .before .args .owners)))
 
--- src/lib.rt:121:9
 leave-block-requires : tie.Need-leave-block-requires
 leave-block-requires c κs = search needs
 
--- src/lib.rt:121:9
 same-length-2 : tie.Need-same-length-2
 same-length-2 c = search needs
 
--- src/lib.rt:121:9
 returns-2 : tie.Need-returns-2
 unfolding withinAfter
 returns-2 c = λ under. rw (c .before .before .if2 .taken) (c .leave-block .ensures (now (c .before .before .before .before .before .before .before .before .args .owners)))
 
--- src/lib.rt:124:9
 change-base-requires : tie.Need-change-base-requires
 change-base-requires c κs = search needs
 
--- src/lib.rt:124:9
 returns-3 : tie.Need-returns-3
 unfolding withinAfter
 returns-3 c = λ under. rw (c .before .if3 .taken) (c .change-base .ensures under (now (c .before .before .before .before .before .before .before .before .args .owners)) (now (c .before .before .before .before .before .before .before .before .args .outer)))
 
--- src/lib.rt:127:9
 enter-procedure-requires : tie.Need-enter-procedure-requires
 enter-procedure-requires c κs = search needs
 
--- src/lib.rt:127:9
 same-length-3 : tie.Need-same-length-3
 same-length-3 c = search needs
 
--- src/lib.rt:127:9
 returns-4 : tie.Need-returns-4
 unfolding withinAfter
 returns-4 c = λ under. rw (c .before .before .before .before .if4 .taken) (c .before .before .enter-procedure .ensures (now (c .before .before .before .before .before .before .before .before .before .before .before .before .args .outer)))
 
--- src/lib.rt:130:9
 leave-procedure-requires : tie.Need-leave-procedure-requires
 leave-procedure-requires c κs = search needs
 
--- src/lib.rt:130:9
 same-length-4 : tie.Need-same-length-4
 same-length-4 c = search needs
 
--- src/lib.rt:130:9
 returns-5 : tie.Need-returns-5
 unfolding withinAfter
 returns-5 c = λ under. rw (c .before .before .if5 .taken) (c .leave-procedure .ensures (now (c .before .before .before .before .before .before .before .before .before .before .before .args .outer)))
 
--- src/lib.rt:104:1
 returns-6 : tie.Need-returns-6
 unfolding withinAfter
-returns-6 c = λ under. rw (ne-eqb _ 0 (c .before .before .before .before .if1 .left), ne-eqb _ 1 (c .before .before .before .if2 .left), ne-eqb _ 9 (c .before .before .if3 .left), ne-eqb _ 10 (c .before .if4 .left), ne-eqb _ 11 (c .if5 .left)) (record { is = refl; deep = omega arith; wide = omega arith })
+returns-6 c = λ under. rw (ne-eqb _ 0 (c .before .before .before .before .if1 .left), ne-eqb _ 1 (c .before .before .before .if2 .left), ne-eqb _ 9 (c .before .before .if3 .left), ne-eqb _ 10 (c .before .if4 .left), ne-eqb _ 11 (c .if5 .left)) (record { is = refl; blocks-are = refl; procedures-are = refl })
 
 pub within-after-spec : {M : Type 1} → statement M
 within-after-spec =

@@ -1,3 +1,4 @@
+-- A base declaration is judged by what its name means, by the protected registers and by the segment that it opens.
 use Rattle.rules.proofs.Answers as answers
 use borrow.Author.Needs.{needs}
 use Rattle.rules.proofs.base_rules.Statement.{statement}
@@ -34,7 +35,12 @@ join-requires-3 : tie.Need-join-requires-3
 join-requires-3 c κs = search needs
 
 returns : tie.Need-returns
-returns c = λ f s. answers.a-base s _ _ (c .before .before .before .before .before .before .before .before .before .meaning .ensures) _ (c .before .before .before .before .before .before .before .before .register .ensures .0) (c .before .before .before .before .before .before .opens .ensures .0) (c .before .before .before .before .register-rule .ensures) (c .before .before .before .zero-rule .ensures) (c .before .before .before .before .before .before .before .write-rule .ensures) (c .before .before .before .before .before .rule .ensures) (c .before .before .join .ensures) (c .before .join2 .ensures) (c .join3 .ensures)
+returns c = λ f s.
+    answers.a-base s _ _ (c .before .before .before .before .before .before .before .before .before .meaning .ensures) _
+    (c .before .before .before .before .before .before .before .before .register .ensures .0)
+    (c .before .before .before .before .before .before .opens .ensures .0) (c .before .before .before .before .register-rule .ensures)
+    (c .before .before .before .zero-rule .ensures) (c .before .before .before .before .before .before .before .write-rule .ensures)
+    (c .before .before .before .before .before .rule .ensures) (c .before .before .join .ensures) (c .before .join2 .ensures) (c .join3 .ensures)
 
 pub base-rules-spec : {M : Type 1} → statement M
 base-rules-spec =

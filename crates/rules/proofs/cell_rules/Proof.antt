@@ -1,3 +1,4 @@
+-- A cell's designator has a subscript or index only on an array, the subscript inside it, the index a register.
 use Rattle.names.specs.Broken.{_⊕_, rule}
 use Rattle.names.specs.declared.Broken.{Broken}
 use mathlib.Core.Bool.{Bool, _||_}
@@ -28,7 +29,13 @@ join-requires-2 : tie.Need-join-requires-2
 join-requires-2 c κs = search needs
 
 returns : tie.Need-returns
-returns c = λ f s n b. c .join2 .ensures ∙ ap₂ (λ (x y : Broken). x ⊕ y) (c .before .before .before .before .rule .ensures ∙ ap₂ (λ (y z : Bool). rule (y || z) 8 (c .before .before .before .before .before .before .before .before .before .args .t)) (c .before .before .before .before .before .before .is-array .ensures) (c .before .before .before .before .before .is-bare .ensures (c .before .before .before .before .before .before .before .before .before .args .t))) (c .before .join .ensures ∙ ap₂ (λ (x y : Broken). x ⊕ y) (c .before .before .before .subscript-rules .ensures f (s .values-is) n b) (c .before .before .index-rules .ensures f s))
+returns c = λ f s n b.
+    c .join2 .ensures ∙ ap₂ (λ (x y : Broken). x ⊕ y) (c .before .before .before .before .rule .ensures ∙ ap₂
+    (λ (y z : Bool). rule (y || z) 8 (c .before .before .before .before .before .before .before .before .before .args .t))
+    (c .before .before .before .before .before .before .is-array .ensures)
+    (c .before .before .before .before .before .is-bare .ensures (c .before .before .before .before .before .before .before .before .before .args .t)))
+    (c .before .join .ensures ∙ ap₂ (λ (x y : Broken). x ⊕ y) (c .before .before .before .subscript-rules .ensures f (s .values-is) n b)
+    (c .before .before .index-rules .ensures f s))
 
 pub cell-rules-spec : {M : Type 1} → statement M
 cell-rules-spec =

@@ -1,3 +1,4 @@
+-- By shape the index stands two or five tokens on, or there is none.
 use Rattle.rules.proofs.Answers as answers
 use borrow.Author.Needs.{needs}
 use Rattle.rules.proofs.index_rules.Statement.{statement}

@@ -1,3 +1,4 @@
+-- Three shapes have a subscript or an index.
 use Rattle.rules.proofs.Sorts as sorts
 use Rattle.rules.proofs.is_bare.Statement.{statement}
 use Rattle.rules.proofs.is_bare.Tie as tie

@@ -1,3 +1,4 @@
+-- The loop goes down the stack: none above is the register.
 use Rattle.ledger.specs.Book.{wideOf}
 use Rattle.tables.specs.Stacks.{stackOf}
 use Rattle.base.specs.Lists.{member}
@@ -24,13 +25,17 @@ offset-requires : tie.Need-offset-requires Inv-loop μ-loop
 offset-requires c κs = search needs
 
 returns : tie.Need-returns Inv-loop μ-loop
-returns c = sym (sorts.kept-hit _ _ (c .before .before .before .loop .i) _ (c .before .before .loop-test .taken) (c .before .offset .ensures) (c .if1 .taken) (c .before .before .before .loop .inv))
+returns c =
+    sym (sorts.kept-hit _ _ (c .before .before .before .loop .i) _ (c .before .before .loop-test .taken) (c .before .offset .ensures) (c .if1 .taken)
+    (c .before .before .before .loop .inv))
 
 loop-less : tie.Need-loop-less Inv-loop μ-loop
 loop-less c = omega arith
 
 loop-again : tie.Need-loop-again Inv-loop μ-loop
-loop-again c = sorts.kept-miss _ _ (c .before .before .before .loop .i) _ (c .before .before .loop-test .taken) (c .before .offset .ensures) (c .if1 .left) (c .before .before .before .loop .inv)
+loop-again c =
+    sorts.kept-miss _ _ (c .before .before .before .loop .i) _ (c .before .before .loop-test .taken) (c .before .offset .ensures) (c .if1 .left)
+    (c .before .before .before .loop .inv)
 
 returns-2 : tie.Need-returns-2 Inv-loop μ-loop
 returns-2 c = sym (sorts.kept-none _ _ (c .before .loop .i) (c .loop-test .left) (c .before .loop .inv))

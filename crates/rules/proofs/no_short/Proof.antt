@@ -1,3 +1,4 @@
+-- A number is never short; a name is by what it means.
 use Rattle.kinds.specs.Rules.{noShort}
 use Rattle.rules.proofs.Answers as answers
 use borrow.Author.Needs.{needs}

@@ -1,3 +1,4 @@
+-- A number is no register; a name is by what it means, and stands alone.
 use Rattle.kinds.specs.Rules.{onlyRegister}
 use Rattle.rules.proofs.Answers as answers
 use borrow.Author.Needs.{needs}
@@ -24,7 +25,9 @@ rule-requires : tie.Need-rule-requires
 rule-requires c κs = search needs
 
 returns-2 : tie.Need-returns-2
-returns-2 c = λ f s. answers.one-register s _ _ (c .before .before .before .meaning .ensures) _ (c .before .before .before .before .if1 .left) (c .before .before .is-register .ensures) (c .before .is-bare .ensures) (c .rule .ensures)
+returns-2 c = λ f s.
+    answers.one-register s _ _ (c .before .before .before .meaning .ensures) _ (c .before .before .before .before .if1 .left) (c .before .before .is-register .ensures)
+    (c .before .is-bare .ensures) (c .rule .ensures)
 
 pub only-register-spec : {M : Type 1} → statement M
 only-register-spec =

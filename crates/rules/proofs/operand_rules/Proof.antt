@@ -1,3 +1,4 @@
+-- A number has no rule; all else is a designator.
 use Rattle.kinds.specs.Rules.{operandRules}
 use Rattle.rules.proofs.Answers as answers
 use borrow.Author.Needs.{needs}

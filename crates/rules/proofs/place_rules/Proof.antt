@@ -1,3 +1,4 @@
+-- A designator by what its name means: a register, a cell, or neither.
 use Rattle.rules.proofs.Answers as answers
 use mathlib.Core.Path.{sym, _∙_}
 use borrow.Author.Needs.{needs}
@@ -17,7 +18,9 @@ rule-requires : tie.Need-rule-requires
 rule-requires c κs = search needs
 
 returns : tie.Need-returns
-returns c = λ f s. answers.placed-register s _ _ (c .before .before .before .before .meaning .ensures) _ (sym (c .before .before .before .is-register .ensures) ∙ c .before .before .if1 .taken) (c .before .is-bare .ensures) (c .rule .ensures)
+returns c = λ f s.
+    answers.placed-register s _ _ (c .before .before .before .before .meaning .ensures) _
+    (sym (c .before .before .before .is-register .ensures) ∙ c .before .before .if1 .taken) (c .before .is-bare .ensures) (c .rule .ensures)
 
 is-cell-requires : tie.Need-is-cell-requires
 is-cell-requires c κs = search needs
@@ -32,7 +35,10 @@ broken-requires : tie.Need-broken-requires
 broken-requires c κs = search needs
 
 returns-3 : tie.Need-returns-3
-returns-3 c = λ f s. answers.placed-nowhere s _ _ (c .before .before .before .before .before .meaning .ensures) _ (sym (c .before .before .before .before .is-register .ensures) ∙ c .before .before .before .if1 .left) (sym (c .before .before .is-cell .ensures) ∙ c .before .if2 .left) (c .broken .ensures)
+returns-3 c = λ f s.
+    answers.placed-nowhere s _ _ (c .before .before .before .before .before .meaning .ensures) _
+    (sym (c .before .before .before .before .is-register .ensures) ∙ c .before .before .before .if1 .left) (sym (c .before .before .is-cell .ensures) ∙ c .before .if2 .left)
+    (c .broken .ensures)
 
 pub place-rules-spec : {M : Type 1} → statement M
 place-rules-spec =

@@ -1,3 +1,4 @@
+-- A product is judged where its operand is long.
 use Rattle.rules.proofs.Answers as answers
 use borrow.Author.Needs.{needs}
 use Rattle.rules.proofs.product_rules.Statement.{statement}
@@ -25,13 +26,19 @@ join-requires : tie.Need-join-requires
 join-requires c κs = search needs
 
 returns : tie.Need-returns
-returns c = λ f s. answers.a-product s _ _ (c .before .before .before .before .before .before .before .meaning .ensures) _ _ _ (c .before .before .before .before .before .before .is-long .ensures) (c .before .before .before .before .before .if1 .taken) (c .before .before .before .before .less .ensures) (c .before .before .less2 .ensures) (c .before .before .before .rule .ensures) (c .before .write-rule .ensures) (c .join .ensures)
+returns c = λ f s.
+    answers.a-product s _ _ (c .before .before .before .before .before .before .before .meaning .ensures) _ _ _
+    (c .before .before .before .before .before .before .is-long .ensures) (c .before .before .before .before .before .if1 .taken)
+    (c .before .before .before .before .less .ensures) (c .before .before .less2 .ensures) (c .before .before .before .rule .ensures)
+    (c .before .write-rule .ensures) (c .join .ensures)
 
 none-requires : tie.Need-none-requires
 none-requires c κs = search needs
 
 returns-2 : tie.Need-returns-2
-returns-2 c = λ f s. answers.no-product s _ _ (c .before .before .before .meaning .ensures) _ _ _ (c .before .before .is-long .ensures) (c .before .if1 .left) (c .none .ensures)
+returns-2 c = λ f s.
+    answers.no-product s _ _ (c .before .before .before .meaning .ensures) _ _ _ (c .before .before .is-long .ensures) (c .before .if1 .left)
+    (c .none .ensures)
 
 pub product-rules-spec : {M : Type 1} → statement M
 product-rules-spec =

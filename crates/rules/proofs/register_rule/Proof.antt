@@ -1,3 +1,4 @@
+-- The sort in the packed number is that of the meaning.
 use Rattle.names.specs.Broken.{rule}
 use mathlib.Core.Bool.{Bool}
 use Rattle.rules.proofs.Sorts as sorts

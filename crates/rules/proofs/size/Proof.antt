@@ -1,3 +1,4 @@
+-- A cell's packed number tells its width.
 use Rattle.rules.proofs.Sorts as sorts
 use mathlib.Core.Path.{refl, sym, _∙_}
 use mathlib.Core.Bool.{true, false}

@@ -1,3 +1,4 @@
+-- The loop goes down the stack: none above is in the set.
 use Rattle.ledger.specs.Book.{wideOf}
 use Rattle.tables.specs.Stacks.{stackOf}
 use Rattle.tables.specs.Packed.{setOf}
@@ -28,13 +29,17 @@ has-requires : tie.Need-has-requires Inv-loop μ-loop
 has-requires c κs = search needs
 
 returns : tie.Need-returns Inv-loop μ-loop
-returns c = sym (sorts.spares-hit _ _ (c .before .before .before .before .loop .i) _ _ (c .before .before .before .loop-test .taken) (c .before .before .offset .ensures) (c .before .has .ensures) (c .if1 .taken) (c .before .before .before .before .loop .inv))
+returns c =
+    sym (sorts.spares-hit _ _ (c .before .before .before .before .loop .i) _ _ (c .before .before .before .loop-test .taken)
+    (c .before .before .offset .ensures) (c .before .has .ensures) (c .if1 .taken) (c .before .before .before .before .loop .inv))
 
 loop-less : tie.Need-loop-less Inv-loop μ-loop
 loop-less c = omega arith
 
 loop-again : tie.Need-loop-again Inv-loop μ-loop
-loop-again c = sorts.spares-miss _ _ (c .before .before .before .before .loop .i) _ _ (c .before .before .before .loop-test .taken) (c .before .before .offset .ensures) (c .before .has .ensures) (c .if1 .left) (c .before .before .before .before .loop .inv)
+loop-again c =
+    sorts.spares-miss _ _ (c .before .before .before .before .loop .i) _ _ (c .before .before .before .loop-test .taken)
+    (c .before .before .offset .ensures) (c .before .has .ensures) (c .if1 .left) (c .before .before .before .before .loop .inv)
 
 returns-2 : tie.Need-returns-2 Inv-loop μ-loop
 returns-2 c = sym (sorts.spares-none _ _ (c .before .loop .i) (c .loop-test .left) (c .before .loop .inv))

@@ -1,3 +1,4 @@
+-- Two shapes have a subscript, two tokens on.
 use Rattle.rules.proofs.Answers as answers
 use borrow.Author.Needs.{needs}
 use Rattle.rules.proofs.subscript_rules.Statement.{statement}
@@ -19,7 +20,10 @@ rule-requires : tie.Need-rule-requires
 rule-requires c κs = search needs
 
 returns : tie.Need-returns
-returns c = λ f s n b. answers.subscripted f (c .before .before .before .before .before .args .t) (c .before .before .before .before .before .args .shape) (c .before .before .before .before .before .args .m) _ s (c .before .before .before .if1 .taken) (c .before .before .value .ensures) (c .before .is-inside .ensures) (c .rule .ensures) n b
+returns c = λ f s n b.
+    answers.subscripted f (c .before .before .before .before .before .args .t) (c .before .before .before .before .before .args .shape)
+    (c .before .before .before .before .before .args .m) _ s (c .before .before .before .if1 .taken) (c .before .before .value .ensures)
+    (c .before .is-inside .ensures) (c .rule .ensures) n b
 
 none-requires : tie.Need-none-requires
 none-requires c κs = search needs

@@ -1,3 +1,4 @@
+-- A term by its operator: a shift, a product, one that takes full operands only, or any other.
 use Rattle.rules.proofs.Answers as answers
 use borrow.Author.Needs.{needs}
 use Rattle.rules.proofs.term_rules.Statement.{statement}
@@ -22,7 +23,9 @@ join-requires : tie.Need-join-requires
 join-requires c κs = search needs
 
 returns-2 : tie.Need-returns-2
-returns-2 c = λ f s e. answers.multiplied f _ _ _ _ _ e (c .before .before .before .before .before .is-shift .ensures) (c .before .before .before .before .if1 .left) (c .before .before .if2 .taken) (c .before .product-rules .ensures f s) (c .before .before .before .operand-rules .ensures f s) (c .join .ensures)
+returns-2 c = λ f s e.
+    answers.multiplied f _ _ _ _ _ e (c .before .before .before .before .before .is-shift .ensures) (c .before .before .before .before .if1 .left)
+    (c .before .before .if2 .taken) (c .before .product-rules .ensures f s) (c .before .before .before .operand-rules .ensures f s) (c .join .ensures)
 
 is-full-only-requires : tie.Need-is-full-only-requires
 is-full-only-requires c κs = search needs
@@ -34,10 +37,16 @@ join-requires-2 : tie.Need-join-requires-2
 join-requires-2 c κs = search needs
 
 returns-3 : tie.Need-returns-3
-returns-3 c = λ f s e. answers.taken-full f _ _ _ _ _ e (c .before .before .before .before .before .before .before .is-shift .ensures) (c .before .before .before .before .before .before .if1 .left) (c .before .before .before .before .if2 .left) (c .before .before .before .is-full-only .ensures) (c .before .before .if3 .taken) (c .before .before .before .before .before .operand-rules .ensures f s) (c .before .no-short .ensures f s) (c .join2 .ensures)
+returns-3 c = λ f s e.
+    answers.taken-full f _ _ _ _ _ e (c .before .before .before .before .before .before .before .is-shift .ensures)
+    (c .before .before .before .before .before .before .if1 .left) (c .before .before .before .before .if2 .left)
+    (c .before .before .before .is-full-only .ensures) (c .before .before .if3 .taken)
+    (c .before .before .before .before .before .operand-rules .ensures f s) (c .before .no-short .ensures f s) (c .join2 .ensures)
 
 returns-4 : tie.Need-returns-4
-returns-4 c = λ f s e. answers.added f _ _ _ _ _ e (c .before .before .before .before .before .is-shift .ensures) (c .before .before .before .before .if1 .left) (c .before .before .if2 .left) (c .before .is-full-only .ensures) (c .if3 .left) (c .before .before .before .operand-rules .ensures f s)
+returns-4 c = λ f s e.
+    answers.added f _ _ _ _ _ e (c .before .before .before .before .before .is-shift .ensures) (c .before .before .before .before .if1 .left)
+    (c .before .before .if2 .left) (c .before .is-full-only .ensures) (c .if3 .left) (c .before .before .before .operand-rules .ensures f s)
 
 pub term-rules-spec : {M : Type 1} → statement M
 term-rules-spec =

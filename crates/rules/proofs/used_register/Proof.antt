@@ -1,3 +1,4 @@
+-- Both rules by the one meaning that is read.
 use Rattle.names.specs.Broken.{_⊕_}
 use Rattle.names.specs.declared.Broken.{Broken}
 use Rattle.rules.proofs.Answers as answers
@@ -19,7 +20,9 @@ join-requires : tie.Need-join-requires
 join-requires c κs = search needs
 
 returns : tie.Need-returns
-returns c = λ f s. c .join .ensures ∙ ap₂ (λ (x y : Broken). x ⊕ y) (answers.a-register s _ _ (c .before .before .before .meaning .ensures) (c .before .before .register-rule .ensures)) (answers.no-zero s _ _ (c .before .before .before .meaning .ensures) (c .before .zero-rule .ensures))
+returns c = λ f s.
+    c .join .ensures ∙ ap₂ (λ (x y : Broken). x ⊕ y) (answers.a-register s _ _ (c .before .before .before .meaning .ensures)
+    (c .before .before .register-rule .ensures)) (answers.no-zero s _ _ (c .before .before .before .meaning .ensures) (c .before .zero-rule .ensures))
 
 pub used-register-spec : {M : Type 1} → statement M
 used-register-spec =

@@ -1,3 +1,4 @@
+-- A register is judged by whether it is among the protected ones.
 use Rattle.kinds.specs.Rules.{writeRule}
 use Rattle.names.specs.Broken.{rule}
 use mathlib.Core.Bool.{Bool, not}

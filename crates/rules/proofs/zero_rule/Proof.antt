@@ -1,3 +1,4 @@
+-- Register 0 is told by the packed number.
 use Rattle.names.specs.Broken.{rule}
 use Prim.Native.Nat.{ℕ}
 use lib.Dec.{eqb}
@@ -18,7 +19,9 @@ rule-requires : tie.Need-rule-requires
 rule-requires c κs = search needs
 
 returns : tie.Need-returns
-returns c = λ n b. c .rule .ensures ∙ ap (λ (x : Bool). rule (not x) 9 (c .before .before .before .args .t)) (ap₂ (λ (r : Bool) (k : ℕ). r && eqb k 0) (c .before .before .is-register .ensures) (c .before .number .ensures .0) ∙ sorts.zero-sort n _ b)
+returns c = λ n b.
+    c .rule .ensures ∙ ap (λ (x : Bool). rule (not x) 9 (c .before .before .before .args .t))
+    (ap₂ (λ (r : Bool) (k : ℕ). r && eqb k 0) (c .before .before .is-register .ensures) (c .before .number .ensures .0) ∙ sorts.zero-sort n _ b)
 
 pub zero-rule-spec : {M : Type 1} → statement M
 zero-rule-spec = tie.close (tie.spec is-register-requires number-requires rule-requires returns)
