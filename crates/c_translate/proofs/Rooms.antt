@@ -1,5 +1,5 @@
 -- What is told of an answer is told of the definition's, and what is written into a buffer fits it. Assumes nothing.
-use mathlib.Core.Path.{_≡_, ap, _∙_}
+use mathlib.Core.Path.{_≡_, _∙_}
 use mathlib.Core.List.{List}
 use Prim.Native.Nat.{ℕ, _≤_}
 use native.Mathlib.Omega.{arith}
@@ -9,7 +9,8 @@ use borrow.Author.Tests.{ltb-false}
 use Rattle.base.proofs.Tests.{by-test}
 use Rattle.translator.specs.Translate as T
 use Rattle.translator.specs.Translate.{accepted, refused, lengthOf, translated, inRoom, translate}
-use Rattle.translate.specs.Answers.{Outcome, outcome, defined}
+use Rattle.translate.specs.Answers.{outcome, defined}
+use Rattle.translate.proofs.Theorems.{in-parts}
 use Rattle.translate.specs.declared.Answer.{Answer}
 use Rattle.c_translate.specs.Answered.{Answered, Told}
 
@@ -25,12 +26,13 @@ fits source room = fits-room (translated source) room
 pub answered : (source before after : List ℕ) (r : Answer) (number place size : ℕ) → Told r number place size → outcome r after ≡ defined (translate source (length before)) before
     → Answered (translate source (length before)) before after number place size
 answered source before after r number place size t q =
-    let e = t .length-is ∙ ap (λ (o : Outcome). o .length) q in
+    let g = in-parts (translate source (length before)) before after r q in
+    let e = t .length-is ∙ g .length-is in
     let h = fits source (length before) in
     record {
-      number-is = t .number-is ∙ ap (λ (o : Outcome). o .number) q;
-      place-is = t .place-is ∙ ap (λ (o : Outcome). o .place) q;
+      number-is = t .number-is ∙ g .number-is;
+      place-is = t .place-is ∙ g .place-is;
       length-is = e;
-      buffer-is = ap (λ (o : Outcome). o .buffer) q;
+      buffer-is = g .buffer-is;
       fits = rw e h;
     }

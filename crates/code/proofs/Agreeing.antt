@@ -15,8 +15,8 @@ use Rattle.base.specs.Lists.{_∈_, All}
 use Rattle.base.proofs.Lists.{all-in}
 use Rattle.grammar.specs.Tree.{Assignment, Condition, compared, bare, Declaration, registers, cells, base, Statement, assign, call, block, goto, null, ifThen, ifElse, while, for, Body, declare, procedure, items, Items, ended, label, item}
 use Rattle.grammar.specs.Derives.{isCondition, isRegister}
-use Rattle.grammar.specs.Events.{Route, labelled, sent, Entry, named, celled, itemed, valued, based, Phrase, aimed, driven, signed, given, joined, tested, limited, called, Event, edge, route, entry, phrase, mark, labelsOnto, labelsOf, eventsDeclaration, eventsChain, eventsStatement, eventsBody, eventsItems, eventsOf}
-use Rattle.grammar.specs.Places.{Block, within, Place, enterName, enterLabel, namesAfter, after, afterAll, Along}
+use Rattle.grammar.specs.Events.{Route, labelled, sent, Entry, named, celled, itemed, valued, based, Phrase, aimed, driven, signed, given, joined, tested, limited, called, Event, edge, route, entry, phrase, mark, entryDeclares, labelsOnto, labelsOf, eventsDeclaration, eventsChain, eventsStatement, eventsBody, eventsItems, eventsOf}
+use Rattle.grammar.specs.Places.{Block, within, Place, enterName, enterLabel, after, afterAll, Along}
 use Rattle.grammar.specs.Texts.{Stands, Text}
 use Rattle.grammar.proofs.Kept.{keep-operand}
 use Rattle.grammar.proofs.Places.{Appends, append-chain, append-declaration, append-statement, append-body, leave-chain, after-statement, along-parts, IsEntry, blockAfter, after-entries, labels-stay, declaration-entries}
@@ -285,7 +285,7 @@ module _ (marks : List ℕ) where
     -- ── declared registers and cells have no address ──
 
     told-entry : (d : Entry) (b : Block) (pl : Place) (lo : ℕ) (s : Stands (f .kinds) (entry d) (within b ∷ pl) lo) → ((u : ℕ) → s .from ≤ u → u < s .to → getD marks u 0 ≡ 0)
-        → (bs : List (List ℕ)) (ps : List Mark) → Told (b .names ∷ bs) ps → Told (namesAfter d (b .names) ∷ bs) ps
+        → (bs : List (List ℕ)) (ps : List Mark) → Told (b .names ∷ bs) ps → Told ((entryDeclares d ++ b .names) ∷ bs) ps
     unfolding isRegister
     told-entry (named r) b pl lo s z bs ps t = told-enter (r .name) (z (r .name) (omega arith) (omega arith)) t
     told-entry (celled c w) b pl lo s z bs ps t = t

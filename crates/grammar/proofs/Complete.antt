@@ -1,6 +1,6 @@
 -- Whatever the paper's grammar derives is read, as itself, if no token follows by which it could go on: each reader takes the way that the derivation's tokens show.
 -- Assumes nothing.
-use mathlib.Core.Path.{_≡_, refl, sym, _∙_}
+use mathlib.Core.Path.{_≡_, refl, sym, subst, _∙_}
 use mathlib.Core.Logic.{_⊎_, inl, inr}
 use mathlib.Core.List.{List, [], _∷_}
 use mathlib.Core.Bool.{Bool, true, false, _||_}
@@ -389,15 +389,7 @@ module _ (kinds : List ℕ) where
 
   block-begin : (x : Statement) (i j : ℕ) → isBlock kinds x i j → getD kinds i 0 ≡ K.BEGIN
   unfolding isStatement
-  block-begin (block t b) i j (e, (y, h, r)) = h
-  block-begin (assign a) i j h = never-true (h .0)
-  block-begin (call n) i j h = never-true (h .0)
-  block-begin (goto t n) i j h = never-true (h .0)
-  block-begin null i j h = never-true (h .0)
-  block-begin (ifThen t c s) i j h = never-true (h .0)
-  block-begin (ifElse t c s e u) i j h = never-true (h .0)
-  block-begin (while t c s) i j h = never-true (h .0)
-  block-begin (for t a v l s) i j h = never-true (h .0)
+  block-begin x i j ((t, b, e), h) = subst (λ (y : Statement). isStatement kinds y i j) e h .1
 
   pub complete-program : (room : ℕ) (x : Statement) (i j : ℕ) → isProgram kinds x i j → nestingOf x ≤ room → programIn room kinds i ≡ ok x j
   unfolding isProgram look andThen want

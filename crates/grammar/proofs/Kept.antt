@@ -11,7 +11,7 @@ use Rattle.base.specs.Lists.{member}
 use Rattle.token.specs.Kinds as K
 use Rattle.grammar.specs.Tree.{Designator, Operand, number, place, Sign, plain, abs, neg, negAbs, Term, Assignment, Condition, compared, bare, Width, full, short, Register, Item, Declaration, registers, cells, base, Statement, assign, call, block, goto, null, ifThen, ifElse, while, for, Body, declare, procedure, items, Items, ended, label, item}
 use Rattle.grammar.specs.Grammar.{relations, operators}
-use Rattle.grammar.specs.Derives.{integerOrLogical, Part, end, never, _⟫_, only, _▸_, _#_▸_, _∋▸_, _∋_▸_, isShape, isDesignator, isOperand, isCondition, isSign, areTerms, isAssignment, areNumbers, isItem, isRegister, areMore, areSome, isType, isDeclaration, simple, aBlock, isProcedure, isStatement, isBody, isItems, isBlock, isProgram, within, SameBefore}
+use Rattle.grammar.specs.Derives.{integerOrLogical, Part, end, never, _⟫_, only, _▸_, _#_▸_, _∋▸_, _∋_▸_, isShape, isDesignator, isOperand, isCondition, isSign, areTerms, isAssignment, areNumbers, isItem, isRegister, areMore, areSome, isType, isDeclaration, simple, isProcedure, isStatement, isBody, isItems, isBlock, isProgram, within, SameBefore}
 
 -- what p says of a list of kinds begins no later than it ends, and q says it of another where the tokens before the end are the same
 pub record Kept (kinds others : List ℕ) (p q : Part) : Type 0 where
@@ -169,7 +169,7 @@ module _ {kinds others : List ℕ} where
     keep-items (item s xs) = keep-then (keep-statement s) (keep-token _ (keep-items xs))
 
   pub keep-block : (x : Statement) → Kept kinds others (isBlock kinds x) (isBlock others x)
-  keep-block x = keep-only (aBlock x) (keep-statement x)
+  keep-block x = record { rises = λ (e, r). keep-statement x .rises r; stays = λ s (e, r). (e, keep-statement x .stays s r) }
 
   pub keep-program : (x : Statement) → Kept kinds others (isProgram kinds x) (isProgram others x)
   unfolding isProgram

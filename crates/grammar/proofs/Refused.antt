@@ -2,14 +2,17 @@
 -- they hold it is given. Assumes nothing.
 use mathlib.Core.Path.{_≡_, refl, sym, _∙_, ap, subst}
 use mathlib.Core.Logic.{_⊎_, inl, inr}
+use mathlib.Core.Bool.{true}
 use mathlib.Core.List.{List}
 use Prim.Native.Nat.{ℕ, zero, suc, _+_, _≤_, _<_, max}
 use native.Mathlib.Omega.{arith}
 use native.Mathlib.Nat.{le-antisymm}
+use lib.ListN.{getD}
+use Rattle.base.specs.Lists.{member}
 use Rattle.grammar.specs.Tree.{Statement, assign, call, block, goto, null, ifThen, ifElse, while, for, Body, declare, procedure, items, Items, ended, label, item}
 use Rattle.grammar.specs.Reader.{Result, ok, bad}
 use Rattle.grammar.specs.Grammar.{nesting, program}
-use Rattle.grammar.specs.Derives.{isProgram, nestingOf, bodyNesting, itemsNesting, Inside, InsideBody, InsideItems, isProgramWithin, Begins}
+use Rattle.grammar.specs.Derives.{isProgram, nestingOf, bodyNesting, itemsNesting, Inside, InsideBody, InsideItems, isProgramWithin, Begins, constructs}
 use Rattle.grammar.specs.Refusals.{EachProgram, FourAt, FiveAt}
 use Rattle.grammar.proofs.Kept.{fewer}
 use Rattle.grammar.proofs.Sequences.{reach, Four, Five, read-right, refused-right, four-or-five, four, five}
@@ -98,10 +101,13 @@ module _ (kinds : List ℕ) (i t : ℕ) where
   pub five-at : Answered 5 t → FiveAt kinds i t
   five-at e = (let f = five (refused-right (right-program kinds i) e) in record {
     before = f .before;
-    word = f .word;
     there = begins-any (f .there);
-    inside = λ o s x j h. against kinds i t 5 e o s x j h .1;
+    deeper = λ o s x j h. inside-nesting x nesting t (against kinds i t 5 e o s x j h .1);
   })
+
+  -- the word there opens a construct, which stands inside 64 in every program that begins so
+  pub five-inside : Answered 5 t → (member (getD kinds t 0) constructs ≡ true) × EachProgram kinds i (t + 1) (λ x. Inside x nesting t)
+  five-inside e = (five (refused-right (right-program kinds i) e) .word, λ o s x j h. against kinds i t 5 e o s x j h .1)
 
   before : (n s : ℕ) → Answered n s → Begins (isProgramWithin nesting) kinds i s
   before n s e = go (refused-right (right-program kinds i) e .why)
@@ -148,7 +154,7 @@ module _ (kinds : List ℕ) (i t : ℕ) where
       go n e (inr z) = (let c = five-at (rw z at e) .there in absurd (f .none (c .others) (c .same) (c .tree) (c .to) (c .derived)))
 
   pub at-five : FiveAt kinds i t → Answered 5 t
-  at-five f = (let (n, e) = there (f .before) (λ o s x j h. inside-nesting x nesting t (f .inside o s x j h)) in go n e (four-or-five (refused-right (right-program kinds i) e)))
+  at-five f = (let (n, e) = there (f .before) (f .deeper) in go n e (four-or-five (refused-right (right-program kinds i) e)))
     where
       go : (n : ℕ) → Answered n t → (n ≡ 4) ⊎ (n ≡ 5) → Answered 5 t
       go n e (inl z) = (let c = f .there in absurd (four-at (rw z at e) .none (c .others) (c .same) (c .tree) (c .to) (c .derived)))

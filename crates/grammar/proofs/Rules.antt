@@ -573,7 +573,7 @@ blockIn room d kinds x = within (nestingOf x) (room + d) (isBlock kinds x)
 module _ {kinds : List ℕ} (room i : ℕ) where
   as-whole-block : Leads (blockIn (suc room)) kinds i (token K.BEGIN (λ t. part (bodies room) (λ b. made (block t b)))) i
   unfolding Each isStatement nestingOf
-  as-whole-block = starts (λ d o t b j (n, h). (omega arith, (refl, (refl, t, h))))
+  as-whole-block = starts (λ d o t b j (n, h). (omega arith, ((i, b, refl), (refl, t, h))))
 
 abbrev blocks : ℕ → Rule Statement
 blocks room = record {

@@ -1,17 +1,21 @@
 -- What a reader who knows only the grammar may rely on: the reader of programs against the rules of `Derives`, which are the paper's, and the refusals of `Refusals`. Each
 -- is proved by citation.
-use mathlib.Core.Path.{_≡_}
-use mathlib.Core.Logic.{_⊎_, _↔_}
+use mathlib.Core.Path.{_≡_, refl, sym, ap, _∙_}
+use mathlib.Core.Logic.{_⊎_, inl, inr, _↔_}
+use mathlib.Core.Bool.{Bool, true, false}
 use mathlib.Core.List.{List, []}
-use Prim.Native.Nat.{ℕ, _≤_, max}
+use Prim.Native.Nat.{ℕ, _+_, _≤_, max}
 use native.Mathlib.Omega.{arith}
-use lib.ListN.{length}
+use lib.Dec.{eqb}
+use lib.ListN.{length, getD}
+use borrow.Author.Tests.{eqb-true, eqb-false}
+use Rattle.base.specs.Lists.{member}
 use Rattle.token.specs.Kinds as K
 use Rattle.grammar.specs.Tree.{Statement}
-use Rattle.grammar.specs.Reader.{ok, bad}
+use Rattle.grammar.specs.Reader.{Result, ok, bad}
 use Rattle.grammar.specs.Grammar.{nesting, program}
-use Rattle.grammar.specs.Derives.{isProgram, nestingOf, isProgramWithin}
-use Rattle.grammar.specs.Refusals.{FourAt, FiveAt}
+use Rattle.grammar.specs.Derives.{isProgram, nestingOf, Inside, isProgramWithin, constructs}
+use Rattle.grammar.specs.Refusals.{EachProgram, FourAt, FiveAt, Grammatical, derived, four, five}
 use Rattle.grammar.specs.Events.{eventsOf}
 use Rattle.grammar.specs.Texts.{Text}
 use Rattle.grammar.proofs.Tests.{real}
@@ -19,7 +23,17 @@ use Rattle.grammar.proofs.Texts.{program-text}
 use Rattle.grammar.proofs.Sequences.{read-right, refused-right, four-or-five}
 use Rattle.grammar.proofs.Rules.{right-program}
 use Rattle.grammar.proofs.Complete.{complete-program}
-use Rattle.grammar.proofs.Refused.{same-answer, four-at, five-at, at-four, at-five}
+use Rattle.grammar.proofs.Refused.{same-answer, four-at, five-at, five-inside, at-four, at-five}
+
+-- what the reader of programs answers
+abbrev pub answerOf : {kinds : List ℕ} {i : ℕ} → Grammatical kinds i → Result Statement
+answerOf (derived x j h) = ok x j
+answerOf (four t h) = bad 4 t
+answerOf (five t h) = bad 5 t
+
+pub not-four : {n : ℕ} → (n ≡ 4) ⊎ (n ≡ 5) → (n ≡ 4 → ⊥) → n ≡ 5
+not-four (inl e) h = absurd (h e)
+not-four (inr e) h = e
 
 module _ (kinds : List ℕ) (i : ℕ) where
   -- what is read is a program of the grammar within the limit of nesting, made of exactly the tokens from i up to j; and every such program is read, as itself
@@ -43,6 +57,29 @@ module _ (kinds : List ℕ) (i : ℕ) where
 
   pub refusal-5 : (t : ℕ) → program kinds i ≡ bad 5 t ↔ FiveAt kinds i t
   refusal-5 t = (five-at kinds i t, at-five kinds i t)
+
+  -- "BEGIN, IF, WHILE, FOR or PROCEDURE inside 64 such constructs": one of these words stands where 5 is given, and what it opens stands inside 64 in every program that
+  -- begins with the tokens up to it
+  pub five-opens : (t : ℕ) → FiveAt kinds i t → (member (getD kinds t 0) constructs ≡ true) × EachProgram kinds i (t + 1) (λ x. Inside x nesting t)
+  five-opens t f = five-inside kinds i t (at-five kinds i t f)
+
+  -- the tokens from i on are a program, or refused with 4 or with 5: the reader tells which
+  unfoldable pub grammatical : Grammatical kinds i
+  grammatical = told (program kinds i) refl
+    where
+      refused : (n t : ℕ) → program kinds i ≡ bad n t → (b : Bool) → eqb n 4 ≡ b → Grammatical kinds i
+      refused n t e true b = four t (refusal-4 t .0 (e ∙ ap (λ (m : ℕ). bad m t) (eqb-true n 4 b)))
+      refused n t e false b = five t (refusal-5 t .0 (e ∙ ap (λ (m : ℕ). bad m t) (not-four (refusals n t e) (eqb-false n 4 b))))
+
+      told : (r : Result Statement) → program kinds i ≡ r → Grammatical kinds i
+      told (ok x j) e = derived x j (accepted x j .0 e)
+      told (bad n t) e = refused n t e (eqb n 4) refl
+
+  -- and nothing else is true of them: whichever is told, the reader answers it
+  pub one-told : (g : Grammatical kinds i) → answerOf g ≡ program kinds i
+  one-told (derived x j h) = sym (accepted x j .1 h)
+  one-told (four t h) = sym (refusal-4 t .1 h)
+  one-told (five t h) = sym (refusal-5 t .1 h)
 
   -- ── what passes over the tree take from this ──
 

@@ -45,17 +45,6 @@ simple (ifElse t c s e u) = false
 simple (while t c s) = false
 simple (for t a v l s) = false
 
-abbrev pub aBlock : Statement → Bool
-aBlock (assign a) = false
-aBlock (call n) = false
-aBlock (block t b) = true
-aBlock (goto t n) = false
-aBlock null = false
-aBlock (ifThen t c s) = false
-aBlock (ifElse t c s e u) = false
-aBlock (while t c s) = false
-aBlock (for t a v l s) = false
-
 abbrev pub integerOrLogical : List ℕ
 integerOrLogical = K.INTEGER ∷ K.LOGICAL ∷ []
 
@@ -188,7 +177,7 @@ module _ (kinds : List ℕ) where
 
   -- a statement that is a block
   abbrev pub isBlock : Statement → Part
-  isBlock x = only (aBlock x) (isStatement x)
+  isBlock x i j = ((t : ℕ) × (b : Body) × (x ≡ block t b)) × isStatement x i j
 
   unfoldable pub isProgram : Statement → Part
   isProgram x = isBlock x ⟫ K.AT ▸ end

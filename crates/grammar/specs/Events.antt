@@ -29,8 +29,7 @@ pub data Entry : Type 0 where
 
 -- what statements are made of. What follows a target has it.
 pub data Phrase : Type 0 where
-  aimed : Designator → Phrase
-  driven : Designator → Phrase
+  aimed driven : Designator → Phrase
   signed : (target : Designator) → Sign → Phrase
   given : (target : Designator) → Operand → Phrase
   joined : (target : Designator) → Term → Phrase
@@ -40,11 +39,7 @@ pub data Phrase : Type 0 where
 
 -- where statements begin, part and end that hold others: only the code heeds them
 pub data Mark : Type 0 where
-  looped : (at : ℕ) → Mark
-  otherwise : (at : ℕ) → Mark
-  endedIf : (at : ℕ) → Mark
-  endedElse : (at : ℕ) → Mark
-  endedWhile : (at : ℕ) → Mark
+  looped otherwise endedIf endedElse endedWhile : (at : ℕ) → Mark
   endedFor : (step : ℕ) → Mark
 
 pub data Event : Type 0 where

@@ -1,8 +1,8 @@
 -- Where an event stands: the blocks and the bodies of procedures around it, innermost first, each with what has been declared and labelled in it so far. And
 -- what it is to go along a text: a pass is handed each event with its place, and changes no place.
-use mathlib.Core.List.{List, [], _∷_}
+use mathlib.Core.List.{List, [], _∷_, _++_}
 use Prim.Native.Nat.{ℕ}
-use Rattle.grammar.specs.Events.{Edge, opened, closed, entered, left, Route, labelled, sent, Entry, named, celled, itemed, valued, based, Event, edge, route, entry, phrase, mark}
+use Rattle.grammar.specs.Events.{Edge, opened, closed, entered, left, Route, labelled, sent, Entry, Event, edge, route, entry, phrase, mark, entryUses, entryDeclares}
 
 -- a block, by its BEGIN: the names and bases that have been declared in it, the newest first; all its labels; those that have been set
 pub record Block : Type 0 where
@@ -25,34 +25,21 @@ abbrev pub outward : Place → Place
 outward [] = []
 outward (f ∷ p) = p
 
+-- the innermost block with names and bases more that have been declared in it, and labels that have been set
+abbrev pub extend : (names bases set : List ℕ) → Place → Place
+extend ns bs ls [] = []
+extend ns bs ls (within b ∷ p) = within (record { at = b .at; names = ns ++ b .names; bases = bs ++ b .bases; labels = b .labels; set = ls ++ b .set }) ∷ p
+extend ns bs ls (body n r ∷ p) = body n r ∷ p
+
 abbrev pub enterName : ℕ → Place → Place
-enterName t [] = []
-enterName t (within b ∷ p) = within (record { at = b .at; names = t ∷ b .names; bases = b .bases; labels = b .labels; set = b .set }) ∷ p
-enterName t (body n r ∷ p) = body n r ∷ p
+enterName t p = extend (t ∷ []) [] [] p
 
-abbrev pub namesAfter : Entry → List ℕ → List ℕ
-namesAfter (named r) ns = r .name ∷ ns
-namesAfter (celled c w) ns = ns
-namesAfter (itemed c w i) ns = i .name ∷ ns
-namesAfter (valued t) ns = ns
-namesAfter (based n) ns = ns
-
-abbrev pub basesAfter : Entry → List ℕ → List ℕ
-basesAfter (named r) ns = ns
-basesAfter (celled c w) ns = ns
-basesAfter (itemed c w i) ns = ns
-basesAfter (valued t) ns = ns
-basesAfter (based n) ns = n ∷ ns
-
+-- the one name that an entry uses is that of a base
 abbrev pub enterEntry : Entry → Place → Place
-enterEntry d [] = []
-enterEntry d (within b ∷ p) = within (record { at = b .at; names = namesAfter d (b .names); bases = basesAfter d (b .bases); labels = b .labels; set = b .set }) ∷ p
-enterEntry d (body n r ∷ p) = body n r ∷ p
+enterEntry d p = extend (entryDeclares d) (entryUses d) [] p
 
 abbrev pub enterLabel : ℕ → Place → Place
-enterLabel t [] = []
-enterLabel t (within b ∷ p) = within (record { at = b .at; names = b .names; bases = b .bases; labels = b .labels; set = t ∷ b .set }) ∷ p
-enterLabel t (body n r ∷ p) = body n r ∷ p
+enterLabel t p = extend [] [] (t ∷ []) p
 
 abbrev pub afterEdge : Edge → Place → Place
 afterEdge (opened t ls) p = within (record { at = t; names = []; bases = []; labels = ls; set = [] }) ∷ p

@@ -18,9 +18,7 @@ pub data Operand : Type 0 where
 -- "[ABS, NEG or NEG ABS]", by the first of these words
 pub data Sign : Type 0 where
   plain : Sign
-  abs : (at : ℕ) → Sign
-  neg : (at : ℕ) → Sign
-  negAbs : (at : ℕ) → Sign
+  abs neg negAbs : (at : ℕ) → Sign
 
 -- "{operator operand}"
 pub record Term : Type 0 where
@@ -41,8 +39,7 @@ pub data Condition : Type 0 where
 
 -- "type = INTEGER, LOGICAL or SHORT INTEGER": "LOGICAL follows every rule of INTEGER", so an element is full or short
 pub data Width : Type 0 where
-  full : Width
-  short : Width
+  full short : Width
 
 -- "REGISTER name(number)"
 pub record Register : Type 0 where

@@ -181,7 +181,7 @@ module _ (f : Tables) where
   phrase-ruled (limited d v a) p = operand-ruled a
   phrase-ruled (called n) p = call-ruled (keptIn f p) n
 
-  event-ruled : (e : Event) (p : Place) → Ruled (rulesAt f e p)
+  pub event-ruled : (e : Event) (p : Place) → Ruled (rulesAt f e p)
   event-ruled (edge x) p = edge-ruled x
   event-ruled (route r) p = ruled-none
   event-ruled (entry d) p = entry-ruled d p

@@ -39,19 +39,17 @@ pub data Meaning : Type 0 where
 abbrev pub meaningOf : List ℕ → List Meaning → ℕ → Meaning
 meaningOf found means t = getD means (getD found t 0) nothing
 
+-- a target is a register or a cell: what is said of either, and of what is no target
+abbrev pub byTarget : {A : Type 0} → Meaning → (ℕ → A) → A → A → A
+byTarget m of-register of-cell of-none = elim m [ nothing ↦ of-none | register r ↦ of-register r | cell c ↦ of-cell | routine r ↦ of-none ]
+
 -- the register that a name means; 0 where it means none
 abbrev pub registerOf : Meaning → ℕ
-registerOf nothing = 0
-registerOf (register r) = r
-registerOf (cell c) = 0
-registerOf (routine r) = 0
+registerOf m = byTarget m (λ r. r) 0 0
 
 -- "`*` by a number, or by what begins with the name of a register or integer cell, needs an odd target and also writes the register below."
 abbrev pub isLong : Meaning → Bool
-isLong nothing = false
-isLong (register r) = true
-isLong (cell c) = isFull (c .width)
-isLong (routine r) = false
+isLong m = elim m [ nothing ↦ false | register r ↦ true | cell c ↦ isFull (c .width) | routine r ↦ false ]
 
 abbrev pub longOperand : List ℕ → List Meaning → Operand → Bool
 longOperand found means (number t) = true

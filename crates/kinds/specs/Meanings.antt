@@ -11,7 +11,7 @@ use Rattle.grammar.specs.Tree.{Item, Width, Statement}
 use Rattle.grammar.specs.Events.{Edge, opened, closed, entered, left, Entry, named, celled, itemed, valued, based, Phrase, aimed, driven, signed, given, joined, tested, limited, called, Event, edge, route, entry, phrase, mark, eventsOf}
 use Rattle.grammar.specs.Places.{within, body, Place, outward, along}
 use Rattle.kinds.specs.Registers.{Registers, sixteen, noRegisters, addRegister, union}
-use Rattle.kinds.specs.Meaning.{Meaning, nothing, register, cell, routine, Based, Cell, meaningOf, registerOf, isProduct}
+use Rattle.kinds.specs.Meaning.{Meaning, nothing, register, cell, routine, Based, Cell, meaningOf, byTarget, registerOf, isProduct}
 
 -- a cell with its initial values
 pub record Filled : Type 0 where
@@ -55,17 +55,11 @@ writeText own p s = growWritten own (union (getD (s .written) p noRegisters)) s
 
 -- "A call writes the procedure's return register and all that its body's text writes, nested procedures and base declarations included, through calls too."
 unfoldable pub callWrites : Meaning → ℕ → ℕ → Meant → Meant
-callWrites nothing own p s = s
-callWrites (register r) own p s = s
-callWrites (cell c) own p s = s
-callWrites (routine r) own p s = writeText own p (write own r s)
+callWrites m own p s = elim m [ nothing ↦ s | register r ↦ s | cell c ↦ s | routine r ↦ writeText own p (write own r s) ]
 
 -- a target that is a register r writes register g r
 unfoldable pub targetWrites : Meaning → (ℕ → ℕ) → ℕ → Meant → Meant
-targetWrites nothing g own s = s
-targetWrites (register r) g own s = write own (g r) s
-targetWrites (cell c) g own s = s
-targetWrites (routine r) g own s = s
+targetWrites m g own s = byTarget m (λ r. write own (g r) s) s s
 
 -- ── declarations ──
 
@@ -101,13 +95,9 @@ abbrev pub cellOf : List ℕ → Option ℕ → Width → Based → Item → Cel
 cellOf values count w b i = record { name = i .name; base = b; width = w; elements = countOf values count; array = isArray count }
 
 unfoldable pub addCell : Cell → List ℕ → Meant → Meant
-addCell c vs s = record {
-  means = set (s .means) (c .name) (cell c);
-  opens = s .opens;
-  written = s .written;
-  cells = record { cell = c; values = vs } ∷ s .cells;
-  bases = s .bases;
-}
+addCell c vs s =
+    let more : List Filled = record { cell = c; values = vs } ∷ s .cells in
+    record { means = set (s .means) (c .name) (cell c); opens = s .opens; written = s .written; cells = more; bases = s .bases }
 
 -- ── event by event ──
 
@@ -149,10 +139,6 @@ module _ (kinds values found : List ℕ) where
 
 -- before a text of n tokens, with token 0 and the register names in front: tokens 1 to 16 mean the registers 0 to 15, and no other token means anything
 abbrev pub standard : ℕ → Meant
-standard n = record {
-  means = nothing ∷ (map register sixteen ++ replicate n nothing);
-  opens = replicate (firstToken + n) 0;
-  written = replicate (firstToken + n) noRegisters;
-  cells = [];
-  bases = 0;
-}
+standard n =
+    let m : ℕ = firstToken + n in
+    record { means = nothing ∷ (map register sixteen ++ replicate n nothing); opens = replicate m 0; written = replicate m noRegisters; cells = []; bases = 0 }

@@ -13,7 +13,7 @@ use Rattle.grammar.specs.Tree.{Designator, Operand, number, place, Sign, plain,
 use Rattle.names.specs.declared.Broken.{Broken}
 use Rattle.names.specs.Broken.{unbroken, rule, broken, _⊕_}
 use Rattle.kinds.specs.Registers.{noRegisters, spares}
-use Rattle.kinds.specs.Meaning.{Meaning, nothing, register, cell, routine, Cell, elementSize, isFull, registerOf, longOperand}
+use Rattle.kinds.specs.Meaning.{Meaning, nothing, register, cell, routine, Cell, elementSize, isFull, byTarget, registerOf, longOperand}
 use Rattle.kinds.specs.Tables.{Tables, kindAt, valueAt, meaningAt}
 
 -- "Program base is register 15. Data base is 14 … Protected at a point: 15, 14, the bases of enclosing blocks declared so far, the return registers of
@@ -28,16 +28,10 @@ writeRule kept r t = rule (not (member r kept)) 10 t
 -- ── registers ──
 
 abbrev pub isRegister : Meaning → Bool
-isRegister nothing = false
-isRegister (register r) = true
-isRegister (cell c) = false
-isRegister (routine r) = false
+isRegister m = byTarget m (λ r. true) false false
 
 abbrev pub isZero : Meaning → Bool
-isZero nothing = false
-isZero (register r) = eqb r 0
-isZero (cell c) = false
-isZero (routine r) = false
+isZero m = isRegister m && eqb (registerOf m) 0
 
 -- ── forms and values ──
 
@@ -69,10 +63,7 @@ abbrev pub fullOnly : List ℕ
 fullOnly = K.AND ∷ K.OR ∷ K.XOR ∷ K.ADD-LOGICAL ∷ K.SUBTRACT-LOGICAL ∷ []
 
 abbrev pub isShort : Meaning → Bool
-isShort nothing = false
-isShort (register r) = false
-isShort (cell c) = not (isFull (c .width))
-isShort (routine r) = false
+isShort m = elim m [ nothing ↦ false | register r ↦ false | cell c ↦ not (isFull (c .width)) | routine r ↦ false ]
 
 abbrev pub noSign : Sign → Broken
 noSign plain = unbroken
@@ -82,10 +73,7 @@ noSign (negAbs t) = broken 8 t
 
 -- "a cell target one register name only": no sign
 abbrev pub signBy : Meaning → Sign → Broken
-signBy nothing g = unbroken
-signBy (register r) g = unbroken
-signBy (cell c) g = noSign g
-signBy (routine r) g = unbroken
+signBy m g = byTarget m (λ r. unbroken) (noSign g) unbroken
 
 -- "A value for a short cell has signed value -32768 to 65535"
 abbrev pub fitsWidth : Width → ℕ → Bool
@@ -168,10 +156,7 @@ module _ (f : Tables) where
   -- ── assignments: each part by what the target means ──
 
   abbrev pub targetBy : Meaning → List ℕ → ℕ → Broken
-  targetBy nothing kept t = unbroken
-  targetBy (register r) kept t = writeRule kept r t
-  targetBy (cell c) kept t = unbroken
-  targetBy (routine r) kept t = unbroken
+  targetBy m kept t = byTarget m (λ r. writeRule kept r t) unbroken unbroken
 
   unfoldable pub targetRules : List ℕ → Designator → Broken
   targetRules kept d = placeRules d ⊕ targetBy (meaningAt f (d .name)) kept (d .name)
@@ -182,16 +167,10 @@ module _ (f : Tables) where
 
   -- "A register target takes the whole chain, left to right, a cell target one register name only."
   abbrev pub firstBy : Meaning → Operand → Broken
-  firstBy nothing a = unbroken
-  firstBy (register r) a = operandRules a
-  firstBy (cell c) a = onlyRegister a
-  firstBy (routine r) a = unbroken
+  firstBy m a = byTarget m (λ r. operandRules a) (onlyRegister a) unbroken
 
   abbrev pub termBy : Meaning → List ℕ → Term → Broken
-  termBy nothing kept t = unbroken
-  termBy (register r) kept t = termRules kept r t
-  termBy (cell c) kept t = broken 8 (t .operator)
-  termBy (routine r) kept t = unbroken
+  termBy m kept t = byTarget m (λ r. termRules kept r t) (broken 8 (t .operator)) unbroken
 
   unfoldable pub conditionRules : Condition → Broken
   conditionRules (compared n r a) = registerRule n ⊕ operandRules a

@@ -11,6 +11,7 @@ use Rattle.base.specs.Choose.{choose}
 use Rattle.translator.specs.Translate as T
 use Rattle.translator.specs.Translate.{accepted, refused, lengthOf, leaves, translate}
 use Rattle.translate.specs.Answers as A
+use Rattle.translate.proofs.Theorems.{in-parts}
 use Rattle.translate.specs.declared.Answer as D
 use Rattle.runner.specs.declared.Verdict.{Verdict}
 use Rattle.runner.specs.declared.Verdict.the-variants.{Ran, NoObject, BadCode, SmallStorage}
@@ -33,8 +34,8 @@ pub written-fits : (source before after : List ℕ) (a : D.Answer) (t : Translat
     → t .length ≤ length after
 written-fits source before after a t h q =
     let d = translate source (length before) in
-    let e : t .length ≡ lengthOf d = h .length-is ∙ ap (λ (o : A.Outcome). o .length) q in
-    let b : after ≡ leaves d before = ap (λ (o : A.Outcome). o .buffer) q in
+    let e : t .length ≡ lengthOf d = h .length-is ∙ in-parts d before after a q .length-is in
+    let b : after ≡ leaves d before = in-parts d before after a q .buffer-is in
     rw (e, b) (left-fits d before)
 
 pub written-part : (source before after : List ℕ) (a : D.Answer) (t : Translated) → Told a t → A.outcome a after ≡ A.defined (translate source (length before)) before
@@ -52,9 +53,9 @@ pub refused-is : (source before after : List ℕ) (a : D.Answer) (t : Translated
 unfolding gone
 refused-is source before after a t regs k budget s h q n =
     let d = translate source (length before) in
-    let e : t .number ≡ T.numberOf d = h .number-is ∙ ap (λ (o : A.Outcome). o .number) q in
-    let f : t .place ≡ T.placeOf d = h .place-is ∙ ap (λ (o : A.Outcome). o .place) q in
-    let b : after ≡ before = ap (λ (o : A.Outcome). o .buffer) q ∙ left d before (λ z. n (e ∙ z)) in
+    let e : t .number ≡ T.numberOf d = h .number-is ∙ in-parts d before after a q .number-is in
+    let f : t .place ≡ T.placeOf d = h .place-is ∙ in-parts d before after a q .place-is in
+    let b : after ≡ before = in-parts d before after a q .buffer-is ∙ left d before (λ z. n (e ∙ z)) in
     rw (ne-eqb (T.numberOf d) 0 (λ z. n (e ∙ z)), e, f, b)
 
 -- ── the runner ──
@@ -94,9 +95,9 @@ unfolding gone
 going-is source before after a t regs k budget s r u h q n g =
     let f = written-fits source before after a t h q in
     let d = translate source (length before) in
-    let z : T.numberOf d ≡ 0 = sym (h .number-is ∙ ap (λ (o : A.Outcome). o .number) q) ∙ n in
-    let e : t .length ≡ lengthOf d = h .length-is ∙ ap (λ (o : A.Outcome). o .length) q in
-    let b : after ≡ leaves d before = ap (λ (o : A.Outcome). o .buffer) q in
+    let z : T.numberOf d ≡ 0 = sym (h .number-is ∙ in-parts d before after a q .number-is) ∙ n in
+    let e : t .length ≡ lengthOf d = h .length-is ∙ in-parts d before after a q .length-is in
+    let b : after ≡ leaves d before = in-parts d before after a q .buffer-is in
     let l : length (take (t .length) after) ≡ t .length = omega (arith, length-take (t .length) after) in
     let first : outcome r after u ≡ ran (t .length) after (runner (take (t .length) after) regs k budget s) =
     ap (within after) g ∙ ap (λ (j : ℕ). ran j after (runner (take (t .length) after) regs k budget s)) l in

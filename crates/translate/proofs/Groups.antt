@@ -25,6 +25,7 @@ use Rattle.kinds.specs.Kinds.{rulesOf}
 use Rattle.translator.specs.Layout.{layout, placeCells}
 use Rattle.translator.specs.Translate as T
 use Rattle.translator.specs.Translate.{kindsOf, valuesOf, named, labelled, make, finish, judgeBy, judge, afterTokens, inRoom, translated, translate}
+use Rattle.translator.proofs.Answers.{read-grammar}
 use Rattle.translator.proofs.Tokens.{small-text, text-length}
 use Rattle.parse.specs.Programs.{Told, toldOf, Parsed}
 use Rattle.parse.proofs.Texts.{tokens-small}
@@ -38,6 +39,7 @@ use Rattle.translate.specs.Answers.{Gives, outcome, defined}
 use Rattle.translate.specs.Texts.{allTokens, placesOf, Fronted, Small, Text, Blank, Blanks, Bound, meantIn, tablesIn, Settled, Zeros, Lent, Rooms}
 use Rattle.translate.proofs.Reading.{all-read, count-is}
 use Rattle.translate.proofs.Judging.{program-front}
+use Rattle.translate.proofs.Theorems.{outcome-parts, defined-parts}
 
 -- ── "6 to 13", then 14, 15, 16 ──
 
@@ -142,12 +144,12 @@ module _ (src kinds values places : List ℕ) (answer : Tokens) (d : Fronted src
         → Gives (translate src (length out)) out out′ a
     unfolding translate translated
     text-read found goes means out out′ a b g =
-        rw (all-read src answer (d .is) n e)
+        rw (all-read src answer (d .is) n e, read-grammar (allTokens src))
         (rw (d .kinds-are n e) at (g (d .kinds-are n e) (d .values-are n e) (d .places-are n e) (small-text src) b))
 
 -- number, place, length and buffer in one
 pub as-one : {a : T.Answer} {before after : List ℕ} {r : Answer} → Gives a before after r → outcome r after ≡ defined a before
-as-one g = rw (g .number-is, g .place-is, g .length-is, g .buffer-is)
+as-one {a} {before} {after} {r} g = outcome-parts r after ∙ (rw (g .number-is, g .place-is, g .length-is, g .buffer-is) (sym (defined-parts a before)))
 
 -- "1: source over 32,768 bytes … 32,768"
 pub too-long : (src out : List ℕ) → TEXT-LIMIT < length src → Gives (translate src (length out)) out out (Refused 1 TEXT-LIMIT)
@@ -158,12 +160,12 @@ too-long src out h = rw (lt-ltb TEXT-LIMIT (length src) h) (record { number-is =
 
 -- what is lent, cut to so many tokens
 pub cut-lent :
-    (src : List ℕ) (m : ℕ) (kinds values tape opens written means under offsets work : List ℕ) → tokensOf src .number ≡ 0 → firstToken ≤ m → m ≤ 65536
+    (src : List ℕ) (m : ℕ) (kinds values tape opens written means under offsets ends : List ℕ) → tokensOf src .number ≡ 0 → firstToken ≤ m → m ≤ 65536
     → (m ≤ length kinds) × (m ≤ length values) × (m ≤ length tape) × (m ≤ length opens) × (m ≤ length written) × (m ≤ length means) × (m ≤ length under) × (m ≤ length offsets)
-    → 2 * m ≤ length work → length work ≤ 4294967296
+    → m ≤ length ends
     → (tokensOf src .number ≡ 0) × (firstToken ≤ length (take m kinds)) × (length (take m kinds) ≡ length (take m values)) × (length (take m tape) ≡ length (take m values))
-    × Lent (length (take m values)) (take m opens) (take m written) (take m means) (take m under) (take m offsets) work
-cut-lent src m kinds values tape opens written means under offsets work z f few (a, b, c, d, e, g, h, i) w s =
+    × Lent (length (take m values)) (take m opens) (take m written) (take m means) (take m under) (take m offsets) ends
+cut-lent src m kinds values tape opens written means under offsets ends z f few (a, b, c, d, e, g, h, i) w =
     let k = cut kinds a in
     let v = cut values b in
     let t = cut tape c in
@@ -182,19 +184,17 @@ cut-lent src m kinds values tape opens written means under offsets work z f few 
         written-long = omega arith;
         under-long = omega arith;
         offsets-long = omega arith;
-        work-long = omega arith;
-        work-short = s;
+        ends-long = omega arith;
       },
     )
   where
     cut : (l : List ℕ) → m ≤ length l → length (take m l) ≡ m
     cut l q = length-take-le m l q
 
--- lists of zeros, N entries each and one of twice as many, are room for a text of n bytes
-pub rooms : (n N : ℕ) → n ≤ 32768 → n + 18 ≤ N → N ≤ 65536 → (let l : List ℕ = replicate N 0 in Rooms n l l l l l l l l l l (replicate (2 * N) 0))
+-- lists of zeros, N entries each, are room for a text of n bytes
+pub rooms : (n N : ℕ) → n ≤ 32768 → n + 18 ≤ N → N ≤ 65536 → (let l : List ℕ = replicate N 0 in Rooms n l l l l l l l l l l l)
 rooms n N h k q =
     let e = length-replicate {A = ℕ} N 0 in
-    let m = length-replicate {A = ℕ} (2 * N) 0 in
     let z : Zeros (replicate N 0) = ap (λ (i : ℕ). replicate i 0) (sym e) in
     record {
       short = h;
@@ -208,8 +208,7 @@ rooms n N h k q =
       for-means = omega arith;
       for-under = omega arith;
       for-offsets = omega arith;
-      for-work = omega arith;
-      work-short = omega arith;
+      for-ends = omega arith;
       no-found = z;
       no-goes = z;
       no-means = z;

@@ -101,17 +101,16 @@ abbrev pub Cleared : (before after : List ℕ) → Type 0
 Cleared before after = after ≡ replicate (length before) 0
 
 -- what is lent for n tokens, to be worked in and filled
-pub record Lent (n : ℕ) (opens written means under offsets work : List ℕ) : Type 0 where
+pub record Lent (n : ℕ) (opens written means under offsets ends : List ℕ) : Type 0 where
   pub few : n ≤ 65536
   pub opens-long : length opens ≡ n
   pub written-long : length written ≡ n
   pub under-long : length means ≤ length under
   pub offsets-long : length offsets ≡ n
-  pub work-long : 2 * n ≤ length work
-  pub work-short : length work ≤ 4294967296
+  pub ends-long : n ≤ length ends
 
 -- what is lent for a text of n bytes
-pub record Rooms (n : ℕ) (kinds values tape found goes opens written means under offsets work : List ℕ) : Type 0 where
+pub record Rooms (n : ℕ) (kinds values tape found goes opens written means under offsets ends : List ℕ) : Type 0 where
   pub short : n ≤ 32768
   pub for-kinds : n + 18 ≤ length kinds
   pub for-values : n + 18 ≤ length values
@@ -123,8 +122,7 @@ pub record Rooms (n : ℕ) (kinds values tape found goes opens written means und
   pub for-means : n + 18 ≤ length means
   pub for-under : n + 18 ≤ length under
   pub for-offsets : n + 18 ≤ length offsets
-  pub for-work : 2 * (n + 18) ≤ length work
-  pub work-short : length work ≤ 4294967296
+  pub for-ends : n + 18 ≤ length ends
   pub no-found : Zeros found
   pub no-goes : Zeros goes
   pub no-means : Zeros means

@@ -208,12 +208,6 @@ fn settle(
 
 // ── the segments ──
 
-fn least(a: usize, b: usize) -> usize
-    ensures { λ r. ⌜ r ≡ min a b ⌝ }
-{
-    if a < b { a } else { b }
-}
-
 // The literals, one behind the other.
 fn lay_literals(image: &mut [u8], start: usize, literals: &[u64])
     requires { ⌜ start + 4 * length (now literals) ≤ 4096 ⌝ }
@@ -319,6 +313,9 @@ fn deliver(
     Answer::Accepted(needed)
 }
 
+// "15: literals end past 4,096 … 0": from 16 on there is room for 1,020, so that a room that is full says that they do.
+const LITERALS: usize = 1025;
+
 fn make(
     tape: &[u32],
     kinds: &[u8],
@@ -330,14 +327,14 @@ fn make(
     opens: &[u32],
     offsets: &[u64],
     marks: &mut [u32],
-    literals: &mut [u64],
     s: Judged,
     out: &mut [u8],
 ) -> Answer
-    requires { ⌜ (length (now tape) ≤ 65536) × (2 * length (now tape) + 2 ≤ length (now literals)) × (length (now literals) ≤ 4294967296) × (s .cells ≤ 4096) × (s .two ≤ 4096) × (s .three ≤ 4096) ⌝ }
+    requires { ⌜ (length (now tape) ≤ 65536) × (s .cells ≤ 4096) × (s .two ≤ 4096) × (s .three ≤ 4096) ⌝ }
     ensures { λ r. ⌜ ((ends : List ℕ) → Ended ends s → Gives (madeAlong (now (kinds .entry)) (now (values .entry)) (now (found .entry)) (now (goes .entry)) (now (means .entry)) (now (under .entry)) (now (opens .entry)) (now (offsets .entry)) ends (now (marks .entry)) (now (tape .entry)) (s .bases) (length (now (out .entry)))) (now (out .entry)) (now (out .exit)) r) ⌝ }
 {
     let mut image = [0u8; SEGMENT_LIMIT];
+    let mut literals = [0u64; LITERALS];
     let start = layout::round_up(4, s.cells as u64);
     code::places(
         tape,
@@ -364,10 +361,10 @@ fn make(
         marks,
         start,
         &mut image,
-        literals,
+        &mut literals,
     );
     let size = e.length;
-    let count = least(e.literals, literals.len());
+    let count = e.literals;
     let from = start as usize;
     if SEGMENT_LIMIT < size {
         return Answer::Refused(14, 0);
@@ -449,10 +446,10 @@ fn translate_tape(
     means: &mut [u64],
     under: &mut [u64],
     offsets: &mut [u64],
-    work: &mut [u64],
+    ends: &mut [u64],
     out: &mut [u8],
 ) -> Answer
-    requires { ⌜ (tokensOf (now src) .number ≡ 0) × (17 + length (now tape) ≤ length (now values)) × Lent (length (now values)) (now opens) (now written) (now means) (now under) (now offsets) (now work) ⌝ }
+    requires { ⌜ (tokensOf (now src) .number ≡ 0) × (17 + length (now tape) ≤ length (now values)) × Lent (length (now values)) (now opens) (now written) (now means) (now under) (now offsets) (now ends) ⌝ }
     ensures { λ r. ⌜ (let ts = allTokens (now (src .entry)) in (x : Statement) → Text ts x (now (values .entry)) (now (tape .entry)) → now (kinds .entry) ≡ kindsOf ts → Blanks ts (now (found .entry)) (now (goes .entry)) (now (means .entry)) → Gives (inRoom (length (now (out .entry))) (judge ts (make ts x))) (now (out .entry)) (now (out .exit)) r) ⌝ }
 {
     let others = bind(tape, values, opens, written, found, goes);
@@ -466,7 +463,7 @@ fn translate_tape(
         opens,
         written,
         offsets,
-        work,
+        ends,
         others,
     );
     let broken = s.broken;
@@ -487,7 +484,6 @@ fn translate_tape(
         opens,
         offsets,
         written,
-        work,
         s,
         out,
     )
@@ -506,10 +502,10 @@ fn translate_tokens(
     means: &mut [u64],
     under: &mut [u64],
     offsets: &mut [u64],
-    work: &mut [u64],
+    ends: &mut [u64],
     out: &mut [u8],
 ) -> Answer
-    requires { ⌜ (tokensOf (now src) .number ≡ 0) × (17 ≤ length (now kinds)) × (length (now kinds) ≡ length (now values)) × (length (now tape) ≡ length (now values)) × Lent (length (now values)) (now places) (now written) (now means) (now under) (now offsets) (now work) ⌝ }
+    requires { ⌜ (tokensOf (now src) .number ≡ 0) × (17 ≤ length (now kinds)) × (length (now kinds) ≡ length (now values)) × (length (now tape) ≡ length (now values)) × Lent (length (now values)) (now places) (now written) (now means) (now under) (now offsets) (now ends) ⌝ }
     ensures { λ r. ⌜ (let ts = allTokens (now (src .entry)) in now (kinds .entry) ≡ kindsOf ts → now (values .entry) ≡ valuesOf ts → now (places .entry) ≡ placesOf ts → Small ts → Blanks ts (now (found .entry)) (now (goes .entry)) (now (means .entry)) → Gives (inRoom (length (now (out .entry))) (afterTokens ts (program (now (kinds .entry)) firstToken))) (now (out .entry)) (now (out .exit)) r) ⌝ }
 {
     let p = parse::program(kinds, FIRST_TOKEN, tape);
@@ -531,7 +527,7 @@ fn translate_tokens(
         means,
         under,
         offsets,
-        work,
+        ends,
         out,
     )
 }
@@ -549,10 +545,10 @@ fn translate_in(
     means: &mut [u64],
     under: &mut [u64],
     offsets: &mut [u64],
-    work: &mut [u64],
+    ends: &mut [u64],
     out: &mut [u8],
 ) -> Answer
-    requires { ⌜ Rooms (length (now src)) (now kinds) (now values) (now tape) (now found) (now goes) (now opens) (now written) (now means) (now under) (now offsets) (now work) ⌝ }
+    requires { ⌜ Rooms (length (now src)) (now kinds) (now values) (now tape) (now found) (now goes) (now opens) (now written) (now means) (now under) (now offsets) (now ends) ⌝ }
     ensures { λ r. ⌜ Gives (translation (now (src .entry)) (length (now (out .entry)))) (now (out .entry)) (now (out .exit)) r ⌝ }
 {
     let tokens = read(src, kinds, values, opens);
@@ -571,7 +567,7 @@ fn translate_in(
                 &mut means[..m],
                 &mut under[..m],
                 &mut offsets[..m],
-                work,
+                ends,
                 out,
             )
         }
@@ -605,7 +601,7 @@ fn short(src: &[u8], out: &mut [u8]) -> Answer
     let mut means = [0u64; SHORT + MORE];
     let mut under = [0u64; SHORT + MORE];
     let mut offsets = [0u64; SHORT + MORE];
-    let mut work = [0u64; 2 * (SHORT + MORE)];
+    let mut ends = [0u64; SHORT + MORE];
     translate_in(
         src,
         &mut kinds,
@@ -618,7 +614,7 @@ fn short(src: &[u8], out: &mut [u8]) -> Answer
         &mut means,
         &mut under,
         &mut offsets,
-        &mut work,
+        &mut ends,
         out,
     )
 }
@@ -637,7 +633,7 @@ fn middling(src: &[u8], out: &mut [u8]) -> Answer
     let mut means = [0u64; MIDDLING + MORE];
     let mut under = [0u64; MIDDLING + MORE];
     let mut offsets = [0u64; MIDDLING + MORE];
-    let mut work = [0u64; 2 * (MIDDLING + MORE)];
+    let mut ends = [0u64; MIDDLING + MORE];
     translate_in(
         src,
         &mut kinds,
@@ -650,7 +646,7 @@ fn middling(src: &[u8], out: &mut [u8]) -> Answer
         &mut means,
         &mut under,
         &mut offsets,
-        &mut work,
+        &mut ends,
         out,
     )
 }
@@ -669,7 +665,7 @@ fn long(src: &[u8], out: &mut [u8]) -> Answer
     let mut means = [0u64; TEXT_LIMIT + MORE];
     let mut under = [0u64; TEXT_LIMIT + MORE];
     let mut offsets = [0u64; TEXT_LIMIT + MORE];
-    let mut work = [0u64; 2 * (TEXT_LIMIT + MORE)];
+    let mut ends = [0u64; TEXT_LIMIT + MORE];
     translate_in(
         src,
         &mut kinds,
@@ -682,7 +678,7 @@ fn long(src: &[u8], out: &mut [u8]) -> Answer
         &mut means,
         &mut under,
         &mut offsets,
-        &mut work,
+        &mut ends,
         out,
     )
 }

@@ -13,12 +13,14 @@ use Rattle.token.specs.Text.{Reading, tokensOf}
 use Rattle.grammar.specs.Tree.{Statement}
 use Rattle.grammar.specs.Reader.{Result, ok, bad}
 use Rattle.grammar.specs.Grammar.{program}
+use Rattle.grammar.specs.Refusals.{Grammatical, derived, four, five}
+use Rattle.grammar.proofs.Theorems.{answerOf, grammatical, one-told}
 use Rattle.names.specs.Search.{inFront, firstToken}
 use Rattle.objtext.specs.Object.{objectText}
 use Rattle.translator.specs.Instructions.{sizes}
 use Rattle.translator.specs.Layout.{literalsEnd, segmentLimit}
 use Rattle.translator.specs.Image.{segments}
-use Rattle.translator.specs.Translate.{Answer, accepted, refused, kindsOf, Made, make, finish, judgeBy, judge, afterTokens, afterText, translated, inRoom, translate}
+use Rattle.translator.specs.Translate.{Answer, accepted, refused, kindsOf, Made, make, finish, judgeBy, judge, onGrammar, afterText, afterTokens, translated, inRoom, translate}
 
 not-accepted : (n p : ℕ) (t : List ℕ) → refused n p ≡ accepted t → ⊥
 not-accepted n p t e = let z : _≡_ {A = ℕ} 0 1 = cc in omega arith
@@ -45,6 +47,17 @@ accepted-in t room h = rw (le-ltb room (length t) h)
 pub room-only : (source : List ℕ) (room wider : ℕ) (t : List ℕ) → translate source room ≡ accepted t → length t ≤ wider → translate source wider ≡ accepted t
 unfolding translate
 room-only source room wider t e h = ap (inRoom wider) (fits-room (translated source) room t e .0) ∙ accepted-in t wider h
+
+-- ── the grammar and its reader ──
+
+-- what is told of tokens is answered as the reader of programs would
+pub read-grammar : (ts : List Token) → onGrammar ts (grammatical (kindsOf ts) firstToken) ≡ afterTokens ts (program (kindsOf ts) firstToken)
+read-grammar ts = go (grammatical (kindsOf ts) firstToken) ∙ ap (afterTokens ts) (one-told (kindsOf ts) firstToken (grammatical (kindsOf ts) firstToken))
+  where
+    go : (g : Grammatical (kindsOf ts) firstToken) → onGrammar ts g ≡ afterTokens ts (answerOf g)
+    go (derived x j h) = refl
+    go (four t h) = refl
+    go (five t h) = refl
 
 -- ── what an acceptance says ──
 
@@ -97,5 +110,5 @@ acceptance source t e = go (tokensOf source .number) refl e
         record { whole = w; tokens = ts; text = refl; tree = x; next = j; read = q; quiet = d .0; short = d .1 .short; room = d .1 .room; made = d .1 .made }
 
     go : (n : ℕ) → tokensOf source .number ≡ n → afterText (tokensOf source) n ≡ accepted t → Accepted source t
-    go zero q h = tree q (program (kindsOf ts) firstToken) refl h
+    go zero q h = tree q (program (kindsOf ts) firstToken) refl (sym (read-grammar ts) ∙ h)
     go (suc n) q h = absurd (not-accepted (suc n) _ t h)

@@ -1,6 +1,6 @@
 -- Each row of the table against the definition, group by group: a source that a group lets pass is answered by the groups after it. Assumes nothing.
 use mathlib.Core.Path.{_≡_, refl, sym, ap, subst, _∙_}
-use mathlib.Core.Logic.{_⊎_, inl, inr}
+use mathlib.Core.Logic.{_⊎_, inl, inr, _↔_}
 use mathlib.Core.Bool.{_&&_}
 use mathlib.Core.List.{List, [], _∷_, _++_}
 use Prim.Native.Nat.{ℕ, zero, suc, _<_, _≤_}
@@ -25,8 +25,24 @@ use Rattle.translator.specs.Instructions.{sizes}
 use Rattle.translator.specs.Layout.{literalsEnd, segmentLimit}
 use Rattle.translator.specs.Image.{segments}
 use Rattle.translator.specs.Translate.{Answer, accepted, refused, kindsOf, placeAt, make, finish, judge, afterTokens, translated, inRoom, translate}
+use Rattle.translator.specs.Broken.{Breaks, NotAfter}
 use Rattle.translator.specs.Rows.{Tokens, Program, Keeps, Fits, objectOf, TokenAt, BrokenAt, ProgramLong, LiteralsLong, BufferShort, Accepts, Row, Given}
+use Rattle.translator.proofs.Answers.{read-grammar}
 use Rattle.translator.proofs.Numbers.{make-ruled}
+use Rattle.translator.proofs.Breaking.{after-same, make-least}
+
+-- ── what is broken is the least of the rules that are ──
+
+none-broken : (ts : List Token) (x : Statement) → ((n t : ℕ) → Breaks ts x n t → ⊥) → make ts x .broken .number ≡ 0
+none-broken ts x h = go (make ts x .broken .number) refl
+  where
+    go : (n : ℕ) → make ts x .broken .number ≡ n → make ts x .broken .number ≡ 0
+    go zero e = e
+    go (suc n) e = absurd (h _ _ (make-least ts x .one-of (λ z. (let q : suc n ≡ 0 = sym e ∙ z in omega arith))))
+
+least-broken : (ts : List Token) (x : Statement) (n t : ℕ) → Breaks ts x n t → ((m u : ℕ) → Breaks ts x m u → NotAfter n t m u)
+    → (make ts x .broken .number ≡ n) × (make ts x .broken .at ≡ t)
+least-broken ts x n t b l = (let h = make-least ts x .least n t b in after-same (h .1) (l _ _ (make-least ts x .one-of (h .0))))
 
 module _ (source : List ℕ) (room : ℕ) where
   -- ── what the groups after those that are passed answer ──
@@ -38,7 +54,7 @@ module _ (source : List ℕ) (room : ℕ) where
   module _ (ts : List Token) where
     after-text : Tokens source ts → translate source room ≡ inRoom room (afterTokens ts (program (kindsOf ts) firstToken))
     unfolding translate translated
-    after-text t = rw (t .read, t .are)
+    after-text t = rw (t .read, t .are) (ap (inRoom room) (read-grammar (inFront ++ tokensOf source .tokens)))
 
     tree-refused : Tokens source ts → (n t : ℕ) → program (kindsOf ts) firstToken ≡ bad n t → translate source room ≡ refused n (placeAt ts t)
     unfolding inRoom
@@ -54,7 +70,7 @@ module _ (source : List ℕ) (room : ℕ) where
 
       after-rules : Keeps source ts x → translate source room ≡ inRoom room (finish (make ts x))
       unfolding judge
-      after-rules k = after-tree (k .program) ∙ rw (k .unbroken)
+      after-rules k = after-tree (k .program) ∙ rw (none-broken ts x (k .unbroken))
 
       program-long : Keeps source ts x → segmentLimit < sizes (make ts x .instructions) → translate source room ≡ refused 14 0
       unfolding finish inRoom
@@ -114,7 +130,9 @@ module _ (source : List ℕ) (room : ℕ) where
     where
       broken : (n p : ℕ) → BrokenAt source n p → 6 ≤ n → translate source room ≡ refused n p
       broken zero p g l = absurd (omega arith)
-      broken (suc n) p g l = rules-refused (g .ts) (g .x) (g .program) n (g .number) ∙ ap (refused (suc n)) (g .place)
+      broken (suc n) p g l =
+          let e = least-broken (g .ts) (g .x) (suc n) (g .token) (g .breaks) (g .least) in
+          rules-refused (g .ts) (g .x) (g .program) n (e .0) ∙ ap (refused (suc n)) (ap (placeAt (g .ts)) (e .1) ∙ g .place)
 
       later : (n p : ℕ) → choose (leb 6 n && leb n 13) (BrokenAt source n p) (choose (eqb n 14) (ProgramLong source p) (choose (eqb n 15) (LiteralsLong source p) (choose (eqb n 16) (BufferShort source room p) ⊥)))
           → translate source room ≡ refused n p
@@ -166,20 +184,34 @@ module _ (source : List ℕ) (room : ℕ) where
       (λ d. fits-given ts x (record { keeps = k; program-fits = h; literals-fit = ltb-false segmentLimit (literalsEnd (make ts x .layout)) d })))
 
   -- what is broken has a number of its group, and so its row
-  group-row : (n p : ℕ) → 6 ≤ n → n ≤ 13 → BrokenAt source n p → Row source room n p
-  group-row n p l h b =
-      rw (ne-eqb n 1 (λ e. omega arith), ne-eqb n 2 (λ e. omega arith), ne-eqb n 3 (λ e. omega arith), ne-eqb n 4 (λ e. omega arith), ne-eqb n 5 (λ e. omega arith), le-leb 6 n l, le-leb n 13 h) b
+  pub group-row : (n p : ℕ) → 6 ≤ n → n ≤ 13 → Row source room n p ↔ BrokenAt source n p
+  group-row n p l h =
+      let one = ne-eqb n 1 (λ e. omega arith) in
+      let two = ne-eqb n 2 (λ e. omega arith) in
+      let three = ne-eqb n 3 (λ e. omega arith) in
+      let four = ne-eqb n 4 (λ e. omega arith) in
+      let five = ne-eqb n 5 (λ e. omega arith) in
+      (λ r. (rw (one, two, three, four, five, le-leb 6 n l, le-leb n 13 h) at r), λ b. rw (one, two, three, four, five, le-leb 6 n l, le-leb n 13 h) b)
 
   program-given : (ts : List Token) (x : Statement) → Program source ts x → Given source room (translate source room)
   program-given ts x p = go (make ts x .broken .number) refl
     where
       go : (n : ℕ) → make ts x .broken .number ≡ n → Given source room (translate source room)
-      go zero e = keeps-given ts x (record { program = p; unbroken = e })
+      go zero e = keeps-given ts x (record { program = p; unbroken = λ n t h. make-least ts x .least n t h .0 e })
       go (suc n) e =
           let r = make-ruled ts x .told (λ z. (let q : suc n ≡ 0 = sym e ∙ z in omega arith)) in
           let at = placeAt ts (make ts x .broken .at) in
           answered-by (refused (suc n) at) (rules-refused ts x p n e)
-          (group-row (suc n) at (rw e at (r .0)) (rw e at (r .1)) (record { ts = ts; x = x; program = p; number = e; place = refl }))
+          (group-row (suc n) at (rw e at (r .0)) (rw e at (r .1)) .1
+          (record {
+            ts = ts;
+            x = x;
+            program = p;
+            token = make ts x .broken .at;
+            breaks = subst (λ (m : ℕ). Breaks ts x m (make ts x .broken .at)) e (make-least ts x .one-of (λ z. (let q : suc n ≡ 0 = sym e ∙ z in omega arith)));
+            least = λ m t h. subst (λ (k : ℕ). NotAfter k (make ts x .broken .at) m t) e (make-least ts x .least m t h .1);
+            place = refl;
+          }))
 
   tokens-given : (ts : List Token) → Tokens source ts → Given source room (translate source room)
   tokens-given ts k = go (program (kindsOf ts) firstToken) refl

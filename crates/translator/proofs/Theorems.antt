@@ -1,37 +1,53 @@
 -- What a reader of document 01's "Numbers answered" may rely on, over `translate source room`: the page to read first. Each is proved by citation. Assumes nothing.
 use mathlib.Core.Path.{_≡_, refl, subst}
 use mathlib.Core.Logic.{_↔_}
-use mathlib.Core.List.{List}
+use mathlib.Core.List.{List, _++_}
 use Prim.Native.Nat.{ℕ, _<_, _≤_}
 use native.Mathlib.Omega.{arith}
 use lib.ListN.{length}
 use Rattle.token.specs.declared.Token.{Token}
+use Rattle.token.specs.Text.{tokensOf}
 use Rattle.grammar.specs.Tree.{Statement}
 use Rattle.names.specs.declared.Broken.{Broken}
 use Rattle.names.specs.Broken.{_⊕_}
+use Rattle.names.specs.Search.{inFront, firstToken}
 use Rattle.names.proofs.Least.{LeastOf, join-least}
 use Rattle.objtext.specs.Object.{Segment, Object, objectText}
 use Rattle.translator.specs.Image.{segments}
-use Rattle.translator.specs.Translate.{Answer, accepted, refused, numberOf, lengthOf, make, translate}
-use Rattle.translator.specs.Rows.{Given}
+use Rattle.translator.specs.Translate.{Answer, accepted, refused, numberOf, lengthOf, placeAt, make, translate}
+use Rattle.translator.specs.Broken.{Breaks}
+use Rattle.translator.specs.Rows.{BrokenAt, Given}
 use Rattle.translator.proofs.Answers.{acceptance, fits-room, room-only}
 use Rattle.translator.proofs.Objects.{accepted-object}
-use Rattle.translator.proofs.Numbers.{make-ruled}
-use Rattle.translator.proofs.Rows.{row-answered, row-given, number-some, text-some}
+use Rattle.translator.proofs.Numbers.{breaks-ruled}
+use Rattle.translator.proofs.Tokens.{later-token}
+use Rattle.translator.proofs.Rows.{group-row, row-answered, row-given, number-some, text-some}
 
--- "Inside a group the smallest place wins, then the smaller number": of broken rules that are joined the least is answered
+-- of broken rules that are joined the least is answered, as it is of those of one event
 pub least : (a b : Broken) → LeastOf a b (a ⊕ b)
 least a b = join-least a b
 
--- and each has a number from 6 to 13, so that a number belongs to one row of the table
-pub rules-6-to-13 : (ts : List Token) (x : Statement) → (make ts x .broken .number ≡ 0 → ⊥) → (6 ≤ make ts x .broken .number) × (make ts x .broken .number ≤ 13)
-rules-6-to-13 ts x n = make-ruled ts x .told n
+-- and each rule has a number from 6 to 13, so that a number belongs to one row of the table
+pub rules-6-to-13 : (ts : List Token) (x : Statement) (n t : ℕ) → Breaks ts x n t → (6 ≤ n) × (n ≤ 13)
+rules-6-to-13 ts x n t h = breaks-ruled ts x n t h
 
 module _ (source : List ℕ) (room : ℕ) where
   -- "given exactly when": a refusal n at p is answered exactly when row n of the table (`Rows`) says so, and a text is accepted exactly when none does. "Groups in order: 1;
   -- 2, 3; 4, 5; 6 to 13; 14; 15; 16."
   pub given-exactly : (a : Answer) → translate source room ≡ a ↔ Given source room a
   given-exactly a = (λ e. subst (Given source room) e (row-given source room), row-answered source room a)
+
+  -- "6 to 13 …": the number and the place of a rule that the program breaks, of which no other is before it. "Inside a group the smallest place wins, then the smaller number."
+  pub rules-given : (n p : ℕ) → 6 ≤ n → n ≤ 13 → translate source room ≡ refused n p ↔ BrokenAt source n p
+  rules-given n p l h =
+      let g = given-exactly (refused n p) in
+      let r = group-row source room n p l h in
+      (λ e. r .0 (g .0 e), λ b. g .1 (r .1 b))
+
+  -- a later token of the text stands at a greater place
+  pub places-rise : tokensOf source .number ≡ 0 → (i j : ℕ) → firstToken ≤ i → i < j → j < length (inFront ++ tokensOf source .tokens)
+      → placeAt (inFront ++ tokensOf source .tokens) i < placeAt (inFront ++ tokensOf source .tokens) j
+  places-rise z i j f h l = later-token source z i j f h l
 
   -- no refusal has the number of an acceptance, and no object text is empty: so number, place and length tell the answer
   pub refusal-number : (n p : ℕ) → translate source room ≡ refused n p → 0 < n

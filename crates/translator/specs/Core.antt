@@ -10,7 +10,7 @@ use Rattle.base.specs.Lists.{member}
 use Rattle.token.specs.Kinds as K
 use Rattle.grammar.specs.Tree as T
 use Rattle.grammar.specs.Tree.{Designator, Operand, number, place, Sign, plain, abs, neg, negAbs, Term, Assignment, Condition, compared, bare, Width, full, short, Statement, Body, Items}
-use Rattle.kinds.specs.Meaning.{Meaning, nothing, register, cell, routine, Cell, registerOf, longOperand}
+use Rattle.kinds.specs.Meaning.{Meaning, nothing, register, cell, routine, Cell, byTarget, registerOf, longOperand}
 use Rattle.kinds.specs.Tables.{Tables, kindAt, valueAt, meaningAt}
 use Rattle.kinds.specs.Rules.{negative, shifts}
 use Rattle.translator.specs.Instructions.{Datum, element, literal, entry, Instruction, rr, rx, shift, opcode, rowOf, loadRow, compareRow, timesRow, storeRow, column, absOp, negOp, negAbsOp, shiftCode, falseMask}
@@ -30,9 +30,8 @@ pub data Core : Type 0 where
   -- a base declaration for segment k, and the rest of its block
   base : (r k : ℕ) → Core → Core
   -- a condition's instructions and its mask when false
-  when : List Instruction → (mask : ℕ) → Core → Core
+  when loop : List Instruction → (mask : ℕ) → Core → Core
   either : List Instruction → (mask : ℕ) → Core → Core → Core
-  loop : List Instruction → (mask : ℕ) → Core → Core
   -- FOR: assignment, compare, exit mask, register and step
   count : List Instruction → List Instruction → (mask r step : ℕ) → Core → Core
 
@@ -68,10 +67,7 @@ exitMask step = if negative step then 4 else 2
 
 -- the return register of the procedure that is called
 abbrev pub returnOf : Meaning → ℕ
-returnOf nothing = 0
-returnOf (register r) = 0
-returnOf (cell c) = 0
-returnOf (routine r) = r
+returnOf m = elim m [ nothing ↦ 0 | register r ↦ 0 | cell c ↦ 0 | routine r ↦ r ]
 
 -- ── by the tables ──
 
@@ -125,10 +121,7 @@ module _ (f : Tables) where
   sourceOf (place d) = registerOf (meaningAt f (d .name))
 
   abbrev pub assignBy : Meaning → Assignment → List Instruction
-  assignBy nothing a = []
-  assignBy (register r) a = toRegister r a
-  assignBy (cell c) a = apply storeRow (sourceOf (a .first)) (useOf (place (a .target)))
-  assignBy (routine r) a = []
+  assignBy m a = byTarget m (λ r. toRegister r a) (apply storeRow (sourceOf (a .first)) (useOf (place (a .target)))) []
 
   unfoldable pub assignmentOf : Assignment → List Instruction
   assignmentOf a = assignBy (meaningAt f (a .target .name)) a

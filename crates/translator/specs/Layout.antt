@@ -107,13 +107,7 @@ literalsFrom seen (stop ∷ is) = literalsFrom seen is
 unfoldable pub layout : ℕ → List Filled → List Instruction → Layout
 layout bases ds is =
     let s = placeCells bases ds in
-    record {
-      ends = s .ends;
-      placed = s .placed;
-      literals = literalsFrom [] is;
-      literalsAt = roundUp 4 (getD (s .ends) 1 0);
-      broken = s .broken;
-    }
+    record { ends = s .ends; placed = s .placed; literals = literalsFrom [] is; literalsAt = roundUp 4 (getD (s .ends) 1 0); broken = s .broken }
 
 abbrev pub literalsEnd : Layout → ℕ
 literalsEnd l = l .literalsAt + 4 * length (l .literals)

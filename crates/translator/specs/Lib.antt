@@ -5,5 +5,6 @@ pub mod Layout
 pub mod Bytes
 pub mod Image
 pub mod Translate
+pub mod Broken
 pub mod Rows
 pub mod Worked

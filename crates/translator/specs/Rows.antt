@@ -19,6 +19,7 @@ use Rattle.objtext.specs.Object.{objectText}
 use Rattle.translator.specs.Instructions.{sizes}
 use Rattle.translator.specs.Layout.{literalsEnd, segmentLimit}
 use Rattle.translator.specs.Image.{segments}
+use Rattle.translator.specs.Broken.{Breaks, NotAfter}
 use Rattle.translator.specs.Translate.{Answer, accepted, refused, kindsOf, placeAt, make}
 
 -- ── the groups, as far as they let a source pass ──
@@ -37,7 +38,7 @@ pub record Program (source : List ℕ) (ts : List Token) (x : Statement) : Type 
 -- 6 to 13: it breaks no rule
 pub record Keeps (source : List ℕ) (ts : List Token) (x : Statement) : Type 0 where
   pub program : Program source ts x
-  pub unbroken : make ts x .broken .number ≡ 0
+  pub unbroken : (n t : ℕ) → Breaks ts x n t → ⊥
 
 -- 14; 15: its program and its literals fit
 pub record Fits (source : List ℕ) (ts : List Token) (x : Statement) : Type 0 where
@@ -58,13 +59,15 @@ pub record TokenAt (source : List ℕ) (Is : List ℕ → ℕ → ℕ → Type 0
   pub is : Is (kindsOf ts) firstToken token
   pub place : placeAt ts token ≡ p
 
--- 6 to 13: "the smallest place wins, then the smaller number", as the broken rules are joined
+-- 6 to 13: "the smallest place wins, then the smaller number", of the rules that the program breaks
 pub record BrokenAt (source : List ℕ) (n p : ℕ) : Type 0 where
   pub ts : List Token
   pub x : Statement
   pub program : Program source ts x
-  pub number : make ts x .broken .number ≡ n
-  pub place : placeAt ts (make ts x .broken .at) ≡ p
+  pub token : ℕ
+  pub breaks : Breaks ts x n token
+  pub least : (m t : ℕ) → Breaks ts x m t → NotAfter n token m t
+  pub place : placeAt ts token ≡ p
 
 pub record ProgramLong (source : List ℕ) (p : ℕ) : Type 0 where
   pub ts : List Token

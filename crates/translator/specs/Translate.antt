@@ -9,7 +9,8 @@ use Rattle.token.specs.declared.Token.{Token}
 use Rattle.token.specs.Text.{Reading, tokensOf}
 use Rattle.grammar.specs.Tree.{Statement}
 use Rattle.grammar.specs.Reader.{Result, ok, bad}
-use Rattle.grammar.specs.Grammar.{program}
+use Rattle.grammar.specs.Refusals.{Grammatical, derived, four, five}
+use Rattle.grammar.proofs.Theorems.{grammatical}
 use Rattle.names.specs.declared.Broken.{Broken}
 use Rattle.names.specs.Broken.{unbroken, _⊕_}
 use Rattle.names.specs.Search.{inFront, firstToken}
@@ -82,15 +83,8 @@ unfoldable pub meant : List Token → Named → Statement → Meant
 meant ts n x = meanProgram (kindsOf ts) (valuesOf ts) (n .found) x (standard (length ts - firstToken))
 
 abbrev pub tablesOf : List Token → Named → Labelled → Meant → Tables
-tablesOf ts n l m = record {
-  kinds = kindsOf ts;
-  values = valuesOf ts;
-  found = n .found;
-  goes = l .goes;
-  means = m .means;
-  opens = m .opens;
-  written = m .written;
-}
+tablesOf ts n l m =
+    record { kinds = kindsOf ts; values = valuesOf ts; found = n .found; goes = l .goes; means = m .means; opens = m .opens; written = m .written }
 
 unfoldable pub make : List Token → Statement → Made
 make ts x =
@@ -120,13 +114,14 @@ unfoldable pub judge : List Token → Made → Answer
 judge ts m = judgeBy ts m (m .broken .number)
 
 -- "4 … 5 … token, or text length", which is the place of the end
-abbrev pub afterTokens : List Token → Result Statement → Answer
-afterTokens ts (ok x next) = judge ts (make ts x)
-afterTokens ts (bad n i) = refused n (placeAt ts i)
+abbrev pub onGrammar : (ts : List Token) → Grammatical (kindsOf ts) firstToken → Answer
+onGrammar ts (derived x j h) = judge ts (make ts x)
+onGrammar ts (four t h) = refused 4 (placeAt ts t)
+onGrammar ts (five t h) = refused 5 (placeAt ts t)
 
--- "1 … 2 … 3"
+-- "1 … 2 … 3". Tokens are a program of the grammar, or refused with 4 or with 5: `grammatical` tells which
 abbrev pub afterText : Reading → ℕ → Answer
-afterText r zero = let ts = inFront ++ r .tokens in afterTokens ts (program (kindsOf ts) firstToken)
+afterText r zero = let ts = inFront ++ r .tokens in onGrammar ts (grammatical (kindsOf ts) firstToken)
 afterText r (suc n) = refused (suc n) (r .place)
 
 -- all but 16: the object text, whatever the room
@@ -141,3 +136,9 @@ inRoom room (refused n p) = refused n p
 -- the answer to a source and a buffer with this room
 unfoldable pub translate : List ℕ → ℕ → Answer
 translate source room = inRoom room (translated source)
+
+-- ── 4 and 5 as the reader of programs answers them, which the code follows; that it is the same is `read-grammar` of proofs/Answers ──
+
+abbrev pub afterTokens : List Token → Result Statement → Answer
+afterTokens ts (ok x next) = judge ts (make ts x)
+afterTokens ts (bad n i) = refused n (placeAt ts i)

@@ -16,6 +16,7 @@ use Rattle.token.specs.Text as X
 use Rattle.token.specs.Text.{digitOf}
 use Rattle.grammar.specs.Reader as R
 use Rattle.grammar.specs.Grammar as G
+use Rattle.grammar.proofs.Theorems.{grammatical}
 use Rattle.grammar.specs.Events as Ev
 use Rattle.grammar.specs.Places as Pl
 use Rattle.names.specs.Broken as B
@@ -139,7 +140,7 @@ traps =
 -- ── computed ──
 
 worked : Hold cases × Hold limits × Hold slips × Hold traps
-unfolding sameBytes runLen numberFrom bytesOf walk X.wordKind X.comment X.nameOrWord X.number X.begins X.sign X.lexeme X.nextStep X.nextToken X.readFrom X.tokensOf R.andThen R.look R.next R.want R.wantOne G.designatorOf G.operand G.condition G.terms G.signOf G.assignmentOf G.numbers G.cellItem G.registerItem G.listOf G.typeOf G.cellsOf G.afterType G.declaration G.afterName G.statementOf G.itemsOf G.bodyOf G.ifOf G.constructOf G.statement G.program Ev.each Ev.eventsItem Ev.eventsDeclaration Ev.eventsSign Ev.eventsChain Ev.eventsStatement Pl.along B.rule B._⊕_ S.inBlock S.find N.noteFound N.useName N.declareName N.declareNames N.useNames N.nameEvent L.noteLabel L.setLabel L.labelEvent Q.flags Q.has Q.addRegister Q.union Q.spares M.write M.writeText M.callWrites M.targetWrites M.openBase M.addCell M.meanEvent J.registerRule J.zeroRule J.writeRule J.indexRules J.subscriptRules J.placeRules J.operandRules J.onlyRegister J.shiftRules J.noShort J.productRules J.termRules J.targetRules J.controlRules J.conditionRules J.callRules J.valueRules J.baseRules K.ruleEvent I.opcode I.shiftCode I.falseMask C.useOf C.shiftBy C.termOf C.chainOf C.toRegister C.assignmentOf C.compareWith C.testOf C.coreStatement D.sizeOf D.own D.markAt D.code D.instructions Y.valueBytes Y.placeCell Y.placeCells Y.offsetOf Y.literalsFrom Y.layout E.encode E.encodeAll H.fill H.words H.firstData H.dataOf H.segments T.named T.labelled T.meant T.make T.finish T.judge T.translated T.inRoom translate O.hexDigit objectText
+unfolding sameBytes runLen numberFrom bytesOf walk X.wordKind X.comment X.nameOrWord X.number X.begins X.sign X.lexeme X.nextStep X.nextToken X.readFrom X.tokensOf R.andThen R.look R.next R.want R.wantOne G.designatorOf G.operand G.condition G.terms G.signOf G.assignmentOf G.numbers G.cellItem G.registerItem G.listOf G.typeOf G.cellsOf G.afterType G.declaration G.afterName G.statementOf G.itemsOf G.bodyOf G.ifOf G.constructOf G.statement G.program grammatical Ev.each Ev.eventsItem Ev.eventsDeclaration Ev.eventsSign Ev.eventsChain Ev.eventsStatement Pl.along B.rule B._⊕_ S.inBlock S.find N.noteFound N.useName N.declareName N.declareNames N.useNames N.nameEvent L.noteLabel L.setLabel L.labelEvent Q.flags Q.has Q.addRegister Q.union Q.spares M.write M.writeText M.callWrites M.targetWrites M.openBase M.addCell M.meanEvent J.registerRule J.zeroRule J.writeRule J.indexRules J.subscriptRules J.placeRules J.operandRules J.onlyRegister J.shiftRules J.noShort J.productRules J.termRules J.targetRules J.controlRules J.conditionRules J.callRules J.valueRules J.baseRules K.ruleEvent I.opcode I.shiftCode I.falseMask C.useOf C.shiftBy C.termOf C.chainOf C.toRegister C.assignmentOf C.compareWith C.testOf C.coreStatement D.sizeOf D.own D.markAt D.code D.instructions Y.valueBytes Y.placeCell Y.placeCells Y.offsetOf Y.literalsFrom Y.layout E.encode E.encodeAll H.fill H.words H.firstData H.dataOf H.segments T.named T.labelled T.meant T.make T.finish T.judge T.translated T.inRoom translate O.hexDigit objectText
 worked = (refl, refl, refl, refl)
 
 pub cases-hold : Hold cases

@@ -230,8 +230,8 @@ translate-tokens-requires c κs =
     ) (omega (
       arith,
       few-read (start .args .src .now) _ (at-read .read .ensures .is) _ (at-tokens .tokens .given .1),
-      start .pre .for-work,
-    )) (start .pre .work-short)
+      start .pre .for-ends,
+    ))
 
 enum-told : tie.Need-enum-told
 enum-told c = search needs

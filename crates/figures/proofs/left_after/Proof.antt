@@ -1,0 +1,20 @@
+-- `left_after` follows the definition. Assumes nothing.
+use Rattle.base.proofs.Tests.{picks}
+use borrow.Author.Needs.{needs}
+use Rattle.figures.proofs.left_after.Statement.{statement}
+use Rattle.figures.proofs.left_after.Tie as tie
+use Rattle.figures.proofs.left_after.Reads as reads
+use Rattle.figures.proofs.left_after.Lts as lts
+use Rattle.figures.proofs.less.Reads as less-reads
+
+less-requires : tie.Need-less-requires
+less-requires c κs = search needs
+
+returns : tie.Need-returns
+returns c = search (picks, needs)
+
+returns-2 : tie.Need-returns-2
+returns-2 c = search (picks, needs)
+
+pub left-after-spec : {M : Type 1} → statement M
+left-after-spec = tie.close (tie.spec less-requires returns returns-2)

@@ -1,0 +1,25 @@
+-- `put` puts a byte where there is room, and leaves it out where there is none. Assumes nothing.
+use Rattle.figures.proofs.Writing.{one, none}
+use borrow.Author.Needs.{needs}
+use Rattle.figures.proofs.put.Statement.{statement}
+use Rattle.figures.proofs.put.Tie as tie
+use Rattle.figures.proofs.put.Reads as reads
+use Rattle.figures.proofs.put.Lts as lts
+
+slice-write-out : tie.Need-slice-write-out
+slice-write-out c = search needs
+
+add-result : tie.Need-add-result
+add-result c = search needs
+
+same-length : tie.Need-same-length
+same-length c = search needs
+
+returns : tie.Need-returns
+returns c = one _ _ _ (c .if1 .taken)
+
+returns-2 : tie.Need-returns-2
+returns-2 c = none _ _ _ (c .if1 .left)
+
+pub put-spec : {M : Type 1} → statement M
+put-spec = tie.close (tie.spec slice-write-out add-result same-length returns returns-2)

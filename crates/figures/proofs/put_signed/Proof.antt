@@ -1,0 +1,50 @@
+use borrow.Author.Tests.{lt-ltb, le-ltb}
+-- `put_signed` puts a minus sign in front where the number is negative. Assumes nothing.
+use Rattle.base.proofs.Tests.{tests}
+-- `put_signed` puts a minus sign in front where the number is negative. Assumes nothing.
+use Rattle.base.proofs.Tests.{picks}
+use Rattle.figures.proofs.Writing.{called, two}
+use borrow.Author.Needs.{needs}
+use Rattle.figures.proofs.put_signed.Statement.{statement}
+use Rattle.figures.proofs.put_signed.Tie as tie
+use Rattle.figures.proofs.put_signed.Reads as reads
+use Rattle.figures.proofs.put_signed.Lts as lts
+use Rattle.figures.proofs.put.Reads as put-reads
+use Rattle.figures.proofs.put_decimal.Reads as put-decimal-reads
+
+put-decimal-requires : tie.Need-put-decimal-requires
+put-decimal-requires c κs = search needs
+
+same-length : tie.Need-same-length
+same-length c = search needs
+
+returns : tie.Need-returns
+returns c = called (rw (lt-ltb _ _ (c .before .before .before .before .if1 .taken))) (c .before .before .put-decimal .ensures)
+
+put-requires : tie.Need-put-requires
+put-requires c κs = search needs
+
+sub-put-decimal : tie.Need-sub-put-decimal
+sub-put-decimal c = search needs
+
+put-decimal-requires-2 : tie.Need-put-decimal-requires-2
+put-decimal-requires-2 c κs = search needs
+
+same-length-2 : tie.Need-same-length-2
+same-length-2 c = search needs
+
+returns-2 : tie.Need-returns-2
+returns-2 c = called (rw (le-ltb _ _ (c .before .before .before .before .before .before .before .before .if1 .left))) (two (c .before .before .before .before .before .before .put .ensures) (c .before .before .put-decimal2 .ensures))
+
+pub put-signed-spec : {M : Type 1} → statement M
+put-signed-spec =
+    tie.close
+    (tie.spec
+    put-decimal-requires
+    same-length
+    returns
+    put-requires
+    sub-put-decimal
+    put-decimal-requires-2
+    same-length-2
+    returns-2)

@@ -1,0 +1,493 @@
+// What is said of a refusal: where it is, the line that it stands in, and why.
+ghost use mathlib.Core.Path.{_≡_};
+ghost use Prim.Native.Nat.{_+_, _-_, _≤_, _<_, min};
+ghost use lib.ListN.{length, take, drop, getD};
+ghost use Rattle.figures.specs.Writing.{Holds, Adds};
+ghost use Rattle.base.specs.Runs.{runLen};
+ghost use Rattle.base.specs.Choose.{choose};
+ghost use Rattle.figures.specs.Parts.{firstPart};
+ghost use lib.Dec.{eqb};
+ghost use Rattle.messages.specs.Lines.{sinceNewline, visible as visibleOf, visibles, inWord, wordOf, underlined as underlinedOf, lineOf, since as sinceOf, columnOf, shownBefore, shownLine, wordAt};
+ghost use Rattle.messages.specs.Messages.{hasPlace, byteHeadline, registerHeadline, headline as headlineOf, registerNote, byteNote, noteFor, figureFor, registerAt, headlineAt, figureAt, noteAt, wideAt, placeText, headText, caretText, lineText, firstLine, otherLines, placedText, messageText, acceptedText, faultText};
+use figures::put;
+use figures::put_all;
+use figures::put_decimal;
+use figures::put_phrase;
+use figures::put_times;
+
+// What is refused, by its number; from 20 on what is told more closely.
+const HEADLINES: [u8; 904] = *b"\nthe source has more than 32,768 bytes\
+    \nbyte % is in no token\
+    \nthe number is out of range\
+    \nno program goes on like this\
+    \nmore than 64 constructs inside each other\
+    \nthis name is not declared, or this label is not set\
+    \nthis is declared twice\
+    \nthis is of the wrong kind\
+    \nthis register cannot stand here\
+    \na protected register is written here\
+    \nthe value is out of bounds\
+    \nthere is no room for this in its segment\
+    \ntoo many names\
+    \nthe program has more than 4,096 bytes\
+    \nthere is no room for the literals\
+    \nthe object text has % bytes, more than there is room for\
+    \nthis is no object text\
+    \n% is no condition code\
+    \nthere is too little storage\
+    \nbyte 13 (CR) is in no token\
+    \nbyte 9 (TAB) is in no token\
+    \nbyte 239 begins a byte-order mark and is in no token\
+    \nbyte % (a small letter) is in no token\
+    \nthis comment is not closed\
+    \nthe text ends before the program does\
+    \nregister % is protected here\
+    \nthe register below the target is protected here";
+
+// What stands behind the carets.
+const NOTES: [u8; 1026] = *b"\n\
+    \n\
+    \n\
+    \n the tokens up to this one begin no program\
+    \n inside 64 others already\
+    \n no block around it declares it before this place\
+    \n the block has it already; the first 10 characters count\
+    \n see `tautgaff help 8` for what fits where\
+    \n 0 to 15; not 0 as base, return, index or shift; a product needs an odd target\
+    \n by this statement, call or base declaration\
+    \n see `tautgaff help 11` for the bounds\
+    \n a segment has 4,096 bytes; two base declarations are allowed\
+    \n 256 names and 256 labels are allowed\
+    \n\
+    \n\
+    \n\
+    \n\
+    \n\
+    \n\
+    \n lines are ended by byte 10 alone\
+    \n only blanks and newlines stand between tokens\
+    \n the text has to be saved without it\
+    \n names and words are written in capitals\
+    \n a comment runs to the next `;`\
+    \n every block is ended by END, the program by @\
+    \n the data base: cells without SEGMENT BASE belong to it\
+    \n the program base: instructions are found by it\
+    \n from 0 to 2147483647; after _, which is minus, to 2147483648; after # 32 bits\
+    \n a product also writes the register below its target\
+    \n a base or the return register of what is around this place";
+
+// Why a word of the command line is wrong.
+const FAULTS: [u8; 166] = *b"\nthere is no such command\
+    \nthis command has no such option\
+    \nthere is one name too many\
+    \nthis is no number from 0 to 4294967295\
+    \nthe option needs a value\
+    \na name is missing";
+
+const NEWLINE: u8 = 10;
+
+const SHOWN_BEFORE: usize = 60;
+
+const SHOWN: usize = 100;
+
+const UNDERLINED: usize = 40;
+
+// ── lines ──
+
+fn least(a: usize, b: usize) -> usize
+    ensures { λ r. ⌜ r ≡ min a b ⌝ }
+{
+    if a < b { a } else { b }
+}
+
+fn less(a: usize, b: usize) -> usize
+    ensures { λ r. ⌜ r ≡ a - b ⌝ }
+{
+    if a < b { 0 } else { a - b }
+}
+
+fn since_after(b: u8, k: usize) -> usize
+    requires { ⌜ k < 32768 ⌝ }
+    ensures { λ r. ⌜ (r ≡ choose (eqb b 10) 0 (k + 1)) × (r ≤ k + 1) ⌝ }
+{
+    if b == NEWLINE {
+        return 0;
+    }
+    k + 1
+}
+
+// How many bytes come after the last newline.
+fn since_newline(s: &[u8]) -> usize
+    requires { ⌜ length (now s) ≤ 32768 ⌝ }
+    ensures { λ r. ⌜ (r ≡ sinceNewline 0 (now (s .entry))) × (r ≤ length (now (s .entry))) ⌝ }
+{
+    let mut k: usize = 0;
+    let mut i: usize = 0;
+    while i < s.len() {
+        k = since_after(s[i], k);
+        i += 1;
+    }
+    k
+}
+
+fn visible(b: u8) -> u8
+    ensures { λ r. ⌜ r ≡ visibleOf b ⌝ }
+{
+    if (32 <= b) & (b <= 126) {
+        return b;
+    }
+    if b == 9 {
+        return 32;
+    }
+    63
+}
+
+fn put_visible(out: &mut [u8], at: usize, line: &[u8]) -> usize
+    ensures { λ r. ⌜ Adds (visibles (now (line .entry))) (now (out .entry)) at (now (out .exit)) r ⌝ }
+{
+    let mut end = at;
+    let mut i: usize = 0;
+    while i < line.len() {
+        end = put(out, end, visible(line[i]));
+        i += 1;
+    }
+    end
+}
+
+fn in_word(b: u8) -> bool
+    ensures { λ r. ⌜ r ≡ inWord b ⌝ }
+{
+    ((65 <= b) & (b <= 90) | (48 <= b) & (b <= 57)) | ((b == b'_') | (b == b'#'))
+}
+
+fn word_length(s: &[u8]) -> usize
+    ensures { λ r. ⌜ r ≡ runLen inWord (now (s .entry)) ⌝ }
+{
+    let mut i: usize = 0;
+    while i < s.len() {
+        if in_word(s[i]) {
+            i += 1;
+        } else {
+            return i;
+        }
+    }
+    i
+}
+
+// The word or number at the front.
+fn word(s: &[u8]) -> &[u8]
+    ensures { λ r. ⌜ now r ≡ wordOf (now (s .entry)) ⌝ }
+{
+    let size = word_length(s);
+    figures::front(s, least(UNDERLINED, size))
+}
+
+fn underlined(n: usize) -> usize
+    ensures { λ r. ⌜ r ≡ underlinedOf n ⌝ }
+{
+    if n == 0 { 1 } else { n }
+}
+
+// The part of the line at the front that is shown.
+fn shown(s: &[u8]) -> &[u8]
+    ensures { λ r. ⌜ now r ≡ take 100 (firstPart 10 (now (s .entry))) ⌝ }
+{
+    let size = figures::part_length(s, NEWLINE);
+    figures::front(figures::front(s, size), SHOWN)
+}
+
+// ── what is said ──
+
+fn has_place(number: usize) -> bool
+    ensures { λ r. ⌜ r ≡ hasPlace number ⌝ }
+{
+    (1 < number) & (number < 14)
+}
+
+fn byte_headline(b: u8) -> usize
+    ensures { λ r. ⌜ r ≡ byteHeadline b ⌝ }
+{
+    if b == 13 {
+        return 20;
+    }
+    if b == 9 {
+        return 21;
+    }
+    if b == 239 {
+        return 22;
+    }
+    if (97 <= b) & (b <= 122) {
+        return 23;
+    }
+    if b == b'C' {
+        return 24;
+    }
+    2
+}
+
+fn register_headline(register: usize, b: u8) -> usize
+    ensures { λ r. ⌜ r ≡ registerHeadline register b ⌝ }
+{
+    if register < 16 {
+        return 26;
+    }
+    if b == b'*' {
+        return 27;
+    }
+    10
+}
+
+fn headline(number: usize, b: u8, register: usize, ends: bool) -> usize
+    ensures { λ r. ⌜ r ≡ headlineOf number b register ends ⌝ }
+{
+    if number == 2 {
+        return byte_headline(b);
+    }
+    if number == 10 {
+        return register_headline(register, b);
+    }
+    if number == 4 {
+        if ends {
+            return 25;
+        }
+        return 4;
+    }
+    number
+}
+
+fn register_note(register: usize, b: u8) -> usize
+    ensures { λ r. ⌜ r ≡ registerNote register b ⌝ }
+{
+    if register == 14 {
+        return 26;
+    }
+    if register == 15 {
+        return 27;
+    }
+    if register < 16 {
+        return 30;
+    }
+    if b == b'*' {
+        return 29;
+    }
+    10
+}
+
+fn byte_note(b: u8) -> usize
+    ensures { λ r. ⌜ r ≡ byteNote b ⌝ }
+{
+    let k = byte_headline(b);
+    if k == 2 {
+        return 0;
+    }
+    k
+}
+
+fn note(number: usize, b: u8, register: usize, ends: bool) -> usize
+    ensures { λ r. ⌜ r ≡ noteFor number b register ends ⌝ }
+{
+    if number == 2 {
+        return byte_note(b);
+    }
+    if number == 10 {
+        return register_note(register, b);
+    }
+    if number == 4 {
+        if ends {
+            return 25;
+        }
+        return 4;
+    }
+    if number == 3 {
+        return 28;
+    }
+    number
+}
+
+fn figure(number: usize, b: u8, register: usize, place: usize) -> usize
+    ensures { λ r. ⌜ r ≡ figureFor number b register place ⌝ }
+{
+    if number == 2 {
+        return b as usize;
+    }
+    if number == 10 {
+        return register;
+    }
+    place
+}
+
+// ── at a place ──
+
+fn line_of(text: &[u8], place: usize) -> usize
+    requires { ⌜ place ≤ 32768 ⌝ }
+    ensures { λ r. ⌜ r ≡ lineOf (now (text .entry)) place ⌝ }
+{
+    figures::part_count(figures::front(text, place), NEWLINE) + 1
+}
+
+fn since(text: &[u8], place: usize) -> usize
+    requires { ⌜ place ≤ 32768 ⌝ }
+    ensures { λ r. ⌜ (r ≡ sinceOf (now (text .entry)) place) × (r ≤ 32768) ⌝ }
+{
+    since_newline(figures::front(text, place))
+}
+
+fn column_of(text: &[u8], place: usize) -> usize
+    requires { ⌜ place ≤ 32768 ⌝ }
+    ensures { λ r. ⌜ r ≡ columnOf (now (text .entry)) place ⌝ }
+{
+    since(text, place) + 1
+}
+
+fn shown_before(text: &[u8], place: usize) -> usize
+    requires { ⌜ place ≤ 32768 ⌝ }
+    ensures { λ r. ⌜ r ≡ shownBefore (now (text .entry)) place ⌝ }
+{
+    least(SHOWN_BEFORE, since(text, place))
+}
+
+fn shown_line(text: &[u8], place: usize) -> &[u8]
+    requires { ⌜ place ≤ 32768 ⌝ }
+    ensures { λ r. ⌜ now r ≡ shownLine (now (text .entry)) place ⌝ }
+{
+    let before = shown_before(text, place);
+    shown(figures::rest(text, less(place, before)))
+}
+
+fn word_at(text: &[u8], place: usize) -> &[u8]
+    ensures { λ r. ⌜ now r ≡ wordAt (now (text .entry)) place ⌝ }
+{
+    word(figures::rest(text, place))
+}
+
+fn wide_at(text: &[u8], place: usize) -> usize
+    ensures { λ r. ⌜ r ≡ wideAt (now (text .entry)) place ⌝ }
+{
+    let there = word_at(text, place);
+    underlined(there.len())
+}
+
+fn register_at(text: &[u8], place: usize) -> usize
+    ensures { λ r. ⌜ r ≡ registerAt (now (text .entry)) place ⌝ }
+{
+    words::register(word_at(text, place))
+}
+
+fn headline_at(number: usize, text: &[u8], place: usize) -> usize
+    ensures { λ r. ⌜ r ≡ headlineAt number (now (text .entry)) place ⌝ }
+{
+    let b = figures::byte(text, place);
+    let register = register_at(text, place);
+    headline(number, b, register, text.len() <= place)
+}
+
+fn figure_at(number: usize, text: &[u8], place: usize) -> usize
+    ensures { λ r. ⌜ r ≡ figureAt number (now (text .entry)) place ⌝ }
+{
+    let b = figures::byte(text, place);
+    let register = register_at(text, place);
+    figure(number, b, register, place)
+}
+
+fn note_at(number: usize, text: &[u8], place: usize) -> usize
+    ensures { λ r. ⌜ r ≡ noteAt number (now (text .entry)) place ⌝ }
+{
+    let b = figures::byte(text, place);
+    let register = register_at(text, place);
+    note(number, b, register, text.len() <= place)
+}
+
+// ── the message ──
+
+fn put_place(out: &mut [u8], at: usize, file: &[u8], line: usize, column: usize) -> usize
+    ensures { λ r. ⌜ Adds (placeText (now (file .entry)) line column) (now (out .entry)) at (now (out .exit)) r ⌝ }
+{
+    let named = put_all(out, at, file);
+    let first = put_all(out, named, b":");
+    let lined = put_decimal(out, first, line);
+    let second = put_all(out, lined, b":");
+    put_decimal(out, second, column)
+}
+
+fn put_head(out: &mut [u8], at: usize, number: usize, k: usize, n: usize) -> usize
+    ensures { λ r. ⌜ Adds (headText number k n) (now (out .entry)) at (now (out .exit)) r ⌝ }
+{
+    let begun = put_all(out, at, b": refusal ");
+    let numbered = put_decimal(out, begun, number);
+    let parted = put_all(out, numbered, b": ");
+    let told = put_phrase(out, parted, &HEADLINES, k, n);
+    put_all(out, told, b"\n")
+}
+
+fn put_line(out: &mut [u8], at: usize, line: &[u8]) -> usize
+    ensures { λ r. ⌜ Adds (lineText (now (line .entry))) (now (out .entry)) at (now (out .exit)) r ⌝ }
+{
+    let lined = put_visible(out, at, line);
+    put_all(out, lined, b"\n")
+}
+
+fn put_carets(out: &mut [u8], at: usize, before: usize, wide: usize, k: usize) -> usize
+    ensures { λ r. ⌜ Adds (caretText before wide k) (now (out .entry)) at (now (out .exit)) r ⌝ }
+{
+    let moved = put_times(out, at, b' ', before);
+    let marked = put_times(out, moved, b'^', wide);
+    let noted = put_phrase(out, marked, &NOTES, k, 0);
+    put_all(out, noted, b"\n")
+}
+
+fn put_first(out: &mut [u8], at: usize, file: &[u8], number: usize, place: usize, text: &[u8]) -> usize
+    requires { ⌜ place ≤ 32768 ⌝ }
+    ensures { λ r. ⌜ Adds (firstLine (now (file .entry)) number place (now (text .entry))) (now (out .entry)) at (now (out .exit)) r ⌝ }
+{
+    let line = line_of(text, place);
+    let column = column_of(text, place);
+    let k = headline_at(number, text, place);
+    let n = figure_at(number, text, place);
+    let placed = put_place(out, at, file, line, column);
+    put_head(out, placed, number, k, n)
+}
+
+fn put_others(out: &mut [u8], at: usize, number: usize, place: usize, text: &[u8]) -> usize
+    requires { ⌜ place ≤ 32768 ⌝ }
+    ensures { λ r. ⌜ Adds (otherLines number place (now (text .entry))) (now (out .entry)) at (now (out .exit)) r ⌝ }
+{
+    let before = shown_before(text, place);
+    let wide = wide_at(text, place);
+    let k = note_at(number, text, place);
+    let lined = put_line(out, at, shown_line(text, place));
+    put_carets(out, lined, before, wide, k)
+}
+
+// The message of a refusal.
+pub fn message(out: &mut [u8], file: &[u8], number: usize, place: usize, text: &[u8]) -> usize
+    ensures { λ r. ⌜ Holds (now (out .entry)) (messageText (now (file .entry)) number place (now (text .entry))) (now (out .exit)) r ⌝ }
+{
+    if has_place(number) {
+        let p = least(32768, least(place, text.len()));
+        let headed = put_first(out, 0, file, number, p, text);
+        return put_others(out, headed, number, p, text);
+    }
+    let named = put_all(out, 0, file);
+    put_head(out, named, number, number, place)
+}
+
+// What is said of a file that is accepted.
+pub fn accepted(out: &mut [u8], file: &[u8], size: usize) -> usize
+    ensures { λ r. ⌜ Holds (now (out .entry)) (acceptedText (now (file .entry)) size) (now (out .exit)) r ⌝ }
+{
+    let named = put_all(out, 0, file);
+    let told = put_all(out, named, b": accepted, ");
+    let sized = put_decimal(out, told, size);
+    put_all(out, sized, b" bytes of object text\n")
+}
+
+// What is said of a word that is wrong.
+pub fn fault(out: &mut [u8], word: &[u8], why: usize) -> usize
+    ensures { λ r. ⌜ Holds (now (out .entry)) (faultText (now (word .entry)) why) (now (out .exit)) r ⌝ }
+{
+    let begun = put_all(out, 0, b"tautgaff: `");
+    let named = put_all(out, begun, word);
+    let parted = put_all(out, named, b"`: ");
+    let told = put_phrase(out, parted, &FAULTS, why, 0);
+    put_all(out, told, b"\n")
+}

@@ -1,0 +1,31 @@
+-- `counted` follows the definition. Assumes nothing.
+use borrow.Author.Needs.{needs}
+use Rattle.words.proofs.counted.Statement.{statement}
+use Rattle.words.proofs.counted.Tie as tie
+use Rattle.words.proofs.counted.Reads as reads
+use Rattle.words.proofs.counted.Lts as lts
+use Rattle.words.proofs.with_number.Reads as with-number-reads
+use Rattle.words.proofs.wrong_at.Reads as wrong-at-reads
+
+enum-known-found : tie.Need-enum-known-found
+enum-known-found c = search needs
+
+with-number-requires : tie.Need-with-number-requires
+with-number-requires c κs = search needs
+
+enum-told : tie.Need-enum-told
+enum-told c = search needs
+
+wrong-at-requires : tie.Need-wrong-at-requires
+wrong-at-requires c κs = search needs
+
+returns : tie.Need-returns
+returns c = rw (c .with-number .ensures, c .before .before .found .given .1)
+
+returns-2 : tie.Need-returns-2
+returns-2 c = rw (c .wrong-at .ensures, c .before .enum-told .given .1)
+
+pub counted-spec : {M : Type 1} → statement M
+counted-spec =
+    tie.close
+    (tie.spec enum-known-found with-number-requires enum-told wrong-at-requires returns returns-2)

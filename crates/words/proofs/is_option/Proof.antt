@@ -1,0 +1,16 @@
+-- `is_option` follows the definition. Assumes nothing.
+use borrow.Author.Needs.{needs}
+use Rattle.words.proofs.is_option.Statement.{statement}
+use Rattle.words.proofs.is_option.Tie as tie
+use Rattle.words.proofs.is_option.Reads as reads
+use Rattle.words.proofs.is_option.Lts as lts
+use Rattle.figures.proofs.first.Reads as first-reads
+
+first-requires : tie.Need-first-requires
+first-requires c κs = search needs
+
+returns : tie.Need-returns
+returns c = rw (c .first .ensures)
+
+pub is-option-spec : {M : Type 1} → statement M
+is-option-spec = tie.close (tie.spec first-requires returns)

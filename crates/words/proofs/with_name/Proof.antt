@@ -1,0 +1,28 @@
+-- `with_name` follows the definition. Assumes nothing.
+use borrow.Author.Tests.{eq-eqb, ne-eqb}
+use borrow.Author.Needs.{needs}
+use Rattle.words.proofs.with_name.Statement.{statement}
+use Rattle.words.proofs.with_name.Tie as tie
+use Rattle.words.proofs.with_name.Reads as reads
+use Rattle.words.proofs.with_name.Lts as lts
+use Rattle.words.proofs.first_name.Reads as first-name-reads
+use Rattle.words.proofs.second_name.Reads as second-name-reads
+
+first-name-requires : tie.Need-first-name-requires
+first-name-requires c κs = search needs
+
+returns : tie.Need-returns
+returns c = rw (c .first-name .ensures, eq-eqb _ _ (c .before .if1 .taken))
+
+second-name-requires : tie.Need-second-name-requires
+second-name-requires c κs = search needs
+
+returns-2 : tie.Need-returns-2
+returns-2 c = rw (c .second-name .ensures, ne-eqb _ _ (c .before .before .if1 .left), eq-eqb _ _ (c .before .if2 .taken))
+
+returns-3 : tie.Need-returns-3
+returns-3 c = rw (ne-eqb _ _ (c .before .if1 .left), ne-eqb _ _ (c .if2 .left))
+
+pub with-name-spec : {M : Type 1} → statement M
+with-name-spec =
+    tie.close (tie.spec first-name-requires returns second-name-requires returns-2 returns-3)

@@ -1,0 +1,2 @@
+-- The words of a command line, and what they wish for.
+pub mod Wishes
