@@ -26,14 +26,12 @@ module _ (room text : List ℕ) where
       rw (drop-of-length-le room h, drop-of-length-le room g, take-append-le (length room) text piece h)
 
 pub one : (before : List ℕ) (at b : ℕ) → at < length before → Adds (b ∷ []) before at (set before at b) (at + 1)
-one before at b l room text h = record { stands = stand; ends = omega (arith, h .ends, holds-length h, length-append text (b ∷ [])) }
+one before at b l room text h = record { stands = stand ; ends = omega (arith, h .ends, holds-length h, length-append text (b ∷ [])) }
   where
     here : at ≡ length text
     here = omega (arith, h .ends, holds-length h)
-
     room-left : length text < length room
     room-left = omega (arith, h .ends, holds-length h)
-
     stand : set before at b ≡ written room (text ++ (b ∷ []))
     stand =
         rw (h .stands, fitting room text (omega (arith, room-left)), drop-cons room (length text) 0 room-left, set-at text (getD room (length text) 0) (drop (suc (length text)) room) b at (sym here))
@@ -43,7 +41,7 @@ one before at b l room text h = record { stands = stand; ends = omega (arith, h 
         rest = rw (add-one (length text))
 
 pub none : (before : List ℕ) (at b : ℕ) → length before ≤ at → Adds (b ∷ []) before at before at
-none before at b l room text h = record { stands = h .stands ∙ sym (full room text (b ∷ []) past); ends = omega (arith, h .ends, past, length-append text (b ∷ [])) }
+none before at b l room text h = record { stands = h .stands ∙ sym (full room text (b ∷ []) past) ; ends = omega (arith, h .ends, past, length-append text (b ∷ [])) }
   where
     past : length room ≤ length text
     past = omega (arith, h .ends, holds-length h)
@@ -56,7 +54,7 @@ pub two : {a b s₀ s₁ s₂ : List ℕ} {p q r : ℕ} → Adds a s₀ p s₁ q
 two {a} {b} f g room text h = rw (← append-assoc text a b) (g room (text ++ a) (f room text h))
 
 pub into : {a s s′ : List ℕ} {r : ℕ} → Adds a s 0 s′ r → Holds s a s′ r
-into {a} {s} f = f s [] record { stands = rw (take-nil (length s)); ends = omega arith }
+into {a} {s} f = f s [] record { stands = rw (take-nil (length s)) ; ends = omega arith }
 
 -- a loop over a piece: one byte on, and its end
 pub more : (piece : List ℕ) (i : ℕ) {s₀ s₁ s₂ : List ℕ} {p q r : ℕ} → i < length piece → Adds (take i piece) s₀ p s₁ q → Adds (getD piece i 0 ∷ []) s₁ q s₂ r → Adds (take (i + 1) piece) s₀ p s₂ r
