@@ -13,7 +13,7 @@ use Rattle.kinds.specs.Meaning.{Meaning, register, routine, meaningOf, register
 use Rattle.kinds.specs.Meanings.{Meant, mean, write, writeText, callWrites, openBase}
 use Rattle.tables.specs.Packed.{REGISTER, ROUTINE, low, packed, numberIn, isRoutineIn, basedIn, unpacked, meaningsOf, registerIn, packedAt, setOf, setsOf}
 use Rattle.tables.proofs.Sets.{grown-by, grown-text}
-use Rattle.tables.proofs.Meanings.{as-routine, meaning-at}
+use Rattle.tables.proofs.Meanings.{as-routine}
 use Rattle.meanings.specs.Along.{writeTarget, writeLower}
 use Rattle.meanings.proofs.Moves.{register-at}
 use Rattle.meanings.proofs.Changes as changes
@@ -57,14 +57,11 @@ module _ (w : Wide) (b : Thin) (n : ℕ) where
       ap (λ (l : List Meaning). with-meant (viewOf w b n) (record { means = l; opens = b .opens; written = setsOf (b .written); cells = []; bases = n }))
       (changes.routine-declared (b .found) (w .means) (w .under) t m r p e f h g refl)
 
-  meant-at : (t : ℕ) → meaningOf (b .found) (meaningsOf (w .means) (w .under)) t ≡ unpacked (getD (b .found) t 0) (packedAt (b .found) (w .means) t) (basedIn (getD (w .under) (getD (b .found) t 0) 0))
-  meant-at t = meaning-at (w .means) (w .under) (getD (b .found) t 0)
-
   pub call-written :
       (own t p m r : ℕ) → p ≡ getD (b .found) t 0 → m ≡ getD (w .means) p 0 → isRoutineIn m ≡ true → r ≡ numberIn m
       → changed (writeText own p) (changed (write own r) (viewOf w b n)) ≡ changed (callWrites (meaningOf (b .found) (meaningsOf (w .means) (w .under)) t) own (getD (b .found) t 0)) (viewOf w b n)
   unfolding callWrites
-  call-written own t p m r e f h g = rw (meant-at t, ← e, ← f, as-routine p m (basedIn (getD (w .under) p 0)) h, ← g)
+  call-written own t p m r e f h g = rw (changes.meant-at (b .found) (w .means) (w .under) t, ← e, ← f, as-routine p m (basedIn (getD (w .under) p 0)) h, ← g)
 
   pub no-call :
       (own t p m : ℕ) → p ≡ getD (b .found) t 0 → m ≡ getD (w .means) p 0 → isRoutineIn m ≡ false

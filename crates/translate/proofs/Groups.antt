@@ -193,9 +193,9 @@ module _ (src : List ℕ) (answer : Tokens) (is : summaryOf answer ≡ summed (t
       → Blanks (allTokens src) (wideOf (take (4 * m) wide′)) (thinOf (take (4 * m) thin))
   cut-blanks wide wide′ thin zw zt same long hw ht = record {
     no-means =
-      wide-take 1 m wide′ (omega arith) (omega arith)
-      ∙ (ap (λ (y : Wide). take m (y .means)) same
-      ∙ (ap (λ (l : List ℕ). take m (wideOf l .means)) zw ∙ (ap (take m) (wide-zeros 1 (length wide) (omega arith)) ∙ cut (length wide / 4) (omega arith))));
+        wide-take 1 m wide′ (omega arith) (omega arith)
+        ∙ (ap (λ (y : Wide). take m (y .means)) same
+        ∙ (ap (λ (l : List ℕ). take m (wideOf l .means)) zw ∙ (ap (take m) (wide-zeros 1 (length wide) (omega arith)) ∙ cut (length wide / 4) (omega arith))));
     no-found = thin-blank thin zt ht 0 (omega arith);
     no-goes = thin-blank thin zt ht 1 (omega arith);
   }

@@ -57,16 +57,16 @@ module _ {s : List ℕ} {at n : ℕ} {r : Next} {t : Token} {end : ℕ} (g : Ans
   laying-on l = record {
     front = front-stays;
     on =
-      subst (λ (k : List ℕ). LaidOn part s (drop firstToken old) k (at + end) (n + 1)) (sym (drop-set-add firstToken now n (part (moved at t))))
-      (laid-on g q part (drop firstToken old) (drop firstToken now) (w .on) l);
+        subst (λ (k : List ℕ). LaidOn part s (drop firstToken old) k (at + end) (n + 1)) (sym (drop-set-add firstToken now n (part (moved at t))))
+        (laid-on g q part (drop firstToken old) (drop firstToken now) (w .on) l);
   }
 
   pub laying-last : length s ≤ TEXT-LIMIT → isLast (t .kind) ≡ true → LaidBehind part s old (set now (firstToken + n) (part (moved at t)))
   laying-last h l = record {
     front = front-stays;
     behind =
-      drop-set-add firstToken now n (part (moved at t))
-      ∙ (laid-last g q part (drop firstToken old) (drop firstToken now) (w .on) l ∙ ap (λ (x : Reading). laid part (x .tokens) (drop firstToken old)) (sym (read-whole s h)));
+        drop-set-add firstToken now n (part (moved at t))
+        ∙ (laid-last g q part (drop firstToken old) (drop firstToken now) (w .on) l ∙ ap (λ (x : Reading). laid part (x .tokens) (drop firstToken old)) (sym (read-whole s h)));
   }
 
 pub laying-no :
@@ -164,14 +164,14 @@ pub fronted-all :
     → kinds₁ ≡ sets kinds 0 (map kindOf inFront) → w₁ ≡ onWide 0 (λ (l : List ℕ). sets l 0 (map valueOf inFront)) w → Behind src kinds₁ kinds′ w₁ w′ answer
     → Fronted src kinds′ (w′ .values) answer × ButValues w w′
 fronted-all src kinds kinds₁ kinds′ w w₁ w′ answer hk hv ek ew d = (
-      record {
-        is = d .is;
-        kinds-are = λ n e. rw (count-is src answer (d .is) n e) (fronted kindOf kinds kinds₁ kinds′ (tokensOf src .tokens) (fits n e (length kinds) hk) ek (d .kinds-laid .front) (d .kinds-laid .behind));
-        values-are = λ n e. rw (count-is src answer (d .is) n e)
-            (fronted valueOf (w .values) (w₁ .values) (w′ .values) (tokensOf src .tokens) (fits n e (length (w .values)) hv) (ap (λ (y : Wide). y .values) ew) (d .values-laid .front) (d .values-laid .behind));
-      },
-      d .same ∙ ap (onWide 0 (λ (l : List ℕ). w′ .values)) ew,
-    )
+  record {
+    is = d .is;
+    kinds-are = λ n e. rw (count-is src answer (d .is) n e) (fronted kindOf kinds kinds₁ kinds′ (tokensOf src .tokens) (fits n e (length kinds) hk) ek (d .kinds-laid .front) (d .kinds-laid .behind));
+    values-are = λ n e. rw (count-is src answer (d .is) n e)
+        (fronted valueOf (w .values) (w₁ .values) (w′ .values) (tokensOf src .tokens) (fits n e (length (w .values)) hv) (ap (λ (y : Wide). y .values) ew) (d .values-laid .front) (d .values-laid .behind));
+  },
+  d .same ∙ ap (onWide 0 (λ (l : List ℕ). w′ .values)) ew,
+)
   where
     fits : (n : ℕ) → answer ≡ S.Read n → (N : ℕ) → length src + 18 ≤ N → firstToken + length (tokensOf src .tokens) ≤ N
     fits n e N h = let p = few-read src answer (d .is) n e in let q = count-is src answer (d .is) n e in omega arith

@@ -48,8 +48,13 @@ slice-write-kinds c =
     let at-next-token = at-next .before .before in
     let at-loop = at-next-token .before .before in
     let start = at-loop .before .before .before .before in
-    omega (arith, has-room (answered (at-loop .loop .inv .0) (at-next-token .next-token .ensures)) (at-next .next .given .1) _ (few-tokens 0 0 (start .args .src
-    .now)), at-loop .loop .inv .1, start .pre .1)
+    omega (
+      arith,
+      has-room (answered (at-loop .loop .inv .0) (at-next-token .next-token .ensures)) (at-next .next .given .1) _ (few-tokens 0 0 (start .args .src
+          .now)),
+      at-loop .loop .inv .1,
+      start .pre .1,
+    )
 
 add-put-value : tie.Need-add-put-value Inv-loop μ-loop
 add-put-value c =
@@ -102,8 +107,12 @@ loop-less c =
     let at-next = at-is-last .before .before .before .before .before .before in
     let at-next-token = at-next .before .before in
     let at-loop = at-next-token .before .before in
-    omega (arith, ends-inside (answered (at-loop .loop .inv .0) (at-next-token .next-token .ensures)) (at-next .next .given .1), some-bytes (answered (at-loop
-    .loop .inv .0) (at-next-token .next-token .ensures)) (at-next .next .given .1) (sym (at-is-last .is-last .ensures) ∙ c .if1 .left))
+    omega (
+      arith,
+      ends-inside (answered (at-loop .loop .inv .0) (at-next-token .next-token .ensures)) (at-next .next .given .1),
+      some-bytes (answered (at-loop
+          .loop .inv .0) (at-next-token .next-token .ensures)) (at-next .next .given .1) (sym (at-is-last .is-last .ensures) ∙ c .if1 .left),
+    )
 
 loop-again : tie.Need-loop-again Inv-loop μ-loop
 loop-again c =
@@ -111,9 +120,12 @@ loop-again c =
     let at-put-value = at-is-last .before .before .before in
     let at-next = at-put-value .before .before .before in
     let at-next-token = at-next .before .before in
-    let at-loop = at-next-token .before .before in
-    (underway-on (at-loop .loop .inv .0) (at-next-token .next-token .ensures) (at-next .next .given .1) _ (at-put-value .put-value .ensures) (sym (at-is-last
-    .is-last .ensures) ∙ c .if1 .left), search needs, at-put-value .put-value .kept .0 ∙ at-loop .loop .inv .2)
+    let at-loop = at-next-token .before .before in (
+      underway-on (at-loop .loop .inv .0) (at-next-token .next-token .ensures) (at-next .next .given .1) _ (at-put-value .put-value .ensures) (sym (at-is-last
+          .is-last .ensures) ∙ c .if1 .left),
+      search needs,
+      at-put-value .put-value .kept .0 ∙ at-loop .loop .inv .2,
+    )
 
 enum-known-next-2 : tie.Need-enum-known-next-2 Inv-loop μ-loop
 enum-known-next-2 c = search needs
@@ -123,8 +135,11 @@ add-t22 c =
     let at-next2 = c .before in
     let at-next-token = at-next2 .before .before in
     let at-loop = at-next-token .before .before in
-    omega (arith, underway-inside (at-next-token .next-token .result) (at-loop .loop .inv .0) (at-next-token .next-token .ensures) (ap outcomeOf (at-next2
-    .next2 .given .1)))
+    omega (
+      arith,
+      underway-inside (at-next-token .next-token .result) (at-loop .loop .inv .0) (at-next-token .next-token .ensures) (ap outcomeOf (at-next2
+          .next2 .given .1)),
+    )
 
 same-length-3 : tie.Need-same-length-3 Inv-loop μ-loop
 same-length-3 c = c .before .before .before .before .before .loop .inv .1
@@ -149,8 +164,11 @@ add-t23 c =
     let at-next3 = c .before in
     let at-next-token = at-next3 .before .before in
     let at-loop = at-next-token .before .before in
-    omega (arith, underway-inside (at-next-token .next-token .result) (at-loop .loop .inv .0) (at-next-token .next-token .ensures) (ap outcomeOf (at-next3
-    .next3 .given .1)))
+    omega (
+      arith,
+      underway-inside (at-next-token .next-token .result) (at-loop .loop .inv .0) (at-next-token .next-token .ensures) (ap outcomeOf (at-next3
+          .next3 .given .1)),
+    )
 
 same-length-5 : tie.Need-same-length-5 Inv-loop μ-loop
 same-length-5 c = c .before .before .before .before .before .loop .inv .1

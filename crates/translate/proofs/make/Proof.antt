@@ -85,10 +85,23 @@ deliver-requires c κs =
     let at-if2 = c .before .before .before in
     let at-if1 = at-if2 .before in
     let at-write-code = at-if1 .before .before .before in
-    let start = at-write-code .before .before .before .before .before .before .before .before .before .before .before .before .before .before in
-    (omega (arith, cut-long (at-write-code .write-code .result .length) 4096 (at-write-code .write-code .last .1 .1 .1 .1 .1 .0) (at-if1 .if1 .left)
-    (at-write-code .write-code .kept .1 .1 .1 .1 .1 .0 ∙ zeros-long), at-if1 .if1 .left), omega (arith, length-take (at-write-code .write-code .result
-    .literals) (at-write-code .write-code .last .1 .1 .1 .1 .1 .1 .0), at-if2 .if2 .left), start .pre .1, start .pre .2, start .pre .3)
+    let start = at-write-code .before .before .before .before .before .before .before .before .before .before .before .before .before .before in (
+      omega (
+        arith,
+        cut-long (at-write-code .write-code .result .length) 4096 (at-write-code .write-code .last .1 .1 .1 .1 .1 .0) (at-if1 .if1 .left)
+            (at-write-code .write-code .kept .1 .1 .1 .1 .1 .0 ∙ zeros-long),
+        at-if1 .if1 .left,
+      ),
+      omega (
+        arith,
+        length-take (at-write-code .write-code .result
+            .literals) (at-write-code .write-code .last .1 .1 .1 .1 .1 .1 .0),
+        at-if2 .if2 .left,
+      ),
+      start .pre .1,
+      start .pre .2,
+      start .pre .3,
+    )
 
 same-length-3 : tie.Need-same-length-3
 same-length-3 c = search needs

@@ -49,10 +49,15 @@ loop-again : tie.Need-loop-again Inv-loop μ-loop
 loop-again c =
     let at-put-value = c .before .before in
     let at-loop-test = at-put-value .before .before in
-    let at-loop = at-loop-test .before in
-    (search needs, search needs, at-put-value .put-value .kept .0 ∙ at-loop .loop .inv .2, lay-turn (kindsOf inFront) _ _ _ (at-loop-test .loop-test .taken)
-    refl (at-loop .loop .inv .3), values-turn (valuesOf inFront) _ _ _ _ (at-loop-test .loop-test .taken) (front-key (at-loop .loop .t)) (at-put-value
-    .put-value .ensures) (at-loop .loop .inv .4))
+    let at-loop = at-loop-test .before in (
+      search needs,
+      search needs,
+      at-put-value .put-value .kept .0 ∙ at-loop .loop .inv .2,
+      lay-turn (kindsOf inFront) _ _ _ (at-loop-test .loop-test .taken)
+          refl (at-loop .loop .inv .3),
+      values-turn (valuesOf inFront) _ _ _ _ (at-loop-test .loop-test .taken) (front-key (at-loop .loop .t)) (at-put-value
+          .put-value .ensures) (at-loop .loop .inv .4),
+    )
 
 same-length : tie.Need-same-length Inv-loop μ-loop
 same-length c = search needs

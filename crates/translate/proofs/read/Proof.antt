@@ -34,8 +34,12 @@ returns c =
     let at-lay-tokens = c .before .before .before .before in
     let at-put-front = at-lay-tokens .before .before .before .before .before .before .before in
     let start = at-put-front .before .before .before .before .before .before in
-    fronted-all (start .args .src .now) (start .args .kinds .now) _ _ (wideOf (start .args .wide .now)) _ _ _ (start .pre .1) (omega (arith, wide-length 0
-    (start .args .wide .now), start .pre .2)) (at-put-front .put-front .ensures .0) (at-put-front .put-front .ensures .1) (at-lay-tokens .lay-tokens .ensures)
+    fronted-all (start .args .src .now) (start .args .kinds .now) _ _ (wideOf (start .args .wide .now)) _ _ _ (start .pre .1) (omega (
+      arith,
+      wide-length 0
+          (start .args .wide .now),
+      start .pre .2,
+    )) (at-put-front .put-front .ensures .0) (at-put-front .put-front .ensures .1) (at-lay-tokens .lay-tokens .ensures)
 
 pub read-spec : {M : Type 1} → statement M
 read-spec =

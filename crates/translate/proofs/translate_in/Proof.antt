@@ -39,16 +39,25 @@ slice-reshare-prefix-translate-tokens c =
     let at-tokens = c .before in
     let at-read = at-tokens .before .before .before .before .before .before in
     let start = at-read .before .before .before .before .before .before .before .before .before in
-    omega (arith, few-read (start .args .src .now) _ (at-read .read .ensures .0 .is) _ (at-tokens .tokens .given .1), start .pre .for-kinds, at-read .read .kept
-    .1 .0)
+    omega (
+      arith,
+      few-read (start .args .src .now) _ (at-read .read .ensures .0 .is) _ (at-tokens .tokens .given .1),
+      start .pre .for-kinds,
+      at-read .read .kept
+          .1 .0,
+    )
 
 slice-aggregate-translate-tokens : tie.Need-slice-aggregate-translate-tokens
 slice-aggregate-translate-tokens c =
     let at-tokens = c .before .before in
     let at-read = at-tokens .before .before .before .before .before .before in
     let start = at-read .before .before .before .before .before .before .before .before .before in
-    cut-long _ _ _ (omega (arith, few-read (start .args .src .now) _ (at-read .read .ensures .0 .is) _ (at-tokens .tokens .given .1), start .pre .for-kinds,
-    at-read .read .kept .1 .0)) refl
+    cut-long _ _ _ (omega (
+      arith,
+      few-read (start .args .src .now) _ (at-read .read .ensures .0 .is) _ (at-tokens .tokens .given .1),
+      start .pre .for-kinds,
+      at-read .read .kept .1 .0,
+    )) refl
 
 slice-relend-prefix-translate-tokens : tie.Need-slice-relend-prefix-translate-tokens
 slice-relend-prefix-translate-tokens c =
@@ -70,16 +79,25 @@ slice-relend-prefix-translate-tokens-2 c =
     let at-tokens = c .before .before .before in
     let at-read = at-tokens .before .before .before .before .before .before in
     let start = at-read .before .before .before .before .before .before .before .before .before in
-    omega (arith, few-read (start .args .src .now) _ (at-read .read .ensures .0 .is) _ (at-tokens .tokens .given .1), start .pre .for-wide, at-read .read .kept
-    .1 .1 .0)
+    omega (
+      arith,
+      few-read (start .args .src .now) _ (at-read .read .ensures .0 .is) _ (at-tokens .tokens .given .1),
+      start .pre .for-wide,
+      at-read .read .kept
+          .1 .1 .0,
+    )
 
 slice-aggregate-translate-tokens-3 : tie.Need-slice-aggregate-translate-tokens-3
 slice-aggregate-translate-tokens-3 c =
     let at-tokens = c .before .before .before .before in
     let at-read = at-tokens .before .before .before .before .before .before in
     let start = at-read .before .before .before .before .before .before .before .before .before in
-    cut-long _ _ _ (omega (arith, few-read (start .args .src .now) _ (at-read .read .ensures .0 .is) _ (at-tokens .tokens .given .1), start .pre .for-wide,
-    at-read .read .kept .1 .1 .0)) refl
+    cut-long _ _ _ (omega (
+      arith,
+      few-read (start .args .src .now) _ (at-read .read .ensures .0 .is) _ (at-tokens .tokens .given .1),
+      start .pre .for-wide,
+      at-read .read .kept .1 .1 .0,
+    )) refl
 
 slice-relend-prefix-translate-tokens-3 : tie.Need-slice-relend-prefix-translate-tokens-3
 slice-relend-prefix-translate-tokens-3 c =
@@ -102,10 +120,23 @@ translate-tokens-requires c κs =
     let at-read = at-tokens .before .before .before .before .before .before in
     let start = at-read .before .before .before .before .before .before .before .before .before in
     let f = few-read (start .args .src .now) _ (at-read .read .ensures .0 .is) _ (at-tokens .tokens .given .1) in let l = cut-lent (17 + at-tokens .tokens
-    .given .0 .0) (at-read .read .last .1 .0) (start .args .tape .now) (at-read .read .last .1 .1 .0) (start .args .thin .now) (omega arith) (omega (arith, f,
-    start .pre .short)) (omega (arith, f, start .pre .for-kinds, at-read .read .kept .1 .0)) (omega (arith, f, start .pre .for-tape)) (omega (arith, f, start
-    .pre .for-wide, at-read .read .kept .1 .1 .0)) (omega (arith, f, start .pre .for-thin)) in (all-read (start .args .src .now) _ (at-read .read .ensures .0
-    .is) _ (at-tokens .tokens .given .1), l .0, l .1, l .2)
+    .given .0 .0) (at-read .read .last .1 .0) (start .args .tape .now) (at-read .read .last .1 .1 .0) (start .args .thin .now) (omega arith) (omega (
+      arith,
+      f,
+      start .pre .short,
+    )) (omega (arith, f, start .pre .for-kinds, at-read .read .kept .1 .0)) (omega (arith, f, start .pre .for-tape)) (omega (
+      arith,
+      f,
+      start
+          .pre .for-wide,
+      at-read .read .kept .1 .1 .0,
+    )) (omega (arith, f, start .pre .for-thin)) in (
+      all-read (start .args .src .now) _ (at-read .read .ensures .0
+          .is) _ (at-tokens .tokens .given .1),
+      l .0,
+      l .1,
+      l .2,
+    )
 
 enum-told : tie.Need-enum-told
 enum-told c = search needs
@@ -161,8 +192,12 @@ returns c =
     let at-read = at-tokens .before .before .before .before .before .before in
     let start = at-read .before .before .before .before .before .before .before .before .before in
     let f = few-read (start .args .src .now) _ (at-read .read .ensures .0 .is) _ (at-tokens .tokens .given .1) in text-read _ _ _ _ (at-read .read .ensures .0)
-    _ (at-tokens .tokens .given .1) _ _ _ _ _ (wide-take 0 (17 + at-tokens .tokens .given .0 .0) (at-read .read .last .1 .1 .0) (omega arith) (omega (arith, f,
-    start .pre .for-wide, at-read .read .kept .1 .1 .0))) (cut-blanks (start .args .src .now) _ (at-read .read .ensures .0 .is) _ (at-tokens .tokens .given .1)
+    _ (at-tokens .tokens .given .1) _ _ _ _ _ (wide-take 0 (17 + at-tokens .tokens .given .0 .0) (at-read .read .last .1 .1 .0) (omega arith) (omega (
+      arith,
+      f,
+      start .pre .for-wide,
+      at-read .read .kept .1 .1 .0,
+    ))) (cut-blanks (start .args .src .now) _ (at-read .read .ensures .0 .is) _ (at-tokens .tokens .given .1)
     (start .args .wide .now) (at-read .read .last .1 .1 .0) (start .args .thin .now) (start .pre .no-wide) (start .pre .no-thin) (at-read .read .ensures .1)
     (at-read .read .kept .1 .1 .0) (omega (arith, f, start .pre .for-wide)) (omega (arith, f, start .pre .for-thin))) (at-translate-tokens .translate-tokens
     .ensures)

@@ -13,13 +13,32 @@ use Rattle.translate.proofs.translate_tape.Tie as tie
 bind-requires : tie.Need-bind-requires
 bind-requires c κs =
     let start = c .before .before .before .before .before .before .before .before in
-    let l = start .pre .4 in (start .pre .2, omega (arith, start .pre .1, l .thin-long), omega (arith, l .few, l .thin-long), omega (arith, l .wide-long, l
-    .thin-long))
+    let l = start .pre .4 in (
+      start .pre .2,
+      omega (arith, start .pre .1, l .thin-long),
+      omega (arith, l .few, l .thin-long),
+      omega (
+        arith,
+        l .wide-long,
+        l
+            .thin-long,
+      ),
+    )
 
 settle-requires : tie.Need-settle-requires
 settle-requires c κs =
     let start = c .before .before .before .before .before .before .before .before .before .before .before .before .before in
-    let l = start .pre .4 in (start .pre .3, omega (arith, start .pre .1, l .few), omega (arith, start .pre .1, l .wide-long))
+    let l = start .pre .4 in (
+      start .pre .3,
+      omega (arith, start .pre .1, l .few),
+      omega (arith, start .pre .1, l .wide-long),
+      omega (
+        arith,
+        start .pre .1,
+        l
+            .thin-long,
+      ),
+    )
 
 place-of-requires : tie.Need-place-of-requires
 place-of-requires c κs =
@@ -42,10 +61,10 @@ returns c =
     let at-settle = at-if1 .before .before .before .before .before .before in
     let at-bind = at-settle .before .before .before .before .before in
     let start = at-bind .before .before .before .before .before .before .before .before .before in
-    λ x t ek bs. let ts = allTokens (start .args .src .now) in let b = at-bind .bind .ensures .1 ts x t (bs .no-found) (bs .no-goes) in let rows = ap (λ (n :
-    ℕ). replicate {A = ℕ} n 0) (rows-are ts _ _ _ ek (start .pre .4)) in let s = at-settle .settle .ensures .2 ts x t ek (b .found-is) (bs .no-means) (at-bind
-    .bind .ensures .0 .opens-are ∙ rows) (at-bind .bind .ensures .0 .written-are ∙ rows) in rule-broken ts x _ _ _ _ _ _ _ t b (at-settle .settle .ensures .1) s
-    _ _ (c .place-of .ensures) (at-if1 .if1 .taken)
+    λ x t ek bs. let ts = allTokens (start .args .src .now) in let b = at-bind .bind .ensures .1 ts x t (bs .no-found) (bs .no-goes) in let many = rows-are ts _
+    _ _ ek (start .pre .4) in let rows = ap (λ (n : ℕ). replicate {A = ℕ} n 0) (many .1) in let s = at-settle .settle .ensures .2 ts x t ek (b .found-is) (bs
+    .no-means) (at-bind .bind .ensures .0 .opens-are ∙ rows) (at-bind .bind .ensures .0 .written-are ∙ rows) (many .0) in rule-broken ts x _ _ _ _ _ _ _ t b
+    (at-settle .settle .ensures .1) s _ _ (c .place-of .ensures) (at-if1 .if1 .taken)
 
 clear-written-requires : tie.Need-clear-written-requires
 clear-written-requires c κs = search needs
@@ -54,8 +73,13 @@ make-requires : tie.Need-make-requires
 make-requires c κs =
     let at-settle = c .before .before .before .before .before .before .before .before .before .before .before .before .before in
     let start = at-settle .before .before .before .before .before .before .before .before .before .before .before .before .before .before in
-    let e = at-settle .settle .ensures .0 in (omega (arith, start .pre .1, start .pre .4 .few), omega (arith, e .cells-is), omega (arith, e .two-is), omega
-    (arith, e .three-is))
+    let e = at-settle .settle .ensures .0 in (
+      omega (arith, start .pre .1, start .pre .4 .few),
+      omega (arith, e .cells-is),
+      omega (arith, e .two-is),
+      omega
+          (arith, e .three-is),
+    )
 
 same-length-3 : tie.Need-same-length-3
 same-length-3 c =
@@ -82,10 +106,10 @@ returns-2 c =
     let at-settle = at-if1 .before .before .before .before .before .before in
     let at-bind = at-settle .before .before .before .before .before in
     let start = at-bind .before .before .before .before .before .before .before .before .before in
-    λ x t ek bs. let ts = allTokens (start .args .src .now) in let b = at-bind .bind .ensures .1 ts x t (bs .no-found) (bs .no-goes) in let rows = ap (λ (n :
-    ℕ). replicate {A = ℕ} n 0) (rows-are ts _ _ _ ek (start .pre .4)) in let s = at-settle .settle .ensures .2 ts x t ek (b .found-is) (bs .no-means) (at-bind
-    .bind .ensures .0 .opens-are ∙ rows) (at-bind .bind .ensures .0 .written-are ∙ rows) in let long = thin-length 3 _ ∙ (ap (λ (n : ℕ). n / 4) (at-settle
-    .settle .kept .1 .1 .1 .0 ∙ at-bind .bind .kept .1 .1 .0) ∙ rows-are ts _ _ _ ek (start .pre .4)) in none-broken ts x _ _ _ _ _ _ _ t b (at-settle .settle
+    λ x t ek bs. let ts = allTokens (start .args .src .now) in let b = at-bind .bind .ensures .1 ts x t (bs .no-found) (bs .no-goes) in let many = rows-are ts _
+    _ _ ek (start .pre .4) in let rows = ap (λ (n : ℕ). replicate {A = ℕ} n 0) (many .1) in let s = at-settle .settle .ensures .2 ts x t ek (b .found-is) (bs
+    .no-means) (at-bind .bind .ensures .0 .opens-are ∙ rows) (at-bind .bind .ensures .0 .written-are ∙ rows) (many .0) in let long = thin-length 3 _ ∙ (ap (λ (n
+    : ℕ). n / 4) (at-settle .settle .kept .1 .1 .1 .0 ∙ at-bind .bind .kept .1 .1 .0) ∙ many .1) in none-broken ts x _ _ _ _ _ _ _ t b (at-settle .settle
     .ensures .1) s (start .args .kinds .now) (start .args .out .now) _ _ _ ek (at-clear-written .clear-written .ensures) long (at-if1 .if1 .left) (at-make .make
     .ensures _ (at-settle .settle .ensures .0))
 

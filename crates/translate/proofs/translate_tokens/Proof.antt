@@ -40,9 +40,20 @@ translate-tape-requires c κs =
     let at-if1 = c .before .before .before .before in
     let at-program = at-if1 .before .before .before in
     let start = at-program .before .before .before .before .before .before .before .before in
-    let f = tape-fits (allTokens (start .args .src .now)) _ _ _ (at-program .program .ensures) (at-if1 .if1 .left) (omega (arith, start .pre .3 .few)) in (start
-    .pre .0, omega (arith, length-take (at-program .program .result .value) (at-program .program .last .1 .1 .0), at-program .program .ensures .few, start .pre
-    .2), f .0, f .1, start .pre .3)
+    let f = tape-fits (allTokens (start .args .src .now)) _ _ _ (at-program .program .ensures) (at-if1 .if1 .left) (omega (arith, start .pre .3 .few)) in (
+      start
+          .pre .0,
+      omega (
+        arith,
+        length-take (at-program .program .result .value) (at-program .program .last .1 .1 .0),
+        at-program .program .ensures .few,
+        start .pre
+            .2,
+      ),
+      f .0,
+      f .1,
+      start .pre .3,
+    )
 
 same-length-2 : tie.Need-same-length-2
 same-length-2 c =

@@ -79,10 +79,15 @@ write-object-requires c κs =
     let at-fill = at-lay-literals .before .before .before in
     let start = at-fill .before .before .before .before .before .before .before in
     write-fits (start .args .code .now) (at-lay-literals .lay-literals .last .0) (at-fill2 .fill2 .last .1 .1 .1 .0) (at-fill3 .fill3 .last .1 .1 .1 .0) (start
-    .args .out .now) (start .args .s .bases) (start .args .last) (start .args .s .two) (start .args .s .three) ( start .pre .0, cut-long (start .args .last)
-    4096 _ (start .pre .2) (at-lay-literals .lay-literals .kept .0 ∙ (at-fill .fill .kept .1 .1 .1 .0 ∙ zeros-long)), cut-long (start .args .s .two) 4096 _
-    (start .pre .3) (at-fill2 .fill2 .kept .1 .1 .1 .0 ∙ zeros-long), cut-long (start .args .s .three) 4096 _ (start .pre .4) (at-fill3 .fill3 .kept .1 .1 .1 .0
-    ∙ zeros-long), ) (start .pre .2, start .pre .3, start .pre .4) (start .pre .5)
+    .args .out .now) (start .args .s .bases) (start .args .last) (start .args .s .two) (start .args .s .three) (
+      start .pre .0,
+      cut-long (start .args .last)
+          4096 _ (start .pre .2) (at-lay-literals .lay-literals .kept .0 ∙ (at-fill .fill .kept .1 .1 .1 .0 ∙ zeros-long)),
+      cut-long (start .args .s .two) 4096 _
+          (start .pre .3) (at-fill2 .fill2 .kept .1 .1 .1 .0 ∙ zeros-long),
+      cut-long (start .args .s .three) 4096 _ (start .pre .4) (at-fill3 .fill3 .kept .1 .1 .1 .0
+          ∙ zeros-long),
+    ) (start .pre .2, start .pre .3, start .pre .4) (start .pre .5)
 
 same-length : tie.Need-same-length
 same-length c = search needs
