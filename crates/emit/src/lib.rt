@@ -526,7 +526,12 @@ fn element(wide: &[u64], d: usize, m: u64, subscript: u64, index: u64) -> Use
     ensures { λ r. ⌜ r ≡ elementIn (wideOf (now (wide .entry)) .under) (wideOf (now (wide .entry)) .offsets) d m subscript index ⌝ }
 {
     let displacement = offset(wide, d) % 4294967296 + subscript % 4294967296;
-    Use::Stored(is_short(m), index, under(wide, d) / 4294967296, displacement)
+    Use::Stored(
+        is_short(m),
+        index,
+        under(wide, d) / 4294967296,
+        displacement,
+    )
 }
 
 // What is declared at token d, by its packed meaning m.
