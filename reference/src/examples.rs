@@ -1,6 +1,7 @@
 //! The examples in `examples/`: what they are answered, run and show, in the plain form in which the results are stored beside them.
 
 use crate::grammar::{program, Block, Declaration, Item, Statement};
+use crate::help;
 use crate::layout::{layout, Place};
 use crate::machine::origin;
 use crate::manual;
@@ -265,10 +266,13 @@ fn run_vectors(dir: &Path, entries: &[Entry], manual: &[manual::Told]) -> io::Re
     Ok(records)
 }
 
-/// Every file of `examples/` that is made, with its content; the page on refusals as `../docs/REFUSALS.md`.
+/// Every file of `examples/` that is made, with its content; the page on refusals and the gate's cases by their way from there.
 pub fn files(dir: &Path) -> io::Result<Vec<(String, Vec<u8>)>> {
     let entries = entries(&std::fs::read_to_string(dir.join("refusals.data"))?).map_err(broken)?;
     let mut files = vec![("../docs/REFUSALS.md".to_string(), page(&entries).into_bytes())];
+    let usage = std::fs::read_to_string(dir.join("../command/usage"))?;
+    files.push(("../crates/helping/specs/Pages.antt".to_string(), help::definition(&entries, &usage).into_bytes()));
+    files.push(("../crates/helping/src/pages.rt".to_string(), help::code(&entries, &usage).into_bytes()));
     for entry in &entries {
         for (gets, example) in [(true, &entry.gets), (false, &entry.not)] {
             files.push((format!("refusals/{}", entry.file(gets)), example.text()));
@@ -282,7 +286,7 @@ pub fn files(dir: &Path) -> io::Result<Vec<(String, Vec<u8>)>> {
     files.push(("runs".to_string(), runs(dir)?.into_bytes()));
     files.push(("texts".to_string(), texts(dir)?.into_bytes()));
     let manual = manual::texts(&std::fs::read_to_string(dir.join("../docs/LANGUAGE.md"))?);
-    files.push(("vectors/texts".to_string(), text_vectors(dir, &entries, &manual)?));
-    files.push(("vectors/runs".to_string(), run_vectors(dir, &entries, &manual)?));
+    files.push(("../crates/translate_vectors/data/examples".to_string(), text_vectors(dir, &entries, &manual)?));
+    files.push(("../crates/run_vectors/data/examples".to_string(), run_vectors(dir, &entries, &manual)?));
     Ok(files)
 }

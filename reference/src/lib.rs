@@ -26,6 +26,7 @@ pub mod examples;
 pub mod gen;
 pub mod genrun;
 pub mod grammar;
+pub mod help;
 pub mod hercules;
 pub mod hunt;
 pub mod kinds;

@@ -87,7 +87,7 @@ impl Example {
     pub fn shown(&self) -> String {
         let mut shown = String::new();
         for line in &self.lines {
-            let times = if line.times > 1 { format!("   … {} times", line.times) } else { String::new() };
+            let times = if line.times > 1 { format!("   ... {} times", line.times) } else { String::new() };
             let text = if line.text.is_empty() { "(an empty line)" } else { line.text.as_str() };
             let _ = writeln!(shown, "    {text}{times}");
         }
@@ -196,6 +196,19 @@ fn example(page: &mut String, example: &Example) {
     let _ = write!(page, "{kind}{with} {}: {}.\n\n{}\n", told(example.gives), example.because, example.shown());
 }
 
+/// What is said of a refusal or a stop.
+pub fn section(entry: &Entry) -> String {
+    let place = if entry.place.is_empty() { String::new() } else { format!("\nPlace: {}.", entry.place) };
+    let mut text = entry.answer();
+    text[..1].make_ascii_uppercase();
+    let _ = write!(text, ": {}\n\n{}{place}\n\n", entry.title, entry.means);
+    example(&mut text, &entry.gets);
+    example(&mut text, &entry.not);
+    text.truncate(text.trim_end().len());
+    text.push('\n');
+    text
+}
+
 /// `docs/REFUSALS.md`.
 pub fn page(entries: &[Entry]) -> String {
     let mut page = "# Refusals and stops\n\nMade from `examples/refusals.data` by `examples/make`; the texts stand in `examples/refusals/`.\n\n\
@@ -209,14 +222,7 @@ pub fn page(entries: &[Entry]) -> String {
         let _ = writeln!(page, "| {} | {} |", entry.answer(), entry.title);
     }
     for entry in entries {
-        let place = if entry.place.is_empty() { String::new() } else { format!("\nPlace: {}.", entry.place) };
-        let mut name = entry.answer();
-        name[..1].make_ascii_uppercase();
-        let _ = write!(page, "\n## {name}: {}\n\n{}{place}\n\n", entry.title, entry.means);
-        example(&mut page, &entry.gets);
-        example(&mut page, &entry.not);
-        page.truncate(page.trim_end().len());
-        page.push('\n');
+        let _ = write!(page, "\n## {}", section(entry));
     }
     page
 }

@@ -3,42 +3,15 @@
 ghost use mathlib.Core.Path.{_≡_};
 ghost use Prim.Native.Nat.{_+_, _≤_, _<_};
 ghost use lib.ListN.{length};
-ghost use Rattle.runner.specs.Numbers.{numberOf, stopOf};
 use lines::checksum;
 use lines::decimal;
 use lines::output;
-use runner::Answer;
-use runner::Stop;
-use runner::Verdict;
 
 const FIELDS: usize = 20;
 
 const BEFORE: u8 = 165;
 
 const WORD: u64 = 4294967296;
-
-fn number_of(v: Verdict) -> u64
-    ensures { λ r. ⌜ r ≡ numberOf v ⌝ }
-{
-    match v {
-        Verdict::Ran => 0,
-        Verdict::NoObject => 17,
-        Verdict::BadCode => 18,
-        Verdict::SmallStorage => 19,
-    }
-}
-
-fn stop_of(s: Stop) -> u64
-    ensures { λ r. ⌜ r ≡ stopOf s ⌝ }
-{
-    match s {
-        Stop::BudgetUsed => 0,
-        Stop::AtEnd => 1,
-        Stop::Forbidden => 2,
-        Stop::Misaligned => 3,
-        Stop::NoInstruction => 4,
-    }
-}
 
 fn wide(regs: [u32; 16]) -> [u64; 16]
     ensures { λ r. ⌜ length r ≡ 16 ⌝ }
@@ -53,19 +26,17 @@ fn wide(regs: [u32; 16]) -> [u64; 16]
 }
 
 // The line that answers, with its newline: how many bytes it has.
-fn put_answer(out: &mut [u8], a: Answer, hash: u64) -> usize
+fn put_answer(out: &mut [u8], number: u64, results: [u64; 4], regs: [u32; 16], hash: u64) -> usize
     ensures { λ r. ⌜ r ≤ length (now (out .entry)) ⌝ }
 {
-    let verdict = a.verdict;
-    let stop = a.stop;
-    let regs = a.regs;
+    let place = 0;
     let first = [
-        number_of(verdict),
-        0,
-        stop_of(stop),
-        a.counter as u64,
-        a.code,
-        a.count as u64,
+        number,
+        place,
+        results[0],
+        results[1],
+        results[2],
+        results[3],
     ];
     let rest = wide(regs);
     let mut end = output::put_fields(out, 0, &first);
@@ -123,8 +94,10 @@ fn run(
     ensures { λ r. ⌜ r ≤ length (now (out .entry)) ⌝ }
 {
     checksum::fill(store, BEFORE);
-    let answer = runner::run_object(text, regs, code, budget, store);
-    put_answer(out, answer, checksum::checksum(store))
+    let mut left = regs;
+    let mut results = [0u64; 4];
+    let number = c_run::tautgaff_run(text, code, budget, &mut left, store, &mut results);
+    put_answer(out, number, results, left, checksum::checksum(store))
 }
 
 pub fn answer(input: &[u8], store: &mut [u8], out: &mut [u8]) -> Told

@@ -64,4 +64,5 @@ fn main() {
     let mut out = io::buffer();
     compare_all(b"runs", &mut input, &mut store, &mut out);
     compare_all(b"hercules-runs", &mut input, &mut store, &mut out);
+    compare_all(b"examples", &mut input, &mut store, &mut out);
 }

@@ -136,4 +136,5 @@ fn main() {
     let mut buffer = io::large_buffer();
     let mut expected = io::large_buffer();
     compare_all(b"texts", &mut input, &mut buffer, &mut expected);
+    compare_all(b"examples", &mut input, &mut buffer, &mut expected);
 }

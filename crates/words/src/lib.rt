@@ -54,7 +54,7 @@ pub struct Wish {
     pub word: usize,
 }
 
-fn command(s: &[u8]) -> u8
+pub fn command(s: &[u8]) -> u8
     ensures { λ r. ⌜ (r ≡ commandOf (now (s .entry))) × (r < 6) ⌝ }
 {
     if same(s, b"translate") {

@@ -1,0 +1,2 @@
+-- Laws behind the runner's interface for C.
+pub mod Told

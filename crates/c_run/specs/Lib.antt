@@ -1,0 +1,2 @@
+-- What the runner's interface for C promises.
+pub mod Lent

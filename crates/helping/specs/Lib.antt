@@ -1,0 +1,3 @@
+-- What `tautgaff help` writes.
+pub mod Pages
+pub mod Help
