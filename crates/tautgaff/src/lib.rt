@@ -10,13 +10,10 @@ const REFUSED: i32 = 1;
 
 const WRONG: i32 = 2;
 
-// "source over 32,768 bytes": one byte more decides it.
-const SOURCE_ROOM: usize = 32769;
-
 // The longest object text has 44,095 bytes.
 const OBJECT_ROOM: usize = 44096;
 
-// A message has a file's name and less than 1,000 bytes more.
+// A message has a file's name and less than 1,000 bytes more, a page of help less than 3,000.
 const MESSAGE_ROOM: usize = 8192;
 
 fn said(whole: bool, status: i32) -> i32 {
@@ -30,7 +27,9 @@ fn worse(a: i32, b: i32) -> i32 {
     if a < b { b } else { a }
 }
 
-// A refusal on standard error.
+// ── refusals ──
+
+// On standard error.
 fn refuse(name: &[u8], number: usize, place: usize, text: &[u8]) -> i32 {
     let mut out = [0u8; MESSAGE_ROOM];
     let n = messages::message(&mut out, name, number, place, text);
@@ -38,29 +37,33 @@ fn refuse(name: &[u8], number: usize, place: usize, text: &[u8]) -> i32 {
     REFUSED
 }
 
-// A refusal on standard output, where it is what was asked for.
+// On standard output, where it is what was asked for.
 fn tell_refusal(name: &[u8], number: usize, place: usize, text: &[u8]) -> i32 {
     let mut out = [0u8; MESSAGE_ROOM];
     let n = messages::message(&mut out, name, number, place, text);
     said(files::print(figures::front(&out, n)), REFUSED)
 }
 
-fn tell_accepted(name: &[u8], size: usize) -> i32 {
+fn complain(words: &[u8], word: usize, why: usize) -> i32 {
     let mut out = [0u8; MESSAGE_ROOM];
-    let n = messages::accepted(&mut out, name, size);
-    said(files::print(figures::front(&out, n)), DONE)
+    let n = messages::fault(&mut out, figures::part(words, 0, word), why);
+    files::complain(figures::front(&out, n));
+    WRONG
 }
+
+// ── translate ──
 
 fn translate_text(name: &[u8], text: &[u8], object: &[u8]) -> i32 {
     let mut out = [0u8; OBJECT_ROOM];
-    match translate::translate(text, &mut out) {
+    let answer = translate::translate(text, &mut out);
+    match answer {
         Answer::Accepted(n) => said(files::store(object, figures::front(&out, n)), DONE),
         Answer::Refused(number, place) => refuse(name, number, place, text),
     }
 }
 
 fn translate_file(name: &[u8], object: &[u8]) -> i32 {
-    let mut source = [0u8; SOURCE_ROOM];
+    let mut source = [0u8; files::SOURCE_ROOM];
     let got = files::load(name, &mut source);
     if got.failed {
         return WRONG;
@@ -68,16 +71,25 @@ fn translate_file(name: &[u8], object: &[u8]) -> i32 {
     translate_text(name, figures::front(&source, got.size), object)
 }
 
+// ── check ──
+
+fn tell_accepted(name: &[u8], size: usize) -> i32 {
+    let mut out = [0u8; MESSAGE_ROOM];
+    let n = messages::accepted(&mut out, name, size);
+    said(files::print(figures::front(&out, n)), DONE)
+}
+
 fn check_text(name: &[u8], text: &[u8]) -> i32 {
     let mut out = [0u8; OBJECT_ROOM];
-    match translate::translate(text, &mut out) {
+    let answer = translate::translate(text, &mut out);
+    match answer {
         Answer::Accepted(n) => tell_accepted(name, n),
         Answer::Refused(number, place) => tell_refusal(name, number, place, text),
     }
 }
 
 fn check_file(name: &[u8]) -> i32 {
-    let mut source = [0u8; SOURCE_ROOM];
+    let mut source = [0u8; files::SOURCE_ROOM];
     let got = files::load(name, &mut source);
     if got.failed {
         return WRONG;
@@ -96,26 +108,49 @@ fn check_files(words: &[u8]) -> i32 {
     status
 }
 
-fn object_name(words: &[u8], other: usize) -> &[u8] {
-    if other == 0 {
-        return b"-";
-    }
-    figures::part(words, 0, other)
+// ── help ──
+
+fn help_page(page: usize) -> i32 {
+    let mut out = [0u8; MESSAGE_ROOM];
+    let n = helping::put_page(&mut out, 0, page);
+    said(files::print(figures::front(&out, n)), DONE)
 }
 
-fn complain(words: &[u8], word: usize, why: usize) -> i32 {
-    let mut out = [0u8; MESSAGE_ROOM];
-    let n = messages::fault(&mut out, figures::part(words, 0, word), why);
-    files::complain(figures::front(&out, n));
-    WRONG
+fn help(words: &[u8], w: words::Wish) -> i32 {
+    let names = w.names;
+    if names == 0 {
+        return help_page(helping::USAGE);
+    }
+    let page = helping::page_of(figures::part(words, 0, w.file));
+    if page == helping::NONE {
+        return complain(words, w.file, 9);
+    }
+    help_page(page)
+}
+
+// ── the command ──
+
+fn translate_named(words: &[u8], w: words::Wish) -> i32 {
+    let other = w.other;
+    let name = figures::part(words, 0, w.file);
+    if other == 0 {
+        return translate_file(name, b"-");
+    }
+    translate_file(name, figures::part(words, 0, other))
 }
 
 fn obey(words: &[u8], w: words::Wish) -> i32 {
-    match w.command {
-        words::TRANSLATE => translate_file(figures::part(words, 0, w.file), object_name(words, w.other)),
-        words::CHECK => check_files(words),
-        _ => DONE,
+    let command = w.command;
+    if command == words::TRANSLATE {
+        return translate_named(words, w);
     }
+    if command == words::CHECK {
+        return check_files(words);
+    }
+    if command == words::HELP {
+        return help(words, w);
+    }
+    complain(words, 0, words::UNKNOWN_COMMAND as usize)
 }
 
 #[no_mangle]
