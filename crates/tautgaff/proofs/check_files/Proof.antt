@@ -1,0 +1,52 @@
+use borrow.Author.Needs.{needs}
+use Rattle.tautgaff.proofs.check_files.Statement.{statement}
+use Rattle.tautgaff.proofs.check_files.Tie as tie
+
+abbrev Inv-loop : tie.InvT-loop
+Inv-loop  = ?
+
+abbrev μ-loop : tie.MeasureT-loop
+μ-loop  = ?
+
+part-count-requires : tie.Need-part-count-requires Inv-loop μ-loop
+part-count-requires c κs = ?
+
+loop-holds : tie.Need-loop-holds Inv-loop μ-loop
+loop-holds c = ?
+
+part-requires : tie.Need-part-requires Inv-loop μ-loop
+part-requires c κs = ?
+
+check-file-requires : tie.Need-check-file-requires Inv-loop μ-loop
+check-file-requires c κs = ?
+
+worse-requires : tie.Need-worse-requires Inv-loop μ-loop
+worse-requires c κs = ?
+
+add-n : tie.Need-add-n Inv-loop μ-loop
+add-n c = ?
+
+loop-less : tie.Need-loop-less Inv-loop μ-loop
+loop-less c = ?
+
+loop-again : tie.Need-loop-again Inv-loop μ-loop
+loop-again c = ?
+
+returns : tie.Need-returns Inv-loop μ-loop
+returns c = ?
+
+pub check-files-spec : {M : Type 1} → statement M
+check-files-spec =
+    tie.close
+    (tie.spec
+    Inv-loop
+    μ-loop
+    part-count-requires
+    loop-holds
+    part-requires
+    check-file-requires
+    worse-requires
+    add-n
+    loop-less
+    loop-again
+    returns)
