@@ -7,6 +7,7 @@ use native.Mathlib.Numerals.{add-one}
 use lib.Dec.{eqb}
 use lib.ListN.{length, take, drop, getD, drop-of-length-le}
 use lib.Seq.{drop-cons, take-suc}
+use Rattle.figures.specs.Writing.{Adds}
 use Rattle.base.specs.Choose.{choose}
 use Rattle.messages.specs.Lines.{sinceNewline, visible, visibles}
 
@@ -27,3 +28,7 @@ visibles-more (x ∷ xs) t = ap (λ (l : List ℕ). visible x ∷ l) (visibles-m
 pub visibles-on : (s : List ℕ) (i : ℕ) → i < length s → visibles (take i s) ++ (visible (getD s i 0) ∷ []) ≡ visibles (take (i + 1) s)
 unfolding visibles
 visibles-on s i l = rw (add-one i, take-suc s i 0 l, visibles-more (take i s))
+
+-- a piece by another name
+pub renamed : {a b s₀ s₁ : List ℕ} {p q : ℕ} → Adds a s₀ p s₁ q → a ≡ b → Adds b s₀ p s₁ q
+renamed f e = rw e at f

@@ -9,7 +9,7 @@ use Rattle.base.specs.Text.{within}
 use Rattle.base.specs.Runs.{runLen}
 use Rattle.figures.specs.Parts.{partCount, firstPart}
 
-abbrev pub lineOf : List ℕ → ℕ → ℕ
+unfoldable pub lineOf : List ℕ → ℕ → ℕ
 lineOf text place = partCount 10 (take place text) + 1
 
 -- how many bytes come after the last newline, after k bytes without one
@@ -20,11 +20,11 @@ sinceNewline k (x ∷ xs) = sinceNewline (choose (eqb x 10) 0 (k + 1)) xs
 abbrev pub since : List ℕ → ℕ → ℕ
 since text place = sinceNewline 0 (take place text)
 
-abbrev pub columnOf : List ℕ → ℕ → ℕ
+unfoldable pub columnOf : List ℕ → ℕ → ℕ
 columnOf text place = since text place + 1
 
 -- at most 60 bytes of the line before the place are shown, and at most 100 in all
-abbrev pub shownBefore : List ℕ → ℕ → ℕ
+unfoldable pub shownBefore : List ℕ → ℕ → ℕ
 shownBefore text place = min 60 (since text place)
 
 -- a byte as it is shown: a blank for TAB, `?` for any other byte that is not printed
@@ -35,7 +35,7 @@ unfoldable pub visibles : List ℕ → List ℕ
 visibles [] = []
 visibles (x ∷ xs) = visible x ∷ visibles xs
 
-abbrev pub shownLine : List ℕ → ℕ → List ℕ
+unfoldable pub shownLine : List ℕ → ℕ → List ℕ
 shownLine text place = take 100 (firstPart 10 (drop (place - shownBefore text place) text))
 
 -- the word or number that begins at the place
@@ -45,7 +45,7 @@ inWord b = (within 65 90 b || within 48 57 b) || (eqb b 95 || eqb b 35)
 abbrev pub wordOf : List ℕ → List ℕ
 wordOf s = take (min 40 (runLen inWord s)) s
 
-abbrev pub wordAt : List ℕ → ℕ → List ℕ
+unfoldable pub wordAt : List ℕ → ℕ → List ℕ
 wordAt text place = wordOf (drop place text)
 
 -- what is underlined: the word, or one byte

@@ -52,32 +52,43 @@ noteFor number b register ends =
 abbrev pub figureFor : ℕ → ℕ → ℕ → ℕ → ℕ
 figureFor number b register place = choose (eqb number 2) b (choose (eqb number 10) register place)
 
-abbrev pub placeText : List ℕ → ℕ → ℕ → List ℕ
+unfoldable pub placeText : List ℕ → ℕ → ℕ → List ℕ
 placeText file line column = file ++ bytes ":" ++ decimal line ++ bytes ":" ++ decimal column
 
-abbrev pub headText : ℕ → ℕ → ℕ → List ℕ
+unfoldable pub headText : ℕ → ℕ → ℕ → List ℕ
 headText number k n = bytes ": refusal " ++ decimal number ++ bytes ": " ++ filled n (partOf 10 k headlines) ++ bytes "\n"
 
-abbrev pub caretText : ℕ → ℕ → ℕ → List ℕ
+unfoldable pub caretText : ℕ → ℕ → ℕ → List ℕ
 caretText before wide k = replicate before 32 ++ replicate wide 94 ++ filled 0 (partOf 10 k notes) ++ bytes "\n"
 
-abbrev pub lineText : List ℕ → List ℕ
+unfoldable pub lineText : List ℕ → List ℕ
 lineText line = visibles line ++ bytes "\n"
 
-abbrev pub firstLine : List ℕ → ℕ → ℕ → List ℕ → List ℕ
+-- what is said of a place of a text
+unfoldable pub registerAt : List ℕ → ℕ → ℕ
+registerAt text place = registerIn (wordAt text place)
+
+unfoldable pub headlineAt : ℕ → List ℕ → ℕ → ℕ
+headlineAt number text place = headline number (getD text place 0) (registerAt text place) (leb (length text) place)
+
+unfoldable pub figureAt : ℕ → List ℕ → ℕ → ℕ
+figureAt number text place = figureFor number (getD text place 0) (registerAt text place) place
+
+unfoldable pub noteAt : ℕ → List ℕ → ℕ → ℕ
+noteAt number text place = noteFor number (getD text place 0) (registerAt text place) (leb (length text) place)
+
+unfoldable pub wideAt : List ℕ → ℕ → ℕ
+wideAt text place = underlined (length (wordAt text place))
+
+unfoldable pub firstLine : List ℕ → ℕ → ℕ → List ℕ → List ℕ
 firstLine file number place text =
-    placeText file (lineOf text place) (columnOf text place)
-    ++ headText number
-    (headline number (getD text place 0) (registerIn (wordAt text place)) (leb (length text) place))
-    (figureFor number (getD text place 0) (registerIn (wordAt text place)) place)
+    placeText file (lineOf text place) (columnOf text place) ++ headText number (headlineAt number text place) (figureAt number text place)
 
-abbrev pub otherLines : ℕ → ℕ → List ℕ → List ℕ
+unfoldable pub otherLines : ℕ → ℕ → List ℕ → List ℕ
 otherLines number place text =
-    lineText (shownLine text place)
-    ++ caretText (shownBefore text place) (underlined (length (wordAt text place)))
-    (noteFor number (getD text place 0) (registerIn (wordAt text place)) (leb (length text) place))
+    lineText (shownLine text place) ++ caretText (shownBefore text place) (wideAt text place) (noteAt number text place)
 
-abbrev pub placedText : List ℕ → ℕ → ℕ → List ℕ → List ℕ
+unfoldable pub placedText : List ℕ → ℕ → ℕ → List ℕ → List ℕ
 placedText file number place text = firstLine file number place text ++ otherLines number place text
 
 -- a place past the end of the text is its end; none is past 32,768

@@ -7,8 +7,8 @@ ghost use Rattle.base.specs.Runs.{runLen};
 ghost use Rattle.base.specs.Choose.{choose};
 ghost use Rattle.figures.specs.Parts.{firstPart};
 ghost use lib.Dec.{eqb};
-ghost use Rattle.messages.specs.Lines.{sinceNewline, visible as visibleOf, visibles, inWord, wordOf, underlined as underlinedOf};
-ghost use Rattle.messages.specs.Messages.{hasPlace, byteHeadline, registerHeadline, headline as headlineOf, registerNote, byteNote, noteFor, figureFor, placeText, headText, caretText, lineText, firstLine, otherLines, placedText, messageText, acceptedText, faultText};
+ghost use Rattle.messages.specs.Lines.{sinceNewline, visible as visibleOf, visibles, inWord, wordOf, underlined as underlinedOf, lineOf, since as sinceOf, columnOf, shownBefore, shownLine, wordAt};
+ghost use Rattle.messages.specs.Messages.{hasPlace, byteHeadline, registerHeadline, headline as headlineOf, registerNote, byteNote, noteFor, figureFor, registerAt, headlineAt, figureAt, noteAt, wideAt, placeText, headText, caretText, lineText, firstLine, otherLines, placedText, messageText, acceptedText, faultText};
 use figures::put;
 use figures::put_all;
 use figures::put_decimal;
@@ -77,12 +77,14 @@ const NOTES: [u8; 1026] = *b"\n\
     \n a base or the return register of what is around this place";
 
 // Why a word of the command line is wrong.
-const FAULTS: [u8; 166] = *b"\nthere is no such command\
+const FAULTS: [u8; 286] = *b"\nthere is no such command\
     \nthis command has no such option\
     \nthere is one name too many\
     \nthis is no number from 0 to 4294967295\
     \nthe option needs a value\
-    \na name is missing";
+    \na name is missing\
+    \nthis is no value: decimal, with _ or - in front, or # and hexadecimal digits\
+    \nthis names no register: R0 to R9, RA to RF";
 
 const NEWLINE: u8 = 10;
 
@@ -142,7 +144,7 @@ fn visible(b: u8) -> u8
     63
 }
 
-fn put_line(out: &mut [u8], at: usize, line: &[u8]) -> usize
+pub fn put_visible(out: &mut [u8], at: usize, line: &[u8]) -> usize
     ensures { λ r. ⌜ Adds (visibles (now (line .entry))) (now (out .entry)) at (now (out .exit)) r ⌝ }
 {
     let mut end = at;
@@ -316,6 +318,87 @@ fn figure(number: usize, b: u8, register: usize, place: usize) -> usize
     place
 }
 
+// ── at a place ──
+
+fn line_of(text: &[u8], place: usize) -> usize
+    requires { ⌜ place ≤ 32768 ⌝ }
+    ensures { λ r. ⌜ r ≡ lineOf (now (text .entry)) place ⌝ }
+{
+    figures::part_count(figures::front(text, place), NEWLINE) + 1
+}
+
+fn since(text: &[u8], place: usize) -> usize
+    requires { ⌜ place ≤ 32768 ⌝ }
+    ensures { λ r. ⌜ (r ≡ sinceOf (now (text .entry)) place) × (r ≤ 32768) ⌝ }
+{
+    since_newline(figures::front(text, place))
+}
+
+fn column_of(text: &[u8], place: usize) -> usize
+    requires { ⌜ place ≤ 32768 ⌝ }
+    ensures { λ r. ⌜ r ≡ columnOf (now (text .entry)) place ⌝ }
+{
+    since(text, place) + 1
+}
+
+fn shown_before(text: &[u8], place: usize) -> usize
+    requires { ⌜ place ≤ 32768 ⌝ }
+    ensures { λ r. ⌜ r ≡ shownBefore (now (text .entry)) place ⌝ }
+{
+    least(SHOWN_BEFORE, since(text, place))
+}
+
+fn shown_line(text: &[u8], place: usize) -> &[u8]
+    requires { ⌜ place ≤ 32768 ⌝ }
+    ensures { λ r. ⌜ now r ≡ shownLine (now (text .entry)) place ⌝ }
+{
+    let before = shown_before(text, place);
+    shown(figures::rest(text, less(place, before)))
+}
+
+fn word_at(text: &[u8], place: usize) -> &[u8]
+    ensures { λ r. ⌜ now r ≡ wordAt (now (text .entry)) place ⌝ }
+{
+    word(figures::rest(text, place))
+}
+
+fn wide_at(text: &[u8], place: usize) -> usize
+    ensures { λ r. ⌜ r ≡ wideAt (now (text .entry)) place ⌝ }
+{
+    let there = word_at(text, place);
+    underlined(there.len())
+}
+
+fn register_at(text: &[u8], place: usize) -> usize
+    ensures { λ r. ⌜ r ≡ registerAt (now (text .entry)) place ⌝ }
+{
+    words::register(word_at(text, place))
+}
+
+fn headline_at(number: usize, text: &[u8], place: usize) -> usize
+    ensures { λ r. ⌜ r ≡ headlineAt number (now (text .entry)) place ⌝ }
+{
+    let b = figures::byte(text, place);
+    let register = register_at(text, place);
+    headline(number, b, register, text.len() <= place)
+}
+
+fn figure_at(number: usize, text: &[u8], place: usize) -> usize
+    ensures { λ r. ⌜ r ≡ figureAt number (now (text .entry)) place ⌝ }
+{
+    let b = figures::byte(text, place);
+    let register = register_at(text, place);
+    figure(number, b, register, place)
+}
+
+fn note_at(number: usize, text: &[u8], place: usize) -> usize
+    ensures { λ r. ⌜ r ≡ noteAt number (now (text .entry)) place ⌝ }
+{
+    let b = figures::byte(text, place);
+    let register = register_at(text, place);
+    note(number, b, register, text.len() <= place)
+}
+
 // ── the message ──
 
 fn put_place(out: &mut [u8], at: usize, file: &[u8], line: usize, column: usize) -> usize
@@ -338,6 +421,13 @@ fn put_head(out: &mut [u8], at: usize, number: usize, k: usize, n: usize) -> usi
     put_all(out, told, b"\n")
 }
 
+fn put_line(out: &mut [u8], at: usize, line: &[u8]) -> usize
+    ensures { λ r. ⌜ Adds (lineText (now (line .entry))) (now (out .entry)) at (now (out .exit)) r ⌝ }
+{
+    let lined = put_visible(out, at, line);
+    put_all(out, lined, b"\n")
+}
+
 fn put_carets(out: &mut [u8], at: usize, before: usize, wide: usize, k: usize) -> usize
     ensures { λ r. ⌜ Adds (caretText before wide k) (now (out .entry)) at (now (out .exit)) r ⌝ }
 {
@@ -351,14 +441,11 @@ fn put_first(out: &mut [u8], at: usize, file: &[u8], number: usize, place: usize
     requires { ⌜ place ≤ 32768 ⌝ }
     ensures { λ r. ⌜ Adds (firstLine (now (file .entry)) number place (now (text .entry))) (now (out .entry)) at (now (out .exit)) r ⌝ }
 {
-    let passed = figures::front(text, place);
-    let lines = figures::part_count(passed, NEWLINE);
-    let since = since_newline(passed);
-    let register = words::register(word(figures::rest(text, place)));
-    let b = figures::byte(text, place);
-    let k = headline(number, b, register, text.len() <= place);
-    let n = figure(number, b, register, place);
-    let placed = put_place(out, at, file, lines + 1, since + 1);
+    let line = line_of(text, place);
+    let column = column_of(text, place);
+    let k = headline_at(number, text, place);
+    let n = figure_at(number, text, place);
+    let placed = put_place(out, at, file, line, column);
     put_head(out, placed, number, k, n)
 }
 
@@ -366,14 +453,11 @@ fn put_others(out: &mut [u8], at: usize, number: usize, place: usize, text: &[u8
     requires { ⌜ place ≤ 32768 ⌝ }
     ensures { λ r. ⌜ Adds (otherLines number place (now (text .entry))) (now (out .entry)) at (now (out .exit)) r ⌝ }
 {
-    let before = least(SHOWN_BEFORE, since_newline(figures::front(text, place)));
-    let there = word(figures::rest(text, place));
-    let b = figures::byte(text, place);
-    let k = note(number, b, words::register(there), text.len() <= place);
-    let line = shown(figures::rest(text, less(place, before)));
-    let lined = put_line(out, at, line);
-    let ended = put_all(out, lined, b"\n");
-    put_carets(out, ended, before, underlined(there.len()), k)
+    let before = shown_before(text, place);
+    let wide = wide_at(text, place);
+    let k = note_at(number, text, place);
+    let lined = put_line(out, at, shown_line(text, place));
+    put_carets(out, lined, before, wide, k)
 }
 
 // The message of a refusal.

@@ -1,31 +1,27 @@
+-- `byte_headline` follows the definition. Assumes nothing.
+use borrow.Author.Tests.{eq-eqb, ne-eqb}
 use Rattle.messages.proofs.byte_headline.Statement.{statement}
 use Rattle.messages.proofs.byte_headline.Tie as tie
 use Rattle.messages.proofs.byte_headline.Reads as reads
 use Rattle.messages.proofs.byte_headline.Lts as lts
 
--- src/lib.rt:211:9
 returns : tie.Need-returns
-returns c = ?
+returns c = rw (eq-eqb _ _ (c .if1 .taken))
 
--- src/lib.rt:214:9
 returns-2 : tie.Need-returns-2
-returns-2 c = ?
+returns-2 c = rw (ne-eqb _ _ (c .before .if1 .left), eq-eqb _ _ (c .if2 .taken))
 
--- src/lib.rt:217:9
 returns-3 : tie.Need-returns-3
-returns-3 c = ?
+returns-3 c = rw (ne-eqb _ _ (c .before .before .if1 .left), ne-eqb _ _ (c .before .if2 .left), eq-eqb _ _ (c .if3 .taken))
 
--- src/lib.rt:220:9
 returns-4 : tie.Need-returns-4
-returns-4 c = ?
+returns-4 c = rw (ne-eqb _ _ (c .before .before .before .if1 .left), ne-eqb _ _ (c .before .before .if2 .left), ne-eqb _ _ (c .before .if3 .left), c .if4 .taken)
 
--- src/lib.rt:223:9
 returns-5 : tie.Need-returns-5
-returns-5 c = ?
+returns-5 c = rw (ne-eqb _ _ (c .before .before .before .before .if1 .left), ne-eqb _ _ (c .before .before .before .if2 .left), ne-eqb _ _ (c .before .before .if3 .left), c .before .if4 .left, eq-eqb _ _ (c .if5 .taken))
 
--- src/lib.rt:207:1
 returns-6 : tie.Need-returns-6
-returns-6 c = ?
+returns-6 c = rw (ne-eqb _ _ (c .before .before .before .before .if1 .left), ne-eqb _ _ (c .before .before .before .if2 .left), ne-eqb _ _ (c .before .before .if3 .left), c .before .if4 .left, ne-eqb _ _ (c .if5 .left))
 
 pub byte-headline-spec : {M : Type 1} → statement M
 byte-headline-spec = tie.close (tie.spec returns returns-2 returns-3 returns-4 returns-5 returns-6)

@@ -1,3 +1,5 @@
+-- `fault` follows the definition. Assumes nothing.
+use Rattle.figures.proofs.Writing.{into, two}
 use borrow.Author.Needs.{needs}
 use Rattle.messages.proofs.fault.Statement.{statement}
 use Rattle.messages.proofs.fault.Tie as tie
@@ -6,49 +8,38 @@ use Rattle.messages.proofs.fault.Lts as lts
 use Rattle.figures.proofs.put_all.Reads as put-all-reads
 use Rattle.figures.proofs.put_phrase.Reads as put-phrase-reads
 
--- src/lib.rt:406:33
 slice-aggregate-put-all : tie.Need-slice-aggregate-put-all
 slice-aggregate-put-all c = search needs
 
--- src/lib.rt:406:9
 put-all-requires : tie.Need-put-all-requires
 put-all-requires c κs = search needs
 
--- src/lib.rt:407:9
 put-all-requires-2 : tie.Need-put-all-requires-2
 put-all-requires-2 c κs = search needs
 
--- src/lib.rt:408:38
 slice-aggregate-put-all-2 : tie.Need-slice-aggregate-put-all-2
 slice-aggregate-put-all-2 c = search needs
 
--- src/lib.rt:408:9
 put-all-requires-3 : tie.Need-put-all-requires-3
 put-all-requires-3 c κs = search needs
 
--- src/lib.rt:409:40
 slice-aggregate-put-phrase : tie.Need-slice-aggregate-put-phrase
 slice-aggregate-put-phrase c = search needs
 
--- src/lib.rt:409:9
 put-phrase-requires : tie.Need-put-phrase-requires
 put-phrase-requires c κs = search needs
 
--- src/lib.rt:410:24
 slice-aggregate-put-all-3 : tie.Need-slice-aggregate-put-all-3
 slice-aggregate-put-all-3 c = search needs
 
--- src/lib.rt:410:5
 put-all-requires-4 : tie.Need-put-all-requires-4
 put-all-requires-4 c κs = search needs
 
--- src/lib.rt:403:1
 same-length : tie.Need-same-length
 same-length c = search needs
 
--- src/lib.rt:403:1
 returns : tie.Need-returns
-returns c = ?
+returns c = into (two (two (two (two (c .before .before .before .before .before .before .before .before .before .before .before .before .before .before .before .before .before .before .before .before .before .put-all .ensures) (c .before .before .before .before .before .before .before .before .before .before .before .before .before .before .before .before .before .put-all2 .ensures)) (c .before .before .before .before .before .before .before .before .before .before .before .before .put-all3 .ensures)) (c .before .before .before .before .before .before .before .put-phrase .ensures)) (c .before .before .put-all4 .ensures))
 
 pub fault-spec : {M : Type 1} → statement M
 fault-spec =

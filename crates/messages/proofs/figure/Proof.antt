@@ -1,19 +1,18 @@
+-- `figure` follows the definition. Assumes nothing.
+use borrow.Author.Tests.{eq-eqb, ne-eqb}
 use Rattle.messages.proofs.figure.Statement.{statement}
 use Rattle.messages.proofs.figure.Tie as tie
 use Rattle.messages.proofs.figure.Reads as reads
 use Rattle.messages.proofs.figure.Lts as lts
 
--- src/lib.rt:311:9
 returns : tie.Need-returns
-returns c = ?
+returns c = rw (eq-eqb _ _ (c .if1 .taken))
 
--- src/lib.rt:314:9
 returns-2 : tie.Need-returns-2
-returns-2 c = ?
+returns-2 c = rw (ne-eqb _ _ (c .before .if1 .left), eq-eqb _ _ (c .if2 .taken))
 
--- src/lib.rt:307:1
 returns-3 : tie.Need-returns-3
-returns-3 c = ?
+returns-3 c = rw (ne-eqb _ _ (c .before .if1 .left), ne-eqb _ _ (c .if2 .left))
 
 pub figure-spec : {M : Type 1} → statement M
 figure-spec = tie.close (tie.spec returns returns-2 returns-3)

@@ -1,3 +1,5 @@
+-- `headline` follows the definition. Assumes nothing.
+use borrow.Author.Tests.{eq-eqb, ne-eqb}
 use borrow.Author.Needs.{needs}
 use Rattle.messages.proofs.headline.Statement.{statement}
 use Rattle.messages.proofs.headline.Tie as tie
@@ -6,33 +8,26 @@ use Rattle.messages.proofs.headline.Lts as lts
 use Rattle.messages.proofs.byte_headline.Reads as byte-headline-reads
 use Rattle.messages.proofs.register_headline.Reads as register-headline-reads
 
--- src/lib.rt:244:9
 byte-headline-requires : tie.Need-byte-headline-requires
 byte-headline-requires c κs = search needs
 
--- src/lib.rt:244:9
 returns : tie.Need-returns
-returns c = ?
+returns c = rw (c .byte-headline .ensures, eq-eqb _ _ (c .before .if1 .taken))
 
--- src/lib.rt:247:9
 register-headline-requires : tie.Need-register-headline-requires
 register-headline-requires c κs = search needs
 
--- src/lib.rt:247:9
 returns-2 : tie.Need-returns-2
-returns-2 c = ?
+returns-2 c = rw (c .register-headline .ensures, ne-eqb _ _ (c .before .before .if1 .left), eq-eqb _ _ (c .before .if2 .taken))
 
--- src/lib.rt:251:13
 returns-3 : tie.Need-returns-3
-returns-3 c = ?
+returns-3 c = rw (ne-eqb _ _ (c .before .before .before .if1 .left), ne-eqb _ _ (c .before .before .if2 .left), eq-eqb _ _ (c .before .if3 .taken), c .if4 .taken)
 
--- src/lib.rt:253:9
 returns-4 : tie.Need-returns-4
-returns-4 c = ?
+returns-4 c = rw (ne-eqb _ _ (c .before .before .before .if1 .left), ne-eqb _ _ (c .before .before .if2 .left), eq-eqb _ _ (c .before .if3 .taken), c .if4 .left)
 
--- src/lib.rt:240:1
 returns-5 : tie.Need-returns-5
-returns-5 c = ?
+returns-5 c = rw (ne-eqb _ _ (c .before .before .if1 .left), ne-eqb _ _ (c .before .if2 .left), ne-eqb _ _ (c .if3 .left))
 
 pub headline-spec : {M : Type 1} → statement M
 headline-spec =

@@ -1,3 +1,5 @@
+-- `note` follows the definition. Assumes nothing.
+use borrow.Author.Tests.{eq-eqb, ne-eqb}
 use borrow.Author.Needs.{needs}
 use Rattle.messages.proofs.note.Statement.{statement}
 use Rattle.messages.proofs.note.Tie as tie
@@ -6,37 +8,29 @@ use Rattle.messages.proofs.note.Lts as lts
 use Rattle.messages.proofs.byte_note.Reads as byte-note-reads
 use Rattle.messages.proofs.register_note.Reads as register-note-reads
 
--- src/lib.rt:290:9
 byte-note-requires : tie.Need-byte-note-requires
 byte-note-requires c κs = search needs
 
--- src/lib.rt:290:9
 returns : tie.Need-returns
-returns c = ?
+returns c = rw (c .byte-note .ensures, eq-eqb _ _ (c .before .if1 .taken))
 
--- src/lib.rt:293:9
 register-note-requires : tie.Need-register-note-requires
 register-note-requires c κs = search needs
 
--- src/lib.rt:293:9
 returns-2 : tie.Need-returns-2
-returns-2 c = ?
+returns-2 c = rw (c .register-note .ensures, ne-eqb _ _ (c .before .before .if1 .left), eq-eqb _ _ (c .before .if2 .taken))
 
--- src/lib.rt:297:13
 returns-3 : tie.Need-returns-3
-returns-3 c = ?
+returns-3 c = rw (ne-eqb _ _ (c .before .before .before .if1 .left), ne-eqb _ _ (c .before .before .if2 .left), eq-eqb _ _ (c .before .if3 .taken), c .if4 .taken)
 
--- src/lib.rt:299:9
 returns-4 : tie.Need-returns-4
-returns-4 c = ?
+returns-4 c = rw (ne-eqb _ _ (c .before .before .before .if1 .left), ne-eqb _ _ (c .before .before .if2 .left), eq-eqb _ _ (c .before .if3 .taken), c .if4 .left)
 
--- src/lib.rt:302:9
 returns-5 : tie.Need-returns-5
-returns-5 c = ?
+returns-5 c = rw (ne-eqb _ _ (c .before .before .before .if1 .left), ne-eqb _ _ (c .before .before .if2 .left), ne-eqb _ _ (c .before .if3 .left), eq-eqb _ _ (c .if5 .taken))
 
--- src/lib.rt:286:1
 returns-6 : tie.Need-returns-6
-returns-6 c = ?
+returns-6 c = rw (ne-eqb _ _ (c .before .before .before .if1 .left), ne-eqb _ _ (c .before .before .if2 .left), ne-eqb _ _ (c .before .if3 .left), ne-eqb _ _ (c .if5 .left))
 
 pub note-spec : {M : Type 1} → statement M
 note-spec =

@@ -1,3 +1,6 @@
+-- `put_carets` follows the definition. Assumes nothing.
+use Rattle.messages.specs.Messages.{caretText}
+use Rattle.figures.proofs.Writing.{two}
 use borrow.Author.Needs.{needs}
 use Rattle.messages.proofs.put_carets.Statement.{statement}
 use Rattle.messages.proofs.put_carets.Tie as tie
@@ -7,37 +10,30 @@ use Rattle.figures.proofs.put_all.Reads as put-all-reads
 use Rattle.figures.proofs.put_phrase.Reads as put-phrase-reads
 use Rattle.figures.proofs.put_times.Reads as put-times-reads
 
--- src/lib.rt:344:9
 put-times-requires : tie.Need-put-times-requires
 put-times-requires c κs = search needs
 
--- src/lib.rt:345:9
 put-times-requires-2 : tie.Need-put-times-requires-2
 put-times-requires-2 c κs = search needs
 
--- src/lib.rt:346:41
 slice-aggregate-put-phrase : tie.Need-slice-aggregate-put-phrase
 slice-aggregate-put-phrase c = search needs
 
--- src/lib.rt:346:9
 put-phrase-requires : tie.Need-put-phrase-requires
 put-phrase-requires c κs = search needs
 
--- src/lib.rt:347:25
 slice-aggregate-put-all : tie.Need-slice-aggregate-put-all
 slice-aggregate-put-all c = search needs
 
--- src/lib.rt:347:5
 put-all-requires : tie.Need-put-all-requires
 put-all-requires c κs = search needs
 
--- src/lib.rt:341:1
 same-length : tie.Need-same-length
 same-length c = search needs
 
--- src/lib.rt:341:1
 returns : tie.Need-returns
-returns c = ?
+unfolding caretText
+returns c = two (two (two (c .before .before .before .before .before .before .before .before .before .before .before .before .before .before .before .before .put-times .ensures) (c .before .before .before .before .before .before .before .before .before .before .before .before .put-times2 .ensures)) (c .before .before .before .before .before .before .before .put-phrase .ensures)) (c .before .before .put-all .ensures)
 
 pub put-carets-spec : {M : Type 1} → statement M
 put-carets-spec =

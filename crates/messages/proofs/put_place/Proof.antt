@@ -1,3 +1,6 @@
+-- `put_place` follows the definition. Assumes nothing.
+use Rattle.messages.specs.Messages.{placeText}
+use Rattle.figures.proofs.Writing.{two}
 use borrow.Author.Needs.{needs}
 use Rattle.messages.proofs.put_place.Statement.{statement}
 use Rattle.messages.proofs.put_place.Tie as tie
@@ -6,41 +9,33 @@ use Rattle.messages.proofs.put_place.Lts as lts
 use Rattle.figures.proofs.put_all.Reads as put-all-reads
 use Rattle.figures.proofs.put_decimal.Reads as put-decimal-reads
 
--- src/lib.rt:324:9
 put-all-requires : tie.Need-put-all-requires
 put-all-requires c κs = search needs
 
--- src/lib.rt:325:37
 slice-aggregate-put-all : tie.Need-slice-aggregate-put-all
 slice-aggregate-put-all c = search needs
 
--- src/lib.rt:325:9
 put-all-requires-2 : tie.Need-put-all-requires-2
 put-all-requires-2 c κs = search needs
 
--- src/lib.rt:326:9
 put-decimal-requires : tie.Need-put-decimal-requires
 put-decimal-requires c κs = search needs
 
--- src/lib.rt:327:38
 slice-aggregate-put-all-2 : tie.Need-slice-aggregate-put-all-2
 slice-aggregate-put-all-2 c = search needs
 
--- src/lib.rt:327:9
 put-all-requires-3 : tie.Need-put-all-requires-3
 put-all-requires-3 c κs = search needs
 
--- src/lib.rt:328:5
 put-decimal-requires-2 : tie.Need-put-decimal-requires-2
 put-decimal-requires-2 c κs = search needs
 
--- src/lib.rt:321:1
 same-length : tie.Need-same-length
 same-length c = search needs
 
--- src/lib.rt:321:1
 returns : tie.Need-returns
-returns c = ?
+unfolding placeText
+returns c = two (two (two (two (c .before .before .before .before .before .before .before .before .before .before .before .before .before .before .before .before .before .before .before .before .put-all .ensures) (c .before .before .before .before .before .before .before .before .before .before .before .before .before .before .before .put-all2 .ensures)) (c .before .before .before .before .before .before .before .before .before .before .before .put-decimal .ensures)) (c .before .before .before .before .before .before .put-all3 .ensures)) (c .before .before .put-decimal2 .ensures)
 
 pub put-place-spec : {M : Type 1} → statement M
 put-place-spec =

@@ -1,19 +1,18 @@
+-- `register_headline` follows the definition. Assumes nothing.
+use borrow.Author.Tests.{eq-eqb, le-ltb, lt-ltb, ne-eqb}
 use Rattle.messages.proofs.register_headline.Statement.{statement}
 use Rattle.messages.proofs.register_headline.Tie as tie
 use Rattle.messages.proofs.register_headline.Reads as reads
 use Rattle.messages.proofs.register_headline.Lts as lts
 
--- src/lib.rt:232:9
 returns : tie.Need-returns
-returns c = ?
+returns c = rw (lt-ltb _ _ (c .if1 .taken))
 
--- src/lib.rt:235:9
 returns-2 : tie.Need-returns-2
-returns-2 c = ?
+returns-2 c = rw (le-ltb _ _ (c .before .if1 .left), eq-eqb _ _ (c .if2 .taken))
 
--- src/lib.rt:228:1
 returns-3 : tie.Need-returns-3
-returns-3 c = ?
+returns-3 c = rw (le-ltb _ _ (c .before .if1 .left), ne-eqb _ _ (c .if2 .left))
 
 pub register-headline-spec : {M : Type 1} → statement M
 register-headline-spec = tie.close (tie.spec returns returns-2 returns-3)

@@ -1,27 +1,24 @@
+-- `register_note` follows the definition. Assumes nothing.
+use borrow.Author.Tests.{eq-eqb, le-ltb, lt-ltb, ne-eqb}
 use Rattle.messages.proofs.register_note.Statement.{statement}
 use Rattle.messages.proofs.register_note.Tie as tie
 use Rattle.messages.proofs.register_note.Reads as reads
 use Rattle.messages.proofs.register_note.Lts as lts
 
--- src/lib.rt:262:9
 returns : tie.Need-returns
-returns c = ?
+returns c = rw (eq-eqb _ _ (c .if1 .taken))
 
--- src/lib.rt:265:9
 returns-2 : tie.Need-returns-2
-returns-2 c = ?
+returns-2 c = rw (ne-eqb _ _ (c .before .if1 .left), eq-eqb _ _ (c .if2 .taken))
 
--- src/lib.rt:268:9
 returns-3 : tie.Need-returns-3
-returns-3 c = ?
+returns-3 c = rw (ne-eqb _ _ (c .before .before .if1 .left), ne-eqb _ _ (c .before .if2 .left), lt-ltb _ _ (c .if3 .taken))
 
--- src/lib.rt:271:9
 returns-4 : tie.Need-returns-4
-returns-4 c = ?
+returns-4 c = rw (ne-eqb _ _ (c .before .before .before .if1 .left), ne-eqb _ _ (c .before .before .if2 .left), le-ltb _ _ (c .before .if3 .left), eq-eqb _ _ (c .if4 .taken))
 
--- src/lib.rt:258:1
 returns-5 : tie.Need-returns-5
-returns-5 c = ?
+returns-5 c = rw (ne-eqb _ _ (c .before .before .before .if1 .left), ne-eqb _ _ (c .before .before .if2 .left), le-ltb _ _ (c .before .if3 .left), ne-eqb _ _ (c .if4 .left))
 
 pub register-note-spec : {M : Type 1} → statement M
 register-note-spec = tie.close (tie.spec returns returns-2 returns-3 returns-4 returns-5)

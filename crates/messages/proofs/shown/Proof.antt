@@ -1,3 +1,4 @@
+-- `shown` follows the definition. Assumes nothing.
 use borrow.Author.Needs.{needs}
 use Rattle.messages.proofs.shown.Statement.{statement}
 use Rattle.messages.proofs.shown.Tie as tie
@@ -6,21 +7,17 @@ use Rattle.messages.proofs.shown.Lts as lts
 use Rattle.figures.proofs.front.Reads as front-reads
 use Rattle.figures.proofs.part_length.Reads as part-length-reads
 
--- src/lib.rt:195:9
 part-length-requires : tie.Need-part-length-requires
 part-length-requires c κs = search needs
 
--- src/lib.rt:196:20
 front-requires : tie.Need-front-requires
 front-requires c κs = search needs
 
--- src/lib.rt:196:5
 front-requires-2 : tie.Need-front-requires-2
 front-requires-2 c κs = search needs
 
--- src/lib.rt:192:1
 returns : tie.Need-returns
-returns c = ?
+returns c = rw (c .front2 .ensures, c .before .front .ensures, c .before .before .part-length .ensures .0)
 
 pub shown-spec : {M : Type 1} → statement M
 shown-spec = tie.close (tie.spec part-length-requires front-requires front-requires-2 returns)

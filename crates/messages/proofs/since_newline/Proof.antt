@@ -1,3 +1,10 @@
+-- `since_newline` begins anew at each newline. The invariant: the whole count is that of the rest after the bytes so far. Assumes nothing.
+use borrow.Author.Needs.{needs}
+use Rattle.messages.proofs.Going.{since-on, since-end}
+use Rattle.messages.specs.Lines.{sinceNewline}
+use lib.ListN.{length, drop}
+use mathlib.Core.Path.{_≡_}
+use Prim.Native.Nat.{_≤_, _-_}
 use Rattle.messages.proofs.since_newline.Statement.{statement}
 use Rattle.messages.proofs.since_newline.Tie as tie
 use Rattle.messages.proofs.since_newline.Reads as reads
@@ -5,38 +12,31 @@ use Rattle.messages.proofs.since_newline.Lts as lts
 use Rattle.messages.proofs.since_after.Reads as since-after-reads
 
 abbrev Inv-loop : tie.InvT-loop
-Inv-loop s k₀ i₀ k i = ?
+Inv-loop s k₀ i₀ k i = (i ≤ length s) × (k ≤ i) × (sinceNewline 0 s ≡ sinceNewline k (drop i s))
 
 abbrev μ-loop : tie.MeasureT-loop
-μ-loop s k₀ i₀ k i = ?
+μ-loop s k₀ i₀ k i = length s - i
 
--- src/lib.rt:126:5
 loop-holds : tie.Need-loop-holds Inv-loop μ-loop
-loop-holds c = ?
+loop-holds c = search needs
 
--- src/lib.rt:127:25
 shared-slice-read-since-after : tie.Need-shared-slice-read-since-after Inv-loop μ-loop
-shared-slice-read-since-after c = ?
+shared-slice-read-since-after c = search needs
 
--- src/lib.rt:127:9
 since-after-requires : tie.Need-since-after-requires Inv-loop μ-loop
-since-after-requires c κs = ?
+since-after-requires c κs = search needs
 
--- src/lib.rt:128:9
 add-i : tie.Need-add-i Inv-loop μ-loop
-add-i c = ?
+add-i c = search needs
 
--- src/lib.rt:126:5
 loop-less : tie.Need-loop-less Inv-loop μ-loop
-loop-less c = ?
+loop-less c = search needs
 
--- src/lib.rt:126:5
 loop-again : tie.Need-loop-again Inv-loop μ-loop
-loop-again c = ?
+loop-again c = (search needs, search needs, rw (c .since-after .ensures .0) (since-on (c .before .before .before .before .before .args .s .now) (c .before .before .before .loop .i) (c .before .before .before .loop .k) (c .before .before .before .loop .inv .2) (c .before .before .loop-test .taken)))
 
--- src/lib.rt:120:1
 returns : tie.Need-returns Inv-loop μ-loop
-returns c = ?
+returns c = (since-end (c .before .before .before .args .s .now) (c .before .loop .i) (c .before .loop .k) (c .before .loop .inv .2) (c .loop-test .left), search needs)
 
 pub since-newline-spec : {M : Type 1} → statement M
 since-newline-spec =

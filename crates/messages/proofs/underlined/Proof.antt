@@ -1,15 +1,15 @@
+-- `underlined` follows the definition. Assumes nothing.
+use borrow.Author.Tests.{eq-eqb, ne-eqb}
 use Rattle.messages.proofs.underlined.Statement.{statement}
 use Rattle.messages.proofs.underlined.Tie as tie
 use Rattle.messages.proofs.underlined.Reads as reads
 use Rattle.messages.proofs.underlined.Lts as lts
 
--- src/lib.rt:185:1
 returns : tie.Need-returns
-returns c = ?
+returns c = rw (eq-eqb _ _ (c .if1 .taken))
 
--- src/lib.rt:185:1
 returns-2 : tie.Need-returns-2
-returns-2 c = ?
+returns-2 c = rw (ne-eqb _ _ (c .if1 .left))
 
 pub underlined-spec : {M : Type 1} → statement M
 underlined-spec = tie.close (tie.spec returns returns-2)

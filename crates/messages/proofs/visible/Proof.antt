@@ -1,19 +1,18 @@
+-- `visible` follows the definition. Assumes nothing.
+use borrow.Author.Tests.{eq-eqb, ne-eqb}
 use Rattle.messages.proofs.visible.Statement.{statement}
 use Rattle.messages.proofs.visible.Tie as tie
 use Rattle.messages.proofs.visible.Reads as reads
 use Rattle.messages.proofs.visible.Lts as lts
 
--- src/lib.rt:137:9
 returns : tie.Need-returns
-returns c = ?
+returns c = rw (c .if1 .taken)
 
--- src/lib.rt:140:9
 returns-2 : tie.Need-returns-2
-returns-2 c = ?
+returns-2 c = rw (c .before .if1 .left, eq-eqb _ _ (c .if2 .taken))
 
--- src/lib.rt:133:1
 returns-3 : tie.Need-returns-3
-returns-3 c = ?
+returns-3 c = rw (c .before .if1 .left, ne-eqb _ _ (c .if2 .left))
 
 pub visible-spec : {M : Type 1} → statement M
 visible-spec = tie.close (tie.spec returns returns-2 returns-3)

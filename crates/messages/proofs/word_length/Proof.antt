@@ -1,3 +1,12 @@
+-- `word_length` counts the bytes of a word. The invariant: the run goes on from here. Assumes nothing.
+use borrow.Author.Needs.{needs}
+use Rattle.messages.specs.Lines.{inWord}
+use Rattle.base.proofs.Tests.{told}
+use Rattle.base.proofs.Runs.{run-on, run-stop, run-end}
+use Rattle.base.specs.Runs.{runLen}
+use lib.ListN.{length, drop}
+use mathlib.Core.Path.{_≡_}
+use Prim.Native.Nat.{_≤_, _-_, _+_}
 use Rattle.messages.proofs.word_length.Statement.{statement}
 use Rattle.messages.proofs.word_length.Tie as tie
 use Rattle.messages.proofs.word_length.Reads as reads
@@ -5,42 +14,34 @@ use Rattle.messages.proofs.word_length.Lts as lts
 use Rattle.messages.proofs.in_word.Reads as in-word-reads
 
 abbrev Inv-loop : tie.InvT-loop
-Inv-loop s i₀ i = ?
+Inv-loop s i₀ i = (i ≤ length s) × (runLen inWord s ≡ i + runLen inWord (drop i s))
 
 abbrev μ-loop : tie.MeasureT-loop
-μ-loop s i₀ i = ?
+μ-loop s i₀ i = length s - i
 
--- src/lib.rt:167:5
 loop-holds : tie.Need-loop-holds Inv-loop μ-loop
-loop-holds c = ?
+loop-holds c = search needs
 
--- src/lib.rt:168:20
 shared-slice-read-in-word : tie.Need-shared-slice-read-in-word Inv-loop μ-loop
-shared-slice-read-in-word c = ?
+shared-slice-read-in-word c = search needs
 
--- src/lib.rt:168:12
 in-word-requires : tie.Need-in-word-requires Inv-loop μ-loop
-in-word-requires c κs = ?
+in-word-requires c κs = search needs
 
--- src/lib.rt:169:13
 add-i : tie.Need-add-i Inv-loop μ-loop
-add-i c = ?
+add-i c = search needs
 
--- src/lib.rt:167:5
 loop-less : tie.Need-loop-less Inv-loop μ-loop
-loop-less c = ?
+loop-less c = search needs
 
--- src/lib.rt:167:5
 loop-again : tie.Need-loop-again Inv-loop μ-loop
-loop-again c = ?
+loop-again c = (search needs, run-on _ _ _ (search needs) (told (c .before .in-word .ensures) (c .if1 .taken)) (search needs))
 
--- src/lib.rt:171:13
 returns : tie.Need-returns Inv-loop μ-loop
-returns c = ?
+returns c = run-stop _ _ _ (search needs) (told (c .before .in-word .ensures) (c .if1 .left)) (search needs)
 
--- src/lib.rt:163:1
 returns-2 : tie.Need-returns-2 Inv-loop μ-loop
-returns-2 c = ?
+returns-2 c = run-end _ _ _ (search needs) (search needs)
 
 pub word-length-spec : {M : Type 1} → statement M
 word-length-spec =

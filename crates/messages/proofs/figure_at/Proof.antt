@@ -1,0 +1,26 @@
+-- `figure_at` follows the definition. Assumes nothing.
+use Rattle.messages.specs.Messages.{figureAt}
+use borrow.Author.Needs.{needs}
+use Rattle.messages.proofs.figure_at.Statement.{statement}
+use Rattle.messages.proofs.figure_at.Tie as tie
+use Rattle.messages.proofs.figure_at.Reads as reads
+use Rattle.messages.proofs.figure_at.Lts as lts
+use Rattle.figures.proofs.byte.Reads as byte-reads
+use Rattle.messages.proofs.figure.Reads as figure-reads
+use Rattle.messages.proofs.register_at.Reads as register-at-reads
+
+byte-requires : tie.Need-byte-requires
+byte-requires c κs = search needs
+
+register-at-requires : tie.Need-register-at-requires
+register-at-requires c κs = search needs
+
+figure-requires : tie.Need-figure-requires
+figure-requires c κs = search needs
+
+returns : tie.Need-returns
+unfolding figureAt
+returns c = rw (c .figure .ensures, c .before .register-at .ensures, c .before .before .byte .ensures)
+
+pub figure-at-spec : {M : Type 1} → statement M
+figure-at-spec = tie.close (tie.spec byte-requires register-at-requires figure-requires returns)

@@ -1,0 +1,25 @@
+-- `line_of` follows the definition. Assumes nothing.
+use Rattle.messages.specs.Lines.{lineOf}
+use borrow.Author.Needs.{needs}
+use Rattle.messages.proofs.line_of.Statement.{statement}
+use Rattle.messages.proofs.line_of.Tie as tie
+use Rattle.messages.proofs.line_of.Reads as reads
+use Rattle.messages.proofs.line_of.Lts as lts
+use Rattle.figures.proofs.front.Reads as front-reads
+use Rattle.figures.proofs.part_count.Reads as part-count-reads
+
+front-requires : tie.Need-front-requires
+front-requires c κs = search needs
+
+part-count-requires : tie.Need-part-count-requires
+part-count-requires c κs = search needs
+
+add-result : tie.Need-add-result
+add-result c = search needs
+
+returns : tie.Need-returns
+unfolding lineOf
+returns c = rw (c .part-count .ensures .0, c .before .front .ensures)
+
+pub line-of-spec : {M : Type 1} → statement M
+line-of-spec = tie.close (tie.spec front-requires part-count-requires add-result returns)

@@ -1,0 +1,53 @@
+-- `put_first` puts the place and the headline. Assumes nothing.
+use Rattle.messages.proofs.Going.{renamed}
+use Rattle.messages.specs.Messages.{firstLine}
+use Rattle.figures.proofs.Writing.{two}
+use borrow.Author.Needs.{needs}
+use Rattle.messages.proofs.put_first.Statement.{statement}
+use Rattle.messages.proofs.put_first.Tie as tie
+use Rattle.messages.proofs.put_first.Reads as reads
+use Rattle.messages.proofs.put_first.Lts as lts
+use Rattle.messages.proofs.column_of.Reads as column-of-reads
+use Rattle.messages.proofs.figure_at.Reads as figure-at-reads
+use Rattle.messages.proofs.headline_at.Reads as headline-at-reads
+use Rattle.messages.proofs.line_of.Reads as line-of-reads
+use Rattle.messages.proofs.put_head.Reads as put-head-reads
+use Rattle.messages.proofs.put_place.Reads as put-place-reads
+
+line-of-requires : tie.Need-line-of-requires
+line-of-requires c κs = search needs
+
+column-of-requires : tie.Need-column-of-requires
+column-of-requires c κs = search needs
+
+headline-at-requires : tie.Need-headline-at-requires
+headline-at-requires c κs = search needs
+
+figure-at-requires : tie.Need-figure-at-requires
+figure-at-requires c κs = search needs
+
+put-place-requires : tie.Need-put-place-requires
+put-place-requires c κs = search needs
+
+put-head-requires : tie.Need-put-head-requires
+put-head-requires c κs = search needs
+
+same-length : tie.Need-same-length
+same-length c = search needs
+
+returns : tie.Need-returns
+unfolding firstLine
+returns c = renamed (two (c .before .before .before .before .before .before .put-place .ensures) (c .before .before .put-head .ensures)) (rw (c .before .before .before .before .before .before .before .before .before .before .before .line-of .ensures, c .before .before .before .before .before .before .before .before .before .before .column-of .ensures, c .before .before .before .before .before .before .before .before .before .headline-at .ensures, c .before .before .before .before .before .before .before .before .figure-at .ensures))
+
+pub put-first-spec : {M : Type 1} → statement M
+put-first-spec =
+    tie.close
+    (tie.spec
+    line-of-requires
+    column-of-requires
+    headline-at-requires
+    figure-at-requires
+    put-place-requires
+    put-head-requires
+    same-length
+    returns)

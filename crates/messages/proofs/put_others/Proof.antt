@@ -1,0 +1,53 @@
+-- `put_others` puts the line and the carets below it. Assumes nothing.
+use Rattle.messages.proofs.Going.{renamed}
+use Rattle.messages.specs.Messages.{otherLines}
+use Rattle.figures.proofs.Writing.{two}
+use borrow.Author.Needs.{needs}
+use Rattle.messages.proofs.put_others.Statement.{statement}
+use Rattle.messages.proofs.put_others.Tie as tie
+use Rattle.messages.proofs.put_others.Reads as reads
+use Rattle.messages.proofs.put_others.Lts as lts
+use Rattle.messages.proofs.note_at.Reads as note-at-reads
+use Rattle.messages.proofs.put_carets.Reads as put-carets-reads
+use Rattle.messages.proofs.put_line.Reads as put-line-reads
+use Rattle.messages.proofs.shown_before.Reads as shown-before-reads
+use Rattle.messages.proofs.shown_line.Reads as shown-line-reads
+use Rattle.messages.proofs.wide_at.Reads as wide-at-reads
+
+shown-before-requires : tie.Need-shown-before-requires
+shown-before-requires c κs = search needs
+
+wide-at-requires : tie.Need-wide-at-requires
+wide-at-requires c κs = search needs
+
+note-at-requires : tie.Need-note-at-requires
+note-at-requires c κs = search needs
+
+shown-line-requires : tie.Need-shown-line-requires
+shown-line-requires c κs = search needs
+
+put-line-requires : tie.Need-put-line-requires
+put-line-requires c κs = search needs
+
+put-carets-requires : tie.Need-put-carets-requires
+put-carets-requires c κs = search needs
+
+same-length : tie.Need-same-length
+same-length c = search needs
+
+returns : tie.Need-returns
+unfolding otherLines
+returns c = renamed (two (c .before .before .before .before .before .before .put-line .ensures) (c .before .before .put-carets .ensures)) (rw (c .before .before .before .before .before .before .before .shown-line .ensures, c .before .before .before .before .before .before .before .before .before .before .before .shown-before .ensures, c .before .before .before .before .before .before .before .before .before .before .wide-at .ensures, c .before .before .before .before .before .before .before .before .before .note-at .ensures))
+
+pub put-others-spec : {M : Type 1} → statement M
+put-others-spec =
+    tie.close
+    (tie.spec
+    shown-before-requires
+    wide-at-requires
+    note-at-requires
+    shown-line-requires
+    put-line-requires
+    put-carets-requires
+    same-length
+    returns)

@@ -1,0 +1,22 @@
+-- `shown_before` follows the definition. Assumes nothing.
+use Rattle.messages.specs.Lines.{shownBefore}
+use borrow.Author.Needs.{needs}
+use Rattle.messages.proofs.shown_before.Statement.{statement}
+use Rattle.messages.proofs.shown_before.Tie as tie
+use Rattle.messages.proofs.shown_before.Reads as reads
+use Rattle.messages.proofs.shown_before.Lts as lts
+use Rattle.messages.proofs.least.Reads as least-reads
+use Rattle.messages.proofs.since.Reads as since-reads
+
+since-requires : tie.Need-since-requires
+since-requires c κs = search needs
+
+least-requires : tie.Need-least-requires
+least-requires c κs = search needs
+
+returns : tie.Need-returns
+unfolding shownBefore
+returns c = rw (c .least .ensures, c .before .since .ensures .0)
+
+pub shown-before-spec : {M : Type 1} → statement M
+shown-before-spec = tie.close (tie.spec since-requires least-requires returns)

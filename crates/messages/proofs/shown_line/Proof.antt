@@ -1,0 +1,31 @@
+-- `shown_line` follows the definition. Assumes nothing.
+use Rattle.messages.specs.Lines.{shownLine}
+use borrow.Author.Needs.{needs}
+use Rattle.messages.proofs.shown_line.Statement.{statement}
+use Rattle.messages.proofs.shown_line.Tie as tie
+use Rattle.messages.proofs.shown_line.Reads as reads
+use Rattle.messages.proofs.shown_line.Lts as lts
+use Rattle.figures.proofs.rest.Reads as rest-reads
+use Rattle.messages.proofs.less.Reads as less-reads
+use Rattle.messages.proofs.shown.Reads as shown-reads
+use Rattle.messages.proofs.shown_before.Reads as shown-before-reads
+
+shown-before-requires : tie.Need-shown-before-requires
+shown-before-requires c κs = search needs
+
+less-requires : tie.Need-less-requires
+less-requires c κs = search needs
+
+rest-requires : tie.Need-rest-requires
+rest-requires c κs = search needs
+
+shown-requires : tie.Need-shown-requires
+shown-requires c κs = search needs
+
+returns : tie.Need-returns
+unfolding shownLine
+returns c = rw (c .shown .ensures, c .before .rest .ensures, c .before .before .less .ensures, c .before .before .before .shown-before .ensures)
+
+pub shown-line-spec : {M : Type 1} → statement M
+shown-line-spec =
+    tie.close (tie.spec shown-before-requires less-requires rest-requires shown-requires returns)

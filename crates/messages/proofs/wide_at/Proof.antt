@@ -1,0 +1,22 @@
+-- `wide_at` follows the definition. Assumes nothing.
+use Rattle.messages.specs.Messages.{wideAt}
+use borrow.Author.Needs.{needs}
+use Rattle.messages.proofs.wide_at.Statement.{statement}
+use Rattle.messages.proofs.wide_at.Tie as tie
+use Rattle.messages.proofs.wide_at.Reads as reads
+use Rattle.messages.proofs.wide_at.Lts as lts
+use Rattle.messages.proofs.underlined.Reads as underlined-reads
+use Rattle.messages.proofs.word_at.Reads as word-at-reads
+
+word-at-requires : tie.Need-word-at-requires
+word-at-requires c κs = search needs
+
+underlined-requires : tie.Need-underlined-requires
+underlined-requires c κs = search needs
+
+returns : tie.Need-returns
+unfolding wideAt
+returns c = rw (c .underlined .ensures, c .before .word-at .ensures)
+
+pub wide-at-spec : {M : Type 1} → statement M
+wide-at-spec = tie.close (tie.spec word-at-requires underlined-requires returns)

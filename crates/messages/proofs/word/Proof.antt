@@ -1,0 +1,24 @@
+-- `word` cuts out the word. Assumes nothing.
+use borrow.Author.Needs.{needs}
+use Rattle.messages.proofs.word.Statement.{statement}
+use Rattle.messages.proofs.word.Tie as tie
+use Rattle.messages.proofs.word.Reads as reads
+use Rattle.messages.proofs.word.Lts as lts
+use Rattle.figures.proofs.front.Reads as front-reads
+use Rattle.messages.proofs.least.Reads as least-reads
+use Rattle.messages.proofs.word_length.Reads as word-length-reads
+
+word-length-requires : tie.Need-word-length-requires
+word-length-requires c κs = search needs
+
+least-requires : tie.Need-least-requires
+least-requires c κs = search needs
+
+front-requires : tie.Need-front-requires
+front-requires c κs = search needs
+
+returns : tie.Need-returns
+returns c = rw (c .front .ensures, c .before .least .ensures, c .before .before .word-length .ensures)
+
+pub word-spec : {M : Type 1} → statement M
+word-spec = tie.close (tie.spec word-length-requires least-requires front-requires returns)
