@@ -1,6 +1,6 @@
 // Where a stored object text differs from what its source becomes: the first line that does, and what it is.
 ghost use mathlib.Core.Path.{_≡_};
-ghost use Prim.Native.Nat.{_+_, _≤_};
+ghost use Prim.Native.Nat.{_+_, _≤_, _<_, _^_};
 ghost use lib.ListN.{length, take, drop};
 ghost use Rattle.figures.specs.Writing.{Adds, Holds};
 ghost use Rattle.differences.specs.Differences.{caretText, common as commonOf, differenceAt, endText, headText, hintText, kindOf, lineAt, lineKind, linesText, offsetText, placeText, reportText, sameText, shownText};
@@ -31,7 +31,10 @@ fn common(s: &[u8], t: &[u8]) -> usize
     ensures { λ r. ⌜ (r ≡ commonOf (now (s .entry)) (now (t .entry))) × (r ≤ length (now (s .entry))) ⌝ }
 {
     let mut i: usize = 0;
-    while (i < s.len()) & (i < t.len()) {
+    while i < s.len() {
+        if t.len() <= i {
+            return i;
+        }
         if s[i] != t[i] {
             return i;
         }
@@ -120,7 +123,7 @@ fn put_shown(out: &mut [u8], at: usize, name: &[u8], line: &[u8]) -> usize
 }
 
 fn put_caret(out: &mut [u8], at: usize, before: usize) -> usize
-    requires { ⌜ before ≤ 2 ^ 62 ⌝ }
+    requires { ⌜ before < 2 ^ 63 ⌝ }
     ensures { λ r. ⌜ Adds (caretText before) (now (out .entry)) at (now (out .exit)) r ⌝ }
 {
     let blank = put_times(out, at, b' ', 10 + before);
@@ -144,7 +147,7 @@ fn put_head(
     was: &[u8],
     ends: bool,
 ) -> usize
-    requires { ⌜ line ≤ 2 ^ 62 ⌝ }
+    requires { ⌜ line < 2 ^ 63 ⌝ }
     ensures { λ r. ⌜ Adds (headText (now (source .entry)) (now (object .entry)) line (now (is .entry)) (now (was .entry)) ends) (now (out .entry)) 0 (now (out .exit)) r ⌝ }
 {
     let column = common(is, was) + 1;
@@ -174,7 +177,7 @@ fn put_difference(
     stored: &[u8],
     line: usize,
 ) -> usize
-    requires { ⌜ line ≤ 2 ^ 62 ⌝ }
+    requires { ⌜ line < 2 ^ 63 ⌝ }
     ensures { λ r. ⌜ Adds (differenceAt (now (source .entry)) (now (object .entry)) (now (made .entry)) (now (stored .entry)) line) (now (out .entry)) 0 (now (out .exit)) r ⌝ }
 {
     let is = part(made, NEWLINE, line);
