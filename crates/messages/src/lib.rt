@@ -145,7 +145,7 @@ fn visible(b: u8) -> u8
     63
 }
 
-fn put_visible(out: &mut [u8], at: usize, line: &[u8]) -> usize
+pub fn put_visible(out: &mut [u8], at: usize, line: &[u8]) -> usize
     ensures { λ r. ⌜ Adds (visibles (now (line .entry))) (now (out .entry)) at (now (out .exit)) r ⌝ }
 {
     let mut end = at;

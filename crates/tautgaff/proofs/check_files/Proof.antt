@@ -1,39 +1,41 @@
+-- `check_files` goes word by word; the number of the word rises. Assumes nothing.
+use Prim.Native.Nat.{_≤_, _-_}
 use borrow.Author.Needs.{needs}
 use Rattle.tautgaff.proofs.check_files.Statement.{statement}
 use Rattle.tautgaff.proofs.check_files.Tie as tie
 
 abbrev Inv-loop : tie.InvT-loop
-Inv-loop  = ?
+Inv-loop words count status₀ n₀ status n = 1 ≤ n
 
 abbrev μ-loop : tie.MeasureT-loop
-μ-loop  = ?
+μ-loop words count status₀ n₀ status n = count - n
 
 part-count-requires : tie.Need-part-count-requires Inv-loop μ-loop
-part-count-requires c κs = ?
+part-count-requires c κs = search needs
 
 loop-holds : tie.Need-loop-holds Inv-loop μ-loop
-loop-holds c = ?
+loop-holds c = search needs
 
 part-requires : tie.Need-part-requires Inv-loop μ-loop
-part-requires c κs = ?
+part-requires c κs = search needs
 
 check-file-requires : tie.Need-check-file-requires Inv-loop μ-loop
-check-file-requires c κs = ?
+check-file-requires c κs = search needs
 
 worse-requires : tie.Need-worse-requires Inv-loop μ-loop
-worse-requires c κs = ?
+worse-requires c κs = search needs
 
 add-n : tie.Need-add-n Inv-loop μ-loop
-add-n c = ?
+add-n c = search needs
 
 loop-less : tie.Need-loop-less Inv-loop μ-loop
-loop-less c = ?
+loop-less c = search needs
 
 loop-again : tie.Need-loop-again Inv-loop μ-loop
-loop-again c = ?
+loop-again c = search needs
 
 returns : tie.Need-returns Inv-loop μ-loop
-returns c = ?
+returns c = tt
 
 pub check-files-spec : {M : Type 1} → statement M
 check-files-spec =
