@@ -179,7 +179,8 @@ fn put_all_asked(out: &mut [u8], at: usize, words: &[u8], regs: [u32; 16]) -> us
 
 fn tell_run(words: &[u8], a: runner::Answer) -> i32 {
     let mut out = [0u8; MESSAGE_ROOM];
-    let stop = stop_number(a.stop);
+    let halted = a.stop;
+    let stop = stop_number(halted);
     let regs = a.regs;
     let n = reports::report(
         &mut out,
