@@ -77,3 +77,6 @@ faults =
     ++ bytes "\nthis is no number from 0 to 4294967295"
     ++ bytes "\nthe option needs a value"
     ++ bytes "\na name is missing"
+    ++ bytes "\nthis is no value: decimal, with _ or - in front, or # and hexadecimal digits"
+    ++ bytes "\nthis names no register: R0 to R9, RA to RF"
+    ++ bytes "\nthere is no help on this: a command, or a number from 0 to 19"

@@ -77,12 +77,15 @@ const NOTES: [u8; 1026] = *b"\n\
     \n a base or the return register of what is around this place";
 
 // Why a word of the command line is wrong.
-const FAULTS: [u8; 166] = *b"\nthere is no such command\
+const FAULTS: [u8; 348] = *b"\nthere is no such command\
     \nthis command has no such option\
     \nthere is one name too many\
     \nthis is no number from 0 to 4294967295\
     \nthe option needs a value\
-    \na name is missing";
+    \na name is missing\
+    \nthis is no value: decimal, with _ or - in front, or # and hexadecimal digits\
+    \nthis names no register: R0 to R9, RA to RF\
+    \nthere is no help on this: a command, or a number from 0 to 19";
 
 const NEWLINE: u8 = 10;
 
@@ -142,7 +145,7 @@ fn visible(b: u8) -> u8
     63
 }
 
-fn put_visible(out: &mut [u8], at: usize, line: &[u8]) -> usize
+pub fn put_visible(out: &mut [u8], at: usize, line: &[u8]) -> usize
     ensures { λ r. ⌜ Adds (visibles (now (line .entry))) (now (out .entry)) at (now (out .exit)) r ⌝ }
 {
     let mut end = at;

@@ -84,7 +84,8 @@ fn is_option(s: &[u8]) -> bool
     (figures::first(s) == b'-') & (1 < s.len())
 }
 
-fn run_option(s: &[u8]) -> u8
+// What an option of `run` waits for, and 0 for any other word.
+pub fn run_option(s: &[u8]) -> u8
     ensures { λ r. ⌜ r ≡ runOption (now (s .entry)) ⌝ }
 {
     if same(s, b"--set") {

@@ -1,0 +1,2 @@
+-- Laws behind the comparison of object texts.
+pub mod Prefix

@@ -1,0 +1,2 @@
+-- Where a stored object text differs from what its source becomes.
+pub mod Differences

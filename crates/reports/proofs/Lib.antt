@@ -1,0 +1,2 @@
+-- Laws behind the report of a run.
+pub mod Registers

@@ -1,0 +1,48 @@
+-- A number and what it means, piece by piece. Assumes nothing.
+use Rattle.figures.proofs.Writing.{two}
+use Rattle.reports.specs.Reports.{toldText}
+use borrow.Author.Needs.{needs}
+use Rattle.reports.proofs.put_told.Statement.{statement}
+use Rattle.reports.proofs.put_told.Tie as tie
+
+put-all-requires : tie.Need-put-all-requires
+put-all-requires c κs = search needs
+
+put-decimal-requires : tie.Need-put-decimal-requires
+put-decimal-requires c κs = search needs
+
+slice-aggregate-put-all : tie.Need-slice-aggregate-put-all
+slice-aggregate-put-all c = search needs
+
+put-all-requires-2 : tie.Need-put-all-requires-2
+put-all-requires-2 c κs = search needs
+
+put-phrase-requires : tie.Need-put-phrase-requires
+put-phrase-requires c κs = search needs
+
+slice-aggregate-put-all-2 : tie.Need-slice-aggregate-put-all-2
+slice-aggregate-put-all-2 c = search needs
+
+put-all-requires-3 : tie.Need-put-all-requires-3
+put-all-requires-3 c κs = search needs
+
+same-length : tie.Need-same-length
+same-length c = search needs
+
+returns : tie.Need-returns
+unfolding toldText
+returns c = two (two (two (two (c .before .before .before .before .before .before .before .before .before .before .before .before .before .before .before .before .before .before .before .before .put-all .ensures) (c .before .before .before .before .before .before .before .before .before .before .before .before .before .before .before .before .put-decimal .ensures)) (c .before .before .before .before .before .before .before .before .before .before .before .put-all2 .ensures)) (c .before .before .before .before .before .before .before .put-phrase .ensures)) (c .before .before .put-all3 .ensures)
+
+pub put-told-spec : {M : Type 1} → statement M
+put-told-spec =
+    tie.close
+    (tie.spec
+    put-all-requires
+    put-decimal-requires
+    slice-aggregate-put-all
+    put-all-requires-2
+    put-phrase-requires
+    slice-aggregate-put-all-2
+    put-all-requires-3
+    same-length
+    returns)

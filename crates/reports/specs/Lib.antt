@@ -1,0 +1,2 @@
+-- The report of a run.
+pub mod Reports

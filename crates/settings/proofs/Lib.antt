@@ -1,0 +1,2 @@
+-- How the words are gone along.
+pub mod Going

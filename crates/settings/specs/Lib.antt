@@ -1,0 +1,2 @@
+-- What `--set` and `--show` say of registers.
+pub mod Setting
