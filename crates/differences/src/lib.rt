@@ -189,13 +189,7 @@ fn put_difference(
 }
 
 // What is said of two object texts that differ, with the names of source and object, into lent room; how many bytes it has there.
-pub fn difference(
-    out: &mut [u8],
-    source: &[u8],
-    object: &[u8],
-    made: &[u8],
-    stored: &[u8],
-) -> usize
+pub fn difference(out: &mut [u8], source: &[u8], object: &[u8], made: &[u8], stored: &[u8]) -> usize
     ensures { λ r. ⌜ Holds (now (out .entry)) (differenceText (now (source .entry)) (now (object .entry)) (now (made .entry)) (now (stored .entry))) (now (out .exit)) r ⌝ }
 {
     let line = line_at(made, stored);

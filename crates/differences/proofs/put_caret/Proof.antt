@@ -22,7 +22,10 @@ same-length c = search needs
 
 returns : tie.Need-returns
 unfolding caretText
-returns c = two (c .before .before .before .before .before .before .before .put-times .ensures) (c .before .before .put-all .ensures)
+returns c =
+    let s1 = c .before .before in
+    let s2 = s1 .before .before .before .before .before in
+    two (s2 .put-times .ensures) (s1 .put-all .ensures)
 
 pub put-caret-spec : {M : Type 1} → statement M
 put-caret-spec =

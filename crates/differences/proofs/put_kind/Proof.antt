@@ -31,7 +31,7 @@ same-length c = search needs
 
 returns : tie.Need-returns
 unfolding lineKind kinds
-returns c = 
+returns c =
     called (rw (c .before .before .before .before .before .before .before .before .before .before .before .digit-of .ensures .0, c .before .before .before .before .before .before .before .before .before .before .before .before .byte .ensures, c .before .before .before .before .before .before .before .kind-of .ensures, c .before .before .before .before .before .before .before .before .byte2 .ensures))
     (two (c .before .before .before .before .before .before .put-phrase .ensures) (c .before .before .put-offset .ensures))
 

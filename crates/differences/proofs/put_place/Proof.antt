@@ -46,7 +46,16 @@ same-length c = search needs
 
 returns : tie.Need-returns
 unfolding placeText
-returns c = two (two (two (two (two (two (two (c .before .before .before .before .before .before .before .before .before .before .before .before .before .before .before .before .before .before .before .before .before .before .before .before .before .before .before .before .before .before .before .before .before .before .put-all .ensures) (c .before .before .before .before .before .before .before .before .before .before .before .before .before .before .before .before .before .before .before .before .before .before .before .before .before .before .before .before .before .put-all2 .ensures)) (c .before .before .before .before .before .before .before .before .before .before .before .before .before .before .before .before .before .before .before .before .before .before .before .before .before .put-decimal .ensures)) (c .before .before .before .before .before .before .before .before .before .before .before .before .before .before .before .before .before .before .before .before .put-all3 .ensures)) (c .before .before .before .before .before .before .before .before .before .before .before .before .before .before .before .before .put-decimal2 .ensures)) (c .before .before .before .before .before .before .before .before .before .before .before .put-all4 .ensures)) (c .before .before .before .before .before .before .before .put-all5 .ensures)) (c .before .before .put-all6 .ensures)
+returns c =
+    let s1 = c .before .before in
+    let s2 = s1 .before .before .before .before .before in
+    let s3 = s2 .before .before .before .before in
+    let s4 = s3 .before .before .before .before .before in
+    let s5 = s4 .before .before .before .before in
+    let s6 = s5 .before .before .before .before .before in
+    let s7 = s6 .before .before .before .before in
+    let s8 = s7 .before .before .before .before .before in
+    two (two (two (two (two (two (two (s8 .put-all .ensures) (s7 .put-all2 .ensures)) (s6 .put-decimal .ensures)) (s5 .put-all3 .ensures)) (s4 .put-decimal2 .ensures)) (s3 .put-all4 .ensures)) (s2 .put-all5 .ensures)) (s1 .put-all6 .ensures)
 
 pub put-place-spec : {M : Type 1} → statement M
 put-place-spec =

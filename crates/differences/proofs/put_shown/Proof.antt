@@ -26,8 +26,12 @@ same-length c = search needs
 returns : tie.Need-returns
 unfolding shownText
 returns c =
-    called (rw (c .before .before .before .before .before .before .before .before .front .ensures))
-    (two (two (c .before .before .before .before .before .before .before .before .before .before .before .before .put-all .ensures) (c .before .before .before .before .before .before .before .put-visible .ensures)) (c .before .before .put-all2 .ensures))
+    let s1 = c .before .before in
+    let s2 = s1 .before .before .before .before .before in
+    let s3 = s2 .before in
+    let s4 = s3 .before .before .before .before in
+    called (rw (s3 .front .ensures))
+    (two (two (s4 .put-all .ensures) (s2 .put-visible .ensures)) (s1 .put-all2 .ensures))
 
 pub put-shown-spec : {M : Type 1} → statement M
 put-shown-spec =
