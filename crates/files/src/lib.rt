@@ -42,13 +42,37 @@ fn read_some(fd: i32, room: &mut [u8]) -> Got
     count(io::count(n, room))
 }
 
+// "source over 32,768 bytes": one byte more decides it.
+pub const SOURCE_ROOM: usize = 32769;
+
+fn first_end(size: usize) -> usize
+    ensures { λ r. ⌜ r ≤ size ⌝ }
+{
+    if size < SOURCE_ROOM {
+        return size;
+    }
+    SOURCE_ROOM
+}
+
+// How far to read after n bytes: only what begins as an object text does is read further than a source.
+fn next_end(first: u8, n: usize, end: usize, size: usize) -> usize
+    requires { ⌜ end ≤ size ⌝ }
+    ensures { λ r. ⌜ (end ≤ r) × (r ≤ size) ⌝ }
+{
+    if (n == end) & (first == b'0') {
+        return size;
+    }
+    end
+}
+
 // As much as there is room for.
 fn read_all(fd: i32, room: &mut [u8]) -> Got
     ensures { λ r. ⌜ r .size ≤ length (now (room .entry)) ⌝ }
 {
     let mut n: usize = 0;
-    while n < room.len() {
-        let more = read_some(fd, &mut room[n..]);
+    let mut end = first_end(room.len());
+    while n < end {
+        let more = read_some(fd, &mut room[n..end]);
         let size = more.size;
         let broke = more.failed;
         if broke {
@@ -58,6 +82,7 @@ fn read_all(fd: i32, room: &mut [u8]) -> Got
             return count(n);
         }
         n += size;
+        end = next_end(figures::first(room), n, end, room.len());
     }
     count(n)
 }
@@ -110,7 +135,7 @@ fn put_bytes(fd: i32, text: &[u8]) -> bool {
     whole & (closed == 0)
 }
 
-// Where a name leads elsewhere, or to what is no file with a length, it is written directly.
+// Where a name leads elsewhere.
 fn write_directly(name: &[u8], text: &[u8]) -> bool {
     let fd = os::open_overwrite(name);
     if fd < 0 {
@@ -127,12 +152,22 @@ fn write_directly(name: &[u8], text: &[u8]) -> bool {
 // Room for a name and what is put behind it.
 const NAME_ROOM: usize = 4200;
 
+// A name in the same folder that no other file has.
+fn put_other_name(room: &mut [u8], name: &[u8]) -> usize {
+    let mut chance = [0u8; 3];
+    let view: &mut [u8] = &mut chance;
+    libc::getentropy(view);
+    let named = figures::put_all(room, 0, name);
+    let marked = figures::put_all(room, named, b".new");
+    let first = figures::put_decimal(room, marked, figures::byte(&chance, 0) as usize);
+    let second = figures::put_decimal(room, first, figures::byte(&chance, 1) as usize);
+    figures::put_decimal(room, second, figures::byte(&chance, 2) as usize)
+}
+
 // The whole text under another name in the same folder, which then takes the name's place.
 fn replace(name: &[u8], text: &[u8]) -> bool {
     let mut room = [0u8; NAME_ROOM];
-    let named = figures::put_all(&mut room, 0, name);
-    let marked = figures::put_all(&mut room, named, b".new");
-    let end = figures::put_decimal(&mut room, marked, process());
+    let end = put_other_name(&mut room, name);
     let other = figures::front(&room, end);
     let fd = os::create(other);
     if fd < 0 {
@@ -147,14 +182,6 @@ fn replace(name: &[u8], text: &[u8]) -> bool {
     os::fail(name);
     os::unlink(other);
     false
-}
-
-fn process() -> usize {
-    let id = libc::getpid();
-    if id < 0 {
-        return 0;
-    }
-    id as usize
 }
 
 // The name as the system takes it, ended by a zero byte.
@@ -186,13 +213,17 @@ fn is_plain(fd: i32) -> bool {
     libc::ftruncate(fd, size) == 0
 }
 
+// A pipe or a device is written as it was opened.
 fn store_over(name: &[u8], fd: i32, text: &[u8]) -> bool {
-    let plain = is_plain(fd);
-    libc::close(fd);
-    if plain {
+    if is_plain(fd) {
+        libc::close(fd);
         return replace(name, text);
     }
-    write_directly(name, text)
+    if put_bytes(fd, text) {
+        return true;
+    }
+    os::fail(name);
+    false
 }
 
 // Writes a file whole or not at all.

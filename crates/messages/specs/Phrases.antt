@@ -79,3 +79,4 @@ faults =
     ++ bytes "\na name is missing"
     ++ bytes "\nthis is no value: decimal, with _ or - in front, or # and hexadecimal digits"
     ++ bytes "\nthis names no register: R0 to R9, RA to RF"
+    ++ bytes "\nthere is no help on this: a command, or a number from 0 to 19"

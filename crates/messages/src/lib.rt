@@ -77,14 +77,15 @@ const NOTES: [u8; 1026] = *b"\n\
     \n a base or the return register of what is around this place";
 
 // Why a word of the command line is wrong.
-const FAULTS: [u8; 286] = *b"\nthere is no such command\
+const FAULTS: [u8; 348] = *b"\nthere is no such command\
     \nthis command has no such option\
     \nthere is one name too many\
     \nthis is no number from 0 to 4294967295\
     \nthe option needs a value\
     \na name is missing\
     \nthis is no value: decimal, with _ or - in front, or # and hexadecimal digits\
-    \nthis names no register: R0 to R9, RA to RF";
+    \nthis names no register: R0 to R9, RA to RF\
+    \nthere is no help on this: a command, or a number from 0 to 19";
 
 const NEWLINE: u8 = 10;
 
@@ -437,7 +438,14 @@ fn put_carets(out: &mut [u8], at: usize, before: usize, wide: usize, k: usize) -
     put_all(out, noted, b"\n")
 }
 
-fn put_first(out: &mut [u8], at: usize, file: &[u8], number: usize, place: usize, text: &[u8]) -> usize
+fn put_first(
+    out: &mut [u8],
+    at: usize,
+    file: &[u8],
+    number: usize,
+    place: usize,
+    text: &[u8],
+) -> usize
     requires { ⌜ place ≤ 32768 ⌝ }
     ensures { λ r. ⌜ Adds (firstLine (now (file .entry)) number place (now (text .entry))) (now (out .entry)) at (now (out .exit)) r ⌝ }
 {

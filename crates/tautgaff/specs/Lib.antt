@@ -1,0 +1,2 @@
+-- Exit statuses.
+pub mod Statuses
