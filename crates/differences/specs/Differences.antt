@@ -19,7 +19,7 @@ use Rattle.messages.specs.Lines.{visibles}
 unfoldable pub common : List ℕ → List ℕ → ℕ
 common [] t = 0
 common (x ∷ xs) [] = 0
-common (x ∷ xs) (y ∷ ys) = elim (eqb x y) [ true ↦ suc (common xs ys) | false ↦ 0 ]
+common (x ∷ xs) (y ∷ ys) = choose (eqb x y) (suc (common xs ys)) 0
 
 -- the number of the line in which they differ, counted from 0
 unfoldable pub lineAt : List ℕ → List ℕ → ℕ
@@ -77,9 +77,5 @@ differenceAt source object made stored line =
     ++ linesText (partOf 10 line stored) (partOf 10 line made)
     ++ hintText stored
 
-unfoldable pub sameText : List ℕ → List ℕ → List ℕ
-sameText source object = object ++ bytes ": what " ++ source ++ bytes " becomes\n"
-
-unfoldable pub reportText : List ℕ → List ℕ → List ℕ → List ℕ → List ℕ
-reportText source object made stored =
-    choose (sameBytes made stored) (sameText source object) (differenceAt source object made stored (lineAt made stored))
+unfoldable pub differenceText : List ℕ → List ℕ → List ℕ → List ℕ → List ℕ
+differenceText source object made stored = differenceAt source object made stored (lineAt made stored)

@@ -3,7 +3,7 @@ ghost use mathlib.Core.Path.{_≡_};
 ghost use Prim.Native.Nat.{_+_, _≤_, _<_, _^_};
 ghost use lib.ListN.{length, take, drop};
 ghost use Rattle.figures.specs.Writing.{Adds, Holds};
-ghost use Rattle.differences.specs.Differences.{caretText, common as commonOf, differenceAt, endText, headText, hintText, kindOf, lineAt, lineKind, linesText, offsetText, placeText, reportText, sameText, shownText};
+ghost use Rattle.differences.specs.Differences.{caretText, common as commonOf, differenceAt, differenceText, endText, headText, hintText, kindOf, lineAt, lineKind, linesText, offsetText, placeText, shownText};
 use figures::byte;
 use figures::front;
 use figures::part;
@@ -188,28 +188,10 @@ fn put_difference(
     put_hint(out, shown, stored)
 }
 
-fn put_same(out: &mut [u8], source: &[u8], object: &[u8]) -> usize
-    ensures { λ r. ⌜ Adds (sameText (now (source .entry)) (now (object .entry))) (now (out .entry)) 0 (now (out .exit)) r ⌝ }
+// What is said of two object texts that differ, with the names of source and object, into lent room; how many bytes it has there.
+pub fn difference(out: &mut [u8], source: &[u8], object: &[u8], made: &[u8], stored: &[u8]) -> usize
+    ensures { λ r. ⌜ Holds (now (out .entry)) (differenceText (now (source .entry)) (now (object .entry)) (now (made .entry)) (now (stored .entry))) (now (out .exit)) r ⌝ }
 {
-    let named = put_all(out, 0, object);
-    let begun = put_all(out, named, b": what ");
-    let sourced = put_all(out, begun, source);
-    put_all(out, sourced, b" becomes\n")
-}
-
-// The whole report into lent room, of the names of source and object and the two object texts; how many bytes it has there.
-pub fn report(
-    out: &mut [u8],
-    source: &[u8],
-    object: &[u8],
-    made: &[u8],
-    stored: &[u8],
-) -> usize
-    ensures { λ r. ⌜ Holds (now (out .entry)) (reportText (now (source .entry)) (now (object .entry)) (now (made .entry)) (now (stored .entry))) (now (out .exit)) r ⌝ }
-{
-    if figures::same(made, stored) {
-        return put_same(out, source, object);
-    }
     let line = line_at(made, stored);
     put_difference(out, source, object, made, stored, line)
 }

@@ -1,6 +1,6 @@
 -- How loops go along texts that are parted: `behind` from its start to its end, `filled` a byte at a time. Assumes nothing.
-use Prim.Native.Nat.{ℕ, zero, suc, _+_, _-_, _≤_, _<_}
-use mathlib.Core.Path.{_≡_, refl, sym, ap, _∙_}
+use Prim.Native.Nat.{ℕ, suc, _+_, _-_, _≤_, _<_}
+use mathlib.Core.Path.{_≡_, refl, sym, _∙_}
 use mathlib.Core.Bool.{Bool, true, false}
 use mathlib.Core.List.{List, [], _∷_, _++_, append-assoc, append-nil}
 use native.Mathlib.Omega.{arith}
@@ -12,7 +12,6 @@ use lib.Seq.{drop-cons, take-suc}
 use Rattle.base.proofs.Parts.{to-end}
 use Rattle.base.specs.Choose.{choose}
 use Rattle.figures.specs.Parts.{leftAfter, behind, partLength, partOf, partCount, shown, filled}
-use Rattle.figures.specs.Digits.{decimal}
 
 behind-zero : (sep : ℕ) (l : List ℕ) → behind sep 0 l ≡ l
 unfolding behind

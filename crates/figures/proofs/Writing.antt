@@ -1,13 +1,13 @@
 -- What a writer leaves: `one` for a byte put where there is room, `none` where there is not, `nothing` for no piece, `one-more` and `two` for pieces in turn,
 -- `from-start` for a text written into a room from its front. Assumes nothing.
-use Prim.Native.Nat.{ℕ, zero, suc, _+_, _-_, _≤_, _<_, min}
+use Prim.Native.Nat.{ℕ, zero, suc, _+_, _-_, _≤_, _<_}
 use mathlib.Core.Path.{_≡_, refl, sym, ap, _∙_}
 use mathlib.Core.List.{List, [], _∷_, _++_, append-assoc, append-nil}
 use native.Mathlib.Omega.{arith}
 use native.Mathlib.Numerals.{add-one}
-use lib.ListN.{length, take, drop, getD, set, replicate, length-append, length-take, length-drop, length-set, drop-of-length-le}
+use lib.ListN.{length, take, drop, getD, set, replicate, length-append, length-take, length-drop, drop-of-length-le}
 use lib.Seq.{take-all, take-nil, take-suc, take-append-le, drop-cons, set-at}
-use Rattle.figures.specs.Writing.{written, cut, Holds, Adds}
+use Rattle.figures.specs.Writing.{written, Holds, Adds}
 
 pub holds-length : {room text now : List ℕ} {at : ℕ} → Holds room text now at → length now ≡ length room
 holds-length {room} {text} h = ap length (h .stands) ∙ length-append (take (length room) text) (drop (length text) room) ∙ omega (arith, length-take (length room) text, length-drop (length text) room)
@@ -26,12 +26,14 @@ module _ (room text : List ℕ) where
       rw (drop-of-length-le room h, drop-of-length-le room g, take-append-le (length room) text piece h)
 
 pub one : (before : List ℕ) (at b : ℕ) → at < length before → Adds (b ∷ []) before at (set before at b) (at + 1)
-one before at b l room text h = record { stands = stand ; ends = omega (arith, h .ends, holds-length h, length-append text (b ∷ [])) }
+one before at b l room text h = record { stands = stand; ends = omega (arith, h .ends, holds-length h, length-append text (b ∷ [])) }
   where
     here : at ≡ length text
     here = omega (arith, h .ends, holds-length h)
+
     room-left : length text < length room
     room-left = omega (arith, h .ends, holds-length h)
+
     stand : set before at b ≡ written room (text ++ (b ∷ []))
     stand =
         rw (h .stands, fitting room text (omega (arith, room-left)), drop-cons room (length text) 0 room-left, set-at text (getD room (length text) 0) (drop (suc (length text)) room) b at (sym here))
@@ -41,7 +43,7 @@ one before at b l room text h = record { stands = stand ; ends = omega (arith, h
         rest = rw (add-one (length text))
 
 pub none : (before : List ℕ) (at b : ℕ) → length before ≤ at → Adds (b ∷ []) before at before at
-none before at b l room text h = record { stands = h .stands ∙ sym (full room text (b ∷ []) past) ; ends = omega (arith, h .ends, past, length-append text (b ∷ [])) }
+none before at b l room text h = record { stands = h .stands ∙ sym (full room text (b ∷ []) past); ends = omega (arith, h .ends, past, length-append text (b ∷ [])) }
   where
     past : length room ≤ length text
     past = omega (arith, h .ends, holds-length h)
@@ -54,7 +56,7 @@ pub two : {a b s₀ s₁ s₂ : List ℕ} {p q r : ℕ} → Adds a s₀ p s₁ q
 two {a} {b} f g room text h = rw (← append-assoc text a b) (g room (text ++ a) (f room text h))
 
 pub into : {a s s′ : List ℕ} {r : ℕ} → Adds a s 0 s′ r → Holds s a s′ r
-into {a} {s} f = f s [] record { stands = rw (take-nil (length s)) ; ends = omega arith }
+into {a} {s} f = f s [] record { stands = rw (take-nil (length s)); ends = omega arith }
 
 -- a loop over a piece: one byte on, and its end
 pub more : (piece : List ℕ) (i : ℕ) {s₀ s₁ s₂ : List ℕ} {p q r : ℕ} → i < length piece → Adds (take i piece) s₀ p s₁ q → Adds (getD piece i 0 ∷ []) s₁ q s₂ r → Adds (take (i + 1) piece) s₀ p s₂ r

@@ -14,9 +14,10 @@ digit d = getD (bytes "0123456789ABCDEF") d 0
 unfoldable pub numeral : ℕ → ℕ → ℕ → ℕ → List ℕ
 numeral base least zero n = []
 numeral base least (suc k) n =
-    elim (ltb n base && ltb least 2)
-    [ true ↦ digit (n % base) ∷ []
-    | false ↦ numeral base (least - 1) k (n / base) ++ (digit (n % base) ∷ []) ]
+    elim (ltb n base && ltb least 2) [
+      | true ↦ digit (n % base) ∷ []
+      | false ↦ numeral base (least - 1) k (n / base) ++ (digit (n % base) ∷ [])
+    ]
 
 -- 20 places hold every number of 64 bits
 abbrev pub decimal : ℕ → List ℕ

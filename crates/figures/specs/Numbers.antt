@@ -17,9 +17,10 @@ digitOf b = choose (ltb b 48) 16 (choose (leb b 57) (b - 48) (choose (ltb b 65) 
 unfoldable pub digits : ℕ → ℕ → ℕ → List ℕ → Reading
 digits base limit so-far [] = Number so-far
 digits base limit so-far (x ∷ xs) =
-    elim (ltb (digitOf x) base)
-    [ true ↦ elim (leb (so-far * base + digitOf x) limit) [ true ↦ digits base limit (so-far * base + digitOf x) xs | false ↦ Nothing ]
-    | false ↦ Nothing ]
+    elim (ltb (digitOf x) base) [
+      | true ↦ elim (leb (so-far * base + digitOf x) limit) [ true ↦ digits base limit (so-far * base + digitOf x) xs | false ↦ Nothing ]
+      | false ↦ Nothing
+    ]
 
 -- one digit or more
 abbrev pub wholeNumber : ℕ → ℕ → List ℕ → Reading

@@ -348,7 +348,6 @@ fn minus(n: Reading) -> Reading
     }
 }
 
-
 // A number as the language has it, or with `-` for `_`.
 pub fn number(s: &[u8]) -> Reading
     ensures { λ r. ⌜ r ≡ numberIn (now (s .entry)) ⌝ }

@@ -135,7 +135,7 @@ fn put_bytes(fd: i32, text: &[u8]) -> bool {
     whole & (closed == 0)
 }
 
-// Where a name leads elsewhere, or to what is no file with a length, it is written directly.
+// Where a name leads elsewhere.
 fn write_directly(name: &[u8], text: &[u8]) -> bool {
     let fd = os::open_overwrite(name);
     if fd < 0 {
@@ -213,13 +213,17 @@ fn is_plain(fd: i32) -> bool {
     libc::ftruncate(fd, size) == 0
 }
 
+// A pipe or a device is written as it was opened.
 fn store_over(name: &[u8], fd: i32, text: &[u8]) -> bool {
-    let plain = is_plain(fd);
-    libc::close(fd);
-    if plain {
+    if is_plain(fd) {
+        libc::close(fd);
         return replace(name, text);
     }
-    write_directly(name, text)
+    if put_bytes(fd, text) {
+        return true;
+    }
+    os::fail(name);
+    false
 }
 
 // Writes a file whole or not at all.

@@ -438,7 +438,14 @@ fn put_carets(out: &mut [u8], at: usize, before: usize, wide: usize, k: usize) -
     put_all(out, noted, b"\n")
 }
 
-fn put_first(out: &mut [u8], at: usize, file: &[u8], number: usize, place: usize, text: &[u8]) -> usize
+fn put_first(
+    out: &mut [u8],
+    at: usize,
+    file: &[u8],
+    number: usize,
+    place: usize,
+    text: &[u8],
+) -> usize
     requires { ⌜ place ≤ 32768 ⌝ }
     ensures { λ r. ⌜ Adds (firstLine (now (file .entry)) number place (now (text .entry))) (now (out .entry)) at (now (out .exit)) r ⌝ }
 {

@@ -69,7 +69,12 @@ fn set_by(x: Registers, n: usize, s: &[u8]) -> Registers
     let size = figures::part_length(s, b'=');
     let k = words::register(figures::front(s, size));
     if k < 16 {
-        return valued(x, n, k, figures::number(figures::rest(figures::rest(s, size), 1)));
+        return valued(
+            x,
+            n,
+            k,
+            figures::number(figures::rest(figures::rest(s, size), 1)),
+        );
     }
     wrong_at(x, n, NO_REGISTER)
 }

@@ -7,9 +7,6 @@ use mathlib.Core.Path.{_≡_}
 use Prim.Native.Nat.{_≤_, _-_}
 use Rattle.figures.proofs.behind.Statement.{statement}
 use Rattle.figures.proofs.behind.Tie as tie
-use Rattle.figures.proofs.behind.Reads as reads
-use Rattle.figures.proofs.behind.Lts as lts
-use Rattle.figures.proofs.left_after.Reads as left-after-reads
 
 abbrev Inv-loop : tie.InvT-loop
 Inv-loop s sep n i₀ left₀ i left = (i ≤ length s) × (behind sep n s ≡ behind sep left (drop i s))

@@ -4,8 +4,6 @@ use Rattle.base.proofs.Parts.{past-get}
 use borrow.Author.Needs.{needs}
 use Rattle.figures.proofs.byte.Statement.{statement}
 use Rattle.figures.proofs.byte.Tie as tie
-use Rattle.figures.proofs.byte.Reads as reads
-use Rattle.figures.proofs.byte.Lts as lts
 
 shared-slice-read-result : tie.Need-shared-slice-read-result
 shared-slice-read-result c = search needs

@@ -3,8 +3,6 @@ use Rattle.base.proofs.Tests.{picks}
 use borrow.Author.Needs.{needs}
 use Rattle.figures.proofs.digit_of.Statement.{statement}
 use Rattle.figures.proofs.digit_of.Tie as tie
-use Rattle.figures.proofs.digit_of.Reads as reads
-use Rattle.figures.proofs.digit_of.Lts as lts
 
 returns : tie.Need-returns
 returns c = (search (picks, needs) depth 9, search needs)

@@ -1,18 +1,14 @@
-use Rattle.base.proofs.Tests.{tests}
 -- `digits` reads digit by digit. The invariant: the whole is what the rest makes after the number so far. Assumes nothing.
+use Rattle.base.proofs.Tests.{tests}
 use borrow.Author.Needs.{needs}
-use borrow.Author.Tests.{lt-ltb, le-ltb, le-leb, lt-leb}
 use Rattle.figures.proofs.Numbers.{digits-on, digits-none, digits-past, digits-end, below-product}
 use Rattle.figures.specs.Numbers.{digits}
 use lib.ListN.{length, drop}
 use native.Mathlib.Omega.{arith}
 use mathlib.Core.Path.{_≡_}
-use Prim.Native.Nat.{_≤_, _-_, _*_, _+_}
+use Prim.Native.Nat.{_≤_, _-_}
 use Rattle.figures.proofs.digits.Statement.{statement}
 use Rattle.figures.proofs.digits.Tie as tie
-use Rattle.figures.proofs.digits.Reads as reads
-use Rattle.figures.proofs.digits.Lts as lts
-use Rattle.figures.proofs.digit_of.Reads as digit-of-reads
 
 abbrev Inv-loop : tie.InvT-loop
 Inv-loop s base limit v₀ i₀ v i = (i ≤ length s) × (v ≤ limit) × (digits base limit 0 s ≡ digits base limit v (drop i s))

@@ -6,8 +6,6 @@ use Prim.Native.Nat.{_-_}
 use borrow.Author.Needs.{needs}
 use Rattle.figures.proofs.front.Statement.{statement}
 use Rattle.figures.proofs.front.Tie as tie
-use Rattle.figures.proofs.front.Reads as reads
-use Rattle.figures.proofs.front.Lts as lts
 
 sub-result : tie.Need-sub-result
 sub-result c = search needs

@@ -3,9 +3,6 @@ use Rattle.base.proofs.Tests.{picks}
 use borrow.Author.Needs.{needs}
 use Rattle.figures.proofs.left_after.Statement.{statement}
 use Rattle.figures.proofs.left_after.Tie as tie
-use Rattle.figures.proofs.left_after.Reads as reads
-use Rattle.figures.proofs.left_after.Lts as lts
-use Rattle.figures.proofs.less.Reads as less-reads
 
 less-requires : tie.Need-less-requires
 less-requires c κs = search needs

@@ -2,8 +2,6 @@
 use borrow.Author.Needs.{needs}
 use Rattle.figures.proofs.minus.Statement.{statement}
 use Rattle.figures.proofs.minus.Tie as tie
-use Rattle.figures.proofs.minus.Reads as reads
-use Rattle.figures.proofs.minus.Lts as lts
 
 enum-known-n : tie.Need-enum-known-n
 enum-known-n c = search needs

@@ -1,15 +1,10 @@
+-- `number` follows the definition. Assumes nothing.
 use borrow.Author.Tests.{eq-eqb, ne-eqb}
 use Rattle.base.proofs.Parts.{to-end}
-use mathlib.Core.Path.{ap, _∙_}
--- `number` follows the definition. Assumes nothing.
 use Rattle.base.proofs.Tests.{picks}
 use borrow.Author.Needs.{needs}
 use Rattle.figures.proofs.number.Statement.{statement}
 use Rattle.figures.proofs.number.Tie as tie
-use Rattle.figures.proofs.number.Reads as reads
-use Rattle.figures.proofs.number.Lts as lts
-use Rattle.figures.proofs.minus.Reads as minus-reads
-use Rattle.figures.proofs.whole_number.Reads as whole-number-reads
 
 returns : tie.Need-returns
 returns c = search (picks, needs)

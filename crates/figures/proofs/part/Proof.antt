@@ -3,10 +3,6 @@ use Rattle.figures.proofs.Parts.{part-is}
 use borrow.Author.Needs.{needs}
 use Rattle.figures.proofs.part.Statement.{statement}
 use Rattle.figures.proofs.part.Tie as tie
-use Rattle.figures.proofs.part.Reads as reads
-use Rattle.figures.proofs.part.Lts as lts
-use Rattle.figures.proofs.behind.Reads as behind-reads
-use Rattle.figures.proofs.part_length.Reads as part-length-reads
 
 behind-requires : tie.Need-behind-requires
 behind-requires c κs = search needs

@@ -1,16 +1,12 @@
 -- `part_count` counts separators. The invariant: those passed and those that come are all. Assumes nothing.
 use borrow.Author.Needs.{needs}
-use Rattle.figures.proofs.Parts.{count-on, count-end, count-le}
+use Rattle.figures.proofs.Parts.{count-on, count-end}
 use Rattle.figures.specs.Parts.{partCount}
 use lib.ListN.{length, drop}
-use native.Mathlib.Omega.{arith}
 use mathlib.Core.Path.{_≡_}
 use Prim.Native.Nat.{_≤_, _-_, _+_}
 use Rattle.figures.proofs.part_count.Statement.{statement}
 use Rattle.figures.proofs.part_count.Tie as tie
-use Rattle.figures.proofs.part_count.Reads as reads
-use Rattle.figures.proofs.part_count.Lts as lts
-use Rattle.figures.proofs.one_if.Reads as one-if-reads
 
 abbrev Inv-loop : tie.InvT-loop
 Inv-loop s sep n₀ i₀ n i = (i ≤ length s) × (n ≤ i) × (n + partCount sep (drop i s) ≡ partCount sep s)

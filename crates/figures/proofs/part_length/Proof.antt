@@ -10,8 +10,6 @@ use mathlib.Core.Path.{_≡_}
 use Prim.Native.Nat.{_≤_, _-_, _+_}
 use Rattle.figures.proofs.part_length.Statement.{statement}
 use Rattle.figures.proofs.part_length.Tie as tie
-use Rattle.figures.proofs.part_length.Reads as reads
-use Rattle.figures.proofs.part_length.Lts as lts
 
 abbrev Inv-loop : tie.InvT-loop
 Inv-loop s sep i₀ i = (i ≤ length s) × (runLen (λ x. not (eqb x sep)) s ≡ i + runLen (λ x. not (eqb x sep)) (drop i s))

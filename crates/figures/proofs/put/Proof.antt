@@ -3,8 +3,6 @@ use Rattle.figures.proofs.Writing.{one, none}
 use borrow.Author.Needs.{needs}
 use Rattle.figures.proofs.put.Statement.{statement}
 use Rattle.figures.proofs.put.Tie as tie
-use Rattle.figures.proofs.put.Reads as reads
-use Rattle.figures.proofs.put.Lts as lts
 
 slice-write-out : tie.Need-slice-write-out
 slice-write-out c = search needs

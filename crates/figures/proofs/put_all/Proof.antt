@@ -7,9 +7,6 @@ use mathlib.Core.Path.{_≡_}
 use Prim.Native.Nat.{_≤_, _-_}
 use Rattle.figures.proofs.put_all.Statement.{statement}
 use Rattle.figures.proofs.put_all.Tie as tie
-use Rattle.figures.proofs.put_all.Reads as reads
-use Rattle.figures.proofs.put_all.Lts as lts
-use Rattle.figures.proofs.put.Reads as put-reads
 
 abbrev Inv-loop : tie.InvT-loop
 Inv-loop out₀ at piece end₀ i₀ out end i = (i ≤ length piece) × (length out ≡ length out₀) × Adds (take i piece) out₀ at out end

@@ -2,9 +2,6 @@
 use borrow.Author.Needs.{needs}
 use Rattle.figures.proofs.put_decimal.Statement.{statement}
 use Rattle.figures.proofs.put_decimal.Tie as tie
-use Rattle.figures.proofs.put_decimal.Reads as reads
-use Rattle.figures.proofs.put_decimal.Lts as lts
-use Rattle.figures.proofs.put_digits.Reads as put-digits-reads
 
 put-digits-requires : tie.Need-put-digits-requires
 put-digits-requires c κs = search needs

@@ -1,5 +1,5 @@
-use mathlib.Core.Path.{ap}
 -- `put_filled` puts the number for each `%` and any other byte as it is. The invariant: what was passed is added, filled. Assumes nothing.
+use mathlib.Core.Path.{ap}
 use borrow.Author.Needs.{needs}
 use Rattle.figures.proofs.Parts.{filled-on}
 use Rattle.figures.proofs.Writing.{nothing, called, two}
@@ -11,9 +11,6 @@ use mathlib.Core.Path.{_≡_}
 use Prim.Native.Nat.{_≤_, _-_}
 use Rattle.figures.proofs.put_filled.Statement.{statement}
 use Rattle.figures.proofs.put_filled.Tie as tie
-use Rattle.figures.proofs.put_filled.Reads as reads
-use Rattle.figures.proofs.put_filled.Lts as lts
-use Rattle.figures.proofs.put_shown.Reads as put-shown-reads
 
 abbrev Inv-loop : tie.InvT-loop
 Inv-loop out₀ at phrase n end₀ i₀ out end i = (i ≤ length phrase) × (length out ≡ length out₀) × Adds (filled n (take i phrase)) out₀ at out end

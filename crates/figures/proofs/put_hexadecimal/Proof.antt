@@ -2,9 +2,6 @@
 use borrow.Author.Needs.{needs}
 use Rattle.figures.proofs.put_hexadecimal.Statement.{statement}
 use Rattle.figures.proofs.put_hexadecimal.Tie as tie
-use Rattle.figures.proofs.put_hexadecimal.Reads as reads
-use Rattle.figures.proofs.put_hexadecimal.Lts as lts
-use Rattle.figures.proofs.put_digits.Reads as put-digits-reads
 
 put-digits-requires : tie.Need-put-digits-requires
 put-digits-requires c κs = search needs

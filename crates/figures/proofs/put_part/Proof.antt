@@ -3,10 +3,6 @@ use Rattle.figures.proofs.Writing.{called}
 use borrow.Author.Needs.{needs}
 use Rattle.figures.proofs.put_part.Statement.{statement}
 use Rattle.figures.proofs.put_part.Tie as tie
-use Rattle.figures.proofs.put_part.Reads as reads
-use Rattle.figures.proofs.put_part.Lts as lts
-use Rattle.figures.proofs.part.Reads as part-reads
-use Rattle.figures.proofs.put_all.Reads as put-all-reads
 
 part-requires : tie.Need-part-requires
 part-requires c κs = search needs

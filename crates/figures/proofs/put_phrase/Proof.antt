@@ -5,10 +5,6 @@ use mathlib.Core.Path.{ap}
 use borrow.Author.Needs.{needs}
 use Rattle.figures.proofs.put_phrase.Statement.{statement}
 use Rattle.figures.proofs.put_phrase.Tie as tie
-use Rattle.figures.proofs.put_phrase.Reads as reads
-use Rattle.figures.proofs.put_phrase.Lts as lts
-use Rattle.figures.proofs.part.Reads as part-reads
-use Rattle.figures.proofs.put_filled.Reads as put-filled-reads
 
 part-requires : tie.Need-part-requires
 part-requires c κs = search needs

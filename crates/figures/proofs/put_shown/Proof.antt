@@ -4,10 +4,6 @@ use borrow.Author.Tests.{eq-eqb, ne-eqb}
 use borrow.Author.Needs.{needs}
 use Rattle.figures.proofs.put_shown.Statement.{statement}
 use Rattle.figures.proofs.put_shown.Tie as tie
-use Rattle.figures.proofs.put_shown.Reads as reads
-use Rattle.figures.proofs.put_shown.Lts as lts
-use Rattle.figures.proofs.put.Reads as put-reads
-use Rattle.figures.proofs.put_decimal.Reads as put-decimal-reads
 
 put-decimal-requires : tie.Need-put-decimal-requires
 put-decimal-requires c κs = search needs

@@ -1,16 +1,10 @@
+-- `put_signed` puts a minus sign in front where the number is negative. Assumes nothing.
 use borrow.Author.Tests.{lt-ltb, le-ltb}
 -- `put_signed` puts a minus sign in front where the number is negative. Assumes nothing.
-use Rattle.base.proofs.Tests.{tests}
--- `put_signed` puts a minus sign in front where the number is negative. Assumes nothing.
-use Rattle.base.proofs.Tests.{picks}
 use Rattle.figures.proofs.Writing.{called, two}
 use borrow.Author.Needs.{needs}
 use Rattle.figures.proofs.put_signed.Statement.{statement}
 use Rattle.figures.proofs.put_signed.Tie as tie
-use Rattle.figures.proofs.put_signed.Reads as reads
-use Rattle.figures.proofs.put_signed.Lts as lts
-use Rattle.figures.proofs.put.Reads as put-reads
-use Rattle.figures.proofs.put_decimal.Reads as put-decimal-reads
 
 put-decimal-requires : tie.Need-put-decimal-requires
 put-decimal-requires c κs = search needs

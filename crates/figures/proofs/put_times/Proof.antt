@@ -7,9 +7,6 @@ use mathlib.Core.Path.{_≡_}
 use Prim.Native.Nat.{_≤_, _-_}
 use Rattle.figures.proofs.put_times.Statement.{statement}
 use Rattle.figures.proofs.put_times.Tie as tie
-use Rattle.figures.proofs.put_times.Reads as reads
-use Rattle.figures.proofs.put_times.Lts as lts
-use Rattle.figures.proofs.put.Reads as put-reads
 
 abbrev Inv-loop : tie.InvT-loop
 Inv-loop out₀ at b n end₀ i₀ out end i = (i ≤ n) × (length out ≡ length out₀) × Adds (replicate i b) out₀ at out end

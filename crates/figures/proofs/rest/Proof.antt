@@ -5,8 +5,6 @@ use mathlib.Core.Path.{sym}
 use borrow.Author.Needs.{needs}
 use Rattle.figures.proofs.rest.Statement.{statement}
 use Rattle.figures.proofs.rest.Tie as tie
-use Rattle.figures.proofs.rest.Reads as reads
-use Rattle.figures.proofs.rest.Lts as lts
 
 sub-result : tie.Need-sub-result
 sub-result c = search needs

@@ -7,8 +7,6 @@ use mathlib.Core.Path.{_≡_}
 use Prim.Native.Nat.{_≤_, _-_}
 use Rattle.figures.proofs.same.Statement.{statement}
 use Rattle.figures.proofs.same.Tie as tie
-use Rattle.figures.proofs.same.Reads as reads
-use Rattle.figures.proofs.same.Lts as lts
 
 abbrev Inv-loop : tie.InvT-loop
 Inv-loop s t i₀ i = (i ≤ length s) × (length s ≡ length t) × (sameBytes s t ≡ sameBytes (drop i s) (drop i t))

@@ -3,9 +3,6 @@ use Rattle.base.proofs.Tests.{picks}
 use borrow.Author.Needs.{needs}
 use Rattle.figures.proofs.whole_number.Statement.{statement}
 use Rattle.figures.proofs.whole_number.Tie as tie
-use Rattle.figures.proofs.whole_number.Reads as reads
-use Rattle.figures.proofs.whole_number.Lts as lts
-use Rattle.figures.proofs.digits.Reads as digits-reads
 
 returns : tie.Need-returns
 returns c = search (picks, needs)

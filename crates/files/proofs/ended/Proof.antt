@@ -7,9 +7,6 @@ use mathlib.Core.Path.{_≡_, refl, _∙_}
 use Prim.Native.Nat.{_≤_, _-_}
 use Rattle.files.proofs.ended.Statement.{statement}
 use Rattle.files.proofs.ended.Tie as tie
-use Rattle.files.proofs.ended.Reads as reads
-use Rattle.files.proofs.ended.Lts as lts
-use Rattle.figures.proofs.byte.Reads as byte-reads
 
 abbrev Inv-loop : tie.InvT-loop
 Inv-loop name path₀ i₀ path i = (i ≤ 4095) × (length path ≡ 4096) × (getD path 4095 1 ≡ 0)

@@ -5,14 +5,6 @@ use mathlib.Core.Path.{_≡_}
 use Prim.Native.Nat.{_≤_, _-_}
 use Rattle.files.proofs.read_all.Statement.{statement}
 use Rattle.files.proofs.read_all.Tie as tie
-use Rattle.files.proofs.read_all.Reads as reads
-use Rattle.files.proofs.read_all.Lts as lts
-use Rattle.figures.proofs.first.Reads as first-reads
-use Rattle.files.proofs.count.Reads as count-reads
-use Rattle.files.proofs.first_end.Reads as first-end-reads
-use Rattle.files.proofs.next_end.Reads as next-end-reads
-use Rattle.files.proofs.nothing.Reads as nothing-reads
-use Rattle.files.proofs.read_some.Reads as read-some-reads
 
 abbrev Inv-loop : tie.InvT-loop
 Inv-loop fd room₀ n₀ end₀ room n end = (n ≤ end) × (end ≤ length room₀) × (length room ≡ length room₀)

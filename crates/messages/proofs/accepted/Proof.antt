@@ -3,10 +3,6 @@ use Rattle.figures.proofs.Writing.{into, two}
 use borrow.Author.Needs.{needs}
 use Rattle.messages.proofs.accepted.Statement.{statement}
 use Rattle.messages.proofs.accepted.Tie as tie
-use Rattle.messages.proofs.accepted.Reads as reads
-use Rattle.messages.proofs.accepted.Lts as lts
-use Rattle.figures.proofs.put_all.Reads as put-all-reads
-use Rattle.figures.proofs.put_decimal.Reads as put-decimal-reads
 
 put-all-requires : tie.Need-put-all-requires
 put-all-requires c κs = search needs

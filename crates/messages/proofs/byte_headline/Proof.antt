@@ -2,8 +2,6 @@
 use borrow.Author.Tests.{eq-eqb, ne-eqb}
 use Rattle.messages.proofs.byte_headline.Statement.{statement}
 use Rattle.messages.proofs.byte_headline.Tie as tie
-use Rattle.messages.proofs.byte_headline.Reads as reads
-use Rattle.messages.proofs.byte_headline.Lts as lts
 
 returns : tie.Need-returns
 returns c = rw (eq-eqb _ _ (c .if1 .taken))

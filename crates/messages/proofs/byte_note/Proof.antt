@@ -3,9 +3,6 @@ use borrow.Author.Tests.{eq-eqb, ne-eqb}
 use borrow.Author.Needs.{needs}
 use Rattle.messages.proofs.byte_note.Statement.{statement}
 use Rattle.messages.proofs.byte_note.Tie as tie
-use Rattle.messages.proofs.byte_note.Reads as reads
-use Rattle.messages.proofs.byte_note.Lts as lts
-use Rattle.messages.proofs.byte_headline.Reads as byte-headline-reads
 
 byte-headline-requires : tie.Need-byte-headline-requires
 byte-headline-requires c κs = search needs

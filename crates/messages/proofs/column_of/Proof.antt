@@ -3,9 +3,6 @@ use Rattle.messages.specs.Lines.{columnOf}
 use borrow.Author.Needs.{needs}
 use Rattle.messages.proofs.column_of.Statement.{statement}
 use Rattle.messages.proofs.column_of.Tie as tie
-use Rattle.messages.proofs.column_of.Reads as reads
-use Rattle.messages.proofs.column_of.Lts as lts
-use Rattle.messages.proofs.since.Reads as since-reads
 
 since-requires : tie.Need-since-requires
 since-requires c κs = search needs

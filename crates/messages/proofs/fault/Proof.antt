@@ -3,10 +3,6 @@ use Rattle.figures.proofs.Writing.{into, two}
 use borrow.Author.Needs.{needs}
 use Rattle.messages.proofs.fault.Statement.{statement}
 use Rattle.messages.proofs.fault.Tie as tie
-use Rattle.messages.proofs.fault.Reads as reads
-use Rattle.messages.proofs.fault.Lts as lts
-use Rattle.figures.proofs.put_all.Reads as put-all-reads
-use Rattle.figures.proofs.put_phrase.Reads as put-phrase-reads
 
 slice-aggregate-put-all : tie.Need-slice-aggregate-put-all
 slice-aggregate-put-all c = search needs

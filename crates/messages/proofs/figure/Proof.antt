@@ -2,8 +2,6 @@
 use borrow.Author.Tests.{eq-eqb, ne-eqb}
 use Rattle.messages.proofs.figure.Statement.{statement}
 use Rattle.messages.proofs.figure.Tie as tie
-use Rattle.messages.proofs.figure.Reads as reads
-use Rattle.messages.proofs.figure.Lts as lts
 
 returns : tie.Need-returns
 returns c = rw (eq-eqb _ _ (c .if1 .taken))

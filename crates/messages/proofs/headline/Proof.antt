@@ -3,10 +3,6 @@ use borrow.Author.Tests.{eq-eqb, ne-eqb}
 use borrow.Author.Needs.{needs}
 use Rattle.messages.proofs.headline.Statement.{statement}
 use Rattle.messages.proofs.headline.Tie as tie
-use Rattle.messages.proofs.headline.Reads as reads
-use Rattle.messages.proofs.headline.Lts as lts
-use Rattle.messages.proofs.byte_headline.Reads as byte-headline-reads
-use Rattle.messages.proofs.register_headline.Reads as register-headline-reads
 
 byte-headline-requires : tie.Need-byte-headline-requires
 byte-headline-requires c κs = search needs

@@ -3,10 +3,6 @@ use Rattle.messages.specs.Lines.{lineOf}
 use borrow.Author.Needs.{needs}
 use Rattle.messages.proofs.line_of.Statement.{statement}
 use Rattle.messages.proofs.line_of.Tie as tie
-use Rattle.messages.proofs.line_of.Reads as reads
-use Rattle.messages.proofs.line_of.Lts as lts
-use Rattle.figures.proofs.front.Reads as front-reads
-use Rattle.figures.proofs.part_count.Reads as part-count-reads
 
 front-requires : tie.Need-front-requires
 front-requires c κs = search needs

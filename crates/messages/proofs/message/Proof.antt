@@ -6,14 +6,6 @@ use Rattle.base.proofs.Tests.{told}
 use borrow.Author.Needs.{needs}
 use Rattle.messages.proofs.message.Statement.{statement}
 use Rattle.messages.proofs.message.Tie as tie
-use Rattle.messages.proofs.message.Reads as reads
-use Rattle.messages.proofs.message.Lts as lts
-use Rattle.figures.proofs.put_all.Reads as put-all-reads
-use Rattle.messages.proofs.has_place.Reads as has-place-reads
-use Rattle.messages.proofs.least.Reads as least-reads
-use Rattle.messages.proofs.put_first.Reads as put-first-reads
-use Rattle.messages.proofs.put_head.Reads as put-head-reads
-use Rattle.messages.proofs.put_others.Reads as put-others-reads
 
 has-place-requires : tie.Need-has-place-requires
 has-place-requires c κs = search needs

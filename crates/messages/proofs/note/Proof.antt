@@ -3,10 +3,6 @@ use borrow.Author.Tests.{eq-eqb, ne-eqb}
 use borrow.Author.Needs.{needs}
 use Rattle.messages.proofs.note.Statement.{statement}
 use Rattle.messages.proofs.note.Tie as tie
-use Rattle.messages.proofs.note.Reads as reads
-use Rattle.messages.proofs.note.Lts as lts
-use Rattle.messages.proofs.byte_note.Reads as byte-note-reads
-use Rattle.messages.proofs.register_note.Reads as register-note-reads
 
 byte-note-requires : tie.Need-byte-note-requires
 byte-note-requires c κs = search needs

@@ -3,11 +3,6 @@ use Rattle.messages.specs.Messages.{noteAt}
 use borrow.Author.Needs.{needs}
 use Rattle.messages.proofs.note_at.Statement.{statement}
 use Rattle.messages.proofs.note_at.Tie as tie
-use Rattle.messages.proofs.note_at.Reads as reads
-use Rattle.messages.proofs.note_at.Lts as lts
-use Rattle.figures.proofs.byte.Reads as byte-reads
-use Rattle.messages.proofs.note.Reads as note-reads
-use Rattle.messages.proofs.register_at.Reads as register-at-reads
 
 byte-requires : tie.Need-byte-requires
 byte-requires c κs = search needs

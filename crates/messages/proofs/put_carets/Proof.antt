@@ -4,11 +4,6 @@ use Rattle.figures.proofs.Writing.{two}
 use borrow.Author.Needs.{needs}
 use Rattle.messages.proofs.put_carets.Statement.{statement}
 use Rattle.messages.proofs.put_carets.Tie as tie
-use Rattle.messages.proofs.put_carets.Reads as reads
-use Rattle.messages.proofs.put_carets.Lts as lts
-use Rattle.figures.proofs.put_all.Reads as put-all-reads
-use Rattle.figures.proofs.put_phrase.Reads as put-phrase-reads
-use Rattle.figures.proofs.put_times.Reads as put-times-reads
 
 put-times-requires : tie.Need-put-times-requires
 put-times-requires c κs = search needs

@@ -5,14 +5,6 @@ use Rattle.figures.proofs.Writing.{two}
 use borrow.Author.Needs.{needs}
 use Rattle.messages.proofs.put_first.Statement.{statement}
 use Rattle.messages.proofs.put_first.Tie as tie
-use Rattle.messages.proofs.put_first.Reads as reads
-use Rattle.messages.proofs.put_first.Lts as lts
-use Rattle.messages.proofs.column_of.Reads as column-of-reads
-use Rattle.messages.proofs.figure_at.Reads as figure-at-reads
-use Rattle.messages.proofs.headline_at.Reads as headline-at-reads
-use Rattle.messages.proofs.line_of.Reads as line-of-reads
-use Rattle.messages.proofs.put_head.Reads as put-head-reads
-use Rattle.messages.proofs.put_place.Reads as put-place-reads
 
 line-of-requires : tie.Need-line-of-requires
 line-of-requires c κs = search needs

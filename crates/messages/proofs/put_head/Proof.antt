@@ -4,11 +4,6 @@ use Rattle.figures.proofs.Writing.{two}
 use borrow.Author.Needs.{needs}
 use Rattle.messages.proofs.put_head.Statement.{statement}
 use Rattle.messages.proofs.put_head.Tie as tie
-use Rattle.messages.proofs.put_head.Reads as reads
-use Rattle.messages.proofs.put_head.Lts as lts
-use Rattle.figures.proofs.put_all.Reads as put-all-reads
-use Rattle.figures.proofs.put_decimal.Reads as put-decimal-reads
-use Rattle.figures.proofs.put_phrase.Reads as put-phrase-reads
 
 slice-aggregate-put-all : tie.Need-slice-aggregate-put-all
 slice-aggregate-put-all c = search needs

@@ -4,10 +4,6 @@ use Rattle.messages.specs.Messages.{lineText}
 use borrow.Author.Needs.{needs}
 use Rattle.messages.proofs.put_line.Statement.{statement}
 use Rattle.messages.proofs.put_line.Tie as tie
-use Rattle.messages.proofs.put_line.Reads as reads
-use Rattle.messages.proofs.put_line.Lts as lts
-use Rattle.figures.proofs.put_all.Reads as put-all-reads
-use Rattle.messages.proofs.put_visible.Reads as put-visible-reads
 
 put-visible-requires : tie.Need-put-visible-requires
 put-visible-requires c κs = search needs

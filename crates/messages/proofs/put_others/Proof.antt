@@ -5,14 +5,6 @@ use Rattle.figures.proofs.Writing.{two}
 use borrow.Author.Needs.{needs}
 use Rattle.messages.proofs.put_others.Statement.{statement}
 use Rattle.messages.proofs.put_others.Tie as tie
-use Rattle.messages.proofs.put_others.Reads as reads
-use Rattle.messages.proofs.put_others.Lts as lts
-use Rattle.messages.proofs.note_at.Reads as note-at-reads
-use Rattle.messages.proofs.put_carets.Reads as put-carets-reads
-use Rattle.messages.proofs.put_line.Reads as put-line-reads
-use Rattle.messages.proofs.shown_before.Reads as shown-before-reads
-use Rattle.messages.proofs.shown_line.Reads as shown-line-reads
-use Rattle.messages.proofs.wide_at.Reads as wide-at-reads
 
 shown-before-requires : tie.Need-shown-before-requires
 shown-before-requires c κs = search needs

@@ -4,10 +4,6 @@ use Rattle.figures.proofs.Writing.{two}
 use borrow.Author.Needs.{needs}
 use Rattle.messages.proofs.put_place.Statement.{statement}
 use Rattle.messages.proofs.put_place.Tie as tie
-use Rattle.messages.proofs.put_place.Reads as reads
-use Rattle.messages.proofs.put_place.Lts as lts
-use Rattle.figures.proofs.put_all.Reads as put-all-reads
-use Rattle.figures.proofs.put_decimal.Reads as put-decimal-reads
 
 put-all-requires : tie.Need-put-all-requires
 put-all-requires c κs = search needs

@@ -1,7 +1,7 @@
 -- `put_visible` puts each byte as it is shown. The invariant: what was passed is added, made visible. Assumes nothing.
 use borrow.Author.Needs.{needs}
 use Rattle.messages.proofs.Going.{visibles-on}
-use Rattle.messages.specs.Lines.{visible, visibles}
+use Rattle.messages.specs.Lines.{visibles}
 use Rattle.figures.proofs.Writing.{nothing, called, two}
 use Rattle.figures.specs.Writing.{Adds}
 use lib.Seq.{take-all}
@@ -11,10 +11,6 @@ use mathlib.Core.Path.{_≡_, ap}
 use Prim.Native.Nat.{ℕ, _≤_, _-_}
 use Rattle.messages.proofs.put_visible.Statement.{statement}
 use Rattle.messages.proofs.put_visible.Tie as tie
-use Rattle.messages.proofs.put_visible.Reads as reads
-use Rattle.messages.proofs.put_visible.Lts as lts
-use Rattle.figures.proofs.put.Reads as put-reads
-use Rattle.messages.proofs.visible.Reads as visible-reads
 
 abbrev Inv-loop : tie.InvT-loop
 Inv-loop out₀ at line end₀ i₀ out end i = (i ≤ length line) × (length out ≡ length out₀) × Adds (visibles (take i line)) out₀ at out end

@@ -3,10 +3,6 @@ use Rattle.messages.specs.Messages.{registerAt}
 use borrow.Author.Needs.{needs}
 use Rattle.messages.proofs.register_at.Statement.{statement}
 use Rattle.messages.proofs.register_at.Tie as tie
-use Rattle.messages.proofs.register_at.Reads as reads
-use Rattle.messages.proofs.register_at.Lts as lts
-use Rattle.messages.proofs.word_at.Reads as word-at-reads
-use Rattle.words.proofs.register.Reads as register-reads
 
 word-at-requires : tie.Need-word-at-requires
 word-at-requires c κs = search needs

@@ -2,8 +2,6 @@
 use borrow.Author.Tests.{eq-eqb, le-ltb, lt-ltb, ne-eqb}
 use Rattle.messages.proofs.register_headline.Statement.{statement}
 use Rattle.messages.proofs.register_headline.Tie as tie
-use Rattle.messages.proofs.register_headline.Reads as reads
-use Rattle.messages.proofs.register_headline.Lts as lts
 
 returns : tie.Need-returns
 returns c = rw (lt-ltb _ _ (c .if1 .taken))

@@ -2,8 +2,6 @@
 use borrow.Author.Tests.{eq-eqb, le-ltb, lt-ltb, ne-eqb}
 use Rattle.messages.proofs.register_note.Statement.{statement}
 use Rattle.messages.proofs.register_note.Tie as tie
-use Rattle.messages.proofs.register_note.Reads as reads
-use Rattle.messages.proofs.register_note.Lts as lts
 
 returns : tie.Need-returns
 returns c = rw (eq-eqb _ _ (c .if1 .taken))

@@ -2,10 +2,6 @@
 use borrow.Author.Needs.{needs}
 use Rattle.messages.proofs.shown.Statement.{statement}
 use Rattle.messages.proofs.shown.Tie as tie
-use Rattle.messages.proofs.shown.Reads as reads
-use Rattle.messages.proofs.shown.Lts as lts
-use Rattle.figures.proofs.front.Reads as front-reads
-use Rattle.figures.proofs.part_length.Reads as part-length-reads
 
 part-length-requires : tie.Need-part-length-requires
 part-length-requires c κs = search needs

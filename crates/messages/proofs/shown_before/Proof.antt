@@ -3,10 +3,6 @@ use Rattle.messages.specs.Lines.{shownBefore}
 use borrow.Author.Needs.{needs}
 use Rattle.messages.proofs.shown_before.Statement.{statement}
 use Rattle.messages.proofs.shown_before.Tie as tie
-use Rattle.messages.proofs.shown_before.Reads as reads
-use Rattle.messages.proofs.shown_before.Lts as lts
-use Rattle.messages.proofs.least.Reads as least-reads
-use Rattle.messages.proofs.since.Reads as since-reads
 
 since-requires : tie.Need-since-requires
 since-requires c κs = search needs

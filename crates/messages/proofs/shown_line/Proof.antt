@@ -3,12 +3,6 @@ use Rattle.messages.specs.Lines.{shownLine}
 use borrow.Author.Needs.{needs}
 use Rattle.messages.proofs.shown_line.Statement.{statement}
 use Rattle.messages.proofs.shown_line.Tie as tie
-use Rattle.messages.proofs.shown_line.Reads as reads
-use Rattle.messages.proofs.shown_line.Lts as lts
-use Rattle.figures.proofs.rest.Reads as rest-reads
-use Rattle.messages.proofs.less.Reads as less-reads
-use Rattle.messages.proofs.shown.Reads as shown-reads
-use Rattle.messages.proofs.shown_before.Reads as shown-before-reads
 
 shown-before-requires : tie.Need-shown-before-requires
 shown-before-requires c κs = search needs

@@ -2,14 +2,9 @@
 use lib.ListN.{length, length-take}
 use native.Mathlib.Omega.{arith}
 use mathlib.Core.Path.{ap}
-use Prim.Native.Nat.{_≤_}
 use borrow.Author.Needs.{needs}
 use Rattle.messages.proofs.since.Statement.{statement}
 use Rattle.messages.proofs.since.Tie as tie
-use Rattle.messages.proofs.since.Reads as reads
-use Rattle.messages.proofs.since.Lts as lts
-use Rattle.figures.proofs.front.Reads as front-reads
-use Rattle.messages.proofs.since_newline.Reads as since-newline-reads
 
 front-requires : tie.Need-front-requires
 front-requires c κs = search needs

@@ -3,8 +3,6 @@ use borrow.Author.Tests.{eq-eqb, ne-eqb}
 use borrow.Author.Needs.{needs}
 use Rattle.messages.proofs.since_after.Statement.{statement}
 use Rattle.messages.proofs.since_after.Tie as tie
-use Rattle.messages.proofs.since_after.Reads as reads
-use Rattle.messages.proofs.since_after.Lts as lts
 
 returns : tie.Need-returns
 returns c = (rw (eq-eqb _ _ (c .if1 .taken)), search needs)

@@ -7,9 +7,6 @@ use mathlib.Core.Path.{_≡_}
 use Prim.Native.Nat.{_≤_, _-_}
 use Rattle.messages.proofs.since_newline.Statement.{statement}
 use Rattle.messages.proofs.since_newline.Tie as tie
-use Rattle.messages.proofs.since_newline.Reads as reads
-use Rattle.messages.proofs.since_newline.Lts as lts
-use Rattle.messages.proofs.since_after.Reads as since-after-reads
 
 abbrev Inv-loop : tie.InvT-loop
 Inv-loop s k₀ i₀ k i = (i ≤ length s) × (k ≤ i) × (sinceNewline 0 s ≡ sinceNewline k (drop i s))

@@ -2,8 +2,6 @@
 use borrow.Author.Tests.{eq-eqb, ne-eqb}
 use Rattle.messages.proofs.underlined.Statement.{statement}
 use Rattle.messages.proofs.underlined.Tie as tie
-use Rattle.messages.proofs.underlined.Reads as reads
-use Rattle.messages.proofs.underlined.Lts as lts
 
 returns : tie.Need-returns
 returns c = rw (eq-eqb _ _ (c .if1 .taken))

@@ -2,8 +2,6 @@
 use borrow.Author.Tests.{eq-eqb, ne-eqb}
 use Rattle.messages.proofs.visible.Statement.{statement}
 use Rattle.messages.proofs.visible.Tie as tie
-use Rattle.messages.proofs.visible.Reads as reads
-use Rattle.messages.proofs.visible.Lts as lts
 
 returns : tie.Need-returns
 returns c = rw (c .if1 .taken)

@@ -3,10 +3,6 @@ use Rattle.messages.specs.Messages.{wideAt}
 use borrow.Author.Needs.{needs}
 use Rattle.messages.proofs.wide_at.Statement.{statement}
 use Rattle.messages.proofs.wide_at.Tie as tie
-use Rattle.messages.proofs.wide_at.Reads as reads
-use Rattle.messages.proofs.wide_at.Lts as lts
-use Rattle.messages.proofs.underlined.Reads as underlined-reads
-use Rattle.messages.proofs.word_at.Reads as word-at-reads
 
 word-at-requires : tie.Need-word-at-requires
 word-at-requires c κs = search needs

@@ -2,11 +2,6 @@
 use borrow.Author.Needs.{needs}
 use Rattle.messages.proofs.word.Statement.{statement}
 use Rattle.messages.proofs.word.Tie as tie
-use Rattle.messages.proofs.word.Reads as reads
-use Rattle.messages.proofs.word.Lts as lts
-use Rattle.figures.proofs.front.Reads as front-reads
-use Rattle.messages.proofs.least.Reads as least-reads
-use Rattle.messages.proofs.word_length.Reads as word-length-reads
 
 word-length-requires : tie.Need-word-length-requires
 word-length-requires c κs = search needs

@@ -3,10 +3,6 @@ use Rattle.messages.specs.Lines.{wordAt}
 use borrow.Author.Needs.{needs}
 use Rattle.messages.proofs.word_at.Statement.{statement}
 use Rattle.messages.proofs.word_at.Tie as tie
-use Rattle.messages.proofs.word_at.Reads as reads
-use Rattle.messages.proofs.word_at.Lts as lts
-use Rattle.figures.proofs.rest.Reads as rest-reads
-use Rattle.messages.proofs.word.Reads as word-reads
 
 rest-requires : tie.Need-rest-requires
 rest-requires c κs = search needs

@@ -9,9 +9,6 @@ use mathlib.Core.Path.{_≡_}
 use Prim.Native.Nat.{_≤_, _-_, _+_}
 use Rattle.messages.proofs.word_length.Statement.{statement}
 use Rattle.messages.proofs.word_length.Tie as tie
-use Rattle.messages.proofs.word_length.Reads as reads
-use Rattle.messages.proofs.word_length.Lts as lts
-use Rattle.messages.proofs.in_word.Reads as in-word-reads
 
 abbrev Inv-loop : tie.InvT-loop
 Inv-loop s i₀ i = (i ≤ length s) × (runLen inWord s ≡ i + runLen inWord (drop i s))

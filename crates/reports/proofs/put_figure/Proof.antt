@@ -22,7 +22,11 @@ same-length c = search needs
 
 returns : tie.Need-returns
 unfolding figureText
-returns c = two (two (c .before .before .before .before .before .before .before .before .before .before .before .put-all .ensures) (c .before .before .before .before .before .before .before .put-decimal .ensures)) (c .before .before .put-all2 .ensures)
+returns c =
+    let s1 = c .before .before in
+    let s2 = s1 .before .before .before .before .before in
+    let s3 = s2 .before .before .before .before in
+    two (two (s3 .put-all .ensures) (s2 .put-decimal .ensures)) (s1 .put-all2 .ensures)
 
 pub put-figure-spec : {M : Type 1} → statement M
 put-figure-spec =

@@ -37,10 +37,12 @@ loop-less : tie.Need-loop-less Inv-loop μ-loop
 loop-less c = search needs
 
 loop-again : tie.Need-loop-again Inv-loop μ-loop
-loop-again c =
-    (search needs, search needs,
-    called (registers-on (c .before .before .before .before .before .before .before .before .before .args .regs .now) (c .before .before .before .before .before .before .loop .i) (c .before .before .before .before .before .loop-test .taken))
-    (two (c .before .before .before .before .before .before .loop .inv .2) (c .before .before .put-register .ensures)))
+loop-again c = (
+  search needs,
+  search needs,
+  called (registers-on (c .before .before .before .before .before .before .before .before .before .args .regs .now) (c .before .before .before .before .before .before .loop .i) (c .before .before .before .before .before .loop-test .taken))
+      (two (c .before .before .before .before .before .before .loop .inv .2) (c .before .before .put-register .ensures)),
+)
 
 same-length : tie.Need-same-length Inv-loop μ-loop
 same-length c = search needs

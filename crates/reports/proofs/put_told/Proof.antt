@@ -31,7 +31,13 @@ same-length c = search needs
 
 returns : tie.Need-returns
 unfolding toldText
-returns c = two (two (two (two (c .before .before .before .before .before .before .before .before .before .before .before .before .before .before .before .before .before .before .before .before .put-all .ensures) (c .before .before .before .before .before .before .before .before .before .before .before .before .before .before .before .before .put-decimal .ensures)) (c .before .before .before .before .before .before .before .before .before .before .before .put-all2 .ensures)) (c .before .before .before .before .before .before .before .put-phrase .ensures)) (c .before .before .put-all3 .ensures)
+returns c =
+    let s1 = c .before .before in
+    let s2 = s1 .before .before .before .before .before in
+    let s3 = s2 .before .before .before .before in
+    let s4 = s3 .before .before .before .before .before in
+    let s5 = s4 .before .before .before .before in
+    two (two (two (two (s5 .put-all .ensures) (s4 .put-decimal .ensures)) (s3 .put-all2 .ensures)) (s2 .put-phrase .ensures)) (s1 .put-all3 .ensures)
 
 pub put-told-spec : {M : Type 1} → statement M
 put-told-spec =

@@ -37,7 +37,14 @@ same-length c = search needs
 
 returns : tie.Need-returns
 unfolding valueText
-returns c = two (two (two (two (two (c .before .before .before .before .before .before .before .before .before .before .before .before .before .before .before .before .before .before .before .before .before .before .before .before .before .put-all .ensures) (c .before .before .before .before .before .before .before .before .before .before .before .before .before .before .before .before .before .before .before .before .put-all2 .ensures)) (c .before .before .before .before .before .before .before .before .before .before .before .before .before .before .before .before .put-signed .ensures)) (c .before .before .before .before .before .before .before .before .before .before .before .put-all3 .ensures)) (c .before .before .before .before .before .before .before .put-hexadecimal .ensures)) (c .before .before .put-all4 .ensures)
+returns c =
+    let s1 = c .before .before in
+    let s2 = s1 .before .before .before .before .before in
+    let s3 = s2 .before .before .before .before in
+    let s4 = s3 .before .before .before .before .before in
+    let s5 = s4 .before .before .before .before in
+    let s6 = s5 .before .before .before .before .before in
+    two (two (two (two (two (s6 .put-all .ensures) (s5 .put-all2 .ensures)) (s4 .put-signed .ensures)) (s3 .put-all3 .ensures)) (s2 .put-hexadecimal .ensures)) (s1 .put-all4 .ensures)
 
 pub put-value-spec : {M : Type 1} → statement M
 put-value-spec =

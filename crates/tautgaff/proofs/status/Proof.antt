@@ -1,6 +1,5 @@
 -- `status` follows the definition. Assumes nothing.
 use borrow.Author.Tests.{eq-eqb, ne-eqb}
-use borrow.Author.Needs.{needs}
 use Rattle.tautgaff.proofs.status.Statement.{statement}
 use Rattle.tautgaff.proofs.status.Tie as tie
 

@@ -3,9 +3,6 @@ use Rattle.base.proofs.Tests.{told}
 use borrow.Author.Needs.{needs}
 use Rattle.words.proofs.command.Statement.{statement}
 use Rattle.words.proofs.command.Tie as tie
-use Rattle.words.proofs.command.Reads as reads
-use Rattle.words.proofs.command.Lts as lts
-use Rattle.figures.proofs.same.Reads as same-reads
 
 slice-aggregate-same : tie.Need-slice-aggregate-same
 slice-aggregate-same c = search needs

@@ -2,10 +2,6 @@
 use borrow.Author.Needs.{needs}
 use Rattle.words.proofs.counted.Statement.{statement}
 use Rattle.words.proofs.counted.Tie as tie
-use Rattle.words.proofs.counted.Reads as reads
-use Rattle.words.proofs.counted.Lts as lts
-use Rattle.words.proofs.with_number.Reads as with-number-reads
-use Rattle.words.proofs.wrong_at.Reads as wrong-at-reads
 
 enum-known-found : tie.Need-enum-known-found
 enum-known-found c = search needs

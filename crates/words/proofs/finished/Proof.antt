@@ -3,10 +3,6 @@ use borrow.Author.Tests.{le-ltb, lt-ltb}
 use borrow.Author.Needs.{needs}
 use Rattle.words.proofs.finished.Statement.{statement}
 use Rattle.words.proofs.finished.Tie as tie
-use Rattle.words.proofs.finished.Reads as reads
-use Rattle.words.proofs.finished.Lts as lts
-use Rattle.words.proofs.least_names.Reads as least-names-reads
-use Rattle.words.proofs.wrong_at.Reads as wrong-at-reads
 
 returns : tie.Need-returns
 returns c = rw (lt-ltb _ _ (c .if1 .taken))

@@ -2,9 +2,6 @@
 use borrow.Author.Needs.{needs}
 use Rattle.words.proofs.is_option.Statement.{statement}
 use Rattle.words.proofs.is_option.Tie as tie
-use Rattle.words.proofs.is_option.Reads as reads
-use Rattle.words.proofs.is_option.Lts as lts
-use Rattle.figures.proofs.first.Reads as first-reads
 
 first-requires : tie.Need-first-requires
 first-requires c κs = search needs

@@ -3,11 +3,6 @@ use Rattle.base.proofs.Tests.{told}
 use borrow.Author.Needs.{needs}
 use Rattle.words.proofs.named_by.Statement.{statement}
 use Rattle.words.proofs.named_by.Tie as tie
-use Rattle.words.proofs.named_by.Reads as reads
-use Rattle.words.proofs.named_by.Lts as lts
-use Rattle.words.proofs.most_names.Reads as most-names-reads
-use Rattle.words.proofs.with_name.Reads as with-name-reads
-use Rattle.words.proofs.wrong_at.Reads as wrong-at-reads
 
 most-names-requires : tie.Need-most-names-requires
 most-names-requires c κs = search needs

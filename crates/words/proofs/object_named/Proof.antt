@@ -3,10 +3,6 @@ use borrow.Author.Tests.{eq-eqb, ne-eqb}
 use borrow.Author.Needs.{needs}
 use Rattle.words.proofs.object_named.Statement.{statement}
 use Rattle.words.proofs.object_named.Tie as tie
-use Rattle.words.proofs.object_named.Reads as reads
-use Rattle.words.proofs.object_named.Lts as lts
-use Rattle.words.proofs.with_object.Reads as with-object-reads
-use Rattle.words.proofs.wrong_at.Reads as wrong-at-reads
 
 with-object-requires : tie.Need-with-object-requires
 with-object-requires c κs = search needs

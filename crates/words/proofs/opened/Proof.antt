@@ -3,10 +3,6 @@ use borrow.Author.Tests.{eq-eqb, ne-eqb}
 use borrow.Author.Needs.{needs}
 use Rattle.words.proofs.opened.Statement.{statement}
 use Rattle.words.proofs.opened.Tie as tie
-use Rattle.words.proofs.opened.Reads as reads
-use Rattle.words.proofs.opened.Lts as lts
-use Rattle.words.proofs.waits_for.Reads as waits-for-reads
-use Rattle.words.proofs.wrong_at.Reads as wrong-at-reads
 
 wrong-at-requires : tie.Need-wrong-at-requires
 wrong-at-requires c κs = search needs

@@ -4,10 +4,6 @@ use Rattle.base.proofs.Tests.{told}
 use borrow.Author.Needs.{needs}
 use Rattle.words.proofs.option.Statement.{statement}
 use Rattle.words.proofs.option.Tie as tie
-use Rattle.words.proofs.option.Reads as reads
-use Rattle.words.proofs.option.Lts as lts
-use Rattle.figures.proofs.same.Reads as same-reads
-use Rattle.words.proofs.run_option.Reads as run-option-reads
 
 slice-aggregate-same : tie.Need-slice-aggregate-same
 slice-aggregate-same c = search needs

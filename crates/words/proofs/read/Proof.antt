@@ -3,15 +3,6 @@ use borrow.Author.Tests.{eq-eqb, ne-eqb}
 use borrow.Author.Needs.{needs}
 use Rattle.words.proofs.read.Statement.{statement}
 use Rattle.words.proofs.read.Tie as tie
-use Rattle.words.proofs.read.Reads as reads
-use Rattle.words.proofs.read.Lts as lts
-use Rattle.figures.proofs.part.Reads as part-reads
-use Rattle.figures.proofs.part_count.Reads as part-count-reads
-use Rattle.words.proofs.command.Reads as command-reads
-use Rattle.words.proofs.finished.Reads as finished-reads
-use Rattle.words.proofs.start.Reads as start-reads
-use Rattle.words.proofs.taken_all.Reads as taken-all-reads
-use Rattle.words.proofs.wrong_at.Reads as wrong-at-reads
 
 part-count-requires : tie.Need-part-count-requires
 part-count-requires c κs = search needs

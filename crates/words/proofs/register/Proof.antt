@@ -3,9 +3,6 @@ use borrow.Author.Tests.{eq-eqb, ne-eqb}
 use borrow.Author.Needs.{needs}
 use Rattle.words.proofs.register.Statement.{statement}
 use Rattle.words.proofs.register.Tie as tie
-use Rattle.words.proofs.register.Reads as reads
-use Rattle.words.proofs.register.Lts as lts
-use Rattle.figures.proofs.digit_of.Reads as digit-of-reads
 
 shared-slice-read-if2 : tie.Need-shared-slice-read-if2
 shared-slice-read-if2 c = search needs

@@ -4,13 +4,6 @@ use Rattle.base.proofs.Tests.{told}
 use borrow.Author.Needs.{needs}
 use Rattle.words.proofs.taken.Statement.{statement}
 use Rattle.words.proofs.taken.Tie as tie
-use Rattle.words.proofs.taken.Reads as reads
-use Rattle.words.proofs.taken.Lts as lts
-use Rattle.words.proofs.is_option.Reads as is-option-reads
-use Rattle.words.proofs.named_by.Reads as named-by-reads
-use Rattle.words.proofs.opened.Reads as opened-reads
-use Rattle.words.proofs.option.Reads as option-reads
-use Rattle.words.proofs.valued.Reads as valued-reads
 
 returns : tie.Need-returns
 returns c = rw (lt-ltb _ _ (c .if1 .taken))

@@ -3,14 +3,9 @@ use borrow.Author.Needs.{needs}
 use Rattle.words.proofs.Going.{word-on, words-end}
 use Rattle.words.specs.Wishes.{takenAll, startOf}
 use mathlib.Core.Path.{_≡_}
-use Prim.Native.Nat.{_≤_, _-_}
+use Prim.Native.Nat.{_-_}
 use Rattle.words.proofs.taken_all.Statement.{statement}
 use Rattle.words.proofs.taken_all.Tie as tie
-use Rattle.words.proofs.taken_all.Reads as reads
-use Rattle.words.proofs.taken_all.Lts as lts
-use Rattle.figures.proofs.part.Reads as part-reads
-use Rattle.words.proofs.start.Reads as start-reads
-use Rattle.words.proofs.taken.Reads as taken-reads
 
 abbrev Inv-loop : tie.InvT-loop
 Inv-loop words count command w₀ n₀ w n = takenAll words (count - 1) 1 (startOf command) ≡ takenAll words (count - n) n w

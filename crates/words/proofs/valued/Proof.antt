@@ -4,14 +4,6 @@ use Rattle.base.proofs.Tests.{told}
 use borrow.Author.Needs.{needs}
 use Rattle.words.proofs.valued.Statement.{statement}
 use Rattle.words.proofs.valued.Tie as tie
-use Rattle.words.proofs.valued.Reads as reads
-use Rattle.words.proofs.valued.Lts as lts
-use Rattle.figures.proofs.count.Reads as count-reads
-use Rattle.words.proofs.counted.Reads as counted-reads
-use Rattle.words.proofs.is_option.Reads as is-option-reads
-use Rattle.words.proofs.object_named.Reads as object-named-reads
-use Rattle.words.proofs.waits_for.Reads as waits-for-reads
-use Rattle.words.proofs.wrong_at.Reads as wrong-at-reads
 
 is-option-requires : tie.Need-is-option-requires
 is-option-requires c κs = search needs

@@ -3,10 +3,6 @@ use borrow.Author.Tests.{eq-eqb, ne-eqb}
 use borrow.Author.Needs.{needs}
 use Rattle.words.proofs.with_name.Statement.{statement}
 use Rattle.words.proofs.with_name.Tie as tie
-use Rattle.words.proofs.with_name.Reads as reads
-use Rattle.words.proofs.with_name.Lts as lts
-use Rattle.words.proofs.first_name.Reads as first-name-reads
-use Rattle.words.proofs.second_name.Reads as second-name-reads
 
 first-name-requires : tie.Need-first-name-requires
 first-name-requires c κs = search needs

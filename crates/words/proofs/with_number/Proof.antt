@@ -3,10 +3,6 @@ use borrow.Author.Tests.{eq-eqb, ne-eqb}
 use borrow.Author.Needs.{needs}
 use Rattle.words.proofs.with_number.Statement.{statement}
 use Rattle.words.proofs.with_number.Tie as tie
-use Rattle.words.proofs.with_number.Reads as reads
-use Rattle.words.proofs.with_number.Lts as lts
-use Rattle.words.proofs.with_budget.Reads as with-budget-reads
-use Rattle.words.proofs.with_code.Reads as with-code-reads
 
 with-budget-requires : tie.Need-with-budget-requires
 with-budget-requires c κs = search needs
