@@ -100,6 +100,10 @@ messageText file number place text =
 abbrev pub acceptedText : List ℕ → ℕ → List ℕ
 acceptedText file size = file ++ bytes ": accepted, " ++ decimal size ++ bytes " bytes of object text\n"
 
+-- an object text that its source becomes
+abbrev pub equalText : List ℕ → List ℕ → List ℕ
+equalText source object = object ++ bytes ": the object text of " ++ source ++ bytes "\n"
+
 -- a word of the command line that is wrong
 abbrev pub faultText : List ℕ → ℕ → List ℕ
 faultText word why = bytes "tautgaff: `" ++ word ++ bytes "`: " ++ filled 0 (partOf 10 why faults) ++ bytes "\n"

@@ -8,7 +8,7 @@ ghost use Rattle.base.specs.Choose.{choose};
 ghost use Rattle.figures.specs.Parts.{firstPart};
 ghost use lib.Dec.{eqb};
 ghost use Rattle.messages.specs.Lines.{sinceNewline, visible as visibleOf, visibles, inWord, wordOf, underlined as underlinedOf, lineOf, since as sinceOf, columnOf, shownBefore, shownLine, wordAt};
-ghost use Rattle.messages.specs.Messages.{hasPlace, byteHeadline, registerHeadline, headline as headlineOf, registerNote, byteNote, noteFor, figureFor, registerAt, headlineAt, figureAt, noteAt, wideAt, placeText, headText, caretText, lineText, firstLine, otherLines, placedText, messageText, acceptedText, faultText};
+ghost use Rattle.messages.specs.Messages.{hasPlace, byteHeadline, registerHeadline, headline as headlineOf, registerNote, byteNote, noteFor, figureFor, registerAt, headlineAt, figureAt, noteAt, wideAt, placeText, headText, caretText, lineText, firstLine, otherLines, placedText, messageText, acceptedText, equalText, faultText};
 use figures::put;
 use figures::put_all;
 use figures::put_decimal;
@@ -489,6 +489,16 @@ pub fn accepted(out: &mut [u8], file: &[u8], size: usize) -> usize
     let told = put_all(out, named, b": accepted, ");
     let sized = put_decimal(out, told, size);
     put_all(out, sized, b" bytes of object text\n")
+}
+
+// What is said of an object text that its source becomes.
+pub fn equal(out: &mut [u8], source: &[u8], object: &[u8]) -> usize
+    ensures { λ r. ⌜ Holds (now (out .entry)) (equalText (now (source .entry)) (now (object .entry))) (now (out .exit)) r ⌝ }
+{
+    let named = put_all(out, 0, object);
+    let told = put_all(out, named, b": the object text of ");
+    let made = put_all(out, told, source);
+    put_all(out, made, b"\n")
 }
 
 // What is said of a word that is wrong.

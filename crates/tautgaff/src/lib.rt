@@ -25,6 +25,9 @@ const OBJECT_ROOM: usize = 44096;
 // A message has a file's name and less than 1,000 bytes more, a page of help less than 3,000.
 const MESSAGE_ROOM: usize = 8192;
 
+// With the names of two files.
+const SAME_ROOM: usize = 12288;
+
 const STORAGE: usize = 20480;
 
 fn said(whole: bool, status: i32) -> i32 {
@@ -236,6 +239,54 @@ fn run_file(words: &[u8], w: words::Wish) -> i32 {
     run_source(words, w, name, text)
 }
 
+// ── same ──
+
+fn tell_equal(source: &[u8], object: &[u8]) -> i32 {
+    let mut out = [0u8; SAME_ROOM];
+    let n = messages::equal(&mut out, source, object);
+    said(files::print(figures::front(&out, n)), DONE)
+}
+
+fn tell_different(source: &[u8], object: &[u8], made: &[u8], stored: &[u8]) -> i32 {
+    let mut out = [0u8; SAME_ROOM];
+    let n = differences::difference(&mut out, source, object, made, stored);
+    said(files::print(figures::front(&out, n)), REFUSED)
+}
+
+fn tell_same(source: &[u8], object: &[u8], made: &[u8], stored: &[u8]) -> i32 {
+    if figures::same(made, stored) {
+        return tell_equal(source, object);
+    }
+    tell_different(source, object, made, stored)
+}
+
+fn compare_object(source: &[u8], object: &[u8], made: &[u8]) -> i32 {
+    let mut stored = [0u8; OBJECT_ROOM];
+    let got = files::load(object, &mut stored);
+    if got.failed {
+        return WRONG;
+    }
+    tell_same(source, object, made, figures::front(&stored, got.size))
+}
+
+fn compare_text(source: &[u8], object: &[u8], text: &[u8]) -> i32 {
+    let mut out = [0u8; OBJECT_ROOM];
+    let answer = translate::translate(text, &mut out);
+    match answer {
+        Answer::Accepted(n) => compare_object(source, object, figures::front(&out, n)),
+        Answer::Refused(number, place) => refuse(source, number, place, text),
+    }
+}
+
+fn compare_files(source: &[u8], object: &[u8]) -> i32 {
+    let mut text = [0u8; files::SOURCE_ROOM];
+    let got = files::load(source, &mut text);
+    if got.failed {
+        return WRONG;
+    }
+    compare_text(source, object, figures::front(&text, got.size))
+}
+
 // ── help ──
 
 fn help_page(page: usize) -> i32 {
@@ -278,10 +329,13 @@ fn obey(words: &[u8], w: words::Wish) -> i32 {
     if command == words::RUN {
         return run_file(words, w);
     }
-    if command == words::HELP {
-        return help(words, w);
+    if command == words::SAME {
+        return compare_files(
+            figures::part(words, 0, w.file),
+            figures::part(words, 0, w.other),
+        );
     }
-    complain(words, 0, words::UNKNOWN_COMMAND as usize)
+    help(words, w)
 }
 
 #[no_mangle]
