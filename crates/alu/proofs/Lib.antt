@@ -1,3 +1,4 @@
+-- The files of this crate's proofs.
 pub mod Signed
 pub mod Unsigned
 pub mod Products

@@ -1,8 +1,21 @@
-// Cells of n bytes in lent storage, the most significant byte first, for every n up to 4.
+// Small numbers; cells of n bytes in lent storage, the most significant byte first, for every n up to 4.
 ghost use mathlib.Core.Path.{_≡_};
-ghost use Prim.Native.Nat.{_+_, _≤_, _<_, _^_};
+ghost use Prim.Native.Nat.{_+_, _-_, _≤_, _<_, _^_, min};
 ghost use lib.ListN.{length};
 ghost use Rattle.base.specs.Numbers.{valueAt, stored};
+
+pub fn least(a: usize, b: usize) -> usize
+    ensures { λ r. ⌜ r ≡ min a b ⌝ }
+{
+    if a < b { a } else { b }
+}
+
+// What is left of a after b is taken, and 0 where it is less.
+pub fn less(a: usize, b: usize) -> usize
+    ensures { λ r. ⌜ r ≡ a - b ⌝ }
+{
+    if a < b { 0 } else { a - b }
+}
 
 fn wide(x: u8) -> u64
     ensures { λ r. ⌜ (r ≡ x) × (r < 256) ⌝ }

@@ -7,8 +7,8 @@ use lib.Dec.{ltb}
 use lib.ListN.{length}
 use borrow.Author.Tests.{ltb-false}
 use Rattle.base.proofs.Tests.{by-test}
-use Rattle.translator.specs.Translate as T
-use Rattle.translator.specs.Translate.{accepted, refused, lengthOf, translated, inRoom, translate}
+use Rattle.translation.specs.Translate as T
+use Rattle.translation.specs.Translate.{accepted, refused, lengthOf, translated, inRoom, translate}
 use Rattle.translate.specs.Answers.{outcome, defined}
 use Rattle.translate.proofs.Theorems.{in-parts}
 use Rattle.translate.specs.declared.Answer.{Answer}

@@ -3,7 +3,7 @@ use mathlib.Core.Path.{_≡_}
 use mathlib.Core.List.{List}
 use Prim.Native.Nat.{ℕ, _≤_}
 use lib.ListN.{length}
-use Rattle.translator.specs.Translate as T
+use Rattle.translation.specs.Translate as T
 use Rattle.translate.specs.Answers.{numberOf, placeOf, lengthOf}
 use Rattle.translate.specs.declared.Answer.{Answer}
 

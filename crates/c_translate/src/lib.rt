@@ -1,7 +1,7 @@
 // The translator for C and Rust: a source and a buffer, each as its first byte and its length. The number is answered; place and length are left where the
 // caller says.
 ghost use lib.ListN.{length as sizeOf};
-ghost use Rattle.translator.specs.Translate.{translate as answerTo};
+ghost use Rattle.translation.specs.Translate.{translate as answerTo};
 ghost use Rattle.c_translate.specs.Answered.{Answered, Told};
 use translate::Answer;
 

@@ -14,11 +14,11 @@ use Rattle.tape.specs.Tape.{event, tapeDeclaration, tapeStatement, tapeBody, ta
 use Rattle.tape.specs.Pass.{pass}
 use Rattle.tape.proofs.Pass.{pass-event}
 use Rattle.tables.specs.Packed.{meaningsOf}
-use Rattle.kinds.specs.Meaning.{registerOf}
-use Rattle.kinds.specs.Tables.{Tables, meaningAt}
-use Rattle.translator.specs.Instructions.{sizes}
-use Rattle.translator.specs.Core.{toRegister, compareWith, testOf, controlOf, coreStatement, coreBody, coreItems}
-use Rattle.translator.specs.Code.{sizeOf}
+use Rattle.static_rules.specs.Meaning.{registerOf}
+use Rattle.static_rules.specs.Tables.{Tables, meaningAt}
+use Rattle.translation.specs.Instructions.{sizes}
+use Rattle.translation.specs.Core.{toRegister, compareWith, testOf, controlOf, coreStatement, coreBody, coreItems}
+use Rattle.translation.specs.Code.{sizeOf}
 use Rattle.emit.specs.declared.Writing.{Writing}
 use Rattle.emit.specs.Codes.{listOf, codeSize, applyCode, isAbsent, applyThen}
 use Rattle.emit.specs.Events.{registerAt, goalAt, writtenAfter, stepCodes, otherCodes, codesOf, writingAfter, codesBy}
@@ -103,7 +103,8 @@ module _ (f : Tables) (means under offsets : List ℕ) where
 
   module _ (table : f .means ≡ meaningsOf means under) (small : Small f) (held : Held f) where
     mutual
-      unfolding isStatement tapeStatement tapeDeclaration coreStatement sizeOf leaves marksOf placeEvent listOf formAt otherCodes stepCodes codesOf codesBy applyThen isAbsent applyCode writtenAfter writingAfter codeSize markAfter markClosing
+      unfolding isStatement tapeStatement tapeDeclaration coreStatement sizeOf leaves marksOf placeEvent listOf formAt otherCodes stepCodes codesOf codesBy
+          applyThen isAbsent applyCode writtenAfter writingAfter codeSize markAfter markClosing
 
       pub place-statement : (x : Statement) (i j : ℕ) → isStatement (f .kinds) x i j → (p : ℕ) (w : Writing) (ms k : List ℕ)
           → at p w ms (tapeStatement x k) ≡ at (p + sizeOf (coreStatement f x)) (leaves f means under offsets x w) (marksOf f x p ms) k
@@ -136,7 +137,8 @@ module _ (f : Tables) (means under offsets : List ℕ) where
           let q0 = p + sizes (toRegister f (controlOf f a) a) in
           let q1 = p + (sizes (toRegister f (controlOf f a) a) + (sizes (compareWith f (controlOf f a) l) + 4)) in
           control-placed f means under offsets table small a _ _ (h .2 .1) p w ms _
-          ∙ (limit-placed f means under offsets table small a l v (h .2 .2 .1 .2 .1 .0) (held (a .target .name)) (subst (λ (q : ℕ). isOperand (f .kinds) l q (h .2 .2 .1 .2 .1 .0)) (omega arith) (h .2 .2 .1 .2 .1 .1)) q0 _ refl ms _
+          ∙ (limit-placed f means under offsets table small a l v (h .2 .2 .1 .2 .1 .0) (held (a .target .name))
+          (subst (λ (q : ℕ). isOperand (f .kinds) l q (h .2 .2 .1 .2 .1 .0)) (omega arith) (h .2 .2 .1 .2 .1 .1)) q0 _ refl ms _
           ∙ (moved _ q1 _ _ _ (omega arith)
           ∙ (place-statement x _ _ (h .2 .2 .1 .2 .1 .2 .1) q1 _ _ _
           ∙ on E.END-FOR v _ 8 _ _ _ (λ q. set (marksOf f x q1 (set (set ms v q0) (v + 1) (controlOf f a))) (v - 1) q) k refl (omega arith))))

@@ -21,14 +21,14 @@ use Rattle.grammar.specs.Texts.{Stands, Text}
 use Rattle.grammar.proofs.Kept.{keep-operand}
 use Rattle.grammar.proofs.Places.{Appends, append-chain, append-declaration, append-statement, append-body, leave-chain, after-statement, along-parts, IsEntry, blockAfter, after-entries, labels-stay, declaration-entries}
 use Rattle.grammar.proofs.Texts.{text-rises, text-parts, statement-text}
-use Rattle.names.specs.Search.{innermost, enter, around, firstToken}
-use Rattle.names.specs.Names.{namesIn}
-use Rattle.names.specs.Labels.{labelsIn}
-use Rattle.names.proofs.Bound.{Within, Bound, Goes}
-use Rattle.kinds.specs.Tables.{Tables}
-use Rattle.translator.specs.Instructions.{sizes}
-use Rattle.translator.specs.Core.{toRegister, compareWith, testOf, controlOf, coreStatement, coreItems}
-use Rattle.translator.specs.Code.{Mark, sizeOf, own, markAt}
+use Rattle.scopes.specs.Search.{innermost, enter, around, firstToken}
+use Rattle.scopes.specs.Names.{namesIn}
+use Rattle.scopes.specs.Labels.{labelsIn}
+use Rattle.scopes.proofs.Bound.{Within, Bound, Goes}
+use Rattle.static_rules.specs.Tables.{Tables}
+use Rattle.translation.specs.Instructions.{sizes}
+use Rattle.translation.specs.Core.{toRegister, compareWith, testOf, controlOf, coreStatement, coreItems}
+use Rattle.translation.specs.Code.{Mark, sizeOf, own, markAt}
 use Rattle.code.proofs.Statements.{Agree, AgreeBody, AgreeItems}
 use Rattle.code.proofs.Addresses.{marksOf, marksBody, marksItems}
 
@@ -306,7 +306,8 @@ module _ (marks : List ℕ) where
     told-entries (mark m ∷ es) (a, more) b pl lo hi h z bs ps t = absurd a
 
     -- after a declaration, where the rest of the body leaves its tokens
-    told-declared : (d : Declaration) (x : Body) (b : Block) (pl : Place) (lo hi p : ℕ) (ms : List ℕ) (q : Parted f (eventsDeclaration d) (eventsBody x []) (within b ∷ pl) (within (declaredIn f d b) ∷ pl) lo hi)
+    told-declared : (d : Declaration) (x : Body) (b : Block) (pl : Place) (lo hi p : ℕ) (ms : List ℕ)
+        (q : Parted f (eventsDeclaration d) (eventsBody x []) (within b ∷ pl) (within (declaredIn f d b) ∷ pl) lo hi)
         → Final lo hi ms (marksBody f x p ms) → (ps : List Mark) → Told (b .names ∷ namesIn pl) ps → Told (declaredIn f d b .names ∷ namesIn pl) ps
     told-declared d x b pl lo hi p ms q k ps t =
         told-entries (eventsDeclaration d []) (declaration-entries d) b pl lo (q .m) (q .one .0)
@@ -458,7 +459,8 @@ module _ (marks : List ℕ) where
                   (without-first (o .to) hi (without-first (o .to) hi (without-first (o .to) hi k ct (omega arith)) cx (omega arith)) cb (omega arith)) ls _ known l,
             )
         agree-body (items is) b pl lo hi p ms e h k ls ps n l =
-            agree-items is b pl lo hi p ms h k _ ps n (subst (λ (mine : List ℕ). Told (mine ∷ labelsIn pl) (own (coreItems f is) p ++ ls)) (sym e) (told-labels is b pl lo hi p ms h k (labelsIn pl) ls l))
+            agree-items is b pl lo hi p ms h k _ ps n (subst (λ (mine : List ℕ). Told (mine ∷ labelsIn pl) (own (coreItems f is) p ++ ls)) (sym e)
+            (told-labels is b pl lo hi p ms h k (labelsIn pl) ls l))
 
         agree-items : (is : Items) (b : Block) (pl : Place) (lo hi p : ℕ) (ms : List ℕ) → Part f (eventsItems is []) (within b ∷ pl) lo hi → Final lo hi ms (marksItems f is p ms)
             → (ls ps : List Mark) → Told (b .names ∷ namesIn pl) ps → Told (b .labels ∷ labelsIn pl) ls → AgreeItems f marks ls ps is p

@@ -14,9 +14,9 @@ use Rattle.base.specs.Runs.{runLen, indexOf}
 use Rattle.base.specs.Walk.{fold}
 use Rattle.base.proofs.Walk.{fold-turn, fold-end}
 use Rattle.base.proofs.Tests.{cases}
-use Rattle.translator.specs.Instructions.{literal}
-use Rattle.translator.specs.Layout.{needs}
-use Rattle.translator.specs.Bytes.{twoBytes, fourBytes}
+use Rattle.translation.specs.Instructions.{literal}
+use Rattle.translation.specs.Layout.{needs}
+use Rattle.translation.specs.Bytes.{twoBytes, fourBytes}
 use Rattle.emit.specs.declared.Code.{Code}
 use Rattle.emit.specs.declared.Code.the-variants.{Two, Four, Literal}
 use Rattle.emit.specs.declared.Codes.{Codes}

@@ -19,10 +19,10 @@ use Rattle.tape.specs.Numbers.{familyAt, formAt}
 use Rattle.tape.specs.Tape.{event, tapeOperand, tapeCondition, tapeAssignment}
 use Rattle.tape.specs.Pass.{pass}
 use Rattle.tape.proofs.Pass.{pass-event}
-use Rattle.kinds.specs.Tables.{Tables, valueAt}
+use Rattle.static_rules.specs.Tables.{Tables, valueAt}
 use Rattle.tables.specs.Packed.{meaningsOf, registerIn, packedAt}
-use Rattle.translator.specs.Instructions.{sizes}
-use Rattle.translator.specs.Core.{exitMask, toRegister, assignmentOf, compareWith, testOf, maskOf, controlOf}
+use Rattle.translation.specs.Instructions.{sizes}
+use Rattle.translation.specs.Core.{exitMask, toRegister, assignmentOf, compareWith, testOf, maskOf, controlOf}
 use Rattle.emit.specs.declared.Use.{Use}
 use Rattle.emit.specs.declared.Writing.{Writing}
 use Rattle.emit.specs.Codes.{codeSizes, heldIn}

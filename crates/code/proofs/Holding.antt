@@ -18,8 +18,8 @@ use Rattle.base.proofs.Walk.{fold-turn, fold-end}
 use Rattle.tape.specs.Events as E
 use Rattle.tape.specs.Pass.{pass}
 use Rattle.tape.proofs.Pass.{pass-turn, pass-end}
-use Rattle.translator.specs.Instructions.{literal}
-use Rattle.translator.specs.Layout.{needs}
+use Rattle.translation.specs.Instructions.{literal}
+use Rattle.translation.specs.Layout.{needs}
 use Rattle.emit.specs.declared.Code.{Code}
 use Rattle.emit.specs.declared.Code.the-variants.{Two, Four, Literal}
 use Rattle.emit.specs.declared.Codes.{Codes}

@@ -17,14 +17,14 @@ use Rattle.base.specs.Lists.{_∈_, member}
 use Rattle.base.specs.Runs.{runLen, indexOf}
 use Rattle.tape.specs.Events as E
 use Rattle.tape.specs.Pass.{onEvent, pass}
-use Rattle.kinds.specs.Meaning.{Cell, Based}
-use Rattle.translator.specs.Instructions.{Datum, element, literal, entry, Instruction, rr, rx, shift, branch, link, stop, size, sizes}
-use Rattle.translator.specs.Core.{Core}
-use Rattle.translator.specs.Code.{code, instructions}
-use Rattle.translator.specs.Layout.{Layout, offsetOf, needs, literalsFrom}
-use Rattle.translator.specs.Bytes.{encode, encodeAll, fourBytes, displacement}
-use Rattle.translator.proofs.Sizes.{length-encode}
-use Rattle.translator.proofs.Literals.{Grows, grows-same, literals-grow, literal-place}
+use Rattle.static_rules.specs.Meaning.{Cell, Based}
+use Rattle.translation.specs.Instructions.{Datum, element, literal, entry, Instruction, rr, rx, shift, branch, link, stop, size, sizes}
+use Rattle.translation.specs.Core.{Core}
+use Rattle.translation.specs.Code.{code, instructions}
+use Rattle.translation.specs.Layout.{Layout, offsetOf, needs, literalsFrom}
+use Rattle.translation.specs.Bytes.{encode, encodeAll, fourBytes, displacement}
+use Rattle.translation.proofs.Sizes.{length-encode}
+use Rattle.translation.proofs.Literals.{Grows, grows-same, literals-grow, literal-place}
 use Rattle.emit.specs.declared.Code.{Code}
 use Rattle.emit.specs.declared.Writing.{Writing}
 use Rattle.emit.specs.Codes.{listOf, codeSize}

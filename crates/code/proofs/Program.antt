@@ -12,12 +12,12 @@ use Rattle.grammar.specs.Places.{Along}
 use Rattle.grammar.proofs.Texts.{program-text}
 use Rattle.tape.specs.Tape.{tapeStatement}
 use Rattle.tape.proofs.Pass.{pass-none}
-use Rattle.names.specs.Search.{firstToken}
-use Rattle.names.proofs.Bound.{Goes}
+use Rattle.scopes.specs.Search.{firstToken}
+use Rattle.scopes.proofs.Bound.{Goes}
 use Rattle.tables.specs.Packed.{meaningsOf}
-use Rattle.kinds.specs.Tables.{Tables}
-use Rattle.translator.specs.Core.{coreStatement}
-use Rattle.translator.specs.Code.{sizeOf, code}
+use Rattle.static_rules.specs.Tables.{Tables}
+use Rattle.translation.specs.Core.{coreStatement}
+use Rattle.translation.specs.Code.{sizeOf, code}
 use Rattle.emit.specs.Along.{along}
 use Rattle.emit.proofs.Operands.{Small}
 use Rattle.emit.proofs.Written.{coded}

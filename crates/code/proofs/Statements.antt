@@ -11,11 +11,11 @@ use Rattle.grammar.specs.Derives.{isOperand, isCondition, isStatement, isBody, 
 use Rattle.tape.specs.Events as E
 use Rattle.tape.specs.Tape.{event, tapeCondition, tapeDeclaration, tapeStatement, tapeBody, tapeItems}
 use Rattle.tables.specs.Packed.{meaningsOf}
-use Rattle.kinds.specs.Meaning.{registerOf}
-use Rattle.kinds.specs.Tables.{Tables, valueAt, meaningAt}
-use Rattle.translator.specs.Instructions.{Instruction, rr, rx, branch, link, entry, literal, sizes, opcode, loadRow, addRow, returnOp, always}
-use Rattle.translator.specs.Core.{returnOf, toRegister, compareWith, testOf, maskOf, controlOf, coreStatement, coreBody, coreItems}
-use Rattle.translator.specs.Code.{Mark, sizeOf, own, markAt, code}
+use Rattle.static_rules.specs.Meaning.{registerOf}
+use Rattle.static_rules.specs.Tables.{Tables, valueAt, meaningAt}
+use Rattle.translation.specs.Instructions.{Instruction, rr, rx, branch, link, entry, literal, sizes, opcode, loadRow, addRow, returnOp, always}
+use Rattle.translation.specs.Core.{returnOf, toRegister, compareWith, testOf, maskOf, controlOf, coreStatement, coreBody, coreItems}
+use Rattle.translation.specs.Code.{Mark, sizeOf, own, markAt, code}
 use Rattle.emit.specs.declared.Code.{Code}
 use Rattle.emit.specs.declared.Writing.{Writing}
 use Rattle.emit.specs.Along.{codeFor, targetWriting, controlWriting}
@@ -187,7 +187,10 @@ module _ (f : Tables) (means under offsets marks : List ℕ) where
           let end = h .2 .2 .1 .2 .1 .0 in
           then-begins {is = toRegister f (controlOf f a) a} (record { begins = control-coded f means under offsets marks table small a _ _ (h .2 .1) w _ })
           (then-begins {is = compareWith f (controlOf f a) l}
-          (record { begins = limit-coded f means under offsets marks table small a l v end _ (subst (λ (q : ℕ). isOperand (f .kinds) l q end) (omega arith) (h .2 .2 .1 .2 .1 .1)) w′ refl (g .0) (omega arith) _ })
+          (record {
+            begins = limit-coded f means under offsets marks table small a l v end _
+                (subst (λ (q : ℕ). isOperand (f .kinds) l q end) (omega arith) (h .2 .2 .1 .2 .1 .1)) w′ refl (g .0) (omega arith) _;
+          })
           (then-begins (one-begins (branch _ _) _)
           (then-begins (statement-begins x _ _ (h .2 .2 .1 .2 .1 .2 .1) ls ps _ (g .3) w′ _)
           (by-address (λ (q : ℕ). rx (opcode addRow 1) (controlOf f a) (literal (valueAt f v)) ∷ branch always q ∷ []) (g .1)
@@ -200,13 +203,15 @@ module _ (f : Tables) (means under offsets marks : List ℕ) where
       body-begins (declare (cells c s is) b) i j h ls ps p g w k =
           after-none (cells-out (along-it w) (idle-declaring w) c s is _) (body-begins b _ _ (h .2 .1) ls ps p g w k)
       body-begins (declare (base n) b) i j h ls ps p g w k =
-          then-begins (event-begins E.BASE n w _ (rx (opcode loadRow 1) (registerOf (meaningAt f n)) (entry (getD (f .opens) n 0)) ∷ []) (base-adds f means under offsets marks table n w)) (body-begins b _ _ (h .2 .1) ls ps _ g w k)
+          then-begins (event-begins E.BASE n w _ (rx (opcode loadRow 1) (registerOf (meaningAt f n)) (entry (getD (f .opens) n 0)) ∷ [])
+          (base-adds f means under offsets marks table n w)) (body-begins b _ _ (h .2 .1) ls ps _ g w k)
       body-begins (procedure n r x b) i j h ls ps p g w k =
           let e : n + 2 ≡ r = omega (arith, h .1 .1 .0, h .1 .1 .2 .1 .0) in
           let w′ = leaves f means under offsets x w in
           then-begins (by-address (λ (q : ℕ). branch always q ∷ []) (g .0) (event-begins E.PROCEDURE n w _ _ (procedure-adds f means under offsets marks n w)))
           (then-begins (statement-begins x _ _ (h .1 .1 .2 .1 .2 .1 .1) [] _ _ (g .1) w _)
-          (then-begins (by-address (λ (q : ℕ). rr returnOp always (registerOf (meaningAt f q)) ∷ []) e (event-begins E.END-PROCEDURE n w′ _ _ (end-procedure-adds f means under offsets marks table n w′)))
+          (then-begins (by-address (λ (q : ℕ). rr returnOp always (registerOf (meaningAt f q)) ∷ []) e
+          (event-begins E.END-PROCEDURE n w′ _ _ (end-procedure-adds f means under offsets marks table n w′)))
           (body-begins b _ _ (h .2 .1) ls _ _ (g .2) w′ k)))
       body-begins (items is) i j h ls ps p g w k = items-begins is i j h _ ps p g w k
 

@@ -6,10 +6,10 @@ use lib.ListN.{length, take}
 use lib.Seq.{sets}
 use Rattle.base.specs.Runs.{indexOf}
 use Rattle.base.specs.Walk.{fold}
-use Rattle.kinds.specs.Meanings.{dataBase}
-use Rattle.translator.specs.Instructions.{literal}
-use Rattle.translator.specs.Layout.{needs}
-use Rattle.translator.specs.Bytes.{twoBytes, fourBytes}
+use Rattle.static_rules.specs.Meanings.{dataBase}
+use Rattle.translation.specs.Instructions.{literal}
+use Rattle.translation.specs.Layout.{needs}
+use Rattle.translation.specs.Bytes.{twoBytes, fourBytes}
 use Rattle.tape.specs.Pass.{pass}
 use Rattle.ledger.specs.Book.{Wide, Thin}
 use Rattle.emit.specs.declared.Code.{Code}

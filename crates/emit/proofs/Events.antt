@@ -8,11 +8,11 @@ use Rattle.base.specs.Lists.{member}
 use Rattle.base.proofs.Lists.{each}
 use Rattle.tape.specs.Events as E
 use Rattle.tape.specs.Numbers.{formAt}
-use Rattle.kinds.specs.Meaning.{registerOf}
-use Rattle.kinds.specs.Tables.{Tables, valueAt, meaningAt}
+use Rattle.static_rules.specs.Meaning.{registerOf}
+use Rattle.static_rules.specs.Tables.{Tables, valueAt, meaningAt}
 use Rattle.tables.specs.Packed.{meaningsOf}
-use Rattle.translator.specs.Instructions.{Instruction, rr, rx, branch, link, literal, entry, opcode, loadRow, addRow, returnOp, always}
-use Rattle.translator.specs.Core.{returnOf}
+use Rattle.translation.specs.Instructions.{Instruction, rr, rx, branch, link, literal, entry, opcode, loadRow, addRow, returnOp, always}
+use Rattle.translation.specs.Core.{returnOf}
 use Rattle.emit.specs.declared.Writing.{Writing}
 use Rattle.emit.specs.Codes.{listOf, applyCode, isAbsent, applyThen, returnCode, linkCode, baseCode}
 use Rattle.emit.specs.Events.{registerAt, goalAt, writtenAfter, stepCodes, otherCodes, codesOf, writingAfter, codesBy}
@@ -35,8 +35,19 @@ module _ (f : Tables) (means under offsets marks : List ℕ) where
   pub idle-adds : (op : ℕ) → member op idle ≡ true → (t : ℕ) (w : Writing) → Adds op t w []
   unfolding listOf formAt registerAt goalAt otherCodes codesOf codesBy writtenAfter writingAfter
   idle-adds op h t w =
-      each (λ x. Adds x t w []) idle
-      ((refl, refl), ((refl, refl), ((refl, refl), ((refl, refl), ((refl, refl), ((refl, refl), ((refl, refl), ((refl, refl), ((refl, refl), ((refl, refl), ((refl, refl), ((refl, refl), ((refl, refl), tt)))))))))))))
+      each (λ x. Adds x t w []) idle (
+        (refl, refl),
+        (
+          (refl, refl),
+          (
+            (refl, refl),
+            (
+              (refl, refl),
+              ((refl, refl), ((refl, refl), ((refl, refl), ((refl, refl), ((refl, refl), ((refl, refl), ((refl, refl), ((refl, refl), ((refl, refl), tt))))))))),
+            ),
+          ),
+        ),
+      )
       op h
 
   -- around a procedure

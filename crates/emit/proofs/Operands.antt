@@ -14,13 +14,13 @@ use Rattle.grammar.specs.Tree.{Designator, Operand, number, place, Width, full,
 use Rattle.grammar.specs.Derives.{isShape, isDesignator, isOperand}
 use Rattle.grammar.specs.Pinned.{headOf}
 use Rattle.tape.specs.Tape.{event, shapeBy, shape, tapeDesignator, tapeOperand}
-use Rattle.kinds.specs.Meaning.{Meaning, nothing, register, cell, routine, Cell, Based, registerOf, isFull, isLong, longOperand}
-use Rattle.kinds.specs.Tables.{Tables, kindAt, valueAt, meaningAt}
+use Rattle.static_rules.specs.Meaning.{Meaning, nothing, register, cell, routine, Cell, Based, registerOf, isFull, isLong, longOperand}
+use Rattle.static_rules.specs.Tables.{Tables, kindAt, valueAt, meaningAt}
 use Rattle.tables.specs.Packed.{low, numberIn, isShortIn, widthIn, basedIn, cellIn, unpacked, meaningsOf, registerIn, packedAt}
 use Rattle.tables.proofs.Meanings.{low-is, by-sort, register-alone, routine-alone, register-is, meaning-at}
-use Rattle.translator.specs.Instructions.{element, literal}
-use Rattle.translator.specs.Core as C
-use Rattle.translator.specs.Core.{held, stored, absent, returnOf, subscriptOf, useBy, useOf, sourceOf}
+use Rattle.translation.specs.Instructions.{element, literal}
+use Rattle.translation.specs.Core as C
+use Rattle.translation.specs.Core.{held, stored, absent, returnOf, subscriptOf, useBy, useOf, sourceOf}
 use Rattle.emit.specs.declared.Use.{Use}
 use Rattle.emit.specs.declared.Use.the-variants.{Absent, Held, Number, Stored}
 use Rattle.emit.specs.Events.{subscriptIn, indexIn, elementIn, placeBy, placeIn, useIn, returnIn}

@@ -3,7 +3,7 @@ use mathlib.Core.Path.{_≡_, refl, ap, ap₂, _∙_}
 use mathlib.Core.List.{List, [], _∷_, _++_}
 use Prim.Native.Nat.{ℕ, _+_}
 use native.Mathlib.Omega.{arith}
-use Rattle.translator.specs.Instructions.{element, literal, entry, Instruction, rr, rx, shift, branch, link, stop, size, sizes}
+use Rattle.translation.specs.Instructions.{element, literal, entry, Instruction, rr, rx, shift, branch, link, stop, size, sizes}
 use Rattle.emit.specs.declared.Code.{Code}
 use Rattle.emit.specs.Codes.{codeSize, codeSizes}
 use Rattle.emit.specs.Along.{codeFor}

@@ -12,7 +12,7 @@ use Rattle.base.specs.Choose.{if_then_else_}
 use Rattle.base.specs.Runs.{indexOf}
 use Rattle.base.proofs.Runs.{run-on, run-stop, run-end}
 use Rattle.base.proofs.Tables.{all-below}
-use Rattle.translator.specs.Instructions.{opcode, falseMasks, shiftTable}
+use Rattle.translation.specs.Instructions.{opcode, falseMasks, shiftTable}
 
 -- the code table, a row after the other
 abbrev pub codes : List ℕ
@@ -25,7 +25,8 @@ unfolding opcode
 opcode-is row column a b =
     let r : (row * 3 + column) / 3 ≡ row = omega arith in
     let s : (row * 3 + column) % 3 ≡ column = omega arith in
-    rw (s, r) at (eqb→eq (getD codes (row * 3 + column) 0) (opcode ((row * 3 + column) / 3) ((row * 3 + column) % 3)) (all-below 33 (λ (n : ℕ). eqb (getD codes n 0) (opcode (n / 3) (n % 3))) tt (row * 3 + column) (omega arith)))
+    rw (s, r) at (eqb→eq (getD codes (row * 3 + column) 0) (opcode ((row * 3 + column) / 3) ((row * 3 + column) % 3))
+    (all-below 33 (λ (n : ℕ). eqb (getD codes n 0) (opcode (n / 3) (n % 3))) tt (row * 3 + column) (omega arith)))
 
 pub mask-past : (k : ℕ) (i : ℕ) → 7 ≤ i → 0 ≡ getD falseMasks i 0
 mask-past k i h = sym (List·getD-eq-default falseMasks 0 h)

@@ -11,10 +11,10 @@ use Rattle.grammar.specs.Pinned.{headOf}
 use Rattle.tape.specs.Events as E
 use Rattle.tape.specs.Tape.{event, tapeOperand, tapeCondition, tapeAssignment}
 use Rattle.tape.proofs.Pass.{event-op, event-token}
-use Rattle.kinds.specs.Tables.{Tables, valueAt}
+use Rattle.static_rules.specs.Tables.{Tables, valueAt}
 use Rattle.tables.specs.Packed.{meaningsOf}
-use Rattle.translator.specs.Instructions.{branch}
-use Rattle.translator.specs.Core.{exitMask, toRegister, assignmentOf, compareWith, testOf, maskOf, controlOf}
+use Rattle.translation.specs.Instructions.{branch}
+use Rattle.translation.specs.Core.{exitMask, toRegister, assignmentOf, compareWith, testOf, maskOf, controlOf}
 use Rattle.emit.specs.declared.Code.{Code}
 use Rattle.emit.specs.declared.Writing.{Writing}
 use Rattle.emit.specs.Codes.{heldIn}

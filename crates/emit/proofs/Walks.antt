@@ -14,11 +14,11 @@ use Rattle.grammar.proofs.Pinned.{pinned-operand}
 use Rattle.tape.specs.Events as E
 use Rattle.tape.specs.Numbers.{familyAt, formAt}
 use Rattle.tape.specs.Tape.{event, shape, tapeDesignator, tapeOperand, tapeCondition, tapeSign, tapeEach, tapeTerm, tapeAssignment}
-use Rattle.kinds.specs.Meaning.{registerOf}
-use Rattle.kinds.specs.Tables.{Tables, kindAt, valueAt, meaningAt}
+use Rattle.static_rules.specs.Meaning.{registerOf}
+use Rattle.static_rules.specs.Tables.{Tables, kindAt, valueAt, meaningAt}
 use Rattle.tables.specs.Packed.{meaningsOf, registerIn, packedAt}
-use Rattle.translator.specs.Instructions.{compareRow, falseMask}
-use Rattle.translator.specs.Core.{exitMask, toRegister, assignmentOf, compareWith, testOf, maskOf, controlOf}
+use Rattle.translation.specs.Instructions.{compareRow, falseMask}
+use Rattle.translation.specs.Core.{exitMask, toRegister, assignmentOf, compareWith, testOf, maskOf, controlOf}
 use Rattle.emit.specs.declared.Use.{Use}
 use Rattle.emit.specs.declared.Use.the-variants.{Absent, Held, Number, Stored}
 use Rattle.emit.specs.declared.Code.{Code}
@@ -111,7 +111,8 @@ module _ (f : Tables) (means under offsets marks : List ℕ) where
         (r mask to : ℕ) (a : Operand) (i j : ℕ) → isOperand (f .kinds) a i j
         → listOf (applyThen compareRow r (used f means under offsets a) (branchCode mask to)) ≡ tested offsets (compareWith f r a) mask to
     unfolding codeFor compareWith
-    compare-is r mask to a i j h = then-list compareRow r (used f means under offsets a) (branchCode mask to) ∙ ap (λ (x : List Code). x ++ (branchCode mask to ∷ [])) (apply-is f means under offsets table small a i j h compareRow r)
+    compare-is r mask to a i j h = then-list compareRow r (used f means under offsets a) (branchCode mask to)
+        ∙ ap (λ (x : List Code). x ++ (branchCode mask to ∷ [])) (apply-is f means under offsets table small a i j h compareRow r)
 
     compared-does :
         (n r to : ℕ) (a : Operand) (i j : ℕ) → isOperand (f .kinds) a i j → headOf a - 2 ≡ n → headOf a - 1 ≡ r → getD marks (headOf a - 3) 0 ≡ to → (w : Writing)

@@ -9,13 +9,13 @@ use Rattle.base.proofs.Tests.{cases}
 use Rattle.token.specs.Kinds as K
 use Rattle.grammar.specs.Tree.{Operand, number, place, Sign, plain, abs, neg, negAbs, Term, Assignment, Width, full, short}
 use Rattle.grammar.specs.Derives.{isOperand, areTerms, isAssignment}
-use Rattle.kinds.specs.Meaning.{Meaning, nothing, register, cell, routine, isFull}
-use Rattle.kinds.specs.Tables.{Tables, kindAt, meaningAt}
-use Rattle.kinds.specs.Rules.{shifts}
+use Rattle.static_rules.specs.Meaning.{Meaning, nothing, register, cell, routine, isFull}
+use Rattle.static_rules.specs.Tables.{Tables, kindAt, meaningAt}
+use Rattle.static_rules.specs.Rules.{shifts}
 use Rattle.tables.specs.Packed.{meaningsOf}
-use Rattle.translator.specs.Instructions.{Instruction, shift, branch, opcode, column, loadRow, timesRow, storeRow, rowOf, absOp, negOp, negAbsOp, shiftCode}
-use Rattle.translator.specs.Core as C
-use Rattle.translator.specs.Core.{apply, signed, load, useOf, sourceOf, shiftBy, productTarget, termOf, chainOf, toRegister, assignBy, assignmentOf}
+use Rattle.translation.specs.Instructions.{Instruction, shift, branch, opcode, column, loadRow, timesRow, storeRow, rowOf, absOp, negOp, negAbsOp, shiftCode}
+use Rattle.translation.specs.Core as C
+use Rattle.translation.specs.Core.{apply, signed, load, useOf, sourceOf, shiftBy, productTarget, termOf, chainOf, toRegister, assignBy, assignmentOf}
 use Rattle.emit.specs.declared.Use.{Use}
 use Rattle.emit.specs.declared.Use.the-variants.{Absent, Held, Stored}
 use Rattle.emit.specs.declared.Code.{Code}

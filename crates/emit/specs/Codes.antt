@@ -8,10 +8,10 @@ use Rattle.base.specs.Choose.{if_then_else_}
 use Rattle.base.specs.Lists.{member}
 use Rattle.token.specs.Kinds as K
 use Rattle.tape.specs.Events as E
-use Rattle.kinds.specs.Rules.{shifts}
-use Rattle.kinds.specs.Meanings.{dataBase}
-use Rattle.translator.specs.Instructions.{opcode, rowOf, loadRow, timesRow, storeRow, absOp, negOp, negAbsOp, branchOp, linkOp, returnOp, stopOp, shiftCode, always}
-use Rattle.translator.specs.Bytes.{programBase}
+use Rattle.static_rules.specs.Rules.{shifts}
+use Rattle.static_rules.specs.Meanings.{dataBase}
+use Rattle.translation.specs.Instructions.{opcode, rowOf, loadRow, timesRow, storeRow, absOp, negOp, negAbsOp, branchOp, linkOp, returnOp, stopOp, shiftCode, always}
+use Rattle.translation.specs.Bytes.{programBase}
 use Rattle.emit.specs.declared.Use.{Use}
 use Rattle.emit.specs.declared.Use.the-variants.{Absent, Held, Number, Stored}
 use Rattle.emit.specs.declared.Code.{Code}

@@ -9,8 +9,8 @@ use Rattle.base.specs.Choose.{if_then_else_}
 use Rattle.tape.specs.Events as E
 use Rattle.tape.specs.Numbers.{familyAt, formAt}
 use Rattle.tables.specs.Packed.{low, numberIn, isRegisterIn, isRoutineIn, isCellIn, isShortIn, registerIn, packedAt}
-use Rattle.translator.specs.Instructions.{addRow, compareRow, falseMask, always}
-use Rattle.translator.specs.Core.{exitMask}
+use Rattle.translation.specs.Instructions.{addRow, compareRow, falseMask, always}
+use Rattle.translation.specs.Core.{exitMask}
 use Rattle.ledger.specs.Book.{Wide, Thin}
 use Rattle.emit.specs.declared.Use.{Use}
 use Rattle.emit.specs.declared.Use.the-variants.{Absent, Held, Number, Stored}

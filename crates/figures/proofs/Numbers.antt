@@ -14,7 +14,8 @@ use Rattle.figures.specs.declared.Reading.the-variants.{Number, Nothing}
 use Rattle.figures.specs.Numbers.{digitOf, digits}
 
 module _ (base limit v : ℕ) (s : List ℕ) (i : ℕ) {whole : Reading} (inv : whole ≡ digits base limit v (drop i s)) where
-  pub digits-on : i < length s → ltb (digitOf (getD s i 0)) base ≡ true → leb (v * base + digitOf (getD s i 0)) limit ≡ true → whole ≡ digits base limit (v * base + digitOf (getD s i 0)) (drop (i + 1) s)
+  pub digits-on : i < length s → ltb (digitOf (getD s i 0)) base ≡ true → leb (v * base + digitOf (getD s i 0)) limit ≡ true
+      → whole ≡ digits base limit (v * base + digitOf (getD s i 0)) (drop (i + 1) s)
   unfolding digits
   digits-on h e f = rw (add-one i) (inv ∙ rw (drop-cons s i 0, e, digits, f))
 

@@ -43,7 +43,8 @@ unfolding filled
 filled-on n s i l = rw (add-one i, take-suc s i 0 l, filled-more n (take i s), append-nil)
 
 -- one byte more is counted
-pub count-on : (sep : ℕ) (s : List ℕ) (i n : ℕ) → i < length s → n + partCount sep (drop i s) ≡ partCount sep s → (n + choose (eqb (getD s i 0) sep) 1 0) + partCount sep (drop (i + 1) s) ≡ partCount sep s
+pub count-on : (sep : ℕ) (s : List ℕ) (i n : ℕ) → i < length s → n + partCount sep (drop i s) ≡ partCount sep s
+    → (n + choose (eqb (getD s i 0) sep) 1 0) + partCount sep (drop (i + 1) s) ≡ partCount sep s
 unfolding partCount
 count-on sep s i n h inv =
     let e : partCount sep (drop i s) ≡ choose (eqb (getD s i 0) sep) 1 0 + partCount sep (drop (suc i) s) = rw (drop-cons s i 0) in
@@ -65,7 +66,8 @@ count-le sep (x ∷ xs) = go (count-le sep xs) (eqb x sep)
     go h false = omega arith
 
 -- the part that is cut out is the part
-pub part-is : (sep n : ℕ) (s : List ℕ) (from size : ℕ) → drop from s ≡ behind sep n s → size ≡ partLength sep (take (length s - from) (drop from s)) → take (from + size - from) (drop from s) ≡ partOf sep n s
+pub part-is : (sep n : ℕ) (s : List ℕ) (from size : ℕ) → drop from s ≡ behind sep n s → size ≡ partLength sep (take (length s - from) (drop from s))
+    → take (from + size - from) (drop from s) ≡ partOf sep n s
 part-is sep n s from size e f =
     let g : from + size - from ≡ size = omega arith in
     rw (g, f, to-end s from, e)

@@ -10,6 +10,7 @@ ghost use Rattle.figures.specs.Writing.{Adds};
 ghost use Rattle.figures.specs.Digits.{digit as digitFor, numeral, decimal, signed, hexadecimal};
 ghost use Rattle.figures.specs.Parts.{leftAfter, behind as behindOf, partLength, partCount, partOf, shown, filled};
 ghost use Rattle.figures.specs.Numbers.{digitOf, digits as digitsOf, wholeNumber, minus as minusOf, numberIn};
+use base::less;
 
 // ── writing ──
 
@@ -76,12 +77,6 @@ fn digit(d: usize) -> u8
     DIGITS[d]
 }
 
-fn less(n: usize) -> usize
-    ensures { λ r. ⌜ r ≡ n - 1 ⌝ }
-{
-    if n == 0 { 0 } else { n - 1 }
-}
-
 // A number to a base in at most k places, and in at least so many.
 fn put_digits(out: &mut [u8], at: usize, base: usize, least: usize, k: usize, n: usize) -> usize
     requires { ⌜ (1 < base) × (base ≤ 16) ⌝ }
@@ -94,7 +89,7 @@ fn put_digits(out: &mut [u8], at: usize, base: usize, least: usize, k: usize, n:
     if (n < base) & (least < 2) {
         return put(out, at, last);
     }
-    let end = put_digits(out, at, base, less(least), k - 1, n / base);
+    let end = put_digits(out, at, base, less(least, 1), k - 1, n / base);
     put(out, end, last)
 }
 
@@ -155,7 +150,7 @@ fn left_after(b: u8, sep: u8, left: usize) -> usize
     ensures { λ r. ⌜ r ≡ leftAfter b sep left ⌝ }
 {
     if b == sep {
-        return less(left);
+        return less(left, 1);
     }
     left
 }

@@ -137,7 +137,15 @@ module _ (code first : List ℕ) (to bases : ℕ) (second third : List ℕ) wher
   unfolding lengthFor
   text-length =
       ap length whole
-      ∙ omega (arith, length-append codeText (firstText ++ (laterText ++ line (255 ∷ []))), length-append firstText (laterText ++ line (255 ∷ [])), length-append laterText (line (255 ∷ [])), length-program 0 code, length-data 1 first 16 to, length-later second third bases)
+      ∙ omega (
+        arith,
+        length-append codeText (firstText ++ (laterText ++ line (255 ∷ []))),
+        length-append firstText (laterText ++ line (255 ∷ [])),
+        length-append laterText (line (255 ∷ [])),
+        length-program 0 code,
+        length-data 1 first 16 to,
+        length-later second third bases,
+      )
 
   pub object-laid : (s t u v w : List ℕ) (b c d : ℕ) → b ≡ 0 + programLength (length code) → c ≡ b + dataLength (length first) → d ≡ c + laterLength bases (length second) (length third)
       → t ≡ sets s 0 codeText → u ≡ sets t b firstText → v ≡ sets u c laterText → w ≡ sets v d (line (255 ∷ []))

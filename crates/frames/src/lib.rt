@@ -1,11 +1,12 @@
 // The writer of the object text: the frames of a segment, and of a whole object. Nothing is touched behind what is laid.
 ghost use mathlib.Core.Path.{_≡_};
-ghost use Prim.Native.Nat.{_+_, _*_, _<_, _≤_, min};
+ghost use Prim.Native.Nat.{_+_, _*_, _<_, _≤_};
 ghost use lib.ListN.{length};
 ghost use lib.Seq.{sets};
 ghost use Rattle.objtext.specs.Object.{program, cells, hexDigit, hex, line, contentFrame, contentFrames, framesFor, segmentFrames, textOf, objectText};
 ghost use Rattle.objtext.specs.Reader.{contentLength};
 ghost use Rattle.frames.specs.Frames.{laterData, framesFrom, objectOf, programLength, dataLength, laterLength, lengthFor};
+use base::least;
 use objtext::DATA_HEAD;
 use objtext::PROGRAM_HEAD;
 use objtext::content_length;
@@ -95,12 +96,6 @@ fn put_frame(out: &mut [u8], at: usize, k: u8, o: usize, content: &[u8])
     ];
     put_hex(out, at, &head);
     put_line(out, at + FRAME_HEAD, content);
-}
-
-fn least(a: usize, b: usize) -> usize
-    ensures { λ r. ⌜ r ≡ min a b ⌝ }
-{
-    if a < b { a } else { b }
 }
 
 // The frames of a segment's bytes; the place behind them.

@@ -82,7 +82,9 @@ module _ (kinds others : List ℕ) (k : ℕ) (same : SameBefore (k + 1) kinds ot
   sooner le h = record { onward = (let o = h .onward in omega arith); alike = h .alike }
 
   -- one reader after another; what the first says of refusal 5, the whole says
-  after-in : {A B : Type 0} {In : ℕ → A → Type 0} {On : ℕ → B → Type 0} {i : ℕ} {r r′ : Result A} (f f′ : A → ℕ → Result B) → Alike In i r r′ → ((a : A) (j : ℕ) → i ≤ j → Alike On j (f a j) (f′ a j)) → ((t : ℕ) (a : A) (j : ℕ) → In t a → Gives (On t) (f′ a j)) → Alike On i (andThen r f) (andThen r′ f′)
+  after-in : {A B : Type 0} {In : ℕ → A → Type 0} {On : ℕ → B → Type 0} {i : ℕ} {r r′ : Result A} (f f′ : A → ℕ → Result B) → Alike In i r r′
+      → ((a : A) (j : ℕ) → i ≤ j → Alike On j (f a j) (f′ a j)) → ((t : ℕ) (a : A) (j : ℕ) → In t a → Gives (On t) (f′ a j))
+      → Alike On i (andThen r f) (andThen r′ f′)
   unfolding andThen
   after-in {In} {On} {i} {r = ok a j} {r′} f f′ h g c = sooner (h .onward) (go (h .alike))
     where
@@ -101,7 +103,8 @@ module _ (kinds others : List ℕ) (k : ℕ) (same : SameBefore (k + 1) kinds ot
       go (inr (inl p)) = record { onward = h .onward; alike = inr (inl p) }
       go (inr (inr (e, z))) = record { onward = h .onward; alike = inr (inr (e, on r′ z)) }
 
-  after : {A B : Type 0} {On : ℕ → B → Type 0} {i : ℕ} {r r′ : Result A} (f f′ : A → ℕ → Result B) → Alike Never i r r′ → ((a : A) (j : ℕ) → i ≤ j → Alike On j (f a j) (f′ a j)) → Alike On i (andThen r f) (andThen r′ f′)
+  after : {A B : Type 0} {On : ℕ → B → Type 0} {i : ℕ} {r r′ : Result A} (f f′ : A → ℕ → Result B) → Alike Never i r r′
+      → ((a : A) (j : ℕ) → i ≤ j → Alike On j (f a j) (f′ a j)) → Alike On i (andThen r f) (andThen r′ f′)
   after f f′ h g = after-in f f′ h g (λ t a j z. absurd z)
 
   -- the same kind, or past it
@@ -113,47 +116,63 @@ module _ (kinds others : List ℕ) (k : ℕ) (same : SameBefore (k + 1) kinds ot
       go (no h) = inr (omega arith)
 
   -- a choice by the kinds of tokens that were looked at
-  either-two : {A : Type 0} {In : ℕ → A → Type 0} (t : ℕ → ℕ → Bool) (p q i : ℕ) (m n m′ n′ : Reader A) → p ≤ i → q ≤ i → (t (getD kinds p 0) (getD kinds q 0) ≡ true → Alike In i (m kinds i) (m′ others i)) → (t (getD kinds p 0) (getD kinds q 0) ≡ false → Alike In i (n kinds i) (n′ others i)) → Alike In i ((if t (getD kinds p 0) (getD kinds q 0) then m else n) kinds i) ((if t (getD others p 0) (getD others q 0) then m′ else n′) others i)
+  either-two : {A : Type 0} {In : ℕ → A → Type 0} (t : ℕ → ℕ → Bool) (p q i : ℕ) (m n m′ n′ : Reader A) → p ≤ i → q ≤ i
+      → (t (getD kinds p 0) (getD kinds q 0) ≡ true → Alike In i (m kinds i) (m′ others i))
+      → (t (getD kinds p 0) (getD kinds q 0) ≡ false → Alike In i (n kinds i) (n′ others i))
+      → Alike In i ((if t (getD kinds p 0) (getD kinds q 0) then m else n) kinds i) ((if t (getD others p 0) (getD others q 0) then m′ else n′) others i)
   either-two {In} t p q i m n m′ n′ a b h g = go (kind-alike p) (kind-alike q)
     where
       whole : Alike In i ((if t (getD kinds p 0) (getD kinds q 0) then m else n) kinds i) ((if t (getD kinds p 0) (getD kinds q 0) then m′ else n′) others i)
       whole = cases (t (getD kinds p 0) (getD kinds q 0)) (λ e. rw e (h e)) (λ e. rw e (g e))
 
-      go : (getD others p 0 ≡ getD kinds p 0) ⊎ (k < p) → (getD others q 0 ≡ getD kinds q 0) ⊎ (k < q) → Alike In i ((if t (getD kinds p 0) (getD kinds q 0) then m else n) kinds i) ((if t (getD others p 0) (getD others q 0) then m′ else n′) others i)
+      go : (getD others p 0 ≡ getD kinds p 0) ⊎ (k < p) → (getD others q 0 ≡ getD kinds q 0) ⊎ (k < q)
+          → Alike In i ((if t (getD kinds p 0) (getD kinds q 0) then m else n) kinds i) ((if t (getD others p 0) (getD others q 0) then m′ else n′) others i)
       go (inl e) (inl f) = rw (e, f) whole
       go (inl e) (inr l) = past (omega arith) (whole .onward)
       go (inr l) r = past (omega arith) (whole .onward)
 
-  either : {A : Type 0} {In : ℕ → A → Type 0} (t : ℕ → Bool) (p i : ℕ) (m n m′ n′ : Reader A) → p ≤ i → (t (getD kinds p 0) ≡ true → Alike In i (m kinds i) (m′ others i)) → (t (getD kinds p 0) ≡ false → Alike In i (n kinds i) (n′ others i)) → Alike In i ((if t (getD kinds p 0) then m else n) kinds i) ((if t (getD others p 0) then m′ else n′) others i)
+  either : {A : Type 0} {In : ℕ → A → Type 0} (t : ℕ → Bool) (p i : ℕ) (m n m′ n′ : Reader A) → p ≤ i
+      → (t (getD kinds p 0) ≡ true → Alike In i (m kinds i) (m′ others i)) → (t (getD kinds p 0) ≡ false → Alike In i (n kinds i) (n′ others i))
+      → Alike In i ((if t (getD kinds p 0) then m else n) kinds i) ((if t (getD others p 0) then m′ else n′) others i)
   either t p i m n m′ n′ a h g = either-two (λ x y. t x) p p i m n m′ n′ a a h g
 
-  here : {A : Type 0} {In : ℕ → A → Type 0} (p : ℕ → Bool) (i : ℕ) (m n m′ n′ : Reader A) → (p (getD kinds i 0) ≡ true → Alike In i (m kinds i) (m′ others i)) → (p (getD kinds i 0) ≡ false → Alike In i (n kinds i) (n′ others i)) → Alike In i ((if p (getD kinds i 0) then m else n) kinds i) ((if p (getD others i 0) then m′ else n′) others i)
+  here : {A : Type 0} {In : ℕ → A → Type 0} (p : ℕ → Bool) (i : ℕ) (m n m′ n′ : Reader A) → (p (getD kinds i 0) ≡ true → Alike In i (m kinds i) (m′ others i))
+      → (p (getD kinds i 0) ≡ false → Alike In i (n kinds i) (n′ others i))
+      → Alike In i ((if p (getD kinds i 0) then m else n) kinds i) ((if p (getD others i 0) then m′ else n′) others i)
   here p i m n m′ n′ h g = either p i i m n m′ n′ (omega arith) h g
 
   -- a token that is wanted
-  takes : {A : Type 0} {In : ℕ → A → Type 0} (p : ℕ → Bool) (i : ℕ) (f f′ : ℕ → ℕ → Result A) → (p (getD kinds i 0) ≡ true → Alike In (i + 1) (f i (i + 1)) (f′ i (i + 1))) → Alike In i (andThen (if p (getD kinds i 0) then ok i (i + 1) else bad 4 i) f) (andThen (if p (getD others i 0) then ok i (i + 1) else bad 4 i) f′)
+  takes : {A : Type 0} {In : ℕ → A → Type 0} (p : ℕ → Bool) (i : ℕ) (f f′ : ℕ → ℕ → Result A)
+      → (p (getD kinds i 0) ≡ true → Alike In (i + 1) (f i (i + 1)) (f′ i (i + 1)))
+      → Alike In i (andThen (if p (getD kinds i 0) then ok i (i + 1) else bad 4 i) f) (andThen (if p (getD others i 0) then ok i (i + 1) else bad 4 i) f′)
   unfolding andThen
   takes {In} p i f f′ h = go (kind-alike i)
     where
       whole : Alike In i (andThen (if p (getD kinds i 0) then ok i (i + 1) else bad 4 i) f) (andThen (if p (getD kinds i 0) then ok i (i + 1) else bad 4 i) f′)
       whole = cases (p (getD kinds i 0)) (λ e. rw e (sooner (omega arith) (h e))) (λ e. rw e refuses)
 
-      go : (getD others i 0 ≡ getD kinds i 0) ⊎ (k < i) → Alike In i (andThen (if p (getD kinds i 0) then ok i (i + 1) else bad 4 i) f) (andThen (if p (getD others i 0) then ok i (i + 1) else bad 4 i) f′)
+      go : (getD others i 0 ≡ getD kinds i 0) ⊎ (k < i) → Alike In i (andThen (if p (getD kinds i 0) then ok i (i + 1) else bad 4 i) f)
+          (andThen (if p (getD others i 0) then ok i (i + 1) else bad 4 i) f′)
       go (inl e) = rw e whole
       go (inr l) = past l (whole .onward)
 
-  wants : {A : Type 0} {In : ℕ → A → Type 0} (w i : ℕ) (f f′ : ℕ → ℕ → Result A) → (getD kinds i 0 ≡ w → Alike In (i + 1) (f i (i + 1)) (f′ i (i + 1))) → Alike In i (andThen (want w kinds i) f) (andThen (want w others i) f′)
+  wants : {A : Type 0} {In : ℕ → A → Type 0} (w i : ℕ) (f f′ : ℕ → ℕ → Result A) → (getD kinds i 0 ≡ w → Alike In (i + 1) (f i (i + 1)) (f′ i (i + 1)))
+      → Alike In i (andThen (want w kinds i) f) (andThen (want w others i) f′)
   unfolding want
   wants w i f f′ h = takes (λ z. eqb z w) i f f′ (λ e. h (eqb-true _ _ e))
 
-  wants-one : {A : Type 0} {In : ℕ → A → Type 0} (ws : List ℕ) (i : ℕ) (f f′ : ℕ → ℕ → Result A) → (member (getD kinds i 0) ws ≡ true → Alike In (i + 1) (f i (i + 1)) (f′ i (i + 1))) → Alike In i (andThen (wantOne ws kinds i) f) (andThen (wantOne ws others i) f′)
+  wants-one : {A : Type 0} {In : ℕ → A → Type 0} (ws : List ℕ) (i : ℕ) (f f′ : ℕ → ℕ → Result A)
+      → (member (getD kinds i 0) ws ≡ true → Alike In (i + 1) (f i (i + 1)) (f′ i (i + 1)))
+      → Alike In i (andThen (wantOne ws kinds i) f) (andThen (wantOne ws others i) f′)
   unfolding wantOne
   wants-one ws i f f′ h = takes (λ z. member z ws) i f f′ h
 
   nexts : {A : Type 0} {In : ℕ → A → Type 0} {i : ℕ} {r r′ : Result A} → Alike In (i + 1) r r′ → Alike In i r r′
   nexts h = sooner (omega arith) h
 
-  nested : {A B C : Type 0} {In : ℕ → A → Type 0} {i : ℕ} (r r′ : Result B) (g g′ : B → ℕ → Result C) (f f′ : C → ℕ → Result A) → Alike In i (andThen r (λ a j. andThen (g a j) f)) (andThen r′ (λ a j. andThen (g′ a j) f′)) → Alike In i (andThen (andThen r g) f) (andThen (andThen r′ g′) f′)
+  nested : {A B C : Type 0} {In : ℕ → A → Type 0} {i : ℕ} (r r′ : Result B) (g g′ : B → ℕ → Result C) (f f′ : C → ℕ → Result A)
+      → Alike In i (andThen r (λ a j. andThen (g a j) f)) (andThen r′ (λ a j. andThen (g′ a j) f′))
+      → Alike In i (andThen (andThen r g) f) (andThen (andThen r′ g′) f′)
   unfolding andThen
   nested (ok a j) (ok b l) g g′ f f′ h = h
   nested (ok a j) (bad n t) g g′ f f′ h = h
@@ -164,7 +183,9 @@ module _ (kinds others : List ℕ) (k : ℕ) (same : SameBefore (k + 1) kinds ot
   unfolding andThen
   given b p f f′ h = h
 
-  wants-parens : {A : Type 0} {In : ℕ → A → Type 0} (w i : ℕ) (f f′ : ℕ → ℕ → Result A) → Alike In (i + 1 + 1 + 1) (f (i + 1) (i + 1 + 1 + 1)) (f′ (i + 1) (i + 1 + 1 + 1)) → Alike In i (andThen (inParens w kinds i) f) (andThen (inParens w others i) f′)
+  wants-parens : {A : Type 0} {In : ℕ → A → Type 0} (w i : ℕ) (f f′ : ℕ → ℕ → Result A)
+      → Alike In (i + 1 + 1 + 1) (f (i + 1) (i + 1 + 1 + 1)) (f′ (i + 1) (i + 1 + 1 + 1))
+      → Alike In i (andThen (inParens w kinds i) f) (andThen (inParens w others i) f′)
   wants-parens w i f f′ h = nested _ _ _ _ _ _ (wants K.OPEN i _ _ (λ o. nested _ _ _ _ _ _ (wants w (i + 1) _ _ (λ t. nested _ _ _ _ _ _ (wants K.CLOSE (i + 1 + 1) _ _ (λ c. given _ _ _ _ h))))))
 
   -- a list "{…}" of L's, which comes to an end s where no token is; the fuel is enough on either side
@@ -217,7 +238,9 @@ module _ (kinds others : List ℕ) (k : ℕ) (same : SameBefore (k + 1) kinds ot
 
   assignment-alike : (n i : ℕ) → Alike Never i (assignmentOf n kinds i) (assignmentOf n others i)
   unfolding assignmentOf andThen
-  assignment-alike n i = after _ _ (designator-alike n i) (λ d m le. wants K.BECOMES m _ _ (λ b. after _ _ (sign-alike (m + 1)) (λ s p le. after _ _ (operand-alike p) (λ a q le. after _ _ (terms-alike q) (λ ts j le. gives)))))
+  assignment-alike n i = after _ _ (designator-alike n i) (λ d m le.
+      wants K.BECOMES m _ _ (λ b. after _ _ (sign-alike (m + 1)) (λ s p le.
+      after _ _ (operand-alike p) (λ a q le. after _ _ (terms-alike q) (λ ts j le. gives)))))
 
   numbers-alike : (i : ℕ) → Alike Never i (numbers (suc (length kinds)) kinds i) (numbers (suc (length others)) others i)
   unfolding numbers andThen look
@@ -331,7 +354,8 @@ module _ (kinds others : List ℕ) (k : ℕ) (same : SameBefore (k + 1) kinds ot
   module _ (room room′ : ℕ) (inner-alike : (i : ℕ) → Alike (StatementAt room) i (statement room kinds i) (statement room′ others i)) where
     items-alike : (i : ℕ) → Alike (ItemsAt room) i (itemsOf (statement room) (suc (length kinds)) kinds i) (itemsOf (statement room′) (suc (length others)) others i)
     unfolding itemsOf andThen look next Inside
-    items-alike i = list-alike (ItemsAt room) (itemsOf (statement room)) (itemsOf (statement room′)) (λ i. bad 4 i) (items-stop room kinds) (items-stop room′ others) (λ f i n. onward-items kinds room f i)
+    items-alike i = list-alike (ItemsAt room) (itemsOf (statement room)) (itemsOf (statement room′)) (λ i. bad 4 i) (items-stop room kinds)
+        (items-stop room′ others) (λ f i n. onward-items kinds room f i)
         (λ f f′ i again. here (λ z. eqb z K.END) i _ _ _ _ (λ e. nexts gives)
         (λ e. here (λ z. eqb z K.NAME) i _ _ _ _
         (λ n. nexts (here (λ z. eqb z K.COLON) (i + 1) _ _ _ _
@@ -346,25 +370,34 @@ module _ (kinds others : List ℕ) (k : ℕ) (same : SameBefore (k + 1) kinds ot
     if-alike t c i = after-in _ _ (inner-alike i) (λ s m le. either-two (λ e z. eqb e K.ELSE && not (member z compounds)) m i m _ _ _ _ (omega arith) le
         (λ e. nexts (after-in _ _ (inner-alike (m + 1)) (λ u j le. gives) (λ t u j h. record { given = inr h })))
         (λ e. gives))
-        (λ t s m h. either-gives (eqb (getD others m 0) K.ELSE && not (member (getD others i 0) compounds)) _ _ others m (anything (statement room′ others (m + 1)) _ (λ u j. record { given = inl h })) (record { given = h }))
+        (λ t s m h. either-gives (eqb (getD others m 0) K.ELSE
+        && not (member (getD others i 0) compounds)) _ _ others m (anything (statement room′ others (m + 1)) _ (λ u j. record { given = inl h }))
+        (record { given = h }))
 
     module _ (proc-alike : (i : ℕ) → Alike (ProcedureAt room) i (procedureOf room kinds i) (procedureOf room′ others i)) where
-      body-alike : (i : ℕ) → Alike (BodyAt room) i (bodyOf (statement room) (procedureOf room) (suc (length kinds)) kinds i) (bodyOf (statement room′) (procedureOf room′) (suc (length others)) others i)
+      body-alike : (i : ℕ) → Alike (BodyAt room) i (bodyOf (statement room) (procedureOf room) (suc (length kinds)) kinds i)
+          (bodyOf (statement room′) (procedureOf room′) (suc (length others)) others i)
       unfolding bodyOf andThen look next Inside
-      body-alike i = list-alike (BodyAt room) (bodyOf (statement room) (procedureOf room)) (bodyOf (statement room′) (procedureOf room′)) (λ i. bad 4 i) (body-stop room kinds) (body-stop room′ others) (λ f i n. onward-body kinds room f i)
+      body-alike i = list-alike (BodyAt room) (bodyOf (statement room) (procedureOf room)) (bodyOf (statement room′) (procedureOf room′)) (λ i. bad 4 i)
+          (body-stop room kinds) (body-stop room′ others) (λ f i n. onward-body kinds room f i)
           (λ f f′ i again. here (λ z. member z declarators) i _ _ _ _
           (λ d. after _ _ (declaration-alike i) (λ x m le. wants K.SEMICOLON m _ _ (λ c. after-in _ _ (again (m + 1) (omega arith)) (λ b j le. gives) (λ t b j h. record { given = h }))))
           (λ d. here (λ z. eqb z K.PROCEDURE) i _ _ _ _
-          (λ p. after-in _ _ (proc-alike i) (λ x m le. wants K.SEMICOLON m _ _ (λ c. after-in _ _ (again (m + 1) (omega arith)) (λ b j le. gives) (λ t b j h. record { given = later-in-body room t x b h })))
+          (λ p. after-in _ _ (proc-alike i) (λ x m le. wants K.SEMICOLON m _ _ (λ c.
+          after-in _ _ (again (m + 1) (omega arith)) (λ b j le. gives) (λ t b j h. record { given = later-in-body room t x b h })))
           (λ t x m h. anything (want K.SEMICOLON others m) _ (λ c p. anything (bodyOf (statement room′) (procedureOf room′) f′ others p) _ (λ b j. record { given = procedure-in-body room t x b h }))))
           (λ p. after-in _ _ (items-alike i) (λ xs j le. gives) (λ t xs j h. record { given = h }))))
           (suc (length kinds)) (suc (length others)) i (omega arith) (omega arith)
 
       construct-alike : (i : ℕ) → Alike (StatementAt (suc room)) i (constructOf (statement room) (procedureOf room) kinds i) (constructOf (statement room′) (procedureOf room′) others i)
       unfolding constructOf andThen look next Inside
-      construct-alike i = sooner {j = i + 1} (omega arith) (either (λ z. eqb z K.BEGIN) i (i + 1) _ _ _ _ (omega arith) (λ b. after-in _ _ (body-alike (i + 1)) (λ x j le. gives) (λ t x j h. record { given = h }))
+      construct-alike i = sooner {j = i + 1} (omega arith)
+          (either (λ z. eqb z K.BEGIN) i (i + 1) _ _ _ _ (omega arith) (λ b.
+          after-in _ _ (body-alike (i + 1)) (λ x j le. gives) (λ t x j h. record { given = h }))
           (λ b. either (λ z. eqb z K.IF) i (i + 1) _ _ _ _ (omega arith) (λ f. after _ _ (condition-alike (i + 1)) (λ c m le. wants K.THEN m _ _ (λ t. if-alike i c (m + 1))))
-          (λ f. either (λ z. eqb z K.WHILE) i (i + 1) _ _ _ _ (omega arith) (λ w. after _ _ (condition-alike (i + 1)) (λ c m le. wants K.DO m _ _ (λ d. after-in _ _ (inner-alike (m + 1)) (λ s j le. gives) (λ t s j h. record { given = h }))))
+          (λ f. either (λ z. eqb z K.WHILE) i (i + 1) _ _ _ _ (omega arith) (λ w.
+          after _ _ (condition-alike (i + 1)) (λ c m le. wants K.DO m _ _ (λ d.
+          after-in _ _ (inner-alike (m + 1)) (λ s j le. gives) (λ t s j h. record { given = h }))))
           (λ w. wants K.NAME (i + 1) _ _ (λ n. after _ _ (assignment-alike (i + 1) (i + 1 + 1)) (λ a m le. wants K.STEP m _ _ (λ x. wants K.NUMBER (m + 1) _ _ (λ v. wants K.UNTIL (m + 1 + 1) _ _ (λ y.
           after _ _ (operand-alike (m + 1 + 1 + 1)) (λ l q le. wants K.DO q _ _ (λ z. after-in _ _ (inner-alike (q + 1)) (λ s j le. gives) (λ t s j h. record { given = h }))))))))))))
 
@@ -374,14 +407,21 @@ module _ (kinds others : List ℕ) (k : ℕ) (same : SameBefore (k + 1) kinds ot
   opened inner proc i =
       either-gives (eqb (getD others i 0) K.BEGIN) _ _ others (i + 1) (anything (bodyOf inner proc (suc (length others)) others (i + 1)) _ (λ b j. record { given = refl }))
       (either-gives (eqb (getD others i 0) K.IF) _ _ others (i + 1)
-      (anything (condition others (i + 1)) _ (λ c m. anything (want K.THEN others m) _ (λ t p. anything (inner others p) _ (λ s q. either-gives (eqb (getD others q 0) K.ELSE && not (member (getD others p 0) compounds)) _ _ others q (anything (inner others (q + 1)) _ (λ u j. record { given = refl })) (record { given = refl })))))
+      (anything (condition others (i + 1)) _ (λ c m. anything (want K.THEN others m) _ (λ t p.
+      anything (inner others p) _ (λ s q. either-gives (eqb (getD others q 0) K.ELSE
+      && not (member (getD others p 0) compounds)) _ _ others q (anything (inner others (q + 1)) _ (λ u j. record { given = refl }))
+      (record { given = refl })))))
       (either-gives (eqb (getD others i 0) K.WHILE) _ _ others (i + 1)
       (anything (condition others (i + 1)) _ (λ c m. anything (want K.DO others m) _ (λ t p. anything (inner others p) _ (λ s j. record { given = refl }))))
-      (anything (want K.NAME others (i + 1)) _ (λ n p. anything (assignmentOf n others p) _ (λ a m. anything (want K.STEP others m) _ (λ x q. anything (want K.NUMBER others q) _ (λ v r. anything (want K.UNTIL others r) _ (λ y u. anything (operand others u) _ (λ l w. anything (want K.DO others w) _ (λ z o. anything (inner others o) _ (λ s j. record { given = refl })))))))))))
+      (anything (want K.NAME others (i + 1)) _ (λ n p. anything (assignmentOf n others p) _ (λ a m.
+      anything (want K.STEP others m) _ (λ x q. anything (want K.NUMBER others q) _ (λ v r.
+      anything (want K.UNTIL others r) _ (λ y u. anything (operand others u) _ (λ l w.
+      anything (want K.DO others w) _ (λ z o. anything (inner others o) _ (λ s j. record { given = refl })))))))))))
 
   named : (room i : ℕ) → Gives (λ p. i + 1 ≡ p .name) (procedureOf (suc room) others i)
   unfolding statement andThen next
-  named room i = wanted K.NAME others (i + 1) _ (anything (inParens K.NAME others (i + 1 + 1)) _ (λ r p. anything (want K.SEMICOLON others p) _ (λ c q. anything (statement room others q) _ (λ s j. record { given = refl }))))
+  named room i = wanted K.NAME others (i + 1) _ (anything (inParens K.NAME others (i + 1 + 1)) _ (λ r p.
+      anything (want K.SEMICOLON others p) _ (λ c q. anything (statement room others q) _ (λ s j. record { given = refl }))))
 
   -- no room, and more of it
   deeper : {A : Type 0} {In : ℕ → A → Type 0} (i : ℕ) {r′ : Result A} → Gives (In i) r′ → Alike In i (bad 5 i) r′
@@ -400,8 +440,12 @@ module _ (kinds others : List ℕ) (k : ℕ) (same : SameBefore (k + 1) kinds ot
     procedure-alike zero zero h i = refuses
     procedure-alike zero (suc room′) h i = deeper i (named room′ i)
     procedure-alike (suc room) zero h i = absurd (omega arith)
-    procedure-alike (suc room) (suc room′) h i = nexts (wants K.NAME (i + 1) _ _ (λ n. wants-parens K.NAME (i + 1 + 1) _ _ (wants K.SEMICOLON (i + 1 + 1 + 1 + 1 + 1) _ _ (λ c. after-in _ _ (statement-alike room room′ (omega arith) (i + 1 + 1 + 1 + 1 + 1 + 1)) (λ s j le. gives) (λ t s j z. record { given = z })))))
+    procedure-alike (suc room) (suc room′) h i = nexts (wants K.NAME (i + 1) _ _ (λ n.
+        wants-parens K.NAME (i + 1 + 1) _ _ (wants K.SEMICOLON (i + 1 + 1 + 1 + 1 + 1) _ _ (λ c.
+        after-in _ _ (statement-alike room room′ (omega arith) (i + 1 + 1 + 1 + 1 + 1 + 1)) (λ s j le. gives) (λ t s j z. record { given = z })))))
 
   pub program-alike : (room room′ : ℕ) → room ≤ room′ → (i : ℕ) → Alike (λ t x. Inside x room t) i (programIn room kinds i) (programIn room′ others i)
   unfolding andThen look
-  program-alike room room′ h i = here (λ z. eqb z K.BEGIN) i _ _ _ _ (λ b. after-in _ _ (statement-alike room room′ h i) (λ x m le. wants K.AT m _ _ (λ t. gives)) (λ t x m z. anything (want K.AT others m) _ (λ a j. record { given = z }))) (λ b. refuses)
+  program-alike room room′ h i = here (λ z. eqb z K.BEGIN) i _ _ _ _ (λ b.
+      after-in _ _ (statement-alike room room′ h i) (λ x m le. wants K.AT m _ _ (λ t. gives)) (λ t x m z.
+      anything (want K.AT others m) _ (λ a j. record { given = z }))) (λ b. refuses)

@@ -83,7 +83,8 @@ module _ (kinds : List ℕ) where
   terms-first [] i j q f = rw q f
   terms-first (t ∷ ts) i j (e, z, r) f = isnt-one kinds i operators K.OPEN z refl
 
-  complete-terms : (ts : List Term) (fuel i j : ℕ) → areTerms kinds ts i j → length kinds < fuel + i → has kinds j K.OPEN ≡ false → member (getD kinds j 0) operators ≡ false → terms fuel kinds i ≡ ok ts j
+  complete-terms : (ts : List Term) (fuel i j : ℕ) → areTerms kinds ts i j → length kinds < fuel + i → has kinds j K.OPEN ≡ false
+      → member (getD kinds j 0) operators ≡ false → terms fuel kinds i ≡ ok ts j
   unfolding terms areTerms look next andThen
   complete-terms [] zero i j q n f o = rw q
   complete-terms [] (suc fuel) i j q n f o = rw (q, o)
@@ -122,7 +123,8 @@ module _ (kinds : List ℕ) where
   complete-register r i j (e, h, (o, (y, z, (c, q)))) f = rw (h, o, z, c, q, ← y, ← e)
 
   module _ {A : Type 0} (is : A → Part) (read : Reader A) (rises : (x : A) (i j : ℕ) → is x i j → i ≤ j) (complete : (x : A) (i j : ℕ) → is x i j → has kinds j K.OPEN ≡ false → read kinds i ≡ ok x j) where
-    complete-list : (xs : List A) (fuel i j : ℕ) → areSome kinds is xs i j → length kinds < suc fuel + i → has kinds j K.OPEN ≡ false → has kinds j K.COMMA ≡ false → listOf read (suc fuel) kinds i ≡ ok xs j
+    complete-list : (xs : List A) (fuel i j : ℕ) → areSome kinds is xs i j → length kinds < suc fuel + i → has kinds j K.OPEN ≡ false
+        → has kinds j K.COMMA ≡ false → listOf read (suc fuel) kinds i ≡ ok xs j
     unfolding listOf areSome areMore look next andThen
     complete-list [] fuel i j h n f c = absurd h
     complete-list (x ∷ []) fuel i j (m, h, q) n f c = rw (complete x i m h (rw q f), q, c)
@@ -132,10 +134,13 @@ module _ (kinds : List ℕ) where
         rw (complete x i m h (isnt kinds m K.OPEN k refl), k, complete-list (y ∷ ys) fuel (m + 1) j r (omega arith) f c)
 
   complete-cells : (xs : List Item) (i j : ℕ) → areSome kinds (isItem kinds) xs i j → getD kinds j 0 ≡ K.SEMICOLON → listOf cellItem (suc (length kinds)) kinds i ≡ ok xs j
-  complete-cells xs i j h s = complete-list (isItem kinds) cellItem (λ x i j. keep-item {kinds = kinds} {others = kinds} x .rises) complete-item xs (length kinds) i j h (omega arith) (isnt kinds j K.OPEN s refl) (isnt kinds j K.COMMA s refl)
+  complete-cells xs i j h s = complete-list (isItem kinds) cellItem (λ x i j. keep-item {kinds = kinds} {others = kinds} x .rises) complete-item xs
+      (length kinds) i j h (omega arith) (isnt kinds j K.OPEN s refl) (isnt kinds j K.COMMA s refl)
 
   complete-registers : (rs : List Register) (i j : ℕ) → areSome kinds (isRegister kinds) rs i j → getD kinds j 0 ≡ K.SEMICOLON → listOf registerItem (suc (length kinds)) kinds i ≡ ok rs j
-  complete-registers rs i j h s = complete-list (isRegister kinds) registerItem (λ x i j. keep-register {kinds = kinds} {others = kinds} x .rises) complete-register rs (length kinds) i j h (omega arith) (isnt kinds j K.OPEN s refl) (isnt kinds j K.COMMA s refl)
+  complete-registers rs i j h s = complete-list (isRegister kinds) registerItem (λ x i j.
+      keep-register {kinds = kinds} {others = kinds} x .rises) complete-register rs (length kinds) i j h (omega arith) (isnt kinds j K.OPEN s refl)
+      (isnt kinds j K.COMMA s refl)
 
   complete-type : (w : Width) (i j : ℕ) → isType kinds w i j → typeOf kinds i ≡ ok w j
   unfolding typeOf isType look andThen want wantOne
@@ -162,7 +167,12 @@ module _ (kinds : List ℕ) where
   complete-declaration (registers rs) i j (z, (r, hs)) s =
       rw (isnt-one kinds i integerOrLogical K.SEGMENT z refl, isnt-one kinds i integerOrLogical K.ARRAY z refl, complete-type full i (i + 1) (z, refl), r, complete-registers rs (i + 1 + 1) j hs s)
   complete-declaration (cells none w xs) i j (m, h, hs) s =
-      rw (isnt-one kinds i (K.INTEGER ∷ K.LOGICAL ∷ K.SHORT ∷ []) K.SEGMENT (type-first w i m h) refl, isnt-one kinds i (K.INTEGER ∷ K.LOGICAL ∷ K.SHORT ∷ []) K.ARRAY (type-first w i m h) refl, complete-type w i m h, complete-after-type w xs m j hs s)
+      rw (
+        isnt-one kinds i (K.INTEGER ∷ K.LOGICAL ∷ K.SHORT ∷ []) K.SEGMENT (type-first w i m h) refl,
+        isnt-one kinds i (K.INTEGER ∷ K.LOGICAL ∷ K.SHORT ∷ []) K.ARRAY (type-first w i m h) refl,
+        complete-type w i m h,
+        complete-after-type w xs m j hs s,
+      )
   complete-declaration (cells (some c) w xs) i j (a, (o, (e, n, (p, (m, h, hs))))) s = rw (a, o, n, p, complete-type w _ m h, e, complete-cells xs m j hs s)
   complete-declaration (base n) i j (a, (b, (e, h, q))) s = rw (a, b, h, e, q)
 
@@ -254,19 +264,26 @@ module _ (kinds : List ℕ) where
     unfolding statementOf constructOf look next andThen
     block-step i j b h e = rw (h, h, e)
 
-    if-then-step : (i m j : ℕ) (c : Condition) (s : Statement) → getD kinds i 0 ≡ K.IF → condition kinds (i + 1) ≡ ok c m → getD kinds m 0 ≡ K.THEN → inner kinds (m + 1) ≡ ok s j → has kinds j K.ELSE ≡ false → statementOf (constructOf inner proc) kinds i ≡ ok (ifThen i c s) j
+    if-then-step : (i m j : ℕ) (c : Condition) (s : Statement) → getD kinds i 0 ≡ K.IF → condition kinds (i + 1) ≡ ok c m → getD kinds m 0 ≡ K.THEN
+        → inner kinds (m + 1) ≡ ok s j → has kinds j K.ELSE ≡ false → statementOf (constructOf inner proc) kinds i ≡ ok (ifThen i c s) j
     unfolding statementOf constructOf ifOf look next andThen want
     if-then-step i m j c s h e t k n = rw (h, h, e, t, k, n)
 
-    if-else-step : (i m n j : ℕ) (c : Condition) (s u : Statement) → getD kinds i 0 ≡ K.IF → condition kinds (i + 1) ≡ ok c m → getD kinds m 0 ≡ K.THEN → inner kinds (m + 1) ≡ ok s n → member (getD kinds (m + 1) 0) compounds ≡ false → getD kinds n 0 ≡ K.ELSE → inner kinds (n + 1) ≡ ok u j → statementOf (constructOf inner proc) kinds i ≡ ok (ifElse i c s n u) j
+    if-else-step : (i m n j : ℕ) (c : Condition) (s u : Statement) → getD kinds i 0 ≡ K.IF → condition kinds (i + 1) ≡ ok c m → getD kinds m 0 ≡ K.THEN
+        → inner kinds (m + 1) ≡ ok s n → member (getD kinds (m + 1) 0) compounds ≡ false → getD kinds n 0 ≡ K.ELSE → inner kinds (n + 1) ≡ ok u j
+        → statementOf (constructOf inner proc) kinds i ≡ ok (ifElse i c s n u) j
     unfolding statementOf constructOf ifOf look next andThen want
     if-else-step i m n j c s u h e t k f l v = rw (h, h, e, t, k, f, l, v)
 
-    while-step : (i m j : ℕ) (c : Condition) (s : Statement) → getD kinds i 0 ≡ K.WHILE → condition kinds (i + 1) ≡ ok c m → getD kinds m 0 ≡ K.DO → inner kinds (m + 1) ≡ ok s j → statementOf (constructOf inner proc) kinds i ≡ ok (while i c s) j
+    while-step : (i m j : ℕ) (c : Condition) (s : Statement) → getD kinds i 0 ≡ K.WHILE → condition kinds (i + 1) ≡ ok c m → getD kinds m 0 ≡ K.DO
+        → inner kinds (m + 1) ≡ ok s j → statementOf (constructOf inner proc) kinds i ≡ ok (while i c s) j
     unfolding statementOf constructOf look next andThen want
     while-step i m j c s h e t k = rw (h, h, e, t, k)
 
-    for-step : (i m n j : ℕ) (a : Assignment) (l : Operand) (s : Statement) → getD kinds i 0 ≡ K.FOR → getD kinds (i + 1) 0 ≡ K.NAME → assignmentOf (i + 1) kinds (i + 1 + 1) ≡ ok a m → getD kinds m 0 ≡ K.STEP → getD kinds (m + 1) 0 ≡ K.NUMBER → getD kinds (m + 1 + 1) 0 ≡ K.UNTIL → operand kinds (m + 1 + 1 + 1) ≡ ok l n → getD kinds n 0 ≡ K.DO → inner kinds (n + 1) ≡ ok s j → statementOf (constructOf inner proc) kinds i ≡ ok (for i a (m + 1) l s) j
+    for-step : (i m n j : ℕ) (a : Assignment) (l : Operand) (s : Statement) → getD kinds i 0 ≡ K.FOR → getD kinds (i + 1) 0 ≡ K.NAME
+        → assignmentOf (i + 1) kinds (i + 1 + 1) ≡ ok a m → getD kinds m 0 ≡ K.STEP → getD kinds (m + 1) 0 ≡ K.NUMBER → getD kinds (m + 1 + 1) 0 ≡ K.UNTIL
+        → operand kinds (m + 1 + 1 + 1) ≡ ok l n → getD kinds n 0 ≡ K.DO → inner kinds (n + 1) ≡ ok s j
+        → statementOf (constructOf inner proc) kinds i ≡ ok (for i a (m + 1) l s) j
     unfolding statementOf constructOf look next andThen want
     for-step i m n j a l s h e p q r t u v w = rw (h, h, e, p, q, r, t, u, v, w)
 
@@ -274,20 +291,24 @@ module _ (kinds : List ℕ) where
     unfolding itemsOf look next andThen
     ended-step fuel i h = rw h
 
-    label-step : (fuel i j : ℕ) (xs : Items) → getD kinds i 0 ≡ K.NAME → getD kinds (i + 1) 0 ≡ K.COLON → itemsOf inner fuel kinds (i + 1 + 1) ≡ ok xs j → itemsOf inner (suc fuel) kinds i ≡ ok (label i xs) j
+    label-step : (fuel i j : ℕ) (xs : Items) → getD kinds i 0 ≡ K.NAME → getD kinds (i + 1) 0 ≡ K.COLON → itemsOf inner fuel kinds (i + 1 + 1) ≡ ok xs j
+        → itemsOf inner (suc fuel) kinds i ≡ ok (label i xs) j
     unfolding itemsOf look next andThen
     label-step fuel i j xs h c e = rw (h, c, e)
 
-    item-step : (fuel i m j : ℕ) (s : Statement) (xs : Items) → Named s i m ⊎ oneAt kinds i notNamed → inner kinds i ≡ ok s m → getD kinds m 0 ≡ K.SEMICOLON → itemsOf inner fuel kinds (m + 1) ≡ ok xs j → itemsOf inner (suc fuel) kinds i ≡ ok (item s xs) j
+    item-step : (fuel i m j : ℕ) (s : Statement) (xs : Items) → Named s i m ⊎ oneAt kinds i notNamed → inner kinds i ≡ ok s m → getD kinds m 0 ≡ K.SEMICOLON
+        → itemsOf inner fuel kinds (m + 1) ≡ ok xs j → itemsOf inner (suc fuel) kinds i ≡ ok (item s xs) j
     unfolding itemsOf Named look next andThen want
     item-step fuel i m j s xs (inl (h, c, e)) k p r = rw (h, c, e, p, r)
     item-step fuel i m j s xs (inr h) k p r = rw (isnt-one kinds i notNamed K.END h refl, isnt-one kinds i notNamed K.NAME h refl, k, p, r)
 
-    declare-step : (fuel i m j : ℕ) (d : Declaration) (b : Body) → oneAt kinds i declarators → declaration kinds i ≡ ok d m → getD kinds m 0 ≡ K.SEMICOLON → bodyOf inner proc fuel kinds (m + 1) ≡ ok b j → bodyOf inner proc (suc fuel) kinds i ≡ ok (declare d b) j
+    declare-step : (fuel i m j : ℕ) (d : Declaration) (b : Body) → oneAt kinds i declarators → declaration kinds i ≡ ok d m → getD kinds m 0 ≡ K.SEMICOLON
+        → bodyOf inner proc fuel kinds (m + 1) ≡ ok b j → bodyOf inner proc (suc fuel) kinds i ≡ ok (declare d b) j
     unfolding bodyOf look next andThen want
     declare-step fuel i m j d b h e s r = rw (h, e, s, r)
 
-    procedure-step : (fuel i m j : ℕ) (p : Procedure) (b : Body) → getD kinds i 0 ≡ K.PROCEDURE → proc kinds i ≡ ok p m → getD kinds m 0 ≡ K.SEMICOLON → bodyOf inner proc fuel kinds (m + 1) ≡ ok b j → bodyOf inner proc (suc fuel) kinds i ≡ ok (procedure (p .name) (p .return) (p .body) b) j
+    procedure-step : (fuel i m j : ℕ) (p : Procedure) (b : Body) → getD kinds i 0 ≡ K.PROCEDURE → proc kinds i ≡ ok p m → getD kinds m 0 ≡ K.SEMICOLON
+        → bodyOf inner proc fuel kinds (m + 1) ≡ ok b j → bodyOf inner proc (suc fuel) kinds i ≡ ok (procedure (p .name) (p .return) (p .body) b) j
     unfolding bodyOf look next andThen want
     procedure-step fuel i m j p b h e s r = rw (h, e, s, r)
 
@@ -342,7 +363,8 @@ module _ (kinds : List ℕ) where
   mutual
     unfolding statement isStatement nestingOf
 
-    complete-statement : (x : Statement) (room i j : ℕ) → isStatement kinds x i j → nestingOf x ≤ room → oneAt kinds j stops → (has kinds j K.ELSE ≡ true → simple x ≡ true) → statement room kinds i ≡ ok x j
+    complete-statement : (x : Statement) (room i j : ℕ) → isStatement kinds x i j → nestingOf x ≤ room → oneAt kinds j stops
+        → (has kinds j K.ELSE ≡ true → simple x ≡ true) → statement room kinds i ≡ ok x j
     complete-statement (assign a) room i j h n f g = in-any-room room i _ (λ c. name-step c _ i j (assignment-name a i j h) (complete-assign a i j h f))
     complete-statement (call t) room i j (e, h, q) n f g = rw (e, ← q, in-any-room room i _ (λ c. name-step c _ i (i + 1) h (complete-call i (rw (← q) at f))))
     complete-statement (goto t l) room i j (e, h, (y, z, q)) n f g = rw (e, y, ← q, in-any-room room i _ (λ c. goto-step c i h z))
@@ -351,16 +373,21 @@ module _ (kinds : List ℕ) where
     complete-statement (block t b) (suc room) i j (e, h, r) n f g = rw e (block-step _ _ i j b h (complete-body b room (suc (length kinds)) (i + 1) j r (omega arith) (omega arith)))
     complete-statement (ifThen t c s) zero i j h n f g = absurd (omega arith)
     complete-statement (ifThen t c s) (suc room) i j (e, h, (m, k, (d, r))) n f g =
-        rw e (if-then-step _ _ i m j c s h (complete-condition c (i + 1) m k (isnt kinds m K.OPEN d refl)) d (complete-statement s room (m + 1) j r (omega arith) f (λ z. never-true (g z))) (not-false-else (has kinds j K.ELSE) g))
+        rw e (if-then-step _ _ i m j c s h (complete-condition c (i + 1) m k (isnt kinds m K.OPEN d refl)) d
+        (complete-statement s room (m + 1) j r (omega arith) f (λ z. never-true (g z))) (not-false-else (has kinds j K.ELSE) g))
     complete-statement (ifElse t c s x u) zero i j h n f g = absurd (omega arith)
     complete-statement (ifElse t c s x u) (suc room) i j (e, h, (m, k, (d, (p, (y, r), (w, l, v))))) n f g =
-        rw (e, w) (if-else-step _ _ i m p j c s u h (complete-condition c (i + 1) m k (isnt kinds m K.OPEN d refl)) d (complete-statement s room (m + 1) p r (omega arith) (stop-else p l) (λ z. y)) (simple-first s (m + 1) p r y) l (complete-statement u room (p + 1) j v (omega arith) f (λ z. never-true (g z))))
+        rw (e, w) (if-else-step _ _ i m p j c s u h (complete-condition c (i + 1) m k (isnt kinds m K.OPEN d refl)) d
+        (complete-statement s room (m + 1) p r (omega arith) (stop-else p l) (λ z. y)) (simple-first s (m + 1) p r y) l
+        (complete-statement u room (p + 1) j v (omega arith) f (λ z. never-true (g z))))
     complete-statement (while t c s) zero i j h n f g = absurd (omega arith)
     complete-statement (while t c s) (suc room) i j (e, h, (m, k, (d, r))) n f g =
         rw e (while-step _ _ i m j c s h (complete-condition c (i + 1) m k (isnt kinds m K.OPEN d refl)) d (complete-statement s room (m + 1) j r (omega arith) f (λ z. never-true (g z))))
     complete-statement (for t a v l s) zero i j h n f g = absurd (omega arith)
     complete-statement (for t a v l s) (suc room) i j (e, h, (m, k, (x, (y, z, (u, (p, o, (d, r))))))) n f g =
-        rw (e, y) (for-step _ _ i m p j a l s h (assignment-name a (i + 1) m k) (complete-assignment a (i + 1) m k (isnt kinds m K.OPEN x refl) (rw x refl)) x z u (complete-operand l _ p o (isnt kinds p K.OPEN d refl)) d (complete-statement s room (p + 1) j r (omega arith) f (λ z. never-true (g z))))
+        rw (e, y) (for-step _ _ i m p j a l s h (assignment-name a (i + 1) m k)
+        (complete-assignment a (i + 1) m k (isnt kinds m K.OPEN x refl) (rw x refl)) x z u (complete-operand l _ p o (isnt kinds p K.OPEN d refl)) d
+        (complete-statement s room (p + 1) j r (omega arith) f (λ z. never-true (g z))))
 
     complete-body : (b : Body) (room fuel i j : ℕ) → isBody kinds b i j → bodyNesting b ≤ room → length kinds < fuel + i → bodyOf (statement room) (procedureOf room) fuel kinds i ≡ ok b j
     complete-body (declare d b) room zero i j h n l = absurd (let r = body-real (declare d b) i j h in omega arith)
@@ -383,7 +410,9 @@ module _ (kinds : List ℕ) where
     complete-items (item s xs) room zero i j h n l = absurd (let r = items-real (item s xs) i j h in omega arith)
     complete-items (item s xs) room (suc fuel) i j (m, h, (c, r)) n l =
         let le = keep-statement {kinds = kinds} {others = kinds} s .rises h in
-        item-step _ (procedureOf room) fuel i m j s xs (statement-first s i m h (stop-semicolon m c)) (complete-statement s room i m h (omega arith) (stop-semicolon m c) (no-else m s c refl)) c (complete-items xs room fuel (m + 1) j r (omega arith) (omega arith))
+        item-step _ (procedureOf room) fuel i m j s xs (statement-first s i m h (stop-semicolon m c))
+        (complete-statement s room i m h (omega arith) (stop-semicolon m c) (no-else m s c refl)) c
+        (complete-items xs room fuel (m + 1) j r (omega arith) (omega arith))
 
   -- ── "program = block @.", with any room ──
 

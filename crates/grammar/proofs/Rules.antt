@@ -132,7 +132,8 @@ module _ {kinds : List ℕ} (i : ℕ) where
   unfolding Each areTerms
   as-term = starts (λ _ o t a m h ts j hs. (refl, t, (m, h, hs)))
 
-  as-assignment : Leads (always isAssignment) kinds i (part designators (λ d. token K.BECOMES (λ t. part signs (λ s. part operands (λ a. part chains (λ ts. made (record { target = d; sign = s; first = a; rest = ts }))))))) i
+  as-assignment : Leads (always isAssignment) kinds i (part designators (λ d.
+      token K.BECOMES (λ t. part signs (λ s. part operands (λ a. part chains (λ ts. made (record { target = d; sign = s; first = a; rest = ts }))))))) i
   unfolding Each isAssignment
   as-assignment = starts (λ _ o d m h t s n hs a p ha ts j hts. (m, h, (t, (n, hs, (p, ha, hts)))))
 
@@ -301,7 +302,8 @@ module _ (kinds : List ℕ) where
   unfolding afterType isType andThen look next
   right-after-type i p short h = right-cells i p none short (leads-part (as-cells i) h)
   right-after-type i p full h = either (has kinds p K.REGISTER) _ _ _
-      (λ r. reads _ (leads-token (rw (h .1) at (leads-one {kinds = kinds} (as-registers i) (h .0))) (eqb-true _ _ r)) (right-list registerItems kinds _ (right-register kinds) (length kinds) (p + 1) (omega arith)) (λ rs j hs. gives))
+      (λ r. reads _ (leads-token (rw (h .1) at (leads-one {kinds = kinds} (as-registers i) (h .0))) (eqb-true _ _ r))
+      (right-list registerItems kinds _ (right-register kinds) (length kinds) (p + 1) (omega arith)) (λ rs j hs. gives))
       (λ r. right-cells i p none full (leads-part (as-cells i) h))
 
   right-declaration : (i : ℕ) → Right (always isDeclaration) kinds i (declaration kinds i)
@@ -365,7 +367,9 @@ bodies room = record {
 }
 
 module _ {kinds : List ℕ} (room i : ℕ) where
-  as-procedure : Leads (procedureIn (suc room)) kinds i (token K.PROCEDURE (λ t. token K.NAME (λ n. parens K.NAME (λ r. token K.SEMICOLON (λ c. part (statements room) (λ s. made (record { name = n; return = r; body = s }))))))) i
+  as-procedure : Leads (procedureIn (suc room)) kinds i
+      (token K.PROCEDURE (λ t. token K.NAME (λ n. parens K.NAME (λ r.
+      token K.SEMICOLON (λ c. part (statements room) (λ s. made (record { name = n; return = r; body = s }))))))) i
   unfolding Each
   as-procedure = starts (λ d o t n p r q c s j (m, h). (omega arith, (t, (refl, n, (p, (refl, r, (q, (c, h))))))))
 
@@ -402,7 +406,9 @@ module _ {kinds : List ℕ} (room i : ℕ) where
   unfolding Each isStatement nestingOf
   as-while = starts (λ d o t c m h e s j (n, hs). (omega arith, (refl, t, (m, h, (e, hs)))))
 
-  as-for : Leads (statementIn (suc room)) kinds i (token K.FOR (λ t. part assignments (λ a. token K.STEP (λ x. token K.NUMBER (λ v. token K.UNTIL (λ y. part operands (λ l. token K.DO (λ z. part (statements room) (λ s. made (for t a v l s)))))))))) i
+  as-for : Leads (statementIn (suc room)) kinds i (token K.FOR (λ t.
+      part assignments (λ a. token K.STEP (λ x. token K.NUMBER (λ v.
+      token K.UNTIL (λ y. part operands (λ l. token K.DO (λ z. part (statements room) (λ s. made (for t a v l s)))))))))) i
   unfolding Each isStatement nestingOf
   as-for = starts (λ d o t a m h x v y l n hl z s j (r, hs). (omega arith, (refl, t, (m, h, (x, (refl, v, (y, (n, hl, (z, hs)))))))))
 
@@ -449,7 +455,8 @@ simples room = record {
 }
 
 module _ {kinds : List ℕ} (room i : ℕ) where
-  as-if-else : Leads (statementIn (suc room)) kinds i (token K.IF (λ t. part conditions (λ c. token K.THEN (λ h. part (simples room) (λ s. token K.ELSE (λ e. part (statements room) (λ u. made (ifElse t c s e u)))))))) i
+  as-if-else : Leads (statementIn (suc room)) kinds i (token K.IF (λ t.
+      part conditions (λ c. token K.THEN (λ h. part (simples room) (λ s. token K.ELSE (λ e. part (statements room) (λ u. made (ifElse t c s e u)))))))) i
   unfolding Each isStatement nestingOf
   as-if-else = starts (λ d o t c m h e s n (p, hs) x u j (q, hu). (omega arith, (refl, t, (m, h, (e, (n, hs, (refl, x, hu)))))))
 
@@ -483,7 +490,9 @@ module _ (kinds : List ℕ) where
   -- readers in a construct, of which those for what stands inside it are right
   module _ (room : ℕ) (inner : Reader Statement) (right-inner : (i : ℕ) → Right (statementIn room) kinds i (inner kinds i)) where
     -- "statement ;" and the rest of a block
-    right-rest : (i p : ℕ) (s : Statement) (rest : Reader Items) → ((j : ℕ) → Right (itemsIn room) kinds j (rest kinds j)) → Leads (itemsIn room) kinds i (token K.SEMICOLON (λ c. part (itemLists room) (λ xs. made (item s xs)))) p → Right (itemsIn room) kinds i (andThen (want K.SEMICOLON kinds p) (λ c j. andThen (rest kinds j) (λ xs k. ok (item s xs) k)))
+    right-rest : (i p : ℕ) (s : Statement) (rest : Reader Items) → ((j : ℕ) → Right (itemsIn room) kinds j (rest kinds j))
+        → Leads (itemsIn room) kinds i (token K.SEMICOLON (λ c. part (itemLists room) (λ xs. made (item s xs)))) p
+        → Right (itemsIn room) kinds i (andThen (want K.SEMICOLON kinds p) (λ c j. andThen (rest kinds j) (λ xs k. ok (item s xs) k)))
     right-rest i p s rest right l = wants _ l (λ c l. reads _ l (right (p + 1)) (λ xs j h. gives))
 
     right-items : (fuel i : ℕ) → Right (itemsIn room) kinds i (itemsOf inner fuel kinds i)
@@ -503,7 +512,10 @@ module _ (kinds : List ℕ) where
     right-if i m c f h t =
         reads _ (leads-token (leads-part (leads-token (as-if-then room i) f) h) t) (right-inner (m + 1)) (λ s n hs l. either (has kinds n K.ELSE && not (member (getD kinds (m + 1) 0) compounds)) _ _ _
         (λ e. let (x, y) = both _ _ e in
-        reads _ (leads-token (leads-part (leads-token (leads-part (leads-token (as-if-else room i) f) h) t) (hs .0, (simple-begin kinds s (m + 1) n (hs .1) (not-true _ y), hs .1))) (eqb-true _ _ x)) (right-inner (n + 1)) (λ u j hu. gives))
+        reads _ (leads-token (leads-part (leads-token (leads-part (leads-token (as-if-else room i) f) h) t) (
+          hs .0,
+          (simple-begin kinds s (m + 1) n (hs .1) (not-true _ y), hs .1),
+        )) (eqb-true _ _ x)) (right-inner (n + 1)) (λ u j hu. gives))
         (λ e. gives l))
 
     -- the reader of a procedure, wherever PROCEDURE stands, is right as the beginning of what follows BEGIN
@@ -532,15 +544,27 @@ module _ (kinds : List ℕ) where
   -- refusal 5: without the word something could stand there, and with it one construct more
   module _ (i : ℕ) where
     opens : member (getD kinds i 0) openers ≡ true → Begins (statementIn 1 0) kinds i (i + 1)
-    opens o = each (λ k. getD kinds i 0 ≡ k → Begins (statementIn 1 0) kinds i (i + 1)) openers
-        ((λ e. leads-begins 0 (leads-token (as-block 0 i) e)), ((λ e. leads-begins 0 (leads-token (as-if-then 0 i) e)), ((λ e. leads-begins 0 (leads-token (as-while 0 i) e)), ((λ e. leads-begins 0 (leads-token (as-for 0 i) e)), tt))))
+    opens o = each (λ k. getD kinds i 0 ≡ k → Begins (statementIn 1 0) kinds i (i + 1)) openers (
+      (λ e. leads-begins 0 (leads-token (as-block 0 i) e)),
+      (
+        (λ e. leads-begins 0 (leads-token (as-if-then 0 i) e)),
+        ((λ e. leads-begins 0 (leads-token (as-while 0 i) e)), ((λ e. leads-begins 0 (leads-token (as-for 0 i) e)), tt)),
+      ),
+    )
         (getD kinds i 0) o refl
 
     too-deep : member (getD kinds i 0) openers ≡ true → Right (statementIn 0) kinds i (bad 5 i)
     too-deep o = record {
       right = record {
         onward = omega arith;
-        why = inr (refl, record { before = leads-begins 0 (as-null 0 i); there = opens o; word = each (λ k. member k constructs ≡ true) openers (refl, (refl, (refl, (refl, tt)))) (getD kinds i 0) o });
+        why = inr (
+          refl,
+          record {
+            before = leads-begins 0 (as-null 0 i);
+            there = opens o;
+            word = each (λ k. member k constructs ≡ true) openers (refl, (refl, (refl, (refl, tt)))) (getD kinds i 0) o;
+          },
+        );
       };
     }
 
@@ -548,7 +572,14 @@ module _ (kinds : List ℕ) where
     procedure-too-deep e = record {
       right = record {
         onward = omega arith;
-        why = inr (refl, record { before = leads-begins 0 (as-no-declaration 0 i); there = part-begins 0 (as-procedure-declared 0 i) (omega arith) (leads-begins 0 (leads-token (as-procedure 0 i) e)); word = rw e });
+        why = inr (
+          refl,
+          record {
+            before = leads-begins 0 (as-no-declaration 0 i);
+            there = part-begins 0 (as-procedure-declared 0 i) (omega arith) (leads-begins 0 (leads-token (as-procedure 0 i) e));
+            word = rw e;
+          },
+        );
       };
     }
 
@@ -559,7 +590,9 @@ module _ (kinds : List ℕ) where
     right-statement zero i = right-statement-of zero _ i (too-deep i)
     right-statement (suc room) i = right-statement-of (suc room) _ i (right-construct room (statement room) (λ j. right-statement room j) (procedureOf room) (λ j h f k. right-procedure room j h f k) i)
 
-    right-procedure : (room i : ℕ) → getD kinds i 0 ≡ K.PROCEDURE → (f : Procedure → ℕ → Result Body) → ((p : Procedure) (m : ℕ) → Leads (bodyIn room) kinds i (afterProcedure room p) m → Right (bodyIn room) kinds i (f p m)) → Right (bodyIn room) kinds i (andThen (procedureOf room kinds i) f)
+    right-procedure : (room i : ℕ) → getD kinds i 0 ≡ K.PROCEDURE → (f : Procedure → ℕ → Result Body)
+        → ((p : Procedure) (m : ℕ) → Leads (bodyIn room) kinds i (afterProcedure room p) m → Right (bodyIn room) kinds i (f p m))
+        → Right (bodyIn room) kinds i (andThen (procedureOf room kinds i) f)
     right-procedure zero i h f k = procedure-too-deep i h
     right-procedure (suc room) i h f k = reads f (as-procedure-declared room i)
         (wants _ (leads-token (as-procedure room i) h) (λ n l. wants-parens _ l (λ l. wants _ l (λ c l. reads _ l (right-statement room (i + 1 + 1 + 1 + 1 + 1 + 1)) (λ s j hs. gives)))))
@@ -593,7 +626,9 @@ module _ (kinds : List ℕ) where
   unfolding statement statementOf constructOf andThen look next
   right-block room i h = either (member (getD kinds i 0) openers) _ _ _
       (λ o. either (has kinds i K.BEGIN) _ _ _
-      (λ b. reads _ (leads-token (as-whole-block room i) h) (right-body kinds room (statement room) (right-statement kinds room) (procedureOf room) (right-procedure kinds room) (suc (length kinds)) (i + 1)) (λ x j hx. gives))
+      (λ b. reads _ (leads-token (as-whole-block room i) h)
+      (right-body kinds room (statement room) (right-statement kinds room) (procedureOf room) (right-procedure kinds room) (suc (length kinds)) (i + 1))
+      (λ x j hx. gives))
       (λ b. never-true (sym b ∙ eq-eqb _ _ h)))
       (λ o. never-true (sym o ∙ rw h))
 

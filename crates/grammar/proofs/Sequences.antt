@@ -244,11 +244,13 @@ module _ {A : Type 0} {is : (d : ℕ) → List ℕ → A → Part} {kinds : List
   unfolding andThen want
   needs {p} k f l h = cases (eqb (getD kinds p 0) k) (λ e. rw e (h (eqb-true _ _ e))) (λ e. rw e (refuses l))
 
-  pub wants : {k : ℕ} {s : ℕ → Sequence A} {p : ℕ} (f : ℕ → ℕ → Result A) → Leads is kinds i (token k s) p → (getD kinds p 0 ≡ k → Leads is kinds i (s p) (p + 1) → Right is kinds i (f p (p + 1))) → Right is kinds i (andThen (want k kinds p) f)
+  pub wants : {k : ℕ} {s : ℕ → Sequence A} {p : ℕ} (f : ℕ → ℕ → Result A) → Leads is kinds i (token k s) p
+      → (getD kinds p 0 ≡ k → Leads is kinds i (s p) (p + 1) → Right is kinds i (f p (p + 1))) → Right is kinds i (andThen (want k kinds p) f)
   wants {k} f l h = needs k f l (λ e. h e (leads-token l e))
 
   -- a token of one of the kinds; whatever leads to the whole here begins it
-  pub wants-one : {s : Sequence A} {p : ℕ} (ks : List ℕ) (f : ℕ → ℕ → Result A) → Leads is kinds i s p → (member (getD kinds p 0) ks ≡ true → Right is kinds i (f p (p + 1))) → Right is kinds i (andThen (wantOne ks kinds p) f)
+  pub wants-one : {s : Sequence A} {p : ℕ} (ks : List ℕ) (f : ℕ → ℕ → Result A) → Leads is kinds i s p
+      → (member (getD kinds p 0) ks ≡ true → Right is kinds i (f p (p + 1))) → Right is kinds i (andThen (wantOne ks kinds p) f)
   unfolding andThen wantOne
   wants-one {p} ks f l h = cases (member (getD kinds p 0) ks) (λ e. rw e (h e)) (λ e. rw e (refuses l))
 
@@ -261,11 +263,13 @@ module _ {A : Type 0} {is : (d : ℕ) → List ℕ → A → Part} {kinds : List
   unfolding andThen
   given f h = h
 
-  pub wants-parens : {k : ℕ} {s : ℕ → Sequence A} {p : ℕ} (f : ℕ → ℕ → Result A) → Leads is kinds i (parens k s) p → (Leads is kinds i (s (p + 1)) (p + 1 + 1 + 1) → Right is kinds i (f (p + 1) (p + 1 + 1 + 1))) → Right is kinds i (andThen (inParens k kinds p) f)
+  pub wants-parens : {k : ℕ} {s : ℕ → Sequence A} {p : ℕ} (f : ℕ → ℕ → Result A) → Leads is kinds i (parens k s) p
+      → (Leads is kinds i (s (p + 1)) (p + 1 + 1 + 1) → Right is kinds i (f (p + 1) (p + 1 + 1 + 1))) → Right is kinds i (andThen (inParens k kinds p) f)
   wants-parens f l h = nested _ _ _ (wants _ l (λ o l1. nested _ _ _ (wants _ l1 (λ t l2. nested _ _ _ (wants _ l2 (λ c l3. given _ (h l3)))))))
 
   -- a part's reader, and then another
-  pub reads : {B : Type 0} {b : Rule B} {s : B → Sequence A} {p : ℕ} {r : Result B} (f : B → ℕ → Result A) → Leads is kinds i (part b s) p → Right (b .is) kinds p r → ((a : B) (m : ℕ) → b .is 0 kinds a p m → Leads is kinds i (s a) m → Right is kinds i (f a m)) → Right is kinds i (andThen r f)
+  pub reads : {B : Type 0} {b : Rule B} {s : B → Sequence A} {p : ℕ} {r : Result B} (f : B → ℕ → Result A) → Leads is kinds i (part b s) p
+      → Right (b .is) kinds p r → ((a : B) (m : ℕ) → b .is 0 kinds a p m → Leads is kinds i (s a) m → Right is kinds i (f a m)) → Right is kinds i (andThen r f)
   unfolding andThen
   reads {r = ok a m} f l h k = k a m (h .right) (leads-part l (h .right))
   reads {r = bad n t} f l h k = record { right = part-refused l (h .right) }

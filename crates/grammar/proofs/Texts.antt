@@ -94,13 +94,15 @@ module _ (kinds : List ℕ) (j : ℕ) where
   sign d (neg n) p k i m h t = put (phrase (signed d (neg n))) p k i m tt h (up (keep-sign (neg n)) h) t
   sign d (negAbs n) p k i m h t = put (phrase (signed d (negAbs n))) p k i m tt h (up (keep-sign (negAbs n)) h) t
 
-  assignment : (f : Phrase) (a : Assignment) (p : Place) (k : List Event) (i m : ℕ) → ((u v : ℕ) → isDesignator kinds (a .target) u v → isEvent kinds (phrase f) u v) → isAssignment kinds a i m → Text kinds k p m j
+  assignment : (f : Phrase) (a : Assignment) (p : Place) (k : List Event) (i m : ℕ)
+      → ((u v : ℕ) → isDesignator kinds (a .target) u v → isEvent kinds (phrase f) u v) → isAssignment kinds a i m → Text kinds k p m j
       → Text kinds (phrase f ∷ eventsChain a k) p i j
   unfolding isAssignment eventsChain
   assignment f a p k i m g (n, h, (z, (v, hs, (w, ho, ht)))) t =
       let l = up (keep-designator (a .target)) h in
       put (phrase f) p _ i n tt (g i n h) l
-      (sooner _ _ _ _ (omega arith) (sign (a .target) (a .sign) p _ _ v hs (put (phrase (given (a .target) (a .first))) p _ v w tt ho (up (keep-operand (a .first)) ho) (terms (a .target) (a .rest) p k w m ht t))))
+      (sooner _ _ _ _ (omega arith) (sign (a .target) (a .sign) p _ _ v hs
+      (put (phrase (given (a .target) (a .first))) p _ v w tt ho (up (keep-operand (a .first)) ho) (terms (a .target) (a .rest) p k w m ht t))))
 
   condition : (t : ℕ) (c : Condition) (p : Place) (k : List Event) (i m : ℕ) → t ≡ i → isCondition kinds c (i + 1) m → Text kinds k p (m + 1) j → Text kinds (phrase (tested t c) ∷ k) p i j
   condition t c p k i m e h g =
@@ -148,7 +150,8 @@ module _ (kinds : List ℕ) (j : ℕ) where
         (statement x _ _ _ v h (put (edge (left n)) _ _ v v refl refl (omega arith) (sooner _ _ _ _ (omega arith) (bodied y _ p k (v + 1) m e hs f))))
     bodied (items is) b p k i m e h f = listing is b p k i m e h f
 
-    listing : (is : Items) (b : Block) (p : Place) (k : List Event) (i m : ℕ) → labelsOnto is (b .set) ≡ b .labels → isItems kinds is i m → Ended k b p m → Text kinds (eventsItems is k) (within b ∷ p) i j
+    listing : (is : Items) (b : Block) (p : Place) (k : List Event) (i m : ℕ) → labelsOnto is (b .set) ≡ b .labels → isItems kinds is i m → Ended k b p m
+        → Text kinds (eventsItems is k) (within b ∷ p) i j
     listing ended b p k i m e (y, h) f = sooner k _ _ _ (omega arith) (f b refl e)
     listing (label l is) b p k i m e (q, y, (c, h)) f = put (route (labelled l)) _ _ i (i + 1 + 1) tt (q, y, (c, refl)) (omega arith) (listing is _ p k _ m e h f)
     listing (item x is) b p k i m e (n, h, (s, hs)) f = statement x _ _ i n h (sooner _ _ _ _ (omega arith) (listing is b p k (n + 1) m e hs f))

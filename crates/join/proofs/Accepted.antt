@@ -19,34 +19,34 @@ use Rattle.grammar.proofs.Places.{along-with}
 use Rattle.grammar.proofs.Texts.{program-text}
 use Rattle.grammar.proofs.Theorems.{read-is-program, program-inside}
 use Rattle.grammar.proofs.Contexts.{program-coherent}
-use Rattle.names.specs.declared.Broken.{Broken}
-use Rattle.names.specs.Broken.{unbroken}
-use Rattle.names.specs.Search.{inFront, firstToken, find}
-use Rattle.names.specs.Names.{Named}
-use Rattle.names.specs.Labels.{Labelled, labelsIn}
-use Rattle.names.specs.Found.{Found, Led}
-use Rattle.names.proofs.Joins.{quiet-left, quiet-right}
-use Rattle.names.proofs.Bound as B
-use Rattle.names.proofs.Bound.{by-search, Bound}
-use Rattle.names.proofs.Led.{bound-names, LabelFound, labels-found}
-use Rattle.names.proofs.Early.{Early, found-early}
-use Rattle.kinds.specs.Registers.{sixteen, noRegisters, Registers}
-use Rattle.kinds.specs.Meaning.{Meaning, nothing, register, cell, Cell}
-use Rattle.kinds.specs.Meanings.{Filled, Meant, standard}
-use Rattle.kinds.specs.Tables.{Tables, meaningAt}
-use Rattle.kinds.proofs.Small.{Small, meant-small, standard-small}
-use Rattle.kinds.proofs.Known.{Known, Held}
-use Rattle.kinds.proofs.Stays.{stays-text}
-use Rattle.kinds.proofs.Unbroken.{Unbroken}
-use Rattle.kinds.proofs.Told.{Told, told-text}
-use Rattle.translator.specs.Core.{Core, coreStatement}
-use Rattle.translator.specs.Code.{instructions}
-use Rattle.translator.specs.Layout.{Layout, layout, placeCells, offsetOf}
-use Rattle.translator.specs.Translate.{kindsOf, valuesOf, named, labelled as labelledBy, meant, tablesOf, make}
-use Rattle.translator.proofs.Rooms.{CellAt, cell-at}
-use Rattle.translator.proofs.Tables.{length-map, accepted-names, accepted-labels}
-use Rattle.translator.proofs.Answers.{Accepted}
-use Rattle.translator.proofs.Objects as O
+use Rattle.scopes.specs.declared.Broken.{Broken}
+use Rattle.scopes.specs.Broken.{unbroken}
+use Rattle.scopes.specs.Search.{inFront, firstToken, find}
+use Rattle.scopes.specs.Names.{Named}
+use Rattle.scopes.specs.Labels.{Labelled, labelsIn}
+use Rattle.scopes.specs.Found.{Found, Led}
+use Rattle.scopes.proofs.Joins.{quiet-left, quiet-right}
+use Rattle.scopes.proofs.Bound as B
+use Rattle.scopes.proofs.Bound.{by-search, Bound}
+use Rattle.scopes.proofs.Led.{bound-names, LabelFound, labels-found}
+use Rattle.scopes.proofs.Early.{Early, found-early}
+use Rattle.static_rules.specs.Registers.{sixteen, noRegisters, Registers}
+use Rattle.static_rules.specs.Meaning.{Meaning, nothing, register, cell, Cell}
+use Rattle.static_rules.specs.Meanings.{Filled, Meant, standard}
+use Rattle.static_rules.specs.Tables.{Tables, meaningAt}
+use Rattle.static_rules.proofs.Small.{Small, meant-small, standard-small}
+use Rattle.static_rules.proofs.Known.{Known, Held}
+use Rattle.static_rules.proofs.Stays.{stays-text}
+use Rattle.static_rules.proofs.Unbroken.{Unbroken}
+use Rattle.static_rules.proofs.Told.{Told, told-text}
+use Rattle.translation.specs.Core.{Core, coreStatement}
+use Rattle.translation.specs.Code.{instructions}
+use Rattle.translation.specs.Layout.{Layout, layout, placeCells, offsetOf}
+use Rattle.translation.specs.Translate.{kindsOf, valuesOf, named, labelled as labelledBy, meant, tablesOf, make}
+use Rattle.translation.proofs.Rooms.{CellAt, cell-at}
+use Rattle.translation.proofs.Tables.{length-map, accepted-names, accepted-labels}
+use Rattle.translation.proofs.Answers.{Accepted}
+use Rattle.translation.proofs.Objects as O
 use Rattle.join.specs.Points.{start}
 use Rattle.join.proofs.Safe.{Safe}
 use Rattle.join.proofs.Rules.{Bare, Leads, Fact, safe-program}

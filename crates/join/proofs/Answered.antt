@@ -16,7 +16,7 @@ use Rattle.token.specs.Text.{tokensOf}
 use Rattle.grammar.specs.Tree.{Statement, full}
 use Rattle.grammar.specs.Grammar as G
 use Rattle.grammar.proofs.Theorems.{read-is-program}
-use Rattle.names.specs.Search.{inFront, firstToken}
+use Rattle.scopes.specs.Search.{inFront, firstToken}
 use Rattle.machine.specs.Space.{room, origin, needed}
 use Rattle.machine.specs.Step.{Cpu, cpu, atEnd, noInstruction, forbidden, misaligned}
 use Rattle.machine.specs.Run.{Result, budgetUsed, run}
@@ -25,14 +25,14 @@ use Rattle.runner.specs.Load.{loaded, spaceOf, started}
 use Rattle.runner.specs.Runner as R
 use Rattle.runner.specs.Runner.{Outcome, runner}
 use Rattle.runner.proofs.Forms.{runner-read}
-use Rattle.translator.specs.Instructions.{Instruction, stop, sizes}
-use Rattle.translator.specs.Core.{Core, coreStatement}
-use Rattle.translator.specs.Code.{instructions}
-use Rattle.translator.specs.Layout.{layout}
-use Rattle.translator.specs.Translate.{make, kindsOf}
-use Rattle.translator.proofs.Rooms.{round-up}
-use Rattle.translator.proofs.Answers.{Accepted}
-use Rattle.translator.proofs.Objects.{few, fitting, accepted-object, accepted-read}
+use Rattle.translation.specs.Instructions.{Instruction, stop, sizes}
+use Rattle.translation.specs.Core.{Core, coreStatement}
+use Rattle.translation.specs.Code.{instructions}
+use Rattle.translation.specs.Layout.{layout}
+use Rattle.translation.specs.Translate.{make, kindsOf}
+use Rattle.translation.proofs.Rooms.{round-up}
+use Rattle.translation.proofs.Answers.{Accepted}
+use Rattle.translation.proofs.Objects.{few, fitting, accepted-object, accepted-read}
 use Rattle.join.specs.Writes.{writes}
 use Rattle.join.specs.Points.{Within, Placed}
 use Rattle.join.specs.Operands.{Named, Indexed}

@@ -4,9 +4,9 @@ use mathlib.Core.List.{List}
 use mathlib.Core.Option.{none, some}
 use Prim.Native.Nat.{ℕ, _+_, _%_, _^_}
 use Rattle.base.specs.Lists.{_∈_}
-use Rattle.kinds.specs.Meaning.{Based}
+use Rattle.static_rules.specs.Meaning.{Based}
 use Rattle.machine.specs.Space.{origin}
-use Rattle.translator.specs.Instructions.{link}
+use Rattle.translation.specs.Instructions.{link}
 use Rattle.join.specs.Points.{Within, Point, Placed}
 use Rattle.join.proofs.Safe.{Guarded}
 use Rattle.join.proofs.Flows.{Calls}

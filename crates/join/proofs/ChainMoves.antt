@@ -6,8 +6,8 @@ use mathlib.Core.Option.{Option, none, some}
 use Prim.Native.Nat.{ℕ, _+_, _%_, _^_}
 use native.Mathlib.Omega.{arith}
 use Rattle.base.specs.Lists.{_∈_}
-use Rattle.kinds.specs.Meaning.{Based}
-use Rattle.translator.specs.Instructions.{link}
+use Rattle.static_rules.specs.Meaning.{Based}
+use Rattle.translation.specs.Instructions.{link}
 use Rattle.join.specs.Points.{Within, Writes, Point, Placed}
 use Rattle.join.proofs.Safe.{Spared, Counted, Guarded}
 use Rattle.join.proofs.Flows.{Under, Good, Enters, Calls}

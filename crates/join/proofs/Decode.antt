@@ -9,7 +9,7 @@ use Rattle.machine.specs.Instructions.{shortKind, longKind}
 use Rattle.machine.specs.Step.{Cpu, Stepped, stepped, address, shortBy, longBy, step}
 use Rattle.machine.specs.Operands.{operandAddress}
 use Rattle.machine.proofs.Effects.{step-short, step-long}
-use Rattle.translator.specs.Bytes.{twoBytes, fourBytes}
+use Rattle.translation.specs.Bytes.{twoBytes, fourBytes}
 
 -- the bytes bs stand in storage from a place
 abbrev pub StandAt : List ℕ → ℕ → List ℕ → Type 0

@@ -11,14 +11,14 @@ use borrow.Author.Tests.{eqb-false}
 use Rattle.base.specs.Choose.{if_then_else_}
 use Rattle.base.specs.Lists.{_∈_, _⊆_, All}
 use Rattle.base.proofs.Lists.{all-both, all-first, all-last, all-map, all-of}
-use Rattle.kinds.specs.Registers.{Registers}
-use Rattle.kinds.specs.Meaning.{Based}
-use Rattle.kinds.specs.Meanings.{dataBase}
-use Rattle.kinds.specs.Rules.{protected}
-use Rattle.translator.specs.Instructions.{element, literal, entry, Instruction, rr, rx, shift, branch, link, stop, size, sizes, opcode, addRow, always}
-use Rattle.translator.specs.Core.{Core, skip, run, seq, mark, scope, jump, call, procedure, base, when, either, loop, count}
-use Rattle.translator.specs.Code.{Mark, own, markAt, sizeOf}
-use Rattle.translator.specs.Layout.{Layout}
+use Rattle.static_rules.specs.Registers.{Registers}
+use Rattle.static_rules.specs.Meaning.{Based}
+use Rattle.static_rules.specs.Meanings.{dataBase}
+use Rattle.static_rules.specs.Rules.{protected}
+use Rattle.translation.specs.Instructions.{element, literal, entry, Instruction, rr, rx, shift, branch, link, stop, size, sizes, opcode, addRow, always}
+use Rattle.translation.specs.Core.{Core, skip, run, seq, mark, scope, jump, call, procedure, base, when, either, loop, count}
+use Rattle.translation.specs.Code.{Mark, own, markAt, sizeOf}
+use Rattle.translation.specs.Layout.{Layout}
 use Rattle.join.specs.Points.{Within, Point, start, withBase, inBody, procedureOf, Placed, programSegment, here, line, placed, program}
 use Rattle.join.proofs.Safe.{KeptBase, Guarded, Plain, Basing, Routine, first, Callable, labelsOf, Safe}
 use Rattle.join.proofs.Flows.{Good, Enters, Calls, Goes, Flows}

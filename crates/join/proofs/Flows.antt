@@ -5,9 +5,9 @@ use mathlib.Core.List.{List}
 use mathlib.Core.Option.{some}
 use Prim.Native.Nat.{ℕ, _+_, _<_}
 use Rattle.base.specs.Lists.{_∈_, _⊆_}
-use Rattle.kinds.specs.Meaning.{Based}
-use Rattle.translator.specs.Instructions.{element, literal, entry, Instruction, rr, rx, shift, branch, link, stop, size, opcode, loadRow, always}
-use Rattle.translator.specs.Layout.{Layout}
+use Rattle.static_rules.specs.Meaning.{Based}
+use Rattle.translation.specs.Instructions.{element, literal, entry, Instruction, rr, rx, shift, branch, link, stop, size, opcode, loadRow, always}
+use Rattle.translation.specs.Layout.{Layout}
 use Rattle.join.specs.Points.{Within, Writes, Point, withBase, Placed}
 use Rattle.join.proofs.Safe.{Spared, Counted, Guarded, Plain, Basing}
 

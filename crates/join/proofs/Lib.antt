@@ -1,3 +1,4 @@
+-- The files of this crate's proofs.
 pub mod Placement
 pub mod Safe
 pub mod Flows

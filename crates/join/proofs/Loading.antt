@@ -5,8 +5,8 @@ use mathlib.Core.Bool.{true, false}
 use Prim.Native.Nat.{ℕ, _+_, _*_, _%_, _<_, _≤_}
 use lib.ListN.{length}
 use Rattle.machine.specs.Space.{Space, origin, room, readable, writable}
-use Rattle.translator.specs.Layout.{Layout, tableBytes, cellsEnd, literalsEnd}
-use Rattle.translator.proofs.Rooms.{startOf}
+use Rattle.translation.specs.Layout.{Layout, tableBytes, cellsEnd, literalsEnd}
+use Rattle.translation.proofs.Rooms.{startOf}
 
 -- the map m of a program of these many bytes, with n base declarations and the layout l
 pub record Mapped (n : ℕ) (l : Layout) (program : ℕ) (m : Space) : Type 0 where

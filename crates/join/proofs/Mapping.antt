@@ -12,12 +12,12 @@ use borrow.Author.Tests.{le-leb, lt-leb, ne-eqb}
 use Rattle.objtext.specs.Object.{Segment, program, cells}
 use Rattle.machine.specs.Space.{Space, room, origin, readable, writable}
 use Rattle.runner.specs.Load.{endOf, fromOf, toOf, spaceOf}
-use Rattle.translator.specs.Instructions.{Instruction}
-use Rattle.translator.specs.Layout.{Layout, tableBytes, cellsEnd, literalsEnd}
-use Rattle.translator.specs.Bytes.{encodeAll}
-use Rattle.translator.specs.Image.{fill, words, endOfFirst, firstData, dataOf, dataFrom, segments}
-use Rattle.translator.proofs.Rooms.{startOf}
-use Rattle.translator.proofs.Images.{Fitting, fill-length, end-first}
+use Rattle.translation.specs.Instructions.{Instruction}
+use Rattle.translation.specs.Layout.{Layout, tableBytes, cellsEnd, literalsEnd}
+use Rattle.translation.specs.Bytes.{encodeAll}
+use Rattle.translation.specs.Image.{fill, words, endOfFirst, firstData, dataOf, dataFrom, segments}
+use Rattle.translation.proofs.Rooms.{startOf}
+use Rattle.translation.proofs.Images.{Fitting, fill-length, end-first}
 use Rattle.join.proofs.Loading.{Mapped}
 
 -- ── a place in segment k ──

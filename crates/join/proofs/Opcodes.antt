@@ -11,14 +11,14 @@ use borrow.Author.Tests.{eqb-true}
 use Rattle.base.specs.Lists.{_∈_}
 use Rattle.base.specs.Runs.{runLen, indexOf}
 use Rattle.token.specs.Kinds as K
-use Rattle.kinds.specs.Rules.{shifts, fullOnly}
+use Rattle.static_rules.specs.Rules.{shifts, fullOnly}
 use Rattle.machine.specs.declared.Fun.{Fun}
 use Rattle.machine.specs.declared.Fun.the-variants.{Load, Add, Subtract, AddLogical, SubtractLogical, And, Or, ExclusiveOr, Compare, Positive, Negative, Complement, MultiplyHalf}
 use Rattle.machine.specs.declared.Shift.{Shift}
 use Rattle.machine.specs.declared.Shift.the-variants.{RightLogical, LeftLogical, Right, Left}
 use Rattle.machine.specs.Instructions as M
 use Rattle.machine.specs.Instructions.{applies, appliesTo, shortKind, longKind}
-use Rattle.translator.specs.Instructions.{rowKinds, rowOf, opcode, shiftCode}
+use Rattle.translation.specs.Instructions.{rowKinds, rowOf, opcode, shiftCode}
 use Rattle.join.specs.Writes.{writesBy}
 
 pub writes-only : (f : Fun) (r x : ℕ) → x ∈ writesBy f r → x ≡ r

@@ -7,13 +7,13 @@ use native.Mathlib.Omega.{arith}
 use lib.ListN.{length, getD, take, List·getD-append}
 use lib.Seq.{getD-append-add}
 use Rattle.base.specs.Lists.{_∈_}
-use Rattle.kinds.specs.Registers.{Registers}
-use Rattle.translator.specs.Instructions.{Instruction, rr, rx, branch, stop, entry, literal, size, sizes, opcode, loadRow, addRow, always}
-use Rattle.translator.specs.Core.{Core, skip, run, seq, mark, scope, jump, call, procedure, base, when, either, loop, count}
-use Rattle.translator.specs.Code.{Mark, own, sizeOf, code, instructions}
-use Rattle.translator.specs.Layout.{Layout}
-use Rattle.translator.specs.Bytes.{encode, encodeAll}
-use Rattle.translator.proofs.Sizes.{length-encode}
+use Rattle.static_rules.specs.Registers.{Registers}
+use Rattle.translation.specs.Instructions.{Instruction, rr, rx, branch, stop, entry, literal, size, sizes, opcode, loadRow, addRow, always}
+use Rattle.translation.specs.Core.{Core, skip, run, seq, mark, scope, jump, call, procedure, base, when, either, loop, count}
+use Rattle.translation.specs.Code.{Mark, own, sizeOf, code, instructions}
+use Rattle.translation.specs.Layout.{Layout}
+use Rattle.translation.specs.Bytes.{encode, encodeAll}
+use Rattle.translation.proofs.Sizes.{length-encode}
 use Rattle.join.specs.Points.{Point, start, withBase, inBody, procedureOf, Placed, programSegment, here, line, placed, program}
 
 abbrev pub instructionsOf : List Placed → List Instruction

@@ -14,23 +14,23 @@ use Rattle.base.proofs.Lists.{member-in, in-member}
 use Rattle.base.proofs.Tests.{never-true}
 use Rattle.token.specs.Kinds as K
 use Rattle.grammar.specs.Tree.{Designator, Operand, number, place, Sign, plain, abs, neg, negAbs, Term, Width, full, short}
-use Rattle.names.specs.declared.Broken.{Broken}
-use Rattle.names.specs.Broken.{_⊕_, rule}
-use Rattle.names.proofs.Joins.{quiet-left, quiet-right, rule-holds}
-use Rattle.kinds.specs.Meaning.{Meaning, nothing, register, cell, routine, Cell, elementSize, isFull, isLong, registerOf, longOperand}
-use Rattle.kinds.specs.Tables.{Tables, kindAt, valueAt, meaningAt}
-use Rattle.kinds.specs.Rules as R
-use Rattle.kinds.specs.Rules.{shifts, fullOnly, inside, isShort}
-use Rattle.kinds.proofs.Elements.{in-range, inside-is}
-use Rattle.kinds.proofs.Small.{Small, register-small, meaning-small}
+use Rattle.scopes.specs.declared.Broken.{Broken}
+use Rattle.scopes.specs.Broken.{_⊕_, rule}
+use Rattle.scopes.proofs.Joins.{quiet-left, quiet-right, rule-holds}
+use Rattle.static_rules.specs.Meaning.{Meaning, nothing, register, cell, routine, Cell, elementSize, isFull, isLong, registerOf, longOperand}
+use Rattle.static_rules.specs.Tables.{Tables, kindAt, valueAt, meaningAt}
+use Rattle.static_rules.specs.Rules as R
+use Rattle.static_rules.specs.Rules.{shifts, fullOnly, inside, isShort}
+use Rattle.static_rules.proofs.Elements.{in-range, inside-is}
+use Rattle.static_rules.proofs.Small.{Small, register-small, meaning-small}
 use Rattle.machine.specs.declared.Fun.the-variants.{Positive, Complement, Negative, MultiplyHalf}
 use Rattle.machine.specs.declared.Shift.{Shift}
 use Rattle.machine.specs.Instructions as M
 use Rattle.machine.specs.Instructions.{Short, Long, stores, longKind}
-use Rattle.translator.specs.Instructions.{Datum, element, literal, entry, Instruction, rr, rx, shift, opcode, rowOf, loadRow, addRow, compareRow, timesRow, storeRow, shiftCode}
-use Rattle.translator.specs.Core.{Use, held, stored, absent, apply, signed, load, subscriptOf, indexOf, useBy, useOf, shiftBy, productTarget, termOf, compareWith}
-use Rattle.translator.specs.Layout.{Layout, offsetOf}
-use Rattle.translator.proofs.Rooms.{CellAt}
+use Rattle.translation.specs.Instructions.{Datum, element, literal, entry, Instruction, rr, rx, shift, opcode, rowOf, loadRow, addRow, compareRow, timesRow, storeRow, shiftCode}
+use Rattle.translation.specs.Core.{Use, held, stored, absent, apply, signed, load, subscriptOf, indexOf, useBy, useOf, shiftBy, productTarget, termOf, compareWith}
+use Rattle.translation.specs.Layout.{Layout, offsetOf}
+use Rattle.translation.proofs.Rooms.{CellAt}
 use Rattle.join.specs.Writes.{writes, writesShort, writesLong}
 use Rattle.join.specs.Points.{Within, Writes, Point}
 use Rattle.join.proofs.Safe.{PlainShort, Reads, Serves, InCell, FitsDatum, Fits, Plain}

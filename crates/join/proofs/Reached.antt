@@ -11,8 +11,8 @@ use Rattle.base.specs.Lists.{_∈_, All}
 use Rattle.base.proofs.Lists.{all-in}
 use Rattle.token.specs.declared.Token.{Token}
 use Rattle.grammar.specs.Tree.{Statement}
-use Rattle.kinds.specs.Registers.{Registers}
-use Rattle.kinds.specs.Meanings.{dataBase}
+use Rattle.static_rules.specs.Registers.{Registers}
+use Rattle.static_rules.specs.Meanings.{dataBase}
 use Rattle.objtext.specs.Object.{Segment, Object}
 use Rattle.objtext.specs.Reader.{readObject}
 use Rattle.machine.specs.Space.{Space, room, origin, needed, writable}
@@ -20,14 +20,14 @@ use Rattle.machine.specs.Step.{Cpu, atEnd, forbidden, misaligned}
 use Rattle.machine.specs.Run.{Result, budgetUsed, run}
 use Rattle.machine.proofs.Effects.{Changes}
 use Rattle.runner.specs.Load.{loaded, spaceOf, started}
-use Rattle.translator.specs.Instructions.{Instruction, stop, size, sizes, link}
-use Rattle.translator.specs.Core.{Core, coreStatement}
-use Rattle.translator.specs.Code.{sizeOf, instructions}
-use Rattle.translator.specs.Layout.{Layout, segmentLimit, tableBytes, literalsFrom, literalsEnd}
-use Rattle.translator.specs.Image.{segments}
-use Rattle.translator.specs.Translate.{Made, make}
-use Rattle.translator.proofs.Sizes.{sizes-instructions}
-use Rattle.translator.proofs.Images.{Fitting}
+use Rattle.translation.specs.Instructions.{Instruction, stop, size, sizes, link}
+use Rattle.translation.specs.Core.{Core, coreStatement}
+use Rattle.translation.specs.Code.{sizeOf, instructions}
+use Rattle.translation.specs.Layout.{Layout, segmentLimit, tableBytes, literalsFrom, literalsEnd}
+use Rattle.translation.specs.Image.{segments}
+use Rattle.translation.specs.Translate.{Made, make}
+use Rattle.translation.proofs.Sizes.{sizes-instructions}
+use Rattle.translation.proofs.Images.{Fitting}
 use Rattle.join.specs.Writes.{writes}
 use Rattle.join.specs.Points as P
 use Rattle.join.specs.Points.{Within, Point, Placed, start}
@@ -145,7 +145,8 @@ module _
     bases-held =
         (chain-holds n w (reg d) (v .x .point) (v .chain) dataBase (guarded n l (sizeOf c) w m s₀ p (v .x) (v .one) .fourteen), v .base ∙ ap origin (stand .segment))
 
-    called-from : (y : Placed) → y ∈ P.program written c → d .counter ≡ origin (y .segment) + y .at → (u : Within) → y .point .within ≡ some u → CalledFrom (P.program written c) u (getD (d .regs) (u .return) 0)
+    called-from : (y : Placed) → y ∈ P.program written c → d .counter ≡ origin (y .segment) + y .at → (u : Within) → y .point .within ≡ some u
+        → CalledFrom (P.program written c) u (getD (d .regs) (u .return) 0)
     called-from y i a u k =
         let g = stand .segment in
         let f = stands 0 (sizeOf c + 2) w (laid-program written c) y i .segment in

@@ -19,32 +19,32 @@ use Rattle.grammar.specs.Events as E
 use Rattle.grammar.specs.Events.{opened, closed, entered, labelled, sent, celled, based, aimed, driven, given, joined, tested, called, Event, edge, route, entry, phrase, mark, operandNames, uses, each, eventsValue, eventsItem, eventsRegister, eventsDeclaration, eventsSign, eventsTerm, eventsChain, labelsOnto, eventsStatement, eventsBody, eventsItems, eventsOf}
 use Rattle.grammar.specs.Places.{Block, Place, after, Along}
 use Rattle.grammar.specs.Places as P
-use Rattle.names.specs.declared.Broken.{Broken}
-use Rattle.names.specs.Broken.{rule}
-use Rattle.names.specs.Search.{firstToken, around, innermost}
-use Rattle.names.specs.Names.{namesIn}
-use Rattle.names.specs.Labels.{labelsIn}
-use Rattle.names.proofs.Joins.{quiet-left, quiet-right, rule-holds}
-use Rattle.names.proofs.Led.{none-at-edge}
-use Rattle.names.proofs.Bound as B
-use Rattle.names.proofs.Bound.{Bound}
-use Rattle.kinds.specs.Registers.{noRegisters, has, spares}
-use Rattle.kinds.specs.Meaning.{Meaning, nothing, register, cell, routine, Based, Cell, registerOf}
-use Rattle.kinds.specs.Meanings.{Meant, meaningIn, ownIn, newest, baseIn, dataBase}
-use Rattle.kinds.specs.Tables.{Tables, valueAt, meaningAt}
-use Rattle.kinds.specs.Rules as R
-use Rattle.kinds.specs.Rules.{isRegister, isZero}
-use Rattle.kinds.specs.Kinds.{keptIn}
-use Rattle.kinds.proofs.Flags.{spares-is}
-use Rattle.kinds.proofs.Small.{Small, register-small, meaning-small}
-use Rattle.kinds.proofs.Unbroken.{Unbroken}
-use Rattle.kinds.proofs.Kept.{kept-return, kept-in-block, kept-in-body}
-use Rattle.kinds.proofs.Told.{WrittenBy, NotAround, Told}
-use Rattle.translator.specs.Instructions.{Instruction}
-use Rattle.translator.specs.Core.{Core, useOf, load, chainOf, termOf, toRegister, sourceOf, assignBy, assignmentOf, testOf, controlOf, returnOf, coreStatement, coreBody, coreItems}
-use Rattle.translator.specs.Code.{Mark, own, sizeOf}
-use Rattle.translator.specs.Layout.{Layout, offsetOf}
-use Rattle.translator.proofs.Rooms.{CellAt}
+use Rattle.scopes.specs.declared.Broken.{Broken}
+use Rattle.scopes.specs.Broken.{rule}
+use Rattle.scopes.specs.Search.{firstToken, around, innermost}
+use Rattle.scopes.specs.Names.{namesIn}
+use Rattle.scopes.specs.Labels.{labelsIn}
+use Rattle.scopes.proofs.Joins.{quiet-left, quiet-right, rule-holds}
+use Rattle.scopes.proofs.Led.{none-at-edge}
+use Rattle.scopes.proofs.Bound as B
+use Rattle.scopes.proofs.Bound.{Bound}
+use Rattle.static_rules.specs.Registers.{noRegisters, has, spares}
+use Rattle.static_rules.specs.Meaning.{Meaning, nothing, register, cell, routine, Based, Cell, registerOf}
+use Rattle.static_rules.specs.Meanings.{Meant, meaningIn, ownIn, newest, baseIn, dataBase}
+use Rattle.static_rules.specs.Tables.{Tables, valueAt, meaningAt}
+use Rattle.static_rules.specs.Rules as R
+use Rattle.static_rules.specs.Rules.{isRegister, isZero}
+use Rattle.static_rules.specs.Kinds.{keptIn}
+use Rattle.static_rules.proofs.Flags.{spares-is}
+use Rattle.static_rules.proofs.Small.{Small, register-small, meaning-small}
+use Rattle.static_rules.proofs.Unbroken.{Unbroken}
+use Rattle.static_rules.proofs.Kept.{kept-return, kept-in-block, kept-in-body}
+use Rattle.static_rules.proofs.Told.{WrittenBy, NotAround, Told}
+use Rattle.translation.specs.Instructions.{Instruction}
+use Rattle.translation.specs.Core.{Core, useOf, load, chainOf, termOf, toRegister, sourceOf, assignBy, assignmentOf, testOf, controlOf, returnOf, coreStatement, coreBody, coreItems}
+use Rattle.translation.specs.Code.{Mark, own, sizeOf}
+use Rattle.translation.specs.Layout.{Layout, offsetOf}
+use Rattle.translation.proofs.Rooms.{CellAt}
 use Rattle.join.specs.Points.{Within, Writes, Point, start, procedureOf}
 use Rattle.join.proofs.Safe.{Plain, Routine, first, Callable, Basing, labelsOf, Safe}
 use Rattle.join.proofs.Flow.{some-is, none-some}

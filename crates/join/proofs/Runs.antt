@@ -14,8 +14,8 @@ use Rattle.machine.specs.Step.{Cpu, completed, step}
 use Rattle.machine.specs.Run.{Result, result, budgetUsed, onward, after, run}
 use Rattle.machine.proofs.Stops.{stopped-same}
 use Rattle.machine.proofs.Effects.{Changes}
-use Rattle.translator.specs.Instructions.{Instruction}
-use Rattle.translator.specs.Layout.{Layout}
+use Rattle.translation.specs.Instructions.{Instruction}
+use Rattle.translation.specs.Layout.{Layout}
 use Rattle.join.specs.Writes.{writes}
 use Rattle.join.specs.Points.{Placed}
 use Rattle.join.proofs.Step.{InStorage, Inv, Allowed, Fine, stops, goes, step-fine}

@@ -7,18 +7,18 @@ use Prim.Native.Nat.{ℕ, _+_, _*_, _%_, _<_, _≤_}
 use lib.Dec.{eqb}
 use Rattle.base.specs.Choose.{if_then_else_}
 use Rattle.base.specs.Lists.{_∈_, All}
-use Rattle.kinds.specs.Registers.{Registers}
-use Rattle.kinds.specs.Meaning.{Based, Cell, elementSize}
-use Rattle.kinds.specs.Meanings.{dataBase}
+use Rattle.static_rules.specs.Registers.{Registers}
+use Rattle.static_rules.specs.Meaning.{Based, Cell, elementSize}
+use Rattle.static_rules.specs.Meanings.{dataBase}
 use Rattle.machine.specs.declared.Shift.{Shift}
 use Rattle.machine.specs.Instructions.{Short, applies, multiplies, branches, ends, unlisted, Long, appliesTo, multipliesBy, stores, branchesTo, links, shifts, unlistedLong, shortKind, longKind}
 pub use Rattle.machine.proofs.Effects.{PlainShort, Reads, Serves}
-use Rattle.translator.specs.Instructions.{Datum, element, literal, entry, Instruction, rr, rx, shift, branch, link, stop, opcode, addRow}
-use Rattle.translator.specs.Core.{Core, skip, run, seq, mark, scope, jump, call, procedure, base, when, either, loop, count}
-use Rattle.translator.specs.Code.{Mark, own}
-use Rattle.translator.specs.Layout.{Layout, offsetOf}
-use Rattle.translator.specs.Bytes.{programBase}
-use Rattle.translator.proofs.Rooms.{CellAt}
+use Rattle.translation.specs.Instructions.{Datum, element, literal, entry, Instruction, rr, rx, shift, branch, link, stop, opcode, addRow}
+use Rattle.translation.specs.Core.{Core, skip, run, seq, mark, scope, jump, call, procedure, base, when, either, loop, count}
+use Rattle.translation.specs.Code.{Mark, own}
+use Rattle.translation.specs.Layout.{Layout, offsetOf}
+use Rattle.translation.specs.Bytes.{programBase}
+use Rattle.translation.proofs.Rooms.{CellAt}
 use Rattle.join.specs.Writes.{writes}
 use Rattle.join.specs.Points.{Within, Writes, Point, withBase, inBody, procedureOf}
 use Rattle.join.proofs.Decode.{displacements}

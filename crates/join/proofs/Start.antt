@@ -8,24 +8,24 @@ use lib.ListN.{length, getD, set, take, length-set}
 use lib.Seq.{getD-set-same, getD-set-other}
 use Rattle.base.specs.Lists.{_∈_}
 use Rattle.base.specs.Numbers.{valueAt}
-use Rattle.kinds.specs.Registers.{Registers}
-use Rattle.kinds.specs.Meaning.{Based}
-use Rattle.kinds.specs.Meanings.{dataBase}
+use Rattle.static_rules.specs.Registers.{Registers}
+use Rattle.static_rules.specs.Meaning.{Based}
+use Rattle.static_rules.specs.Meanings.{dataBase}
 use Rattle.objtext.specs.Object.{Segment, program, cells, contentOf, Object}
 use Rattle.machine.specs.Space.{Space, room, origin, needed}
 use Rattle.machine.specs.Step.{Cpu}
 use Rattle.machine.proofs.Outside.{keeps-all}
 use Rattle.runner.specs.Load.{tableLength, loaded, spaceOf, started}
 use Rattle.runner.proofs.Loaded.{Short, segmentAt, object-short, loaded-bytes, loaded-table, length-loaded}
-use Rattle.translator.specs.Instructions.{Instruction, rr, rx, shift, branch, link, stop, size, sizes}
-use Rattle.translator.specs.Core.{Core}
-use Rattle.translator.specs.Code.{sizeOf, instructions}
-use Rattle.translator.specs.Layout.{Layout, segmentLimit, tableBytes, cellsEnd, literalsFrom}
-use Rattle.translator.specs.Bytes.{programBase, encode, encodeAll}
-use Rattle.translator.specs.Image.{endOfFirst, firstData, dataFrom, segments}
-use Rattle.translator.proofs.Sizes.{length-encode, length-encodeAll, sizes-instructions}
-use Rattle.translator.proofs.Literals.{Takes, literals-have}
-use Rattle.translator.proofs.Images.{Fitting, end-first, length-data}
+use Rattle.translation.specs.Instructions.{Instruction, rr, rx, shift, branch, link, stop, size, sizes}
+use Rattle.translation.specs.Core.{Core}
+use Rattle.translation.specs.Code.{sizeOf, instructions}
+use Rattle.translation.specs.Layout.{Layout, segmentLimit, tableBytes, cellsEnd, literalsFrom}
+use Rattle.translation.specs.Bytes.{programBase, encode, encodeAll}
+use Rattle.translation.specs.Image.{endOfFirst, firstData, dataFrom, segments}
+use Rattle.translation.proofs.Sizes.{length-encode, length-encodeAll, sizes-instructions}
+use Rattle.translation.proofs.Literals.{Takes, literals-have}
+use Rattle.translation.proofs.Images.{Fitting, end-first, length-data}
 use Rattle.join.specs.Points as P
 use Rattle.join.specs.Points.{Point, Placed, start, programSegment}
 use Rattle.join.proofs.Placement.{instructionsOf, Stands, stands, program-code, laid-program, bytes-at}

@@ -17,9 +17,9 @@ use Rattle.base.specs.Numbers.{valueOf, valueAt}
 use Rattle.base.proofs.Lists.{all-in}
 use Rattle.base.proofs.Parts.{same-part}
 use Rattle.grammar.specs.Tree.{Width, full, short}
-use Rattle.kinds.specs.Meaning.{Based, Cell, elementSize}
-use Rattle.kinds.specs.Meanings.{dataBase}
-use Rattle.kinds.proofs.Elements.{size-positive}
+use Rattle.static_rules.specs.Meaning.{Based, Cell, elementSize}
+use Rattle.static_rules.specs.Meanings.{dataBase}
+use Rattle.static_rules.proofs.Elements.{size-positive}
 use Rattle.machine.specs.declared.Shift.{Shift}
 use Rattle.machine.specs.declared.Fun.the-variants.{Load}
 use Rattle.machine.specs.Space.{Space, room, origin, needed, readable, writable}
@@ -31,12 +31,12 @@ use Rattle.machine.specs.Step.{Cpu, cpu, Turn, Stepped, stepped, went, moved, e
 use Rattle.machine.proofs.Outside.{Keeps, keeps-then, step-keeps}
 use Rattle.machine.proofs.Effects as E
 use Rattle.machine.proofs.Effects.{Changes, short-changes, long-changes, PlainShort, Reads, Serves, plain-onward, shift-onward, Ended, on, off, read-ends, store-ends, Branched, taken, passed, branch-goes, return-goes, link-address}
-use Rattle.translator.specs.Instructions.{Datum, element, literal, entry, Instruction, rr, rx, shift, branch, link, stop, size, opcode, loadRow, always}
-use Rattle.translator.specs.Layout.{Layout, offsetOf, cellsEnd}
-use Rattle.translator.specs.Bytes.{programBase, indexRegister, displacement, twoBytes, fourBytes, encode}
-use Rattle.translator.proofs.Sizes.{length-encode}
-use Rattle.translator.proofs.Literals.{Takes, index-lt}
-use Rattle.translator.proofs.Rooms.{startOf, CellAt}
+use Rattle.translation.specs.Instructions.{Datum, element, literal, entry, Instruction, rr, rx, shift, branch, link, stop, size, opcode, loadRow, always}
+use Rattle.translation.specs.Layout.{Layout, offsetOf, cellsEnd}
+use Rattle.translation.specs.Bytes.{programBase, indexRegister, displacement, twoBytes, fourBytes, encode}
+use Rattle.translation.proofs.Sizes.{length-encode}
+use Rattle.translation.proofs.Literals.{Takes, index-lt}
+use Rattle.translation.proofs.Rooms.{startOf, CellAt}
 use Rattle.join.specs.Writes.{writes}
 use Rattle.join.specs.Points.{Within, Writes, Point, withBase, Placed}
 use Rattle.join.specs.Operands.{namedFrom, namedBytes, namedAt, Whole, Named, Indexed}

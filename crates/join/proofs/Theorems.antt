@@ -13,9 +13,9 @@ use Rattle.machine.specs.Step.{atEnd, noInstruction}
 use Rattle.machine.specs.Run.{budgetUsed}
 use Rattle.runner.specs.Load.{loaded}
 use Rattle.runner.specs.Runner.{runner}
-use Rattle.translator.specs.Instructions.{Instruction, stop}
-use Rattle.translator.specs.Translate.{accepted, translated, translate}
-use Rattle.translator.proofs.Answers.{fits-room, acceptance}
+use Rattle.translation.specs.Instructions.{Instruction, stop}
+use Rattle.translation.specs.Translate.{accepted, translated, translate}
+use Rattle.translation.proofs.Answers.{fits-room, acceptance}
 use Rattle.join.specs.Writes.{writes}
 use Rattle.join.specs.Points.{Within, Placed}
 use Rattle.join.specs.Operands.{Named, Indexed}

@@ -1,3 +1,4 @@
+-- The files of this crate's definitions.
 pub mod Writes
 pub mod Points
 pub mod Operands

@@ -4,14 +4,14 @@ use mathlib.Core.List.{List}
 use Prim.Native.Nat.{ℕ, _+_, _*_, _≤_, _<_}
 use lib.ListN.{getD}
 use Rattle.base.specs.Runs.{indexOf}
-use Rattle.kinds.specs.Meaning.{elementSize}
+use Rattle.static_rules.specs.Meaning.{elementSize}
 use Rattle.machine.specs.Space.{origin}
 use Rattle.machine.specs.Instructions.{longKind}
 use Rattle.machine.specs.Step.{Cpu}
 use Rattle.machine.specs.Operands.{operandAddress, operandBytes}
-use Rattle.translator.specs.Instructions.{Datum, element, literal, entry, Instruction, rr, rx, shift, branch, link, stop}
-use Rattle.translator.specs.Layout.{Layout, offsetOf}
-use Rattle.translator.specs.Bytes.{indexRegister}
+use Rattle.translation.specs.Instructions.{Datum, element, literal, entry, Instruction, rr, rx, shift, branch, link, stop}
+use Rattle.translation.specs.Layout.{Layout, offsetOf}
+use Rattle.translation.specs.Bytes.{indexRegister}
 
 -- where what the text names begins: the cell, the literal, the entry of segment 1's table
 abbrev pub namedFrom : Layout → Datum → ℕ

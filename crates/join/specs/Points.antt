@@ -7,13 +7,13 @@ use mathlib.Core.Bool.{true}
 use mathlib.Core.Option.{Option, none, some}
 use Prim.Native.Nat.{ℕ, _+_, _<_}
 use lib.ListN.{getD}
-use Rattle.kinds.specs.Registers.{Registers, noRegisters, has}
-use Rattle.kinds.specs.Meaning.{Based}
-use Rattle.kinds.specs.Meanings.{dataBase}
-use Rattle.kinds.specs.Rules.{protected}
-use Rattle.translator.specs.Instructions.{Instruction, rr, rx, branch, link, stop, entry, literal, size, sizes, opcode, loadRow, addRow, always}
-use Rattle.translator.specs.Core.{Core, skip, run, seq, mark, scope, jump, call, procedure, base, when, either, loop, count}
-use Rattle.translator.specs.Code.{Mark, own, markAt, sizeOf}
+use Rattle.static_rules.specs.Registers.{Registers, noRegisters, has}
+use Rattle.static_rules.specs.Meaning.{Based}
+use Rattle.static_rules.specs.Meanings.{dataBase}
+use Rattle.static_rules.specs.Rules.{protected}
+use Rattle.translation.specs.Instructions.{Instruction, rr, rx, branch, link, stop, entry, literal, size, sizes, opcode, loadRow, addRow, always}
+use Rattle.translation.specs.Core.{Core, skip, run, seq, mark, scope, jump, call, procedure, base, when, either, loop, count}
+use Rattle.translation.specs.Code.{Mark, own, markAt, sizeOf}
 
 -- ── points ──
 

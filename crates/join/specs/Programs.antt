@@ -12,17 +12,17 @@ use Rattle.grammar.specs.Tree as T
 use Rattle.grammar.specs.Tree.{Statement}
 use Rattle.grammar.specs.Reader as R
 use Rattle.grammar.specs.Grammar as G
-use Rattle.names.specs.Search.{inFront, firstToken}
+use Rattle.scopes.specs.Search.{inFront, firstToken}
 use Rattle.objtext.specs.Object.{Segment}
 use Rattle.machine.specs.Space.{origin}
 use Rattle.machine.specs.Step.{Cpu, cpu, atEnd, forbidden, misaligned}
 use Rattle.machine.specs.Run.{budgetUsed}
 use Rattle.runner.specs.Runner.{Outcome}
-use Rattle.translator.specs.Instructions.{Instruction, link, stop, sizes}
-use Rattle.translator.specs.Core.{coreStatement}
-use Rattle.translator.specs.Layout.{Layout, tableBytes, literalsEnd}
-use Rattle.translator.specs.Image.{segments}
-use Rattle.translator.specs.Translate.{kindsOf, Made, make}
+use Rattle.translation.specs.Instructions.{Instruction, link, stop, sizes}
+use Rattle.translation.specs.Core.{coreStatement}
+use Rattle.translation.specs.Layout.{Layout, tableBytes, literalsEnd}
+use Rattle.translation.specs.Image.{segments}
+use Rattle.translation.specs.Translate.{kindsOf, Made, make}
 use Rattle.join.specs.Points.{Within, Placed, program}
 use Rattle.join.specs.Operands.{Indexed}
 

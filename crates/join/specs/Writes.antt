@@ -3,7 +3,7 @@ use mathlib.Core.List.{List, [], _∷_}
 use Prim.Native.Nat.{ℕ}
 use Rattle.machine.specs.Instructions.{shortKind, longKind}
 pub use Rattle.machine.specs.Writes.{writesBy, writesShort, writesLong}
-use Rattle.translator.specs.Instructions.{Instruction, rr, rx, shift, branch, link, stop}
+use Rattle.translation.specs.Instructions.{Instruction, rr, rx, shift, branch, link, stop}
 
 abbrev pub writes : Instruction → List ℕ
 writes (rr op r s) = writesShort (shortKind op) r

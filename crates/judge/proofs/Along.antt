@@ -18,11 +18,11 @@ use Rattle.ledger.specs.Book.{Wide, Thin, wideOf, thinOf, putOffset}
 use Rattle.ledger.specs.Bounds.{blocksOpen, proceduresOpen, Nested}
 use Rattle.ledger.proofs.Bounds.{nested-here, nested-on}
 use Rattle.ledger.proofs.Columns.{wide-length}
-use Rattle.names.specs.declared.Broken.{Broken}
-use Rattle.names.specs.Broken.{_⊕_}
-use Rattle.kinds.specs.Meaning.{registerOf}
-use Rattle.kinds.specs.Tables.{Tables, meaningAt}
-use Rattle.kinds.specs.Rules.{protected}
+use Rattle.scopes.specs.declared.Broken.{Broken}
+use Rattle.scopes.specs.Broken.{_⊕_}
+use Rattle.static_rules.specs.Meaning.{registerOf}
+use Rattle.static_rules.specs.Tables.{Tables, meaningAt}
+use Rattle.static_rules.specs.Rules.{protected}
 use Rattle.tables.specs.Packed.{meaningsOf, setsOf}
 use Rattle.tables.specs.Stacks.{stackOf, top, under}
 use Rattle.rules.specs.Shows.{Listed, Shown}

@@ -9,12 +9,12 @@ use lib.Dec.{eqb}
 use lib.ListN.{getD}
 use Rattle.base.proofs.Tests.{never-true}
 use Rattle.ledger.specs.Book.{Wide, Thin}
-use Rattle.names.specs.declared.Broken.{Broken}
-use Rattle.names.specs.Broken.{unbroken, rule, broken, _⊕_}
+use Rattle.scopes.specs.declared.Broken.{Broken}
+use Rattle.scopes.specs.Broken.{unbroken, rule, broken, _⊕_}
 use Rattle.grammar.specs.Tree.{Operand}
-use Rattle.kinds.specs.Meaning.{Meaning, nothing, register, cell, routine, Based, registerOf}
-use Rattle.kinds.specs.Tables.{Tables, meaningAt}
-use Rattle.kinds.specs.Rules.{isBare, writeRule, placeBy, operandRules, onlyRegister, termRules}
+use Rattle.static_rules.specs.Meaning.{Meaning, nothing, register, cell, routine, Based, registerOf}
+use Rattle.static_rules.specs.Tables.{Tables, meaningAt}
+use Rattle.static_rules.specs.Rules.{isBare, writeRule, placeBy, operandRules, onlyRegister, termRules}
 use Rattle.tables.specs.Packed.{numberIn, isRegisterIn, isCellIn, unpacked, cellIn, registerIn, packedAt}
 use Rattle.tables.proofs.Meanings.{by-sort, as-register, as-cell, register-is}
 use Rattle.rules.specs.Parts.{subscriptAt, indexAt, designatorAt, operandAt, termAt}
@@ -41,24 +41,29 @@ module _ {f : Tables} {w : Wide} {l : Thin} (s : Listed f w l) (t m : ℕ) (e : 
   pub kept-is : (r : ℕ) → r ≡ registerIn m → registerOf (meaningAt f t) ≡ r
   kept-is r h = ap registerOf (meant-at s t m e) ∙ (register-is _ _ _ ∙ sym h)
 
-  pub aims-register : (kept : List ℕ) (shape : ℕ) {x : Broken} → isRegisterIn m ≡ true → x ≡ registerTarget kept (designatorAt shape t) (numberIn m) → x ≡ aimBy f kept (designatorAt shape t) (meaningAt f t)
+  pub aims-register : (kept : List ℕ) (shape : ℕ) {x : Broken} → isRegisterIn m ≡ true → x ≡ registerTarget kept (designatorAt shape t) (numberIn m)
+      → x ≡ aimBy f kept (designatorAt shape t) (meaningAt f t)
   aims-register kept shape h p = rw (meant-at s t m e, as-register (getD (l .found) t 0) m (baseAt s t) h) p
 
   pub aims-cell :
-      (kept : List ℕ) (shape : ℕ) {x : Broken} → isCellIn m ≡ true → ((n : ℕ) (b : Based) → x ≡ placeBy f (cell (cellIn n m b)) (designatorAt shape t)) → x ≡ aimBy f kept (designatorAt shape t) (meaningAt f t)
+      (kept : List ℕ) (shape : ℕ) {x : Broken} → isCellIn m ≡ true → ((n : ℕ) (b : Based) → x ≡ placeBy f (cell (cellIn n m b)) (designatorAt shape t))
+      → x ≡ aimBy f kept (designatorAt shape t) (meaningAt f t)
   aims-cell kept shape h p = rw (meant-at s t m e, as-cell (getD (l .found) t 0) m (baseAt s t) h) (p _ _)
 
   pub aims-nowhere : (kept : List ℕ) (shape : ℕ) {x : Broken} → isRegisterIn m ≡ false → isCellIn m ≡ false → x ≡ broken 8 t → x ≡ aimBy f kept (designatorAt shape t) (meaningAt f t)
   aims-nowhere kept shape h g p =
       p ∙ rw (meant-at s t m e)
-      (by-sort (λ y. broken 8 t ≡ aimBy f kept (designatorAt shape t) y) (getD (l .found) t 0) m (baseAt s t) (λ a. never-true (sym h ∙ a)) (λ a b. refl) (λ a b l. never-true (sym g ∙ l)) (λ a b l. refl))
+      (by-sort (λ y. broken 8 t ≡ aimBy f kept (designatorAt shape t) y) (getD (l .found) t 0) m (baseAt s t) (λ a. never-true (sym h ∙ a)) (λ a b. refl)
+      (λ a b l. never-true (sym g ∙ l)) (λ a b l. refl))
 
-  pub control-register : (kept : List ℕ) (shape : ℕ) {x : Broken} → isRegisterIn m ≡ true → x ≡ registerTarget kept (designatorAt shape t) (numberIn m) → x ≡ controlBy kept (designatorAt shape t) (meaningAt f t)
+  pub control-register : (kept : List ℕ) (shape : ℕ) {x : Broken} → isRegisterIn m ≡ true → x ≡ registerTarget kept (designatorAt shape t) (numberIn m)
+      → x ≡ controlBy kept (designatorAt shape t) (meaningAt f t)
   control-register kept shape h p = rw (meant-at s t m e, as-register (getD (l .found) t 0) m (baseAt s t) h) p
 
   pub control-nothing : (kept : List ℕ) (shape : ℕ) {x : Broken} → isRegisterIn m ≡ false → x ≡ broken 8 t → x ≡ controlBy kept (designatorAt shape t) (meaningAt f t)
   control-nothing kept shape h p =
-      p ∙ rw (meant-at s t m e) (by-sort (λ y. broken 8 t ≡ controlBy kept (designatorAt shape t) y) (getD (l .found) t 0) m (baseAt s t) (λ a. never-true (sym h ∙ a)) (λ a b. refl) (λ a b l. refl) (λ a b l. refl))
+      p ∙ rw (meant-at s t m e) (by-sort (λ y. broken 8 t ≡ controlBy kept (designatorAt shape t) y) (getD (l .found) t 0) m (baseAt s t) (λ a.
+      never-true (sym h ∙ a)) (λ a b. refl) (λ a b l. refl) (λ a b l. refl))
 
 -- ── by the target ──
 

@@ -25,17 +25,17 @@ use Rattle.tape.specs.Pass.{pass}
 use Rattle.tape.specs.Written.{operandShape, signCode, conditionCode, opOf, tokenOf}
 use Rattle.tape.proofs.Numbers.{by-shape, by-operand}
 use Rattle.tape.proofs.Written.{tree-tape, follows-in}
-use Rattle.names.specs.declared.Broken.{Broken}
-use Rattle.names.specs.Broken.{unbroken, rule, broken, _⊕_}
-use Rattle.names.proofs.Joins.{join-right, join-assoc}
-use Rattle.kinds.specs.Meaning.{Meaning, nothing, register, cell, routine, registerOf}
-use Rattle.kinds.specs.Meanings.{countOf}
-use Rattle.kinds.specs.Tables.{Tables, valueAt, meaningAt}
-use Rattle.kinds.specs.Rules as R
-use Rattle.kinds.specs.Rules.{bareName}
-use Rattle.kinds.specs.Kinds.{keptIn, rulesAt, ruleEvent, rulesOf}
-use Rattle.kinds.proofs.Elements.{range-is, from-zero}
-use Rattle.kinds.proofs.Unbroken.{rules-onto}
+use Rattle.scopes.specs.declared.Broken.{Broken}
+use Rattle.scopes.specs.Broken.{unbroken, rule, broken, _⊕_}
+use Rattle.scopes.proofs.Joins.{join-right, join-assoc}
+use Rattle.static_rules.specs.Meaning.{Meaning, nothing, register, cell, routine, registerOf}
+use Rattle.static_rules.specs.Meanings.{countOf}
+use Rattle.static_rules.specs.Tables.{Tables, valueAt, meaningAt}
+use Rattle.static_rules.specs.Rules as R
+use Rattle.static_rules.specs.Rules.{bareName}
+use Rattle.static_rules.specs.Kinds.{keptIn, rulesAt, ruleEvent, rulesOf}
+use Rattle.static_rules.proofs.Elements.{range-is, from-zero}
+use Rattle.static_rules.proofs.Unbroken.{rules-onto}
 use Rattle.rules.specs.Parts.{designatorAt, operandAt}
 use Rattle.judge.specs.Along.{Held, heldAfter, cellsOf, cellsAfter, widthOf, valueRule, aimOf, targetAfter, aimBy, controlBy, signRule, firstRules, chainRule, declarationRule, assignmentRule, statementRule, eventRule, Judging, judgeEvent, beginning}
 use Rattle.judge.proofs.Parts.{designator-at, operand-at}
@@ -202,9 +202,15 @@ module _ (f : Tables) where
     turn-entry (celled none short) (within k ∷ p) c b s n room g x u i j h q o e =
         judged (entry (celled none short)) (within k ∷ p) c b s n room g x true 1 room g (complete c room b x q e) (refl, refl) join-right refl
     turn-entry (celled (some t) full) (within k ∷ p) c b s n room g x u i j h q o e =
-        judged (entry (celled (some t) full)) (within k ∷ p) c b s n room g x false (valueAt f t) room g (complete c room b x q e) (refl, refl) join-right (rw (range-is 1 2048 (valueAt f t) (omega arith)))
+        judged (entry (celled (some t) full)) (within k ∷ p) c b s n room g x false (valueAt f t) room g (complete c room b x q e) (
+          refl,
+          refl,
+        ) join-right (rw (range-is 1 2048 (valueAt f t) (omega arith)))
     turn-entry (celled (some t) short) (within k ∷ p) c b s n room g x u i j h q o e =
-        judged (entry (celled (some t) short)) (within k ∷ p) c b s n room g x true (valueAt f t) room g (complete c room b x q e) (refl, refl) join-right (rw (range-is 1 2048 (valueAt f t) (omega arith)))
+        judged (entry (celled (some t) short)) (within k ∷ p) c b s n room g x true (valueAt f t) room g (complete c room b x q e) (
+          refl,
+          refl,
+        ) join-right (rw (range-is 1 2048 (valueAt f t) (omega arith)))
     turn-entry (itemed m w y) (within k ∷ p) c b s n room g x u i j h q o e = turn-item m w y c k p b s n room g x q o e
     turn-entry (valued t) (within k ∷ p) c b s n room g x u i j h q o e = turn-value t c k p b s n room g x q o e
     turn-entry (based t) (within k ∷ p) c b s n room g x u i j h q o e =
@@ -344,15 +350,18 @@ module _ (f : Tables) where
         go : (e : Event) → Stands kinds e p 0 → Suits e c
             → At (after e p) (contextAfter e c) (ruleEvent f e p b) (step (opOf e) (tokenOf e) (at p (a .short) (a .elements) (a .room) (a .target) (a .judged)))
         go (edge y) z q =
-            judged (edge y) p c b (a .short) (a .elements) (a .room) (a .target) (a .judged) (a .short) (a .elements) (a .room) (a .target) (complete c (a .room) b (a .judged) q (a .all)) tt join-right
+            judged (edge y) p c b (a .short) (a .elements) (a .room) (a .target) (a .judged) (a .short) (a .elements) (a .room) (a .target)
+            (complete c (a .room) b (a .judged) q (a .all)) tt join-right
             (turn-edge y p (a .short) (a .elements) (a .room) (a .target) (a .judged) (z .fits) _ _ (z .is))
         go (route y) z q =
-            judged (route y) p c b (a .short) (a .elements) (a .room) (a .target) (a .judged) (a .short) (a .elements) (a .room) (a .target) (complete c (a .room) b (a .judged) q (a .all)) tt join-right
+            judged (route y) p c b (a .short) (a .elements) (a .room) (a .target) (a .judged) (a .short) (a .elements) (a .room) (a .target)
+            (complete c (a .room) b (a .judged) q (a .all)) tt join-right
             (turn-route y p (a .short) (a .elements) (a .room) (a .target) (a .judged) (z .fits))
         go (entry y) z q = turn-entry y p c b (a .short) (a .elements) (a .room) (a .target) (a .judged) (z .fits) _ _ (z .is) q (a .opens) (a .all)
         go (phrase y) z q = turn-phrase y p c b (a .short) (a .elements) (a .room) (a .target) (a .judged) _ _ (z .is) q (a .opens) (a .all)
         go (mark y) z q =
-            judged (mark y) p c b (a .short) (a .elements) (a .room) (a .target) (a .judged) (a .short) (a .elements) (a .room) (a .target) (complete c (a .room) b (a .judged) q (a .all)) tt join-right
+            judged (mark y) p c b (a .short) (a .elements) (a .room) (a .target) (a .judged) (a .short) (a .elements) (a .room) (a .target)
+            (complete c (a .room) b (a .judged) q (a .all)) tt join-right
             (turn-mark y p (a .short) (a .elements) (a .room) (a .target) (a .judged))
 
 -- ── programs ──

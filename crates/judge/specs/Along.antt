@@ -10,11 +10,11 @@ use Rattle.tape.specs.Events as E
 use Rattle.tape.specs.Numbers.{PHRASE, layerAt, formAt, familyAt}
 use Rattle.grammar.specs.Tree.{Designator, Operand, Width, full, short}
 use Rattle.ledger.specs.Book.{Wide, onWide}
-use Rattle.names.specs.declared.Broken.{Broken}
-use Rattle.names.specs.Broken.{unbroken, rule, broken, _⊕_}
-use Rattle.kinds.specs.Meaning.{Meaning, nothing, register, cell, routine, registerOf}
-use Rattle.kinds.specs.Tables.{Tables, valueAt, meaningAt}
-use Rattle.kinds.specs.Rules.{protected, bareName, mostElements, fitsWidth, writeRule, registerRule, zeroRule, placeBy, operandRules, onlyRegister, termRules, callRules, baseRules}
+use Rattle.scopes.specs.declared.Broken.{Broken}
+use Rattle.scopes.specs.Broken.{unbroken, rule, broken, _⊕_}
+use Rattle.static_rules.specs.Meaning.{Meaning, nothing, register, cell, routine, registerOf}
+use Rattle.static_rules.specs.Tables.{Tables, valueAt, meaningAt}
+use Rattle.static_rules.specs.Rules.{protected, bareName, mostElements, fitsWidth, writeRule, registerRule, zeroRule, placeBy, operandRules, onlyRegister, termRules, callRules, baseRules}
 use Rattle.tables.specs.Stacks.{stackOf, top, under}
 use Rattle.rules.specs.Parts.{designatorAt, operandAt, termAt}
 use Rattle.judge.specs.declared.Cells.{Cells}

@@ -7,10 +7,10 @@ ghost use lib.ListN.{length, getD};
 ghost use Rattle.tape.specs.Pass.{pass};
 ghost use Rattle.ledger.specs.Book.{wideOf, thinOf};
 ghost use Rattle.ledger.specs.Bounds.{blocksOpen, Nested};
-ghost use Rattle.names.specs.Broken.{_⊕_};
-ghost use Rattle.kinds.specs.Meaning.{Based};
-ghost use Rattle.kinds.specs.Tables.{Tables, meaningAt};
-ghost use Rattle.kinds.specs.Rules.{registerRule, zeroRule, operandRules};
+ghost use Rattle.scopes.specs.Broken.{_⊕_};
+ghost use Rattle.static_rules.specs.Meaning.{Based};
+ghost use Rattle.static_rules.specs.Tables.{Tables, meaningAt};
+ghost use Rattle.static_rules.specs.Rules.{registerRule, zeroRule, operandRules};
 ghost use Rattle.tables.specs.Packed.{numberIn, unpacked};
 ghost use Rattle.tables.specs.Stacks.{stackOf};
 ghost use Rattle.rules.specs.Parts.{designatorAt, operandAt};
@@ -18,12 +18,10 @@ ghost use Rattle.rules.specs.Shows.{Listed, Shown};
 ghost use Rattle.judge.specs.Along.{enterBlock, leaveBlock, keepBase, keepReturn, leaveProcedure, heldAfter, cellsAfter, valueRule, aimOf, targetAfter, registerTarget, aimBy, controlBy, signRule, firstRules, chainRule, declarationRule, assignmentRule, statementRule, eventRule, judgeEvent, beginning, heldOf, Moved, Stays};
 use arrays::kind;
 use arrays::put_wide;
+use base::less;
 use ledger::meaning;
 use ledger::put_offset;
 use ledger::value;
-use names::Broken;
-use names::join;
-use names::rule;
 use rules::base_rules;
 use rules::broken;
 use rules::call_rules;
@@ -36,9 +34,11 @@ use rules::register_rule;
 use rules::term_rules;
 use rules::used_register;
 use rules::write_rule;
+use scopes::Broken;
+use scopes::join;
+use scopes::rule;
 use tables::is_cell;
 use tables::is_register;
-use tables::less;
 use tables::number;
 use tables::register;
 use tables::top;
@@ -88,7 +88,7 @@ fn leave_block(counts: &[u64], d: Depths) -> Depths
     Depths {
         kept: fewer(d.kept, d.count),
         count: top(counts, depth) as usize,
-        counts: less(depth),
+        counts: less(depth, 1),
     }
 }
 
@@ -128,7 +128,7 @@ fn leave_procedure(d: Depths) -> Depths
     ensures { λ r. ⌜ ((kept counts : List ℕ) → Moved (leaveProcedure (heldOf kept counts d)) kept counts d r) ⌝ }
 {
     Depths {
-        kept: less(d.kept),
+        kept: less(d.kept, 1),
         count: d.count,
         counts: d.counts,
     }
@@ -327,7 +327,7 @@ fn chain_rule(
     if target == 0 {
         return none();
     }
-    let operator = less(t);
+    let operator = less(t, 1);
     if target == 1 {
         return broken(8, operator);
     }

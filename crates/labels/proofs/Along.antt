@@ -11,11 +11,11 @@ use Rattle.tape.specs.Events as E
 use Rattle.tape.specs.Pass.{pass}
 use Rattle.tape.proofs.Pass.{pass-turn, pass-end}
 use Rattle.ledger.specs.Book.{Thin, thinOf, onThin, putGoes}
-use Rattle.names.specs.declared.Broken.{Broken}
-use Rattle.names.specs.declared.Noted.{Noted}
-use Rattle.names.specs.Broken.{rule, _⊕_, unbroken}
-use Rattle.names.specs.Search.{inBlock, find}
-use Rattle.names.specs.Labels.{Labelled, noteLabel, setLabel, mostLabels}
+use Rattle.scopes.specs.declared.Broken.{Broken}
+use Rattle.scopes.specs.declared.Noted.{Noted}
+use Rattle.scopes.specs.Broken.{rule, _⊕_, unbroken}
+use Rattle.scopes.specs.Search.{inBlock, find}
+use Rattle.scopes.specs.Labels.{Labelled, noteLabel, setLabel, mostLabels}
 use Rattle.labels.specs.Chains.{after, chain, blocksIn, labelledIn, Marking, markIn, marking}
 use Rattle.labels.specs.Linking.{Linking, blockAfter, outerAfter, linksAfter, linkOp}
 use Rattle.labels.specs.Labelling.{Labelling, labelAt, labelOp, linked, Chained, labelledBy, labelledAlong}
@@ -139,7 +139,8 @@ module _ {tape keys thin₀ thin : List ℕ} {block : ℕ} {n : Noted} {i : ℕ}
   binding-end h = (ap (λ (m : Labelling). m .labelled) (pass-end (labelOp keys (thinOf thin₀ .opens) (thinOf thin₀ .written)) _ tape i h (g .is)), g .found-is)
 
 -- the one loop after the other
-pub both-loops : (tape keys : List ℕ) (b₀ b₁ : Thin) (goes found : List ℕ) (n : Noted) → Chained tape b₀ b₁ → labelledIn goes n ≡ labelledBy tape keys (b₁ .opens) (b₁ .written) (b₁ .goes) → found ≡ b₁ .found
+pub both-loops : (tape keys : List ℕ) (b₀ b₁ : Thin) (goes found : List ℕ) (n : Noted) → Chained tape b₀ b₁
+    → labelledIn goes n ≡ labelledBy tape keys (b₁ .opens) (b₁ .written) (b₁ .goes) → found ≡ b₁ .found
     → (labelledIn goes n ≡ labelledAlong tape keys (b₀ .opens) (b₀ .written) (b₀ .goes)) × (found ≡ b₀ .found)
 unfolding labelledAlong
 both-loops tape keys b₀ b₁ goes found n c l f = (l ∙ rw (c .links-are, c .outer-is, c .goes-is), f ∙ c .found-is)

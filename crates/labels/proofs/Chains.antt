@@ -7,7 +7,7 @@ use lib.Dec.{ltb}
 use lib.ListN.{getD}
 use borrow.Author.Tests.{eq-eqb, ne-eqb, ltb-true}
 use Rattle.base.proofs.Tests.{by-test}
-use Rattle.names.specs.Search.{inBlock, find}
+use Rattle.scopes.specs.Search.{inBlock, find}
 use Rattle.labels.specs.Chains.{after, chainOf, chain, labelsIn, blocksIn}
 
 module _ (a : List ℕ) where

@@ -22,8 +22,8 @@ use Rattle.tape.specs.Numbers.{EDGE, ROUTE, layerAt}
 use Rattle.tape.specs.Written.{layerOf, opOf, tokenOf}
 use Rattle.tape.proofs.Numbers.{other-layer}
 use Rattle.tape.proofs.Written.{tree-tape, follows}
-use Rattle.names.specs.Broken.{unbroken}
-use Rattle.names.specs.Labels.{Labelled, labelsIn, labelsSet, labelEvent, labelProgram}
+use Rattle.scopes.specs.Broken.{unbroken}
+use Rattle.scopes.specs.Labels.{Labelled, labelsIn, labelsSet, labelEvent, labelProgram}
 use Rattle.labels.specs.Chains.{after as next, chain, blocksIn}
 use Rattle.labels.specs.Linking.{Linking, blockAfter, outerAfter, linksAfter, linkOp}
 use Rattle.labels.specs.Labelling.{Labelling, labelAt, labelOp, linked, labelledBy, labelledAlong}
@@ -130,7 +130,8 @@ module _ (kinds keys links outer : List ℕ) where
 
     -- by what the rest of the text says of the place after an event, what it says of the place before, and of a label
     module _ (es : List Event) (lo : ℕ) (m : Linking) where
-      finish-edge : (x : Edge) (p : Place) (s : Stands kinds (edge x) p lo) → EdgeFits x p → Going kinds j p lo m → Text kinds es (after (edge x) p) (s .to) j → Going kinds j (after (edge x) p) (s .to) (linkEvent (edge x) m)
+      finish-edge : (x : Edge) (p : Place) (s : Stands kinds (edge x) p lo) → EdgeFits x p → Going kinds j p lo m → Text kinds es (after (edge x) p) (s .to) j
+          → Going kinds j (after (edge x) p) (s .to) (linkEvent (edge x) m)
           → Ends es (linkEvent (edge x) m) → Final (after (edge x) p) → Final p
       unfolding linkEvent linkOp blockAfter outerAfter linksAfter
       finish-edge (opened t ls) p s f g h g′ e n = n .1
@@ -172,7 +173,8 @@ module _ (kinds keys links outer : List ℕ) where
           )
       finish-route (sent t q) p s f g h g′ e n = (n, tt)
 
-      finish : (e : Event) (p : Place) (s : Stands kinds e p lo) → Going kinds j p lo m → Text kinds es (after e p) (s .to) j → Going kinds j (after e p) (s .to) (linkEvent e m) → Ends es (linkEvent e m) → Final (after e p)
+      finish : (e : Event) (p : Place) (s : Stands kinds e p lo) → Going kinds j p lo m → Text kinds es (after e p) (s .to) j
+          → Going kinds j (after e p) (s .to) (linkEvent e m) → Ends es (linkEvent e m) → Final (after e p)
           → Good e p × Final p
       finish (edge x) p s g h g′ f n = let a = finish-edge x p s (s .fits) g h g′ f n in ((s .fits, a), a)
       finish (route r) p s g h g′ f n = let (a, b) = finish-route r p s (s .fits) g h g′ f n in ((s .fits, a, b), a)
@@ -206,4 +208,5 @@ labelled-program kinds keys links outer goes x i j h z wl wo =
     let good = finished kinds keys (done .links) (done .outer) j es [] i m (program-text kinds x i j h) g (refl, refl) (subst (λ (p : Place). Final kinds keys (done .links) (done .outer) p) (sym (after-statement x [] [])) tt) .0 in
     rw (tree-tape x, link-all es m)
     (ap (λ (s : Labelling). s .labelled)
-    (follows (labelOp keys (done .links) (done .outer)) (labelEvent keys) (At kinds keys (done .links) (done .outer)) (Good kinds keys (done .links) (done .outer)) (turn kinds keys (done .links) (done .outer)) es [] _ _ good refl))
+    (follows (labelOp keys (done .links) (done .outer)) (labelEvent keys) (At kinds keys (done .links) (done .outer))
+    (Good kinds keys (done .links) (done .outer)) (turn kinds keys (done .links) (done .outer)) es [] _ _ good refl))

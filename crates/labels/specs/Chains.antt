@@ -6,8 +6,8 @@ use lib.Dec.{ltb}
 use lib.ListN.{getD}
 use Rattle.base.specs.Choose.{if_then_else_}
 use Rattle.ledger.specs.Book.{Thin}
-use Rattle.names.specs.declared.Noted.{Noted}
-use Rattle.names.specs.Labels.{Labelled}
+use Rattle.scopes.specs.declared.Noted.{Noted}
+use Rattle.scopes.specs.Labels.{Labelled}
 
 -- what comes after t in a chain
 unfoldable pub after : List ℕ → ℕ → ℕ

@@ -8,9 +8,9 @@ use Rattle.base.specs.Choose.{if_then_else_}
 use Rattle.tape.specs.Events as E
 use Rattle.tape.specs.Pass.{pass}
 use Rattle.ledger.specs.Book.{Thin}
-use Rattle.names.specs.Broken.{unbroken}
-use Rattle.names.specs.Search.{find}
-use Rattle.names.specs.Labels.{Labelled, noteLabel, setLabel}
+use Rattle.scopes.specs.Broken.{unbroken}
+use Rattle.scopes.specs.Search.{find}
+use Rattle.scopes.specs.Labels.{Labelled, noteLabel, setLabel}
 use Rattle.labels.specs.Chains.{after, chain, blocksIn}
 use Rattle.labels.specs.Linking.{Linking, blockAfter, linkOp}
 

@@ -8,8 +8,8 @@ ghost use Prim.Native.Nat.{ℕ, _≤_, _<_};
 ghost use lib.ListN.{length, getD};
 ghost use Rattle.ledger.specs.Book.{wideOf, thinOf, onThin};
 ghost use Rattle.ledger.specs.Bounds.{noted, Narrow};
-ghost use Rattle.names.specs.Search.{inBlock, find};
-ghost use Rattle.names.specs.Labels.{noteLabel, setLabel};
+ghost use Rattle.scopes.specs.Search.{inBlock, find};
+ghost use Rattle.scopes.specs.Labels.{noteLabel, setLabel};
 ghost use Rattle.labels.specs.Chains.{after as afterOf, chain, blocksIn, labelledIn, markIn, marking};
 ghost use Rattle.labels.specs.Linking.{blockAfter, outerAfter, linksAfter};
 ghost use Rattle.labels.specs.Labelling.{labelAt, linked, Chained, labelledBy, labelledAlong};
@@ -19,10 +19,10 @@ use ledger::put_opens;
 use ledger::put_written;
 use ledger::value;
 use ledger::written;
-use names::Broken;
-use names::Noted;
-use names::join;
-use names::rule;
+use scopes::Broken;
+use scopes::Noted;
+use scopes::join;
+use scopes::rule;
 
 // "257th label, in the program".
 const MOST_LABELS: usize = 256;

@@ -8,9 +8,9 @@ use lib.Dec.{leb}
 use lib.ListN.{length, getD, drop}
 use borrow.Author.Tests.{lt-ltb, le-ltb, le-leb, lt-leb, eq-eqb, ne-eqb}
 use Rattle.base.specs.Numbers.{stored}
-use Rattle.names.specs.declared.Broken.{Broken}
-use Rattle.names.specs.Broken.{unbroken, rule, _⊕_}
-use Rattle.kinds.specs.Meaning.{elementSize}
+use Rattle.scopes.specs.declared.Broken.{Broken}
+use Rattle.scopes.specs.Broken.{unbroken, rule, _⊕_}
+use Rattle.static_rules.specs.Meaning.{elementSize}
 use Rattle.grammar.specs.Tree.{Width, full, short}
 use Rattle.tape.specs.Events as E
 use Rattle.tape.specs.Pass.{pass}
@@ -18,7 +18,7 @@ use Rattle.tape.proofs.Pass.{pass-turn, pass-end}
 use Rattle.ledger.specs.Book.{Wide, Thin, thinOf, onThin, zeros, putOffset, putWritten}
 use Rattle.ledger.proofs.Columns.{thin-length}
 use Rattle.tables.specs.Packed.{widthIn, numberIn}
-use Rattle.translator.specs.Layout.{segmentLimit, roundUp}
+use Rattle.translation.specs.Layout.{segmentLimit, roundUp}
 use Rattle.layout.specs.declared.Filling.{Filling}
 use Rattle.layout.specs.Along.{Laying, startEnds, segmentAt, placeBy, eventBy, capped, cappedEvent}
 use Rattle.layout.specs.Along.{Book, bookOf, layingIn, withLaying, laidBy, placeIn, eventIn, layoutIn}

@@ -9,15 +9,15 @@ use lib.ListN.{getD, set, replicate, List·getD-map}
 use borrow.Author.Tests.{leb-true, leb-false, lt-leb}
 use Rattle.base.specs.Walk.{fold}
 use Rattle.base.proofs.Tests.{cases}
-use Rattle.names.specs.declared.Broken.{Broken}
-use Rattle.names.specs.Broken.{unbroken, rule, _⊕_}
-use Rattle.names.proofs.Joins.{quiet-left, quiet-right, rule-holds}
-use Rattle.kinds.specs.Meaning.{elementSize}
+use Rattle.scopes.specs.declared.Broken.{Broken}
+use Rattle.scopes.specs.Broken.{unbroken, rule, _⊕_}
+use Rattle.scopes.proofs.Joins.{quiet-left, quiet-right, rule-holds}
+use Rattle.static_rules.specs.Meaning.{elementSize}
 use Rattle.grammar.specs.Tree.{Width, full, short}
 use Rattle.tape.specs.Events as E
 use Rattle.tape.specs.Pass.{onEvent, pass}
 use Rattle.tables.specs.Packed.{widthIn, numberIn}
-use Rattle.translator.specs.Layout.{segmentLimit, roundUp}
+use Rattle.translation.specs.Layout.{segmentLimit, roundUp}
 use Rattle.layout.specs.Along.{Laying, layingOf, startEnds, segmentAt, offsetAt, endAt, placeBy, placeAt, eventBy, layoutEvent, capped, cappedEvent}
 
 -- ── of a list ──

@@ -18,11 +18,11 @@ use Rattle.grammar.specs.Tree.{Item, Statement, Width}
 use Rattle.grammar.specs.Derives.{isProgram}
 use Rattle.tape.specs.Tape.{tapeStatement}
 use Rattle.tape.specs.Pass.{pass}
-use Rattle.kinds.specs.Meaning.{elementSize}
-use Rattle.kinds.specs.Meanings.{Filled, Meant, meanProgram}
-use Rattle.kinds.proofs.Known.{Below, Falling}
-use Rattle.translator.specs.Layout.{Placed, offsetFor, valueBytes, placeCell, placeCells, offsetOf, segmentLimit}
-use Rattle.translator.specs.Image.{fill}
+use Rattle.static_rules.specs.Meaning.{elementSize}
+use Rattle.static_rules.specs.Meanings.{Filled, Meant, meanProgram}
+use Rattle.static_rules.proofs.Known.{Below, Falling}
+use Rattle.translation.specs.Layout.{Placed, offsetFor, valueBytes, placeCell, placeCells, offsetOf, segmentLimit}
+use Rattle.translation.specs.Image.{fill}
 use Rattle.layout.specs.declared.Filling.{Filling}
 use Rattle.layout.specs.Along.{Imaging, imagingOf, nowhere, startCell, layValue, imageEvent}
 use Rattle.layout.proofs.Trees.{Apart, onValues, onItem, cells-made}
@@ -167,7 +167,8 @@ placed-there n (d ∷ ds) f = (rw (eq-eqb (d .cell .name) (d .cell .name) refl),
     skip (e ∷ es) q b a = (let l = b .0 in rw (ne-eqb (d .cell .name) (e .cell .name) (λ z. omega arith)) (a .0), skip es q (b .1) (a .1))
 
     later : (es : List Filled) → Below (d .cell .name) es → All (λ (p : Placed). offsetOf (placeCells n ds .placed) (p .name) ≡ p .offset) (placeCells n es .placed)
-        → All (λ (p : Placed). (if eqb (d .cell .name) (p .name) then offsetFor (d .cell) (placeCells n ds .ends) else offsetOf (placeCells n ds .placed) (p .name)) ≡ p .offset) (placeCells n es .placed)
+        → All (λ (p : Placed). (if eqb (d .cell .name) (p .name) then offsetFor (d .cell) (placeCells n ds .ends) else offsetOf (placeCells n ds .placed)
+        (p .name)) ≡ p .offset) (placeCells n es .placed)
     later es b a = skip es (λ p. offsetOf (placeCells n ds .placed) (p .name)) b a
 
 -- ── the part that a segment has ──

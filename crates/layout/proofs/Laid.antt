@@ -11,19 +11,19 @@ use Rattle.base.specs.Choose.{if_then_else_}
 use Rattle.base.specs.Lists.{All}
 use Rattle.base.proofs.Lists.{all-map}
 use Rattle.base.proofs.Tests.{cases}
-use Rattle.names.specs.declared.Broken.{Broken}
-use Rattle.names.specs.Broken.{unbroken, rule, _⊕_}
+use Rattle.scopes.specs.declared.Broken.{Broken}
+use Rattle.scopes.specs.Broken.{unbroken, rule, _⊕_}
 use Rattle.grammar.specs.Tree.{Item, Statement}
 use Rattle.grammar.specs.Derives.{isProgram}
 use Rattle.tape.specs.Tape.{tapeStatement}
 use Rattle.tape.specs.Pass.{pass}
-use Rattle.kinds.specs.Meaning.{Meaning, nothing, cell, Cell, Based, elementSize}
-use Rattle.kinds.specs.Meanings.{Filled, Meant, meanProgram}
-use Rattle.kinds.proofs.Known.{Below, Told, Opened, Known}
+use Rattle.static_rules.specs.Meaning.{Meaning, nothing, cell, Cell, Based, elementSize}
+use Rattle.static_rules.specs.Meanings.{Filled, Meant, meanProgram}
+use Rattle.static_rules.proofs.Known.{Below, Told, Opened, Known}
 use Rattle.tables.specs.Packed.{numberIn, basedIn, cellIn, unpacked, meaningsOf}
 use Rattle.tables.proofs.Meanings.{by-sort, meaning-at}
-use Rattle.translator.specs.Layout.{roundUp, offsetFor, endFor, emptyEnds, placeCell, placeCells, offsetOf, segmentLimit}
-use Rattle.translator.proofs.Rooms.{length-ends}
+use Rattle.translation.specs.Layout.{roundUp, offsetFor, endFor, emptyEnds, placeCell, placeCells, offsetOf, segmentLimit}
+use Rattle.translation.proofs.Rooms.{length-ends}
 use Rattle.layout.specs.Along.{Laying, layingOf, startEnds, segmentAt, sizeAt, offsetAt, endAt, placeBy, placeAt, eventBy, layoutEvent}
 use Rattle.layout.proofs.Trees.{Apart, onValues, onItem, cells-made}
 
@@ -172,5 +172,6 @@ module _
       layout-of-tree =
           let from = start means bases N M (after .bases) fit in
           subst (λ (l : Laying). LaidAs (after .bases) (after .cells) l)
-          (sym (cells-made kinds values found (layoutEvent means bases) (quiet means bases from) (Right means bases) (layAll means bases from) (one means bases from values) x i j program s empty all-right))
+          (sym (cells-made kinds values found (layoutEvent means bases) (quiet means bases from) (Right means bases) (layAll means bases from)
+          (one means bases from values) x i j program s empty all-right))
           (laid-as means bases N M (after .bases) fit (after .cells) (all-fit (after .cells) all-right (known .opened) (known .below)))

@@ -23,8 +23,8 @@ use Rattle.tape.specs.Pass.{pass}
 use Rattle.tape.specs.Written.{layerOf, opOf, tokenOf, tapeOf}
 use Rattle.tape.proofs.Numbers.{other-layer, other-family}
 use Rattle.tape.proofs.Written.{tree-tape, follows-in}
-use Rattle.kinds.specs.Meanings.{Filled, Meant, write, openBase, addCell, cellOf, baseIn, meanEvent, meanProgram}
-use Rattle.kinds.proofs.Heeds.{Heeds, enters, names, adds, opens, other, heeds}
+use Rattle.static_rules.specs.Meanings.{Filled, Meant, write, openBase, addCell, cellOf, baseIn, meanEvent, meanProgram}
+use Rattle.static_rules.proofs.Heeds.{Heeds, enters, names, adds, opens, other, heeds}
 
 -- an event that is neither
 abbrev pub Apart : ℕ → Type 0

@@ -6,14 +6,14 @@ use lib.Dec.{eqb, leb, ltb}
 use lib.ListN.{getD, set, replicate}
 use Rattle.base.specs.Choose.{if_then_else_}
 use Rattle.base.specs.Numbers.{stored}
-use Rattle.names.specs.declared.Broken.{Broken}
-use Rattle.names.specs.Broken.{unbroken, rule, _⊕_}
-use Rattle.kinds.specs.Meaning.{elementSize}
+use Rattle.scopes.specs.declared.Broken.{Broken}
+use Rattle.scopes.specs.Broken.{unbroken, rule, _⊕_}
+use Rattle.static_rules.specs.Meaning.{elementSize}
 use Rattle.tape.specs.Events as E
 use Rattle.tape.specs.Pass.{pass}
 use Rattle.tables.specs.Packed.{widthIn, numberIn}
 use Rattle.ledger.specs.Book.{Wide, Thin, wideOf, thinOf, onWide, onThin}
-use Rattle.translator.specs.Layout.{segmentLimit, tableBytes, roundUp}
+use Rattle.translation.specs.Layout.{segmentLimit, tableBytes, roundUp}
 use Rattle.layout.specs.declared.Filling.{Filling}
 
 -- ── where cells stand ──

@@ -135,7 +135,8 @@ module _ (most : ℕ) where
     deep-statement null b p k h n = n
     deep-statement (ifThen t c x) b p k h n = quiet b p (phrase (tested t c)) refl _ (deep-statement x b p _ (omega arith) (quiet b p (mark (endedIf t)) refl k n))
     deep-statement (ifElse t c x e y) b p k h n =
-        quiet b p (phrase (tested t c)) refl _ (deep-statement x b p _ (omega arith) (quiet b p (mark (otherwise t)) refl _ (deep-statement y b p _ (omega arith) (quiet b p (mark (endedElse t)) refl k n))))
+        quiet b p (phrase (tested t c)) refl _ (deep-statement x b p _ (omega arith)
+        (quiet b p (mark (otherwise t)) refl _ (deep-statement y b p _ (omega arith) (quiet b p (mark (endedElse t)) refl k n))))
     deep-statement (while t c x) b p k h n =
         quiet b p (mark (looped t)) refl _ (quiet b p (phrase (tested t c)) refl _ (deep-statement x b p _ (omega arith) (quiet b p (mark (endedWhile t)) refl k n)))
     deep-statement (for t a v l x) b p k h n =

@@ -115,7 +115,12 @@ module _ (l : List ℕ) (t : ℕ) where
     wide-put zero k h = rw (put-column l t 0 v k h 0 (omega arith), put-column l t 0 v k h 1 (omega arith), put-column l t 0 v k h 2 (omega arith), put-column l t 0 v k h 3 (omega arith))
     wide-put (suc zero) k h = rw (put-column l t 1 v k h 0 (omega arith), put-column l t 1 v k h 1 (omega arith), put-column l t 1 v k h 2 (omega arith), put-column l t 1 v k h 3 (omega arith))
     wide-put (suc (suc zero)) k h = rw (put-column l t 2 v k h 0 (omega arith), put-column l t 2 v k h 1 (omega arith), put-column l t 2 v k h 2 (omega arith), put-column l t 2 v k h 3 (omega arith))
-    wide-put (suc (suc (suc zero))) k h = rw (put-column l t 3 v k h 0 (omega arith), put-column l t 3 v k h 1 (omega arith), put-column l t 3 v k h 2 (omega arith), put-column l t 3 v k h 3 (omega arith))
+    wide-put (suc (suc (suc zero))) k h = rw (
+      put-column l t 3 v k h 0 (omega arith),
+      put-column l t 3 v k h 1 (omega arith),
+      put-column l t 3 v k h 2 (omega arith),
+      put-column l t 3 v k h 3 (omega arith),
+    )
     wide-put (suc (suc (suc (suc c)))) k h = absurd (omega arith)
 
     pub wide-kept : (c : ℕ) → length l / 4 ≤ t → wideOf l ≡ onWide c (putIn t v) (wideOf l)
@@ -130,7 +135,12 @@ module _ (l : List ℕ) (t : ℕ) where
     thin-put zero k h = rw (put-column l t 0 v k h 0 (omega arith), put-column l t 0 v k h 1 (omega arith), put-column l t 0 v k h 2 (omega arith), put-column l t 0 v k h 3 (omega arith))
     thin-put (suc zero) k h = rw (put-column l t 1 v k h 0 (omega arith), put-column l t 1 v k h 1 (omega arith), put-column l t 1 v k h 2 (omega arith), put-column l t 1 v k h 3 (omega arith))
     thin-put (suc (suc zero)) k h = rw (put-column l t 2 v k h 0 (omega arith), put-column l t 2 v k h 1 (omega arith), put-column l t 2 v k h 2 (omega arith), put-column l t 2 v k h 3 (omega arith))
-    thin-put (suc (suc (suc zero))) k h = rw (put-column l t 3 v k h 0 (omega arith), put-column l t 3 v k h 1 (omega arith), put-column l t 3 v k h 2 (omega arith), put-column l t 3 v k h 3 (omega arith))
+    thin-put (suc (suc (suc zero))) k h = rw (
+      put-column l t 3 v k h 0 (omega arith),
+      put-column l t 3 v k h 1 (omega arith),
+      put-column l t 3 v k h 2 (omega arith),
+      put-column l t 3 v k h 3 (omega arith),
+    )
     thin-put (suc (suc (suc (suc c)))) k h = absurd (omega arith)
 
     pub thin-kept : (c : ℕ) → length l / 4 ≤ t → thinOf l ≡ onThin c (putIn t v) (thinOf l)

@@ -8,8 +8,8 @@ use lib.Dec.{eqb}
 use lib.ListN.{length, take, drop, length-take, length-append}
 use borrow.Author.Tests.{eq-eqb, ne-eqb}
 use Rattle.base.specs.Choose.{choose}
-use Rattle.translator.specs.Translate as T
-use Rattle.translator.specs.Translate.{accepted, refused, lengthOf, leaves, translate}
+use Rattle.translation.specs.Translate as T
+use Rattle.translation.specs.Translate.{accepted, refused, lengthOf, leaves, translate}
 use Rattle.translate.specs.Answers as A
 use Rattle.translate.proofs.Theorems.{in-parts}
 use Rattle.translate.specs.declared.Answer as D

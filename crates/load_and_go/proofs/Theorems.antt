@@ -13,8 +13,8 @@ use Rattle.base.specs.Choose.{choose}
 use Rattle.objtext.specs.Object.{Form, of-object, of-none}
 use Rattle.objtext.proofs.Exact.{form}
 use Rattle.machine.specs.Space.{needed}
-use Rattle.translator.specs.Translate as T
-use Rattle.translator.specs.Translate.{accepted, refused, translate}
+use Rattle.translation.specs.Translate as T
+use Rattle.translation.specs.Translate.{accepted, refused, translate}
 use Rattle.machine.specs.Run.{run}
 use Rattle.runner.specs.Load.{loaded, spaceOf, started}
 use Rattle.runner.specs.Runner as R

@@ -6,8 +6,8 @@ use lib.Dec.{eqb, ltb}
 use lib.ListN.{length, take}
 use Rattle.base.specs.Choose.{choose}
 use Rattle.machine.specs.Space.{needed}
-use Rattle.translator.specs.Translate as T
-use Rattle.translator.specs.Translate.{translate, leaves}
+use Rattle.translation.specs.Translate as T
+use Rattle.translation.specs.Translate.{translate, leaves}
 use Rattle.translate.specs.Answers.{numberOf, placeOf, lengthOf}
 use Rattle.translate.specs.declared.Answer as A
 use Rattle.runner.specs.declared.Stop.{Stop}

@@ -3,7 +3,7 @@
 ghost use mathlib.Core.Path.{_≡_};
 ghost use lib.ListN.{length};
 ghost use Rattle.machine.specs.Space.{needed};
-ghost use Rattle.translator.specs.Translate.{translate as translation};
+ghost use Rattle.translation.specs.Translate.{translate as translation};
 ghost use Rattle.runner.specs.Numbers.{numberOf as numberOfVerdict};
 ghost use Rattle.runner.specs.Runner.{runner as runs};
 ghost use Rattle.load_and_go.specs.Going.{Told, outcome, refusal, ran, gone, loadAndGo};

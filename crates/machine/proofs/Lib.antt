@@ -1,3 +1,4 @@
+-- The files of this crate's proofs.
 pub mod Operands
 pub mod Runs
 pub mod Stops

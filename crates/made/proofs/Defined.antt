@@ -20,29 +20,29 @@ use Rattle.grammar.specs.Events.{eventsOf}
 use Rattle.grammar.specs.Places.{Along}
 use Rattle.grammar.proofs.Theorems.{program-inside}
 use Rattle.tape.specs.Tape.{tapeStatement}
-use Rattle.names.specs.Search.{firstToken}
-use Rattle.names.specs.Names.{Named}
-use Rattle.names.proofs.Bound.{Goes, goes-along}
-use Rattle.kinds.specs.Meanings.{Filled, Meant, standard}
-use Rattle.kinds.specs.Tables.{Tables, meaningAt}
-use Rattle.kinds.proofs.Known.{Known}
-use Rattle.kinds.proofs.Small.{register-small, meaning-small, meant-small, standard-small}
+use Rattle.scopes.specs.Search.{firstToken}
+use Rattle.scopes.specs.Names.{Named}
+use Rattle.scopes.proofs.Bound.{Goes, goes-along}
+use Rattle.static_rules.specs.Meanings.{Filled, Meant, standard}
+use Rattle.static_rules.specs.Tables.{Tables, meaningAt}
+use Rattle.static_rules.proofs.Known.{Known}
+use Rattle.static_rules.proofs.Small.{register-small, meaning-small, meant-small, standard-small}
 use Rattle.tables.specs.Packed.{low, meaningsOf}
 use Rattle.tables.proofs.Meanings.{low-is}
 use Rattle.objtext.specs.Object.{Segment, objectText}
-use Rattle.translator.specs.Instructions.{Instruction, sizes}
-use Rattle.translator.specs.Core.{Core, coreStatement}
-use Rattle.translator.specs.Code.{sizeOf, code, instructions}
-use Rattle.translator.specs.Layout.{Layout, Placed, layout, placeCells, offsetOf, segmentLimit, roundUp, literalsEnd, literalsFrom, cellsEnd}
-use Rattle.translator.specs.Bytes.{encodeAll}
-use Rattle.translator.specs.Image as I
-use Rattle.translator.specs.Image.{fill, words, segments}
-use Rattle.translator.specs.Translate.{Answer, accepted, refused, kindsOf, valuesOf, named, labelled, meant, Made, tablesOf, make, finish, inRoom}
-use Rattle.translator.proofs.Sizes.{length-encodeAll, sizes-instructions}
-use Rattle.translator.proofs.Rooms.{ends-fit, offsets-fit}
-use Rattle.translator.proofs.Tables.{length-map, names-found, labels-led}
-use Rattle.translator.proofs.Images.{Fitting}
-use Rattle.translator.proofs.Objects as O
+use Rattle.translation.specs.Instructions.{Instruction, sizes}
+use Rattle.translation.specs.Core.{Core, coreStatement}
+use Rattle.translation.specs.Code.{sizeOf, code, instructions}
+use Rattle.translation.specs.Layout.{Layout, Placed, layout, placeCells, offsetOf, segmentLimit, roundUp, literalsEnd, literalsFrom, cellsEnd}
+use Rattle.translation.specs.Bytes.{encodeAll}
+use Rattle.translation.specs.Image as I
+use Rattle.translation.specs.Image.{fill, words, segments}
+use Rattle.translation.specs.Translate.{Answer, accepted, refused, kindsOf, valuesOf, named, labelled, meant, Made, tablesOf, make, finish, inRoom}
+use Rattle.translation.proofs.Sizes.{length-encodeAll, sizes-instructions}
+use Rattle.translation.proofs.Rooms.{ends-fit, offsets-fit}
+use Rattle.translation.proofs.Tables.{length-map, names-found, labels-led}
+use Rattle.translation.proofs.Images.{Fitting}
+use Rattle.translation.proofs.Objects as O
 use Rattle.layout.specs.Along.{Imaging, imagingOf, nowhere, imageEvent}
 use Rattle.layout.proofs.Laid.{Right, all-right}
 use Rattle.layout.proofs.Images.{image-of-tree, placed-there}
@@ -167,7 +167,8 @@ module _
     unfolding layout
     exactly-is =
         rw start-is
-        (laid-instructions y (λ (t : ℕ). low (getD offsets t 0)) place-is (kindsOf ts) (valuesOf ts) (named ts x .found) (labelled ts x .goes) means under (m .opens) offsets _ zeros tape core coded refl)
+        (laid-instructions y (λ (t : ℕ). low (getD offsets t 0)) place-is (kindsOf ts) (valuesOf ts) (named ts x .found) (labelled ts x .goes) means under
+        (m .opens) offsets _ zeros tape core coded refl)
 
     length-is : lain .at ≡ sizes is
     unfolding codedAlong
@@ -195,7 +196,20 @@ module _
     object-is h k =
         let fit : Fitting y = O.fitting ts x to front program quiet k in
         let bytes = O.program-bytes ts x to front program quiet h k in
-        rw (lain-is h, start-is, image-is 1, image-is 2, image-is 3, end-is 1, end-is 2, end-is 3, program-cut (encodeAll y is) (sizes is) (length-encodeAll y is) h bytes, first-cut y fit, later-cut y 2 (fit .ends 2), later-cut y 3 (fit .ends 3))
+        rw (
+          lain-is h,
+          start-is,
+          image-is 1,
+          image-is 2,
+          image-is 3,
+          end-is 1,
+          end-is 2,
+          end-is 3,
+          program-cut (encodeAll y is) (sizes is) (length-encodeAll y is) h bytes,
+          first-cut y fit,
+          later-cut y 2 (fit .ends 2),
+          later-cut y 3 (fit .ends 3),
+        )
         (sym (segments-are y (m .bases) is few))
 
     pub made-as-defined : (room : ℕ)

@@ -7,11 +7,11 @@ use lib.ListN.{length, take, drop, replicate, length-replicate}
 use lib.Seq.{sets, sets-eq}
 use Rattle.base.specs.Lists.{All}
 use Rattle.objtext.specs.Object.{Segment, program, cells}
-use Rattle.translator.specs.Instructions.{Instruction}
-use Rattle.translator.specs.Layout.{Layout, segmentLimit, cellsEnd, literalsEnd}
-use Rattle.translator.specs.Bytes.{encodeAll}
-use Rattle.translator.specs.Image.{fill, words, endOfFirst, firstData, dataOf, dataFrom, segments}
-use Rattle.translator.proofs.Images.{Fitting, fill-length, end-first}
+use Rattle.translation.specs.Instructions.{Instruction}
+use Rattle.translation.specs.Layout.{Layout, segmentLimit, cellsEnd, literalsEnd}
+use Rattle.translation.specs.Bytes.{encodeAll}
+use Rattle.translation.specs.Image.{fill, words, endOfFirst, firstData, dataOf, dataFrom, segments}
+use Rattle.translation.proofs.Images.{Fitting, fill-length, end-first}
 use Rattle.layout.proofs.Images.{take-sets, cut-fill}
 use Rattle.code.specs.Coding.{bytesIn}
 use Rattle.frames.specs.Frames.{laterData, objectOf}

@@ -8,9 +8,9 @@ use lib.Seq.{sets}
 use Rattle.base.specs.Choose.{if_then_else_}
 use Rattle.tape.specs.Pass.{pass}
 use Rattle.objtext.specs.Object.{Segment, objectText}
-use Rattle.translator.specs.Layout.{segmentLimit, roundUp}
-use Rattle.translator.specs.Image.{words}
-use Rattle.translator.specs.Translate.{Answer, accepted, refused, inRoom}
+use Rattle.translation.specs.Layout.{segmentLimit, roundUp}
+use Rattle.translation.specs.Image.{words}
+use Rattle.translation.specs.Translate.{Answer, accepted, refused, inRoom}
 use Rattle.layout.specs.Along.{Imaging, imagingOf, nowhere, imageEvent}
 use Rattle.ledger.specs.Book.{Wide, Thin}
 use Rattle.code.specs.Places.{Placing, onMarks, placesIn}

@@ -6,7 +6,7 @@ use native.Mathlib.Omega.{arith}
 use lib.ListN.{getD, length, drop}
 use Rattle.tape.specs.Pass.{pass}
 use Rattle.tape.proofs.Pass.{pass-turn, pass-end}
-use Rattle.kinds.specs.Meanings.{Meant, dataBase}
+use Rattle.static_rules.specs.Meanings.{Meant, dataBase}
 use Rattle.tables.specs.Packed.{basedIn, meaningsOf}
 use Rattle.tables.specs.Stacks.{stackOf}
 use Rattle.meanings.specs.declared.Scope.{Scope}
@@ -54,7 +54,8 @@ module _ (tape kinds : List ℕ) (start : View) where
 
   module _ {w : Wide} {b : Thin} {owners outer : List ℕ} {s : Scope} {form target bases i : ℕ} (g : Going w b owners outer s form target bases i) where
     pub going-on :
-        {w′ : Wide} {b″ : Thin} {owners′ outer′ : List ℕ} {s′ : Scope} {form′ target′ bases′ : ℕ} (b′ : Thin) (op t : ℕ) → i < length tape → op ≡ getD tape i 0 % E.EVENTS → t ≡ getD tape i 0 / E.EVENTS
+        {w′ : Wide} {b″ : Thin} {owners′ outer′ : List ℕ} {s′ : Scope} {form′ target′ bases′ : ℕ} (b′ : Thin) (op t : ℕ) → i < length tape
+        → op ≡ getD tape i 0 % E.EVENTS → t ≡ getD tape i 0 / E.EVENTS
         → ((u : List ℕ) → Moved (withinAfter (b .found) op t (meaningsOf (w .means) u) bases (withinOf owners outer s)) owners′ outer′ (blocksOpen op (s .outer)) (proceduresOpen op (s .owners)) s′)
         → form′ ≡ formAfter (w .values) op t form
         → ((u : List ℕ) → target′ ≡ targetAfter (b .found) op t (meaningsOf (w .means) u) target)

@@ -8,8 +8,8 @@ use lib.Dec.{eqb}
 use lib.ListN.{getD, set, length}
 use Rattle.base.proofs.Tests.{never-true}
 use Rattle.token.specs.Kinds as K
-use Rattle.kinds.specs.Meaning.{Meaning, register, routine, meaningOf, registerOf, isLong}
-use Rattle.kinds.specs.Meanings.{mean, callWrites}
+use Rattle.static_rules.specs.Meaning.{Meaning, register, routine, meaningOf, registerOf, isLong}
+use Rattle.static_rules.specs.Meanings.{mean, callWrites}
 use Rattle.tape.specs.Numbers.{formAt}
 use Rattle.tables.specs.Packed.{REGISTER, ROUTINE, low, packed, isRoutineIn, basedIn, unpacked, meaningsOf, registerIn, longIn, packedAt, setsOf}
 use Rattle.tables.proofs.Meanings.{by-sort, low-is, long-is, packed-register, packed-routine, meaning-at, meaning-set, meaning-set-both}
@@ -26,7 +26,8 @@ module _ (found means bases : List ℕ) (t : ℕ) where
   pub target-at : (m g : ℕ) → m ≡ packedAt found means t → g ≡ targetIn m → g ≡ targetOf (meaningOf found (meaningsOf means bases) t)
   unfolding targetIn
   target-at m g e f =
-      f ∙ (ap targetIn e ∙ sym (ap targetOf meant-at ∙ by-sort (λ y. targetOf y ≡ targetIn (packedAt found means t)) _ (packedAt found means t) _ (λ e. rw e) (λ e f. rw e) (λ e f g. rw e) (λ e f g. rw e)))
+      f ∙ (ap targetIn e ∙ sym (ap targetOf meant-at ∙ by-sort (λ y. targetOf y ≡ targetIn (packedAt found means t)) _ (packedAt found means t) _ (λ e. rw e)
+      (λ e f. rw e) (λ e f g. rw e) (λ e f g. rw e)))
 
   long-at : isLong (meaningOf found (meaningsOf means bases) t) ≡ longIn (packedAt found means t)
   long-at = ap isLong meant-at ∙ long-is _ _ _
@@ -72,7 +73,8 @@ module _ (means bases opens written : List ℕ) (count own : ℕ) where
   unfolding callWrites
   no-call found t p m e f h =
       rw (meant-at found means bases t, ← e, ← f)
-      (by-sort (λ x. meantOf means bases opens written count ≡ callWrites x own p (meantOf means bases opens written count)) _ m _ (λ a. refl) (λ a b. never-true (sym h ∙ b)) (λ a b c. refl) (λ a b c. refl))
+      (by-sort (λ x. meantOf means bases opens written count ≡ callWrites x own p (meantOf means bases opens written count)) _ m _ (λ a. refl) (λ a b.
+      never-true (sym h ∙ b)) (λ a b c. refl) (λ a b c. refl))
 
 -- ── the registers' names ──
 

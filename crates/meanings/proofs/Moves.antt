@@ -5,7 +5,7 @@ use mathlib.Core.List.{List, [], _∷_, map}
 use Prim.Native.Nat.{ℕ, zero, suc, _+_, _-_, _*_, _≤_, _<_}
 use native.Mathlib.Omega.{arith}
 use lib.ListN.{getD, set, length}
-use Rattle.kinds.specs.Meaning.{Meaning, Based, meaningOf, registerOf}
+use Rattle.static_rules.specs.Meaning.{Meaning, Based, meaningOf, registerOf}
 use Rattle.tables.specs.Packed.{basedIn, meaningsOf, registerIn, packedAt}
 use Rattle.tables.specs.Stacks.{stackOf, top, under}
 use Rattle.tables.proofs.Stacks.{pushed, popped}
@@ -40,10 +40,12 @@ module _ (owners outer : List ℕ) (s : Scope) where
     procedures-are = omega arith;
   }
 
-  pub left-block : (b d : ℕ) → b ≡ top (stackOf outer (s .outer)) → d ≡ s .outer - 1 → Moved (leaveBlock (withinOf owners outer s)) owners outer (s .outer - 1) (s .owners) (scope (s .own) (s .owners) b d)
+  pub left-block : (b d : ℕ) → b ≡ top (stackOf outer (s .outer)) → d ≡ s .outer - 1
+      → Moved (leaveBlock (withinOf owners outer s)) owners outer (s .outer - 1) (s .owners) (scope (s .own) (s .owners) b d)
   left-block b d e f = record {
     is = ap₂ (λ (x : Based) (l : List Based). record { own = s .own; owners = stackOf owners (s .owners); base = x; outer = l })
-        (ap basedIn e ∙ first-is (stackOf outer (s .outer))) (ap (λ (n : ℕ). map basedIn (stackOf outer n)) f ∙ (ap (λ (l : List ℕ). map basedIn l) (popped outer (s .outer)) ∙ later-is (stackOf outer (s .outer))));
+        (ap basedIn e ∙ first-is (stackOf outer (s .outer))) (ap (λ (n : ℕ). map basedIn (stackOf outer n)) f
+        ∙ (ap (λ (l : List ℕ). map basedIn l) (popped outer (s .outer)) ∙ later-is (stackOf outer (s .outer))));
     blocks-are = omega arith;
     procedures-are = omega arith;
   }
@@ -59,7 +61,8 @@ module _ (owners outer : List ℕ) (s : Scope) where
   }
 
   pub left-procedure :
-      (own d : ℕ) → own ≡ top (stackOf owners (s .owners)) → d ≡ s .owners - 1 → Moved (leaveProcedure (withinOf owners outer s)) owners outer (s .outer) (s .owners - 1) (scope own d (s .base) (s .outer))
+      (own d : ℕ) → own ≡ top (stackOf owners (s .owners)) → d ≡ s .owners - 1
+      → Moved (leaveProcedure (withinOf owners outer s)) owners outer (s .outer) (s .owners - 1) (scope own d (s .base) (s .outer))
   left-procedure own d e f = record {
     is = ap₂ (λ (x : ℕ) (l : List ℕ). record { own = x; owners = l; base = basedIn (s .base); outer = map basedIn (stackOf outer (s .outer)) })
         e (ap (λ (n : ℕ). stackOf owners n) f ∙ popped owners (s .owners));
@@ -69,7 +72,8 @@ module _ (owners outer : List ℕ) (s : Scope) where
 
   pub changed-base :
       (found means bases : List ℕ) (t count r m : ℕ) → count < 4294967294 → m ≡ packedAt found means t → r ≡ registerIn m
-      → Moved (changeBase (registerOf (meaningOf found (meaningsOf means bases) t)) count (withinOf owners outer s)) owners outer (s .outer) (s .owners) (scope (s .own) (s .owners) (r * 4294967296 + (count + 2)) (s .outer))
+      → Moved (changeBase (registerOf (meaningOf found (meaningsOf means bases) t)) count (withinOf owners outer s)) owners outer (s .outer) (s .owners)
+      (scope (s .own) (s .owners) (r * 4294967296 + (count + 2)) (s .outer))
   changed-base found means bases t count r m h e f = record {
     is = ap (λ (b : Based). record { own = s .own; owners = stackOf owners (s .owners); base = b; outer = map basedIn (stackOf outer (s .outer)) })
         (based-is r (count + 2) (omega arith) ∙ ap₂ (λ (x y : ℕ). record { register = x; segment = y }) (f ∙ (ap registerIn e ∙ sym (register-at found means bases t))) (omega arith));

@@ -5,15 +5,15 @@ use Prim.Native.Nat.{ℕ, zero, suc, _+_, _%_, _≤_}
 use native.Mathlib.Omega.{arith}
 use lib.ListN.{getD, set, replicate, length-replicate}
 use Rattle.base.specs.Choose.{if_then_else_}
-use Rattle.names.specs.Search.{firstToken}
-use Rattle.names.proofs.Early.{Early}
+use Rattle.scopes.specs.Search.{firstToken}
+use Rattle.scopes.proofs.Early.{Early}
 use Rattle.grammar.specs.Tree.{Statement}
 use Rattle.grammar.specs.Derives.{isProgram}
 use Rattle.tape.specs.Tape.{tapeStatement}
 use Rattle.tape.specs.Pass.{pass}
-use Rattle.kinds.specs.Registers.{Registers, noRegisters}
-use Rattle.kinds.specs.Meaning.{Meaning, nothing}
-use Rattle.kinds.specs.Meanings.{Meant, meanProgram, standard}
+use Rattle.static_rules.specs.Registers.{Registers, noRegisters}
+use Rattle.static_rules.specs.Meaning.{Meaning, nothing}
+use Rattle.static_rules.specs.Meanings.{Meant, meanProgram, standard}
 use Rattle.tables.specs.Packed.{low, packed, numberIn, isRegisterIn, isRoutineIn, isCellIn, unpacked, meaningsFrom, meaningsOf, setOf, setsOf}
 use Rattle.tables.proofs.Sets.{set-none}
 use Rattle.meanings.specs.Along.{meanEvent, beginning}
@@ -44,7 +44,8 @@ blank n bases =
 -- a program's tape, from arrays of zeros
 pub meant-text :
     (kinds values found bases : List ℕ) (n : ℕ) → Small kinds values found → Early found → (x : Statement) (i j : ℕ) → isProgram kinds x i j → j ≤ firstToken + n
-    → pass (meanEvent kinds values found) (beginning (meantOf (registersNamed 16 (replicate (firstToken + n) 0)) bases (replicate (firstToken + n) 0) (replicate (firstToken + n) 0) 0)) (tapeStatement x []) .meant
+    → pass (meanEvent kinds values found) (beginning (meantOf (registersNamed 16 (replicate (firstToken + n) 0)) bases (replicate (firstToken + n) 0)
+    (replicate (firstToken + n) 0) 0)) (tapeStatement x []) .meant
     ≡ tabled (meanProgram kinds values found x (standard n))
 meant-text kinds values found bases n small early x i j h l =
     rw (blank n bases) (meant-program kinds values found small early x i j h (standard n) (omega (arith, length-replicate {A = ℕ} (firstToken + n) 0)))

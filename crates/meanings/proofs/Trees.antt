@@ -29,13 +29,13 @@ use Rattle.tape.specs.Pass.{pass}
 use Rattle.tape.specs.Written.{operandShape, signCode, conditionCode, opOf, tokenOf}
 use Rattle.tape.proofs.Numbers.{by-shape, by-operand}
 use Rattle.tape.proofs.Written.{tree-tape, follows-in}
-use Rattle.names.proofs.Early.{Early}
-use Rattle.kinds.specs.Meaning.{Meaning, nothing, register, cell, routine, Based, meaningOf, registerOf, isLong, longOperand, isProduct}
-use Rattle.kinds.specs.Meanings as D
-use Rattle.kinds.specs.Meanings.{Meant, write, writeText, callWrites, targetWrites, openBase, addCell, countOf, isArray, meaningIn, ownIn, newest, baseIn, meanProgram}
-use Rattle.kinds.proofs.Heeds.{phrase-alike}
-use Rattle.kinds.proofs.Lengths.{event-long}
-use Rattle.kinds.proofs.Stays.{Stays, event-stays}
+use Rattle.scopes.proofs.Early.{Early}
+use Rattle.static_rules.specs.Meaning.{Meaning, nothing, register, cell, routine, Based, meaningOf, registerOf, isLong, longOperand, isProduct}
+use Rattle.static_rules.specs.Meanings as D
+use Rattle.static_rules.specs.Meanings.{Meant, write, writeText, callWrites, targetWrites, openBase, addCell, countOf, isArray, meaningIn, ownIn, newest, baseIn, meanProgram}
+use Rattle.static_rules.proofs.Heeds.{phrase-alike}
+use Rattle.static_rules.proofs.Lengths.{event-long}
+use Rattle.static_rules.proofs.Stays.{Stays, event-stays}
 use Rattle.tables.specs.Packed.{CELL, ARRAY, low, packed, unpacked}
 use Rattle.tables.proofs.Meanings.{low-is, packed-cell}
 use Rattle.meanings.specs.Along.{targetOf, writeTarget, writeLower, withinAfter, formAfter, targetAfter, declaredAfter, isProductAt, writeProduct, writtenAfter, Meaning-walk, meanEvent, beginning}
@@ -120,7 +120,12 @@ module _ (kinds values found : List ℕ) where
   settle : (own : ℕ) (owners : List ℕ) (p : Place) (s t : Meant) (form target : ℕ) (x : Meaning-walk) → Settles p s t → x ≡ walkFrom own owners p s form target t
       → x ≡ walkFrom own owners p t form target t
   settle own owners p s t form target x g e =
-      e ∙ ap₂ (λ (b : Based) (bs : List Based). record { within = record { own = own; owners = owners; base = b; outer = bs }; form = form; target = target; meant = tabled t }) (sym (g .0)) (sym (g .1))
+      e ∙ ap₂ (λ (b : Based) (bs : List Based). record {
+        within = record { own = own; owners = owners; base = b; outer = bs };
+        form = form;
+        target = target;
+        meant = tabled t;
+      }) (sym (g .0)) (sym (g .1))
 
   -- ── edges and routes ──
 
@@ -269,7 +274,12 @@ module _ (kinds values found : List ℕ) where
         o ∙ ap (λ (ms : List Meaning). targetOf (meaningOf found ms (x .name))) (sym k),
       )
   turn-phrase (tested t x) p c s form target g i j h q o = (form, target, condition-is p s form target x, tt)
-  turn-phrase (limited d v a) p c s form target g i j h q o = (form, target, by-operand (λ n. step (E.LIMIT + n) (headOf a) (walk p s form target) ≡ walk p s form target) refl refl refl refl refl a, tt)
+  turn-phrase (limited d v a) p c s form target g i j h q o = (
+    form,
+    target,
+    by-operand (λ n. step (E.LIMIT + n) (headOf a) (walk p s form target) ≡ walk p s form target) refl refl refl refl refl a,
+    tt,
+  )
   turn-phrase (called n) p c s form target g i j h q o =
       (form, target, settle (ownIn p) (ownersIn p) p s (meanAt (phrase (called n)) p s) form target _ g (ap (tell p s form target) (call-same (meaningIn found s n) (ownIn p) (getD found n 0) s)), tt)
 

@@ -8,9 +8,9 @@ use native.Mathlib.Numerals.{add-one}
 use lib.Bits.{bitOr, or-lt}
 use lib.Pow.{pow-lt}
 use lib.ListN.{getD, length}
-use Rattle.kinds.specs.Registers.{Registers, addRegister}
-use Rattle.kinds.specs.Meaning.{Meaning, register, routine, meaningOf, registerOf}
-use Rattle.kinds.specs.Meanings.{Meant, mean, write, writeText, callWrites, openBase}
+use Rattle.static_rules.specs.Registers.{Registers, addRegister}
+use Rattle.static_rules.specs.Meaning.{Meaning, register, routine, meaningOf, registerOf}
+use Rattle.static_rules.specs.Meanings.{Meant, mean, write, writeText, callWrites, openBase}
 use Rattle.tables.specs.Packed.{REGISTER, ROUTINE, low, packed, numberIn, isRoutineIn, basedIn, unpacked, meaningsOf, registerIn, packedAt, setOf, setsOf}
 use Rattle.tables.proofs.Sets.{grown-by, grown-text}
 use Rattle.tables.proofs.Meanings.{as-routine}
@@ -38,7 +38,8 @@ module _ (w : Wide) (b : Thin) (n : ℕ) where
   unfolding writeText
   text-written own p g h i j = ap with-sets (grown-text (b .written) _ own p g h i j refl)
 
-  pub register-declared : (t v p : ℕ) → v ≡ getD (w .values) (t + 2) 0 → p ≡ packed REGISTER 0 v → viewOf (putMean t p w) b n ≡ changed (mean t (register (low (getD (w .values) (t + 2) 0)))) (viewOf w b n)
+  pub register-declared : (t v p : ℕ) → v ≡ getD (w .values) (t + 2) 0 → p ≡ packed REGISTER 0 v
+      → viewOf (putMean t p w) b n ≡ changed (mean t (register (low (getD (w .values) (t + 2) 0)))) (viewOf w b n)
   register-declared t v p e f = ap (with-meant (viewOf w b n)) (changes.register-declared (w .means) (w .under) (b .opens) (b .written) n t (w .values) v p e f refl)
 
   pub item-declared : (t form base : ℕ) → length (w .means) ≤ length (w .under) → viewOf (putUnder t base (putMean t form w)) b n ≡ changed (mean t (unpacked t form (basedIn base))) (viewOf w b n)

@@ -9,8 +9,8 @@ use Rattle.base.specs.Choose.{if_then_else_}
 use Rattle.token.specs.Kinds as K
 use Rattle.tape.specs.Events as E
 use Rattle.tape.specs.Numbers.{formAt, familyAt}
-use Rattle.kinds.specs.Meaning.{Meaning, nothing, register, cell, routine, Based, meaningOf, registerOf, isLong}
-use Rattle.kinds.specs.Meanings.{Meant, mean, write, writeText, callWrites, openBase, meaningIn, dataBase}
+use Rattle.static_rules.specs.Meaning.{Meaning, nothing, register, cell, routine, Based, meaningOf, registerOf, isLong}
+use Rattle.static_rules.specs.Meanings.{Meant, mean, write, writeText, callWrites, openBase, meaningIn, dataBase}
 use Rattle.tables.specs.Packed.{CELL, ARRAY, low, packed, basedIn, unpacked}
 use Rattle.tables.specs.Stacks.{top, under}
 

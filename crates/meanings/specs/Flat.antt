@@ -8,7 +8,7 @@ use Rattle.base.specs.Choose.{if_then_else_}
 use Rattle.grammar.specs.Grammar.{nesting}
 use Rattle.ledger.specs.Book.{Wide, Thin, onWide}
 use Rattle.ledger.specs.Bounds.{Nested}
-use Rattle.kinds.specs.Meanings.{Meant}
+use Rattle.static_rules.specs.Meanings.{Meant}
 use Rattle.tables.specs.Packed.{REGISTER, packed, numberIn, isRegisterIn, basedIn, meaningsOf, setsOf}
 use Rattle.tables.specs.Stacks.{stackOf}
 use Rattle.meanings.specs.declared.Scope.{Scope}

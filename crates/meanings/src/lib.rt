@@ -4,9 +4,9 @@ ghost use mathlib.Core.List.{List};
 ghost use Prim.Native.Nat.{ℕ, suc, _+_, _-_, _≤_, _<_};
 ghost use lib.ListN.{length, getD};
 ghost use Rattle.tape.specs.Pass.{pass};
-ghost use Rattle.kinds.specs.Registers.{addRegister};
-ghost use Rattle.kinds.specs.Meaning.{meaningOf, registerOf, routine};
-ghost use Rattle.kinds.specs.Meanings.{callWrites, openBase, mean as meanAt, write as writeOne, writeText};
+ghost use Rattle.static_rules.specs.Registers.{addRegister};
+ghost use Rattle.static_rules.specs.Meaning.{meaningOf, registerOf, routine};
+ghost use Rattle.static_rules.specs.Meanings.{callWrites, openBase, mean as meanAt, write as writeOne, writeText};
 ghost use Rattle.tables.specs.Packed.{meaningsOf, basedIn, setOf};
 ghost use Rattle.ledger.specs.Book.{Wide, wideOf, thinOf};
 ghost use Rattle.ledger.specs.Bounds.{blocksOpen, proceduresOpen};
@@ -14,6 +14,7 @@ ghost use Rattle.meanings.specs.Along.{enterBlock, leaveBlock, enterProc
 ghost use Rattle.meanings.specs.Flat.{withinOf, Moved, targetIn, viewOf, changed, namedTo, Roomy};
 use arrays::kind;
 use arrays::put_wide;
+use base::less;
 use ledger::found;
 use ledger::mean;
 use ledger::meaning;
@@ -26,7 +27,6 @@ use ledger::written;
 use tables::is_long;
 use tables::is_register;
 use tables::is_routine;
-use tables::less;
 use tables::number;
 use tables::packed;
 use tables::register;
@@ -66,7 +66,7 @@ fn leave_block(outer: &[u64], s: Scope) -> Scope
         own: s.own,
         owners: s.owners,
         base: top(outer, depth),
-        outer: less(depth),
+        outer: less(depth, 1),
     }
 }
 
@@ -91,7 +91,7 @@ fn leave_procedure(owners: &[u64], s: Scope) -> Scope
     let depth = s.owners;
     Scope {
         own: top(owners, depth) as usize,
-        owners: less(depth),
+        owners: less(depth, 1),
         base: s.base,
         outer: s.outer,
     }
@@ -278,14 +278,14 @@ fn write_lower(thin: &mut [u16], own: usize, target: usize)
     if target == 0 {
         return;
     }
-    write(thin, own, less(target - 1) as u64);
+    write(thin, own, less(target - 1, 1) as u64);
 }
 
 // The operator stands before its operand.
 fn is_product(op: u32, t: usize, kinds: &[u8], wide: &[u64], thin: &[u16]) -> bool
     ensures { λ r. ⌜ ((under : List ℕ) → r ≡ isProductAt (now (kinds .entry)) (thinOf (now (thin .entry)) .found) op t (meaningsOf (wideOf (now (wide .entry)) .means) under)) ⌝ }
 {
-    let times = kind(kinds, less(t)) == token::kinds::TIMES;
+    let times = kind(kinds, less(t, 1)) == token::kinds::TIMES;
     let number = tape::form(op) == 4;
     times & (number | is_long(meaning(wide, thin, t)))
 }

@@ -8,10 +8,14 @@ use Rattle.figures.specs.Parts.{behind, partCount, filled}
 use Rattle.messages.specs.Lines.{lineOf, sinceNewline, columnOf, shownBefore, visibles, shownLine, wordAt}
 use Rattle.messages.specs.Messages.{registerAt, headlineAt, figureAt, noteAt, wideAt, placeText, headText, caretText, lineText, firstLine, otherLines, placedText, messageText}
 
-pub protected-register : messageText (bytes "survey.pl360") 10 8 (bytes "BEGIN\n  RE := R1;\nEND @\n") ≡ bytes "survey.pl360:2:3: refusal 10: register 14 is protected here\n  RE := R1;\n  ^^ the data base: cells without SEGMENT BASE belong to it\n"
-unfolding runLen numeral behind partCount filled lineOf sinceNewline columnOf shownBefore visibles shownLine wordAt registerAt headlineAt figureAt noteAt wideAt placeText headText caretText lineText firstLine otherLines placedText
+pub protected-register : messageText (bytes "survey.pl360") 10 8 (bytes "BEGIN\n  RE := R1;\nEND @\n")
+    ≡ bytes "survey.pl360:2:3: refusal 10: register 14 is protected here\n  RE := R1;\n  ^^ the data base: cells without SEGMENT BASE belong to it\n"
+unfolding runLen numeral behind partCount filled lineOf sinceNewline columnOf shownBefore visibles shownLine wordAt registerAt headlineAt figureAt noteAt
+    wideAt placeText headText caretText lineText firstLine otherLines placedText
 protected-register = refl
 
-pub carriage-return : messageText (bytes "a") 2 5 (bytes "BEGIN" ++ (13 ∷ 10 ∷ []) ++ bytes "END @\n") ≡ bytes "a:1:6: refusal 2: byte 13 (CR) is in no token\nBEGIN?\n     ^ lines are ended by byte 10 alone\n"
-unfolding runLen numeral behind partCount filled lineOf sinceNewline columnOf shownBefore visibles shownLine wordAt registerAt headlineAt figureAt noteAt wideAt placeText headText caretText lineText firstLine otherLines placedText
+pub carriage-return : messageText (bytes "a") 2 5 (bytes "BEGIN" ++ (13 ∷ 10 ∷ []) ++ bytes "END @\n")
+    ≡ bytes "a:1:6: refusal 2: byte 13 (CR) is in no token\nBEGIN?\n     ^ lines are ended by byte 10 alone\n"
+unfolding runLen numeral behind partCount filled lineOf sinceNewline columnOf shownBefore visibles shownLine wordAt registerAt headlineAt figureAt noteAt
+    wideAt placeText headText caretText lineText firstLine otherLines placedText
 carriage-return = refl

@@ -1,6 +1,6 @@
 // What is said of a refusal: where it is, the line that it stands in, and why.
 ghost use mathlib.Core.Path.{_≡_};
-ghost use Prim.Native.Nat.{_+_, _-_, _≤_, _<_, min};
+ghost use Prim.Native.Nat.{_+_, _-_, _≤_, _<_};
 ghost use lib.ListN.{length, take, drop, getD};
 ghost use Rattle.figures.specs.Writing.{Holds, Adds};
 ghost use Rattle.base.specs.Runs.{runLen};
@@ -9,6 +9,8 @@ ghost use Rattle.figures.specs.Parts.{firstPart};
 ghost use lib.Dec.{eqb};
 ghost use Rattle.messages.specs.Lines.{sinceNewline, visible as visibleOf, visibles, inWord, wordOf, underlined as underlinedOf, lineOf, since as sinceOf, columnOf, shownBefore, shownLine, wordAt};
 ghost use Rattle.messages.specs.Messages.{hasPlace, byteHeadline, registerHeadline, headline as headlineOf, registerNote, byteNote, noteFor, figureFor, registerAt, headlineAt, figureAt, noteAt, wideAt, placeText, headText, caretText, lineText, firstLine, otherLines, placedText, messageText, acceptedText, equalText, faultText};
+use base::least;
+use base::less;
 use figures::put;
 use figures::put_all;
 use figures::put_decimal;
@@ -96,18 +98,6 @@ const SHOWN: usize = 100;
 const UNDERLINED: usize = 40;
 
 // ── lines ──
-
-fn least(a: usize, b: usize) -> usize
-    ensures { λ r. ⌜ r ≡ min a b ⌝ }
-{
-    if a < b { a } else { b }
-}
-
-fn less(a: usize, b: usize) -> usize
-    ensures { λ r. ⌜ r ≡ a - b ⌝ }
-{
-    if a < b { 0 } else { a - b }
-}
 
 fn since_after(b: u8, k: usize) -> usize
     requires { ⌜ k < 32768 ⌝ }

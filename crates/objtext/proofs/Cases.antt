@@ -14,7 +14,8 @@ lineOf s = bytes s ++ (newline ∷ [])
 
 abbrev pub case-1-text : List ℕ
 case-1-text =
-    lineOf "0100000E" ++ (lineOf "000000000E5810E0105A10E0145010E0100A00" ++ (lineOf "0201001800100014" ++ (lineOf "000100001000000000000000000000000000000000" ++ (lineOf "00010010080000000500000003" ++ lineOf "FF"))))
+    lineOf "0100000E" ++ (lineOf "000000000E5810E0105A10E0145010E0100A00"
+    ++ (lineOf "0201001800100014" ++ (lineOf "000100001000000000000000000000000000000000" ++ (lineOf "00010010080000000500000003" ++ lineOf "FF"))))
 
 abbrev pub case-1 : List Segment
 case-1 =

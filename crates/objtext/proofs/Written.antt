@@ -33,7 +33,16 @@ module _ (k o : ℕ) (bs s : List ℕ) (hk : k < 256) (ho : o < 65536) (hn : len
   frame-back =
       let b1 : isLine (5 + length bs) (before (contentFrame k o bs) s) ≡ true = line-of (5 + length bs) (contentFrame k o bs) s (omega arith) (omega arith, (hk, (omega arith, (omega arith, (hn, a))))) in
       let b2 : twoOf (drop 4 (before (contentFrame k o bs) s)) ≡ o = two-back o (length bs ∷ bs) (newline ∷ s) ho in
-      rw (b1, byte-back 0 (drop 2 (before (contentFrame k o bs) s)) (omega arith), byte-back k (drop 4 (before (contentFrame k o bs) s)) hk, eq-eqb k k refl, b2, eq-eqb o o refl, byte-back (length bs) (before bs s) hn, eq-eqb (length bs) (length bs) refl)
+      rw (
+        b1,
+        byte-back 0 (drop 2 (before (contentFrame k o bs) s)) (omega arith),
+        byte-back k (drop 4 (before (contentFrame k o bs) s)) hk,
+        eq-eqb k k refl,
+        b2,
+        eq-eqb o o refl,
+        byte-back (length bs) (before bs s) hn,
+        eq-eqb (length bs) (length bs) refl,
+      )
 
   frame-bytes : frontBytes (length bs) (drop 10 (before (contentFrame k o bs) s)) ≡ bs
   unfolding bytesOf
@@ -199,7 +208,18 @@ module _ (k : ℕ) (c : List ℕ) (from to : ℕ) (s : List ℕ) (hk : k < 256) 
       let b = segmentText k (cells c from to) s in
       let h = d .short in
       let l : isLine 8 b ≡ true = line-of 8 (headFrame k (cells c from to)) u refl (omega arith, (hk, (omega arith, (omega arith, (omega arith, (omega arith, (omega arith, (omega arith, tt)))))))) in
-      rw (l, byte-back 2 (drop 2 b) (omega arith), byte-back k (drop 4 b) hk, eq-eqb k k refl, data-length, data-from, data-to, le-leb from to (d .order), le-leb to (length c) (d .inside), le-leb (length c) 4096 h)
+      rw (
+        l,
+        byte-back 2 (drop 2 b) (omega arith),
+        byte-back k (drop 4 b) hk,
+        eq-eqb k k refl,
+        data-length,
+        data-from,
+        data-to,
+        le-leb from to (d .order),
+        le-leb to (length c) (d .inside),
+        le-leb (length c) 4096 h,
+      )
 
   pub is-data : isData k (segmentText k (cells c from to) s) ≡ true
   unfolding isData bytesOf
@@ -236,7 +256,14 @@ data-back (cells c from to ∷ gs) (suc n) k h l a =
     let s = textOf (objectFrames (suc k) gs) in
     let hk : k < 256 = omega arith in
     let d = a .0 in
-    rw (segment-first k (cells c from to) gs, not-last k c from to s hk d, is-data k c from to s hk d, the-data k c from to s hk d, past-data k c from to s hk d, data-back gs n (suc k) (omega arith) (omega arith) (a .1))
+    rw (
+      segment-first k (cells c from to) gs,
+      not-last k c from to s hk d,
+      is-data k c from to s hk d,
+      the-data k c from to s hk d,
+      past-data k c from to s hk d,
+      data-back gs n (suc k) (omega arith) (omega arith) (a .1),
+    )
 
 first-data : (gs : List Segment) (s : List ℕ) → 1 ≤ length gs → length gs ≤ 3 → All Data gs → s ≡ textOf (objectFrames 1 gs)
     → onSegment (isData 1 s) (dataAt s) (λ v. readData 2 2 (afterData s)) ≡ some gs
@@ -246,7 +273,14 @@ first-data (program c ∷ gs) s h l a e = absurd (a .0)
 first-data (cells c from to ∷ gs) s h l a e =
     let r = textOf (objectFrames 2 gs) in
     let d = a .0 in
-    rw (e, segment-first 1 (cells c from to) gs, is-data 1 c from to r (omega arith) d, the-data 1 c from to r (omega arith) d, past-data 1 c from to r (omega arith) d, data-back gs 2 2 (omega arith) (omega arith) (a .1))
+    rw (
+      e,
+      segment-first 1 (cells c from to) gs,
+      is-data 1 c from to r (omega arith) d,
+      the-data 1 c from to r (omega arith) d,
+      past-data 1 c from to r (omega arith) d,
+      data-back gs 2 2 (omega arith) (omega arith) (a .1),
+    )
 
 -- reading what is written gives the same segments back
 pub read-written : (gs : List Segment) → Object gs → readObject (objectText gs) ≡ some gs

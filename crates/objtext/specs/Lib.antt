@@ -1,2 +1,3 @@
+-- The files of this crate's definitions.
 pub mod Object
 pub mod Reader

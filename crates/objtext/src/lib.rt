@@ -1,11 +1,12 @@
 // The reader of the object text: how many segments it has, and where their bytes stand. A place past the text's end reads as no digit.
 ghost use mathlib.Core.Path.{_≡_};
 ghost use mathlib.Core.Bool.{true};
-ghost use Prim.Native.Nat.{_+_, _*_, _/_, _%_, _<_, _≤_, min};
+ghost use Prim.Native.Nat.{_+_, _*_, _/_, _%_, _<_, _≤_};
 ghost use lib.ListN.{length, getD, drop};
 ghost use lib.Seq.{sets};
 ghost use Rattle.objtext.specs.Object.{framesFor};
 ghost use Rattle.objtext.specs.Reader.{digitOf, joinOf, byteOf, twoOf, isLine, contentLength, isContentFrame, isContent, contentAt, headLength, isProgram, isData, isLast, readAs, readObject};
+use base::least;
 
 const NEWLINE: u8 = 10;
 
@@ -104,12 +105,6 @@ fn is_content_frame(t: &[u8], i: usize, k: usize, o: usize, n: usize) -> bool
             & (byte_at(t, i + 8) == n);
     }
     false
-}
-
-fn least(a: usize, b: usize) -> usize
-    ensures { λ r. ⌜ r ≡ min a b ⌝ }
-{
-    if a < b { a } else { b }
 }
 
 fn is_content(t: &[u8], i: usize, k: usize, n: usize) -> bool

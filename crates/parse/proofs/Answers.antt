@@ -33,5 +33,7 @@ tree : {P : Statement → ℕ → Type 0} {ks : List ℕ} {i : ℕ} {r : Answer}
 tree {m = ok x j} h z = (x, rw (h .tells .1))
 tree {m = bad n t} h z = absurd (let l = h .tells .2 in let g = h .tells .0 in omega arith)
 
-pub parsed : {ks : List ℕ} {first : ℕ} (before : List ℕ) {after : List ℕ} {r : Answer} → Reads (Laid tapeStatement 0 before after) ks first r (program ks first) → ((r .number ≡ 0 → ⊥) → r .value ≡ 0) → r .value ≤ length after → first + r .value ≤ length ks → Parsed ks first after r
+pub parsed : {ks : List ℕ} {first : ℕ} (before : List ℕ) {after : List ℕ} {r : Answer}
+    → Reads (Laid tapeStatement 0 before after) ks first r (program ks first) → ((r .number ≡ 0 → ⊥) → r .value ≡ 0) → r .value ≤ length after
+    → first + r .value ≤ length ks → Parsed ks first after r
 parsed before h z l f = record { is = told before h z; inside = h .inside; fits = l; few = f; read = tree h; known = known h }

@@ -26,7 +26,9 @@ verdicts :
     ("BEGIN END @" ∷ "" ∷ "BEGIN NULL" ∷ "BEGIN NULL END @" ∷ "BEGIN R1 := ; END @" ∷ "BEGIN INTEGER REGISTER A; END @" ∷ "BEGIN IF < THEN WHILE < DO NULL ELSE NULL; END @" ∷
     "BEGIN IF < THEN NULL ELSE WHILE < DO NULL; END @" ∷ "BEGIN A(B)(C) := 1; END @" ∷ "BEGIN NULL; INTEGER A; END @" ∷ "BEGIN L: END @" ∷ "BEGIN 99999999999 END @" ∷ [])
     ≡ (0, 0) ∷ (4, 0) ∷ (4, 10) ∷ (4, 11) ∷ (4, 12) ∷ (4, 24) ∷ (4, 32) ∷ (0, 0) ∷ (4, 10) ∷ (4, 12) ∷ (0, 0) ∷ (3, 6) ∷ []
-unfolding sameBytes runLen numberFrom walk wordKind comment nameOrWord number begins sign lexeme nextStep nextToken readFrom tokensOf judged andThen look next want wantOne designatorOf operand condition terms signOf assignmentOf numbers cellItem registerItem listOf typeOf cellsOf afterType declaration afterName statementOf itemsOf bodyOf ifOf constructOf statement procedureOf program
+unfolding sameBytes runLen numberFrom walk wordKind comment nameOrWord number begins sign lexeme nextStep nextToken readFrom tokensOf judged andThen look next
+    want wantOne designatorOf operand condition terms signOf assignmentOf numbers cellItem registerItem listOf typeOf cellsOf afterType declaration afterName
+    statementOf itemsOf bodyOf ifOf constructOf statement procedureOf program
 verdicts = refl
 
 abbrev tape : String → List ℕ
@@ -41,12 +43,21 @@ tapes :
     "BEGIN ARRAY (8) SHORT INTEGER S, T(1)(2); INTEGER REGISTER N(3); SEGMENT BASE RC; PROCEDURE P(R5); R0 := S(R1); L: P; END @" ∷ [])
     ≡ map events
     (((E.BLOCK, 0) ∷ (E.SINGLE-FULL, 0) ∷ (E.ITEM, 2) ∷ (E.VALUE, 4) ∷ (E.TARGET, 7) ∷ (E.FIRST, 9) ∷ (E.TERM + 4, 11) ∷ (E.TARGET, 13) ∷ (E.FIRST, 15) ∷ (E.END-BLOCK, 0) ∷ [])
-    ∷ ((E.BLOCK, 0) ∷ (E.CONTROL, 2) ∷ (E.NEG-ABS, 4) ∷ (E.FIRST + 3, 6) ∷ (E.LIMIT + 4, 16) ∷ (E.BARE, 19) ∷ (E.CALL, 21) ∷ (E.ELSE, 18) ∷ (E.WHILE, 23) ∷ (E.COMPARED + 4, 26) ∷ (E.GOTO, 29) ∷ (E.END-WHILE, 23)
+    ∷ ((E.BLOCK, 0) ∷ (E.CONTROL, 2) ∷ (E.NEG-ABS, 4) ∷ (E.FIRST + 3, 6) ∷ (E.LIMIT + 4, 16) ∷ (E.BARE, 19) ∷ (E.CALL, 21) ∷ (E.ELSE, 18) ∷ (
+      E.WHILE,
+      23,
+    ) ∷ (E.COMPARED + 4, 26) ∷ (E.GOTO, 29) ∷ (E.END-WHILE, 23)
     ∷ (E.END-ELSE, 18) ∷ (E.END-FOR, 14) ∷ (E.END-BLOCK, 0) ∷ [])
-    ∷ ((E.BLOCK, 0) ∷ (E.ARRAY-SHORT, 3) ∷ (E.ITEM, 7) ∷ (E.ITEM, 9) ∷ (E.VALUE, 11) ∷ (E.VALUE, 14) ∷ (E.REGISTER, 19) ∷ (E.BASE, 26) ∷ (E.PROCEDURE, 29) ∷ (E.TARGET, 34) ∷ (E.FIRST + 2, 36) ∷ (E.END-PROCEDURE, 29)
+    ∷ ((E.BLOCK, 0) ∷ (E.ARRAY-SHORT, 3) ∷ (E.ITEM, 7) ∷ (E.ITEM, 9) ∷ (E.VALUE, 11) ∷ (E.VALUE, 14) ∷ (E.REGISTER, 19) ∷ (E.BASE, 26) ∷ (
+      E.PROCEDURE,
+      29,
+    ) ∷ (E.TARGET, 34) ∷ (E.FIRST + 2, 36) ∷ (E.END-PROCEDURE, 29)
     ∷ (E.LABEL, 41) ∷ (E.CALL, 43) ∷ (E.END-BLOCK, 0) ∷ [])
     ∷ [])
-unfolding sameBytes runLen numberFrom walk wordKind comment nameOrWord number begins sign lexeme nextStep nextToken readFrom tokensOf andThen look next want wantOne designatorOf operand condition terms signOf assignmentOf numbers cellItem registerItem listOf typeOf cellsOf afterType declaration afterName statementOf itemsOf bodyOf ifOf constructOf statement procedureOf program event tapeDesignator tapeOperand tapeCondition tapeSign tapeEach tapeAssignment tapeItem tapeDeclaration tapeStatement tapeBody tapeItems
+unfolding sameBytes runLen numberFrom walk wordKind comment nameOrWord number begins sign lexeme nextStep nextToken readFrom tokensOf andThen look next want
+    wantOne designatorOf operand condition terms signOf assignmentOf numbers cellItem registerItem listOf typeOf cellsOf afterType declaration afterName
+    statementOf itemsOf bodyOf ifOf constructOf statement procedureOf program event tapeDesignator tapeOperand tapeCondition tapeSign tapeEach tapeAssignment
+    tapeItem tapeDeclaration tapeStatement tapeBody tapeItems
 tapes = refl
 
 -- n blocks, one inside the other

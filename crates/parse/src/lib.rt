@@ -57,7 +57,7 @@ fn place_at(places: &[u32], i: usize) -> usize
 }
 
 // The first n tokens, by their kinds and places.
-fn judge(kinds: &[u8], places: &[u32], n: usize, tape: &mut [u32]) -> Verdict
+fn answer_tokens(kinds: &[u8], places: &[u32], n: usize, tape: &mut [u32]) -> Verdict
     requires { ⌜ (n ≤ length (now kinds)) × ((n ≤ length (now places)) × ((n ≤ length (now tape)) × (n < TOKEN-LIMIT))) ⌝ }
     ensures { λ r. ⌜ verdictOf r ≡ judgedBy (take n (now (places .entry))) (G.program (take n (now (kinds .entry))) 0) ⌝ }
 {
@@ -73,7 +73,7 @@ fn judge(kinds: &[u8], places: &[u32], n: usize, tape: &mut [u32]) -> Verdict
 }
 
 // Is this text grammatical? The lists have room for a token at each byte and one at the end.
-fn judge_text(
+fn answer_text(
     src: &[u8],
     kinds: &mut [u8],
     values: &mut [u64],
@@ -85,7 +85,7 @@ fn judge_text(
 {
     let read = token_lists::read_tokens(src, kinds, values, places);
     match read {
-        token::Tokens::Read(n) => judge(kinds, places, n, tape),
+        token::Tokens::Read(n) => answer_tokens(kinds, places, n, tape),
         token::Tokens::TooLong => Verdict::TooLong,
         token::Tokens::NoToken(place) => Verdict::NoToken(place),
         token::Tokens::OutOfRange(place) => Verdict::OutOfRange(place),
@@ -108,7 +108,7 @@ fn short(src: &[u8]) -> Verdict
     let mut values = [0u64; SHORT + 1];
     let mut places = [0u32; SHORT + 1];
     let mut tape = [0u32; SHORT + 1];
-    judge_text(src, &mut kinds, &mut values, &mut places, &mut tape)
+    answer_text(src, &mut kinds, &mut values, &mut places, &mut tape)
 }
 
 fn middling(src: &[u8]) -> Verdict
@@ -119,7 +119,7 @@ fn middling(src: &[u8]) -> Verdict
     let mut values = [0u64; MIDDLING + 1];
     let mut places = [0u32; MIDDLING + 1];
     let mut tape = [0u32; MIDDLING + 1];
-    judge_text(src, &mut kinds, &mut values, &mut places, &mut tape)
+    answer_text(src, &mut kinds, &mut values, &mut places, &mut tape)
 }
 
 fn long(src: &[u8]) -> Verdict
@@ -130,7 +130,7 @@ fn long(src: &[u8]) -> Verdict
     let mut values = [0u64; TEXT_LIMIT + 1];
     let mut places = [0u32; TEXT_LIMIT + 1];
     let mut tape = [0u32; TEXT_LIMIT + 1];
-    judge_text(src, &mut kinds, &mut values, &mut places, &mut tape)
+    answer_text(src, &mut kinds, &mut values, &mut places, &mut tape)
 }
 
 // Is this text grammatical?

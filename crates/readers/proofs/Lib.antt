@@ -1,3 +1,4 @@
+-- The files of this crate's proofs.
 pub mod Reading
 pub mod Loops
 pub mod Choices

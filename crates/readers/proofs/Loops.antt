@@ -23,7 +23,8 @@ module _ {A : Type 0} {out : A → List ℕ → List ℕ} {list : ℕ → Reader
   starts h = record { inside = h; onward = omega arith; low = omega arith; long = refl; fuel = length ks; enough = omega arith; rest = λ s after d. d }
 
   -- the loop is left
-  pub leaves : {now after : List ℕ} {j q : ℕ} {s : Answer} → Going out list ks i p before now j q → ((f : ℕ) → Reads (Laid out q now after) ks j s (list (suc f) ks j)) → Reads (Laid out p before after) ks i s (list (suc (length ks)) ks i)
+  pub leaves : {now after : List ℕ} {j q : ℕ} {s : Answer} → Going out list ks i p before now j q
+      → ((f : ℕ) → Reads (Laid out q now after) ks j s (list (suc f) ks j)) → Reads (Laid out p before after) ks i s (list (suc (length ks)) ks i)
   leaves {after} {s} g h = g .rest s after (h (g .fuel))
 
   -- a turn, from j and q to l and u
@@ -34,7 +35,15 @@ module _ {A : Type 0} {out : A → List ℕ → List ℕ} {list : ℕ → Reader
       let o = g .onward in
       let w = g .low in
       let n = g .enough in
-      record { inside = ins; onward = omega arith; low = omega arith; long = long ∙ g .long; fuel = f; enough = omega arith; rest = λ s after d. g .rest s after (step (g .fuel) s after (subst (λ (x : ℕ). Reads (Laid out u new after) ks l s (list x ks l)) (sym e) d)) }
+      record {
+        inside = ins;
+        onward = omega arith;
+        low = omega arith;
+        long = long ∙ g .long;
+        fuel = f;
+        enough = omega arith;
+        rest = λ s after d. g .rest s after (step (g .fuel) s after (subst (λ (x : ℕ). Reads (Laid out u new after) ks l s (list x ks l)) (sym e) d));
+      }
     where
       less : (f n j l : ℕ) → n ≤ f + j → j < l → l ≤ n → (g : ℕ) × (f ≡ suc g)
       less zero n j l a b c = absurd (omega arith)

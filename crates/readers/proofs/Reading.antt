@@ -90,7 +90,8 @@ unfolding want
 miss e l s = record { read = rw (ne-eqb _ _ e) (no s tt l); moved = omega arith; none = s .value-is }
 
 -- the token i is taken, and then the rest is read
-pub takes : {B : Type 0} {Q : B → ℕ → Type 0} {ks : List ℕ} {i : ℕ} {r s : Answer} (k : ℕ) (f : ℕ → ℕ → Result B) → Took ks i r (want k ks i) → r .number ≡ 0 → Reads Q ks i s (f i (i + 1)) → Reads Q ks i s (andThen (want k ks i) f)
+pub takes : {B : Type 0} {Q : B → ℕ → Type 0} {ks : List ℕ} {i : ℕ} {r s : Answer} (k : ℕ) (f : ℕ → ℕ → Result B) → Took ks i r (want k ks i) → r .number ≡ 0
+    → Reads Q ks i s (f i (i + 1)) → Reads Q ks i s (andThen (want k ks i) f)
 unfolding want andThen
 takes {Q} {ks} {i} {r} {s} k f h e d = go (eqb (getD ks i 0) k) (h .read .tells)
   where

@@ -13,12 +13,12 @@ use Rattle.base.proofs.Tests.{cases, never-true}
 use Rattle.token.specs.Kinds as K
 use Rattle.grammar.specs.Tree.{Designator, Operand, number, place, Term}
 use Rattle.ledger.specs.Book.{Wide, Thin}
-use Rattle.names.specs.declared.Broken.{Broken}
-use Rattle.names.specs.Broken.{unbroken, rule, broken, _⊕_}
-use Rattle.kinds.specs.Registers.{Registers, noRegisters, spares}
-use Rattle.kinds.specs.Meaning.{Meaning, nothing, register, cell, routine, Based, Cell, meaningOf, registerOf, isLong, longOperand}
-use Rattle.kinds.specs.Tables.{Tables, meaningAt, valueAt, kindAt}
-use Rattle.kinds.specs.Rules.{isRegister, isZero, isShort, isBare, inside, shifts, fullOnly, writeRule, registerRule, zeroRule, indexRules, subscriptRules, placeBy, placeRules, operandRules, onlyRegister, shiftRules, noShort, productRules, termRules, callBy, callRules, baseRules}
+use Rattle.scopes.specs.declared.Broken.{Broken}
+use Rattle.scopes.specs.Broken.{unbroken, rule, broken, _⊕_}
+use Rattle.static_rules.specs.Registers.{Registers, noRegisters, spares}
+use Rattle.static_rules.specs.Meaning.{Meaning, nothing, register, cell, routine, Based, Cell, meaningOf, registerOf, isLong, longOperand}
+use Rattle.static_rules.specs.Tables.{Tables, meaningAt, valueAt, kindAt}
+use Rattle.static_rules.specs.Rules.{isRegister, isZero, isShort, isBare, inside, shifts, fullOnly, writeRule, registerRule, zeroRule, indexRules, subscriptRules, placeBy, placeRules, operandRules, onlyRegister, shiftRules, noShort, productRules, termRules, callBy, callRules, baseRules}
 use Rattle.tables.specs.Packed.{numberIn, isRegisterIn, isRoutineIn, isCellIn, isShortIn, basedIn, cellIn, unpacked, registerIn, longIn, packedAt, setOf, setsOf}
 use Rattle.tables.specs.Stacks.{stackOf}
 use Rattle.tables.proofs.Meanings.{by-sort, as-register, as-routine, as-cell, register-is, long-is}
@@ -95,7 +95,8 @@ module _ {f : Tables} {w : Wide} {l : Thin} (s : Listed f w l) (t m : ℕ) (e : 
   unfolding zeroRule
   no-zero p = at (λ (y : Meaning). rule (not (isZero y)) 9 t) p
 
-  pub placed-register : (shape : ℕ) {x : Broken} {bare : Bool} → isRegisterIn m ≡ true → ((u : ℕ) → bare ≡ isBare (subscriptAt shape u) (indexAt shape u)) → x ≡ rule bare 8 t → x ≡ placeRules f (designatorAt shape t)
+  pub placed-register : (shape : ℕ) {x : Broken} {bare : Bool} → isRegisterIn m ≡ true → ((u : ℕ) → bare ≡ isBare (subscriptAt shape u) (indexAt shape u))
+      → x ≡ rule bare 8 t → x ≡ placeRules f (designatorAt shape t)
   unfolding placeRules
   placed-register shape h p q = rw (meant-at s t m e, as-register (getD (l .found) t 0) m (baseAt s t) h) (q ∙ ap (λ (z : Bool). rule z 8 t) (p t))
 
@@ -181,7 +182,8 @@ module _ (f : Tables) (kept : List ℕ) (r shape t k : ℕ) (e : k ≡ getD (f .
   multiplied h i j p q c = rw (← e, j) (c ∙ ap₂ (λ (v w : Broken). v ⊕ w) p q)
 
   pub taken-full :
-      {y z : Bool} {a b : Broken} → z ≡ member k shifts → z ≡ false → (k ≡ K.TIMES → ⊥) → y ≡ member k fullOnly → y ≡ true → b ≡ operandRules f (operandAt shape t) → a ≡ noShort f (operandAt shape t) → x ≡ b ⊕ a
+      {y z : Bool} {a b : Broken} → z ≡ member k shifts → z ≡ false → (k ≡ K.TIMES → ⊥) → y ≡ member k fullOnly → y ≡ true
+      → b ≡ operandRules f (operandAt shape t) → a ≡ noShort f (operandAt shape t) → x ≡ b ⊕ a
       → x ≡ termRules f kept r (termAt shape t)
   unfolding termRules
   taken-full h i j l u p q c = rw (← e, ← h, i, ne-eqb k K.TIMES j, ← l, u) (c ∙ ap₂ (λ (v w : Broken). v ⊕ w) p q)

@@ -14,10 +14,10 @@ use Rattle.base.specs.Lists.{member}
 use Rattle.base.proofs.Tests.{cases}
 use Rattle.grammar.specs.Tree.{Width, full, short}
 use Rattle.ledger.specs.Book.{Wide, Thin}
-use Rattle.kinds.specs.Registers.{Registers, has, spares}
-use Rattle.kinds.specs.Meaning.{Meaning, nothing, register, cell, routine, Based, Cell, elementSize, isFull}
-use Rattle.kinds.specs.Tables.{Tables, meaningAt}
-use Rattle.kinds.specs.Rules.{isRegister, isZero, isShort, isBare, inside}
+use Rattle.static_rules.specs.Registers.{Registers, has, spares}
+use Rattle.static_rules.specs.Meaning.{Meaning, nothing, register, cell, routine, Based, Cell, elementSize, isFull}
+use Rattle.static_rules.specs.Tables.{Tables, meaningAt}
+use Rattle.static_rules.specs.Rules.{isRegister, isZero, isShort, isBare, inside}
 use Rattle.tables.specs.Packed.{numberIn, isRegisterIn, isCellIn, isShortIn, basedIn, cellIn, widthIn, unpacked, meaningsOf, packedAt}
 use Rattle.tables.specs.Stacks.{stackOf}
 use Rattle.tables.proofs.Meanings.{by-sort, register-alone, routine-alone, meaning-at}

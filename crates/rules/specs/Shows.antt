@@ -3,7 +3,7 @@ use mathlib.Core.Path.{_≡_}
 use mathlib.Core.List.{List}
 use Prim.Native.Nat.{ℕ}
 use Rattle.ledger.specs.Book.{Wide, Thin}
-use Rattle.kinds.specs.Tables.{Tables}
+use Rattle.static_rules.specs.Tables.{Tables}
 use Rattle.tables.specs.Packed.{meaningsOf, setsOf}
 
 -- the tables are what the columns list, whatever the bases of cells

@@ -5,15 +5,16 @@ ghost use Prim.Native.Nat.{ℕ, _+_, _-_, _≤_, _<_};
 ghost use lib.ListN.{getD};
 ghost use Rattle.base.specs.Lists.{member};
 ghost use Rattle.ledger.specs.Book.{wideOf, thinOf};
-ghost use Rattle.names.specs.Broken.{unbroken, rule as ruleOf, broken as brokenOf, _⊕_};
-ghost use Rattle.kinds.specs.Registers.{spares as sparesOf};
-ghost use Rattle.kinds.specs.Meaning.{Based, cell, elementSize};
-ghost use Rattle.kinds.specs.Tables.{Tables, valueAt, meaningAt};
-ghost use Rattle.kinds.specs.Rules.{isRegister, isZero, isShort, inside, isBare, shifts, fullOnly, writeRule, registerRule, zeroRule, indexRules, subscriptRules, placeBy, placeRules, operandRules, onlyRegister, shiftRules, noShort, productRules, termRules, callRules, baseRules};
+ghost use Rattle.scopes.specs.Broken.{unbroken, rule as ruleOf, broken as brokenOf, _⊕_};
+ghost use Rattle.static_rules.specs.Registers.{spares as sparesOf};
+ghost use Rattle.static_rules.specs.Meaning.{Based, cell, elementSize};
+ghost use Rattle.static_rules.specs.Tables.{Tables, valueAt, meaningAt};
+ghost use Rattle.static_rules.specs.Rules.{isRegister, isZero, isShort, inside, isBare, shifts, fullOnly, writeRule, registerRule, zeroRule, indexRules, subscriptRules, placeBy, placeRules, operandRules, onlyRegister, shiftRules, noShort, productRules, termRules, callRules, baseRules};
 ghost use Rattle.tables.specs.Packed.{widthIn, cellIn, unpacked, setOf};
 ghost use Rattle.tables.specs.Stacks.{stackOf};
 ghost use Rattle.rules.specs.Parts.{subscriptAt, indexAt, designatorAt, operandAt, termAt};
 ghost use Rattle.rules.specs.Shows.{Listed};
+use base::less;
 use ledger::found;
 use ledger::mean;
 use ledger::meaning;
@@ -21,16 +22,15 @@ use ledger::offset;
 use ledger::opens;
 use ledger::value;
 use ledger::written;
-use names::Broken;
-use names::join;
-use names::rule;
+use scopes::Broken;
+use scopes::join;
+use scopes::rule;
 use tables::is_array;
 use tables::is_cell;
 use tables::is_long;
 use tables::is_register;
 use tables::is_routine;
 use tables::is_short;
-use tables::less;
 use tables::number;
 use tables::register;
 
@@ -216,9 +216,9 @@ fn product_rules(shape: u32, wide: &[u64], thin: &[u16], depth: usize, r: usize,
         → x ≡ productRules f (stackOf (wideOf (now (wide .entry)) .offsets) depth) r (termAt shape t)) ⌝ }
 {
     if (shape == 4) | is_long(meaning(wide, thin, t)) {
-        let operator = less(t);
+        let operator = less(t, 1);
         let odd = rule(r % 2 == 1, 9, operator);
-        return join(odd, write_rule(wide, depth, less(r) as u64, operator));
+        return join(odd, write_rule(wide, depth, less(r, 1) as u64, operator));
     }
     none()
 }

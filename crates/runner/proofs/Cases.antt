@@ -29,7 +29,8 @@ case-1 =
     ∷ cells (replicate 19 0 ++ (5 ∷ 0 ∷ 0 ∷ 0 ∷ 3 ∷ [])) 16 20 ∷ []
 
 pub case-1-runs : summary 1 8208 (ran case-1 100) ≡ 0 ∷ 1 ∷ 4108 ∷ 2 ∷ 3 ∷ 8 ∷ 8 ∷ []
-unfolding runner form objectText hexDigit bytesOf numberFrom readObject readData atLast onSegment push isLast isData isProgram dataAt programAt afterData afterProgram byteOf twoOf digitOf isContentFrame loaded spaceOf run onward step
+unfolding runner form objectText hexDigit bytesOf numberFrom readObject readData atLast onSegment push isLast isData isProgram dataAt programAt afterData
+    afterProgram byteOf twoOf digitOf isContentFrame loaded spaceOf run onward step
 case-1-runs = refl
 
 -- case 2: "0 first", so the end is not looked at with the budget used
@@ -37,11 +38,13 @@ abbrev case-2 : List Segment
 case-2 = program (0x0a ∷ 0 ∷ []) ∷ cells (replicate 16 0) 16 16 ∷ []
 
 pub case-2-ends : summary 15 8192 (ran case-2 1) ≡ 0 ∷ 1 ∷ 4096 ∷ 0 ∷ 0 ∷ 4096 ∷ 4096 ∷ []
-unfolding runner form objectText hexDigit bytesOf numberFrom readObject readData atLast onSegment push isLast isData isProgram dataAt programAt afterData afterProgram byteOf twoOf digitOf isContentFrame loaded spaceOf run onward step
+unfolding runner form objectText hexDigit bytesOf numberFrom readObject readData atLast onSegment push isLast isData isProgram dataAt programAt afterData
+    afterProgram byteOf twoOf digitOf isContentFrame loaded spaceOf run onward step
 case-2-ends = refl
 
 pub case-2-waits : summary 14 8196 (ran case-2 0) ≡ 0 ∷ 0 ∷ 4096 ∷ 0 ∷ 0 ∷ 8192 ∷ 8192 ∷ []
-unfolding runner form objectText hexDigit bytesOf numberFrom readObject readData atLast onSegment push isLast isData isProgram dataAt programAt afterData afterProgram byteOf twoOf digitOf isContentFrame loaded spaceOf run onward step
+unfolding runner form objectText hexDigit bytesOf numberFrom readObject readData atLast onSegment push isLast isData isProgram dataAt programAt afterData
+    afterProgram byteOf twoOf digitOf isContentFrame loaded spaceOf run onward step
 case-2-waits = refl
 
 -- case 6: the call leaves length code 2, code 0 and the address of the end in the link, and the return goes there
@@ -51,7 +54,8 @@ case-6 =
     ∷ cells (replicate 16 0) 16 16 ∷ []
 
 pub case-6-returns : summary 5 8192 (ran case-6 100) ≡ 0 ∷ 1 ∷ 4110 ∷ 0 ∷ 5 ∷ 0x8000100e ∷ 4096 ∷ []
-unfolding runner form objectText hexDigit bytesOf numberFrom readObject readData atLast onSegment push isLast isData isProgram dataAt programAt afterData afterProgram byteOf twoOf digitOf isContentFrame loaded spaceOf run onward step
+unfolding runner form objectText hexDigit bytesOf numberFrom readObject readData atLast onSegment push isLast isData isProgram dataAt programAt afterData
+    afterProgram byteOf twoOf digitOf isContentFrame loaded spaceOf run onward step
 case-6-returns = refl
 
 -- case 7: the half word is read with its sign through the base of segment 2
@@ -61,5 +65,6 @@ case-7 =
     ∷ cells (replicate 16 0) 16 16 ∷ cells (0xff ∷ 0xff ∷ []) 0 2 ∷ []
 
 pub case-7-reads : summary 2 8200 (ran case-7 100) ≡ 0 ∷ 1 ∷ 4104 ∷ 0 ∷ 2 ∷ 0xffffffff ∷ 12288 ∷ []
-unfolding runner form objectText hexDigit bytesOf numberFrom readObject readData atLast onSegment push isLast isData isProgram dataAt programAt afterData afterProgram byteOf twoOf digitOf isContentFrame loaded spaceOf run onward step
+unfolding runner form objectText hexDigit bytesOf numberFrom readObject readData atLast onSegment push isLast isData isProgram dataAt programAt afterData
+    afterProgram byteOf twoOf digitOf isContentFrame loaded spaceOf run onward step
 case-7-reads = refl

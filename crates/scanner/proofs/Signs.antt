@@ -52,7 +52,31 @@ pub none : (s : List ℕ) → 0 < length s
     → NoToken ≡ sign K.signs s
 none [] h n40 n41 n42 n43 n44 n45 n58 n59 n60 n61 n62 n64 n94 = absurd (omega arith)
 none (x ∷ t) h n40 n41 n42 n43 n44 n45 n58 n59 n60 n61 n62 n64 n94 =
-    sym (others x t K.signs (no _ _ n58, (no _ _ n60, (no _ _ n62, (no _ _ n94, (no _ _ n43, (no _ _ n45, (no _ _ n43, (no _ _ n45, (no _ _ n42, (no _ _ n61, (no _ _ n60, (no _ _ n62, (no _ _ n44, (no _ _ n59, (no _ _ n58, (no _ _ n40, (no _ _ n41, (no _ _ n64, tt)))))))))))))))))))
+    sym (others x t K.signs (
+      no _ _ n58,
+      (
+        no _ _ n60,
+        (
+          no _ _ n62,
+          (
+            no _ _ n94,
+            (
+              no _ _ n43,
+              (
+                no _ _ n45,
+                (
+                  no _ _ n43,
+                  (
+                    no _ _ n45,
+                    (no _ _ n42, (no _ _ n61, (no _ _ n60, (no _ _ n62, (no _ _ n44, (no _ _ n59, (no _ _ n58, (no _ _ n40, (no _ _ n41, (no _ _ n64, tt)))))))))),
+                  ),
+                ),
+              ),
+            ),
+          ),
+        ),
+      ),
+    ))
   where
     no : (y : ℕ) (ys : List ℕ) → (x ≡ y → ⊥) → begins (y ∷ ys) (x ∷ t) ≡ false
     no y ys n = begins-not x y ys t n

@@ -7,6 +7,7 @@ ghost use Rattle.token.specs.Kinds as K;
 ghost use Rattle.token.specs.Text as T;
 ghost use Rattle.token.specs.Answers.{outcomeOf};
 ghost use Rattle.scanner.specs.Inner.{inClass, Ran, Digited, Named, keyKind, inBase, bitsOf, twoOr};
+use base::least;
 use token::Lexeme;
 use token::Next;
 use token::Token;
@@ -164,12 +165,6 @@ fn comment(n: usize, s: &[u8]) -> Lexeme
         return Lexeme::Gap(m + 1);
     }
     Lexeme::NoToken
-}
-
-pub fn least(a: usize, b: usize) -> usize
-    ensures { λ r. ⌜ r ≡ min a b ⌝ }
-{
-    if a < b { a } else { b }
 }
 
 // The name at the front, of which the first ten characters count.

@@ -73,9 +73,14 @@ module _ (room : ℕ) (ks : List ℕ) (i : ℕ) where
   unfolding procedureOf
   procedure-too-deep z = rw z
 
-  pub procedure-parts : (room ≡ 0 → ⊥) → andThen (procedureHead ks (i + 1)) (λ r j. andThen (statement (room - 1) ks j) (λ s o. ok (record { name = i + 1; return = r; body = s }) o)) ≡ procedureOf room ks i
+  pub procedure-parts : (room ≡ 0 → ⊥) → andThen (procedureHead ks (i + 1)) (λ r j.
+      andThen (statement (room - 1) ks j) (λ s o. ok (record { name = i + 1; return = r; body = s }) o)) ≡ procedureOf room ks i
   unfolding procedureOf andThen next
-  procedure-parts z = subst (λ (x : ℕ). andThen (procedureHead ks (i + 1)) (λ r j. andThen (statement (room - 1) ks j) (λ s o. ok (record { name = i + 1; return = r; body = s }) o)) ≡ procedureOf x ks i) (sym (back room z)) (simp (assoc, its-number))
+  procedure-parts z = subst (λ (x : ℕ). andThen (procedureHead ks (i + 1)) (λ r j.
+      andThen (statement (room - 1) ks j) (λ s o. ok (record { name = i + 1; return = r; body = s }) o)) ≡ procedureOf x ks i) (sym (back room z)) (simp (
+        assoc,
+        its-number,
+      ))
 
 -- ── an item of a block ──
 named : (room : ℕ) (ks : List ℕ) (i : ℕ) → getD ks i 0 ≡ K.NAME → statement room ks i ≡ afterName i ks (i + 1)
@@ -106,7 +111,8 @@ module _ (ks : List ℕ) (i : ℕ) {b : Bool} (e : b ≡ (eqb (getD ks i 0) K.NA
   item-is room f g n = cases (eqb (getD ks i 0) K.NAME) yes no
     where
       Goal : Type 0
-      Goal = andThen (statement room ks i) (λ s j. andThen (want K.SEMICOLON ks j) (λ _ o. andThen (itemsOf (statement room) f ks o) (λ is q. ok (item s is) q))) ≡ itemsOf (statement room) (suc f) ks i
+      Goal = andThen (statement room ks i) (λ s j. andThen (want K.SEMICOLON ks j) (λ _ o.
+          andThen (itemsOf (statement room) f ks o) (λ is q. ok (item s is) q))) ≡ itemsOf (statement room) (suc f) ks i
 
       yes : eqb (getD ks i 0) K.NAME ≡ true → Goal
       yes x =

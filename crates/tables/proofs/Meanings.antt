@@ -12,7 +12,7 @@ use borrow.Author.Tests.{eqb-true}
 use Rattle.base.specs.Choose.{choose, if_then_else_}
 use Rattle.base.proofs.Tests.{cases, by-test, never-true}
 use Rattle.grammar.specs.Tree.{full, short}
-use Rattle.kinds.specs.Meaning.{Meaning, nothing, register, cell, routine, Based, registerOf, isFull, isLong}
+use Rattle.static_rules.specs.Meaning.{Meaning, nothing, register, cell, routine, Based, registerOf, isFull, isLong}
 use Rattle.tables.specs.Packed.{REGISTER, ROUTINE, CELL, ARRAY, SORTS, low, packed, sortIn, numberIn, isRegisterIn, isRoutineIn, isArrayIn, isCellIn, isShortIn, basedIn, cellIn, unpacked, meaningsFrom, meaningsOf, registerIn, longIn, packedAt}
 
 pub low-low : (v : ℕ) → low (low v) ≡ low v

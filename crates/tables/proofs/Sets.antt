@@ -13,8 +13,8 @@ use Rattle.base.specs.Choose.{choose, if_then_else_}
 use Rattle.base.specs.Lists.{All}
 use Rattle.base.specs.Tables.{allBelow}
 use Rattle.base.proofs.Tables.{all-below}
-use Rattle.kinds.specs.Registers.{Registers, sixteen, flags, has, noRegisters, addRegister, union}
-use Rattle.kinds.proofs.Flags.{has-flags, length-flags}
+use Rattle.static_rules.specs.Registers.{Registers, sixteen, flags, has, noRegisters, addRegister, union}
+use Rattle.static_rules.proofs.Flags.{has-flags, length-flags}
 use Rattle.tables.specs.Packed.{hasBit, setOf, setsOf, grown}
 
 -- ── a bit of two numbers ──

@@ -7,8 +7,8 @@ use lib.Dec.{eqb}
 use lib.ListN.{getD, set}
 use Rattle.base.specs.Choose.{if_then_else_}
 use Rattle.grammar.specs.Tree.{Width, full, short}
-use Rattle.kinds.specs.Registers.{Registers, flags, noRegisters}
-use Rattle.kinds.specs.Meaning.{Meaning, nothing, register, cell, routine, Based, Cell}
+use Rattle.static_rules.specs.Registers.{Registers, flags, noRegisters}
+use Rattle.static_rules.specs.Meaning.{Meaning, nothing, register, cell, routine, Based, Cell}
 
 -- ── meanings ──
 

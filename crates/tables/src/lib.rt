@@ -3,7 +3,7 @@ ghost use mathlib.Core.Path.{_≡_};
 ghost use Prim.Native.Nat.{_+_, _-_, _<_};
 ghost use lib.ListN.{getD, length};
 ghost use Rattle.base.specs.Choose.{if_then_else_};
-ghost use Rattle.kinds.specs.Registers.{noRegisters, addRegister, union, has as hasOf};
+ghost use Rattle.static_rules.specs.Registers.{noRegisters, addRegister, union, has as hasOf};
 ghost use Rattle.tables.specs.Packed.{low, packed as packedOf, numberIn, isRegisterIn, isRoutineIn, isArrayIn, isCellIn, isShortIn, registerIn, longIn, packedAt, setOf, setsOf, grown};
 ghost use Rattle.tables.specs.Stacks.{stackOf, top as topOf};
 use arrays::get;
@@ -135,10 +135,4 @@ pub fn top(a: &[u64], d: usize) -> u64
         return 0;
     }
     key(a, d - 1)
-}
-
-pub fn less(d: usize) -> usize
-    ensures { λ r. ⌜ r ≡ d - 1 ⌝ }
-{
-    if d == 0 { 0 } else { d - 1 }
 }

@@ -66,7 +66,8 @@ module _ (op : ℕ) (before : ℕ → List ℕ) (u : Uses op before) where
   used-shape n (some s) (some x) h = rw (h .1) (u n .3)
 
   -- and with a number
-  used-operand : ((t : ℕ) → usesAt (op + 4) t ≡ before t ++ []) → (kinds : List ℕ) (a : Operand) (i j : ℕ) → isOperand kinds a i j → usesAt (op + operandShape a) (headOf a) ≡ before (headOf a) ++ operandNames a
+  used-operand : ((t : ℕ) → usesAt (op + 4) t ≡ before t ++ []) → (kinds : List ℕ) (a : Operand) (i j : ℕ) → isOperand kinds a i j
+      → usesAt (op + operandShape a) (headOf a) ≡ before (headOf a) ++ operandNames a
   unfolding isOperand designatorPinned
   used-operand v kinds (number t) i j h = v t
   used-operand v kinds (place d) i j h = used-shape (d .name) (d .subscript) (d .index) (pinned-designator kinds d i j h .1)

@@ -51,7 +51,8 @@ same-sign d (negAbs t) k = refl
 
 same-chain : (a : Assignment) (k : List Event) → tapeOf (eventsChain a k) ≡ tapeSign (a .sign) (tapeOperand E.FIRST (a .first) (tapeEach tapeTerm (a .rest) (tapeOf k)))
 unfolding eventsChain
-same-chain a k = same-sign (a .target) (a .sign) _ ∙ ap (tapeSign (a .sign)) (same-operand E.FIRST (a .first) _ ∙ ap (tapeOperand E.FIRST (a .first)) (same-each (eventsTerm (a .target)) tapeTerm (same-term (a .target)) (a .rest) k))
+same-chain a k = same-sign (a .target) (a .sign) _ ∙ ap (tapeSign (a .sign)) (same-operand E.FIRST (a .first) _
+    ∙ ap (tapeOperand E.FIRST (a .first)) (same-each (eventsTerm (a .target)) tapeTerm (same-term (a .target)) (a .rest) k))
 
 same-item : (c : Option ℕ) (w : Width) (i : Item) → Same (eventsItem c w i) (tapeItem i)
 unfolding eventsItem tapeItem
@@ -85,7 +86,8 @@ mutual
       let rest : List Event = mark (endedWhile t) ∷ k in
       cons _ (same-condition t c (eventsStatement x rest) ∙ ap (tapeCondition c) (same-statement x rest))
   same-statement (for t a v l x) k =
-      cons _ (same-chain a _ ∙ ap (λ (o : List ℕ). tapeSign (a .sign) (tapeOperand E.FIRST (a .first) (tapeEach tapeTerm (a .rest) o))) (same-operand E.LIMIT l _ ∙ ap (tapeOperand E.LIMIT l) (same-statement x _)))
+      cons _ (same-chain a _ ∙ ap (λ (o : List ℕ). tapeSign (a .sign) (tapeOperand E.FIRST (a .first) (tapeEach tapeTerm (a .rest) o)))
+      (same-operand E.LIMIT l _ ∙ ap (tapeOperand E.LIMIT l) (same-statement x _)))
 
   same-body : (b : Body) → Same (eventsBody b) (tapeBody b)
   same-body (declare d b) k = same-declaration d _ ∙ ap (tapeDeclaration d) (same-body b k)
@@ -121,7 +123,8 @@ module _ {S M : Type 0} (step : ℕ → ℕ → M → M) (f : Event → Place �
 -- the same, where the pass keeps what stands open
 module _ {S M : Type 0} (step : ℕ → ℕ → M → M) (f : Event → Place → S → S) (R : Place → Context → S → M → Type 0) (Good : Event → Place → Type 0)
     (turn : (e : Event) (p : Place) (c : Context) (s : S) (m : M) → Good e p → Suits e c → R p c s m → R (after e p) (contextAfter e c) (f e p s) (step (opOf e) (tokenOf e) m)) where
-  pub follows-in : (es : List Event) (p : Place) (c : Context) (s : S) (m : M) → Along Good es p → Coherent es c → R p c s m → (c′ : Context) × Complete c′ × R (afterAll es p) c′ (along f es p s) (pass step m (tapeOf es))
+  pub follows-in : (es : List Event) (p : Place) (c : Context) (s : S) (m : M) → Along Good es p → Coherent es c → R p c s m
+      → (c′ : Context) × Complete c′ × R (afterAll es p) c′ (along f es p s) (pass step m (tapeOf es))
   unfolding Along afterAll along Coherent
   follows-in [] p c s m g h r = (c, h, subst (λ (x : M). R p c s x) (sym (pass-none step m)) r)
   follows-in (e ∷ es) p c s m (g, gs) (h, hs) r =

@@ -4,7 +4,7 @@ ghost use Prim.Native.Nat.{_≤_};
 ghost use lib.ListN.{length};
 ghost use Rattle.token.specs.Text as T;
 ghost use Rattle.token.specs.Answers.{summaryOf, summed, room, Laid, readInto, tokensInto};
-use scanner::least;
+use base::least;
 use scanner::next_token;
 use token::Next;
 use token::Tokens;

@@ -15,9 +15,9 @@ use Rattle.tape.specs.Events as E
 use Rattle.tape.specs.Pass.{onEvent, pass}
 use Rattle.ledger.specs.Book.{Wide}
 use Rattle.objtext.specs.Object.{Segment, objectText}
-use Rattle.translator.specs.Layout.{segmentLimit}
-use Rattle.translator.specs.Image.{words}
-use Rattle.translator.specs.Translate.{accepted, refused, inRoom}
+use Rattle.translation.specs.Layout.{segmentLimit}
+use Rattle.translation.specs.Image.{words}
+use Rattle.translation.specs.Translate.{accepted, refused, inRoom}
 use Rattle.layout.specs.declared.Filling.{Filling}
 use Rattle.layout.specs.Along.{Imaging, imagingOf, nowhere, layValue, imageEvent}
 use Rattle.frames.specs.Frames.{objectOf, lengthFor}

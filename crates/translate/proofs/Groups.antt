@@ -20,17 +20,17 @@ use Rattle.ledger.specs.Book.{Wide, Thin, wideOf, thinOf, thinColumn, onWide, o
 use Rattle.ledger.specs.Bounds.{Narrow, Nested}
 use Rattle.ledger.proofs.Bounds.{program-narrow, program-nested}
 use Rattle.tape.specs.Tape.{tapeStatement}
-use Rattle.names.specs.declared.Broken.{Broken}
-use Rattle.names.specs.Broken.{_⊕_}
-use Rattle.names.specs.Search.{inFront, firstToken}
-use Rattle.names.proofs.Joins.{join-assoc}
-use Rattle.kinds.specs.Kinds.{rulesOf}
-use Rattle.translator.specs.Layout.{layout, placeCells}
-use Rattle.translator.specs.Translate as T
-use Rattle.translator.specs.Translate.{kindsOf, valuesOf, named, labelled, make, finish, judgeBy, judge, afterTokens, inRoom, translated, translate}
-use Rattle.translator.proofs.Answers.{read-grammar}
-use Rattle.translator.proofs.Tables.{length-map}
-use Rattle.translator.proofs.Tokens.{small-text, text-length}
+use Rattle.scopes.specs.declared.Broken.{Broken}
+use Rattle.scopes.specs.Broken.{_⊕_}
+use Rattle.scopes.specs.Search.{inFront, firstToken}
+use Rattle.scopes.proofs.Joins.{join-assoc}
+use Rattle.static_rules.specs.Kinds.{rulesOf}
+use Rattle.translation.specs.Layout.{layout, placeCells}
+use Rattle.translation.specs.Translate as T
+use Rattle.translation.specs.Translate.{kindsOf, valuesOf, named, labelled, make, finish, onRulesBy, onRules, afterTokens, inRoom, translated, translate}
+use Rattle.translation.proofs.Answers.{read-grammar}
+use Rattle.translation.proofs.Tables.{length-map}
+use Rattle.translation.proofs.Tokens.{small-text, text-length}
 use Rattle.parse.specs.Programs.{Told, toldOf, Parsed}
 use Rattle.parse.proofs.Texts.{tokens-small}
 use Rattle.readers.specs.declared.tokens.Answer as P
@@ -57,14 +57,15 @@ module _
     broken-is =
         let k = rulesOf (tablesIn ts x) x in
         let y = placeCells (meantIn ts x .bases) (meantIn ts x .cells) .broken in
-        s .broken-is ∙ (ap (λ (o : Broken). (o ⊕ k) ⊕ y) (d .broken-is) ∙ (join-assoc (named ts x .broken ⊕ labelled ts x .broken) k y ∙ join-assoc (named ts x .broken) (labelled ts x .broken) (k ⊕ y)))
+        s .broken-is ∙ (ap (λ (o : Broken). (o ⊕ k) ⊕ y) (d .broken-is)
+        ∙ (join-assoc (named ts x .broken ⊕ labelled ts x .broken) k y ∙ join-assoc (named ts x .broken) (labelled ts x .broken) (k ⊕ y)))
 
     pub rule-broken : (out : List ℕ) (place : ℕ) → place ≡ getD (placesOf ts) (r .broken .at) 0 → (r .broken .number ≡ 0 → ⊥)
-        → Gives (inRoom (length out) (judge ts (make ts x))) out out (Refused (r .broken .number) place)
-    unfolding judge inRoom
+        → Gives (inRoom (length out) (onRules ts (make ts x))) out out (Refused (r .broken .number) place)
+    unfolding onRules inRoom
     rule-broken out place p h = go (make ts x .broken .number) refl
       where
-        go : (n : ℕ) → make ts x .broken .number ≡ n → Gives (inRoom (length out) (judgeBy ts (make ts x) n)) out out (Refused (r .broken .number) place)
+        go : (n : ℕ) → make ts x .broken .number ≡ n → Gives (inRoom (length out) (onRulesBy ts (make ts x) n)) out out (Refused (r .broken .number) place)
         go zero q = absurd (h (ap (λ (z : Broken). z .number) broken-is ∙ q))
         go (suc n) q = record {
           number-is = ap (λ (z : Broken). z .number) broken-is ∙ q;
@@ -75,8 +76,8 @@ module _
 
     -- the column of the ends is cleared for the addresses
     pub none-broken : (kinds out out′ : List ℕ) (c : Thin) (a : Answer) → kinds ≡ kindsOf ts → c ≡ onThin 3 zeros b → length (b .written) ≡ length ts → r .broken .number ≡ 0
-        → Gives (madeAlong kinds w c (b .written) tape (r .bases) (length out)) out out′ a → Gives (inRoom (length out) (judge ts (make ts x))) out out′ a
-    unfolding judge
+        → Gives (madeAlong kinds w c (b .written) tape (r .bases) (length out)) out out′ a → Gives (inRoom (length out) (onRules ts (make ts x))) out out′ a
+    unfolding onRules
     none-broken kinds out out′ c a ek ec long h g =
         let quiet : make ts x .broken .number ≡ 0 = sym (ap (λ (z : Broken). z .number) broken-is) ∙ h in
         let front = program-front ts x (t .to) (t .program) in
@@ -89,7 +90,7 @@ module _
         ∙ (ap (λ (y : Thin). madeAlong kinds (onWide 0 (λ (l : List ℕ). valuesOf ts) w) y (b .written) tape (r .bases) room) eb
         ∙ rw (ek, t .tape-is, s .bases-are)
         (made-as-defined ts x (t .to) (t .small) (t .program) (omega arith) quiet (w .means) (w .under) (b .written) (w .offsets) (s .means-are) (s .ends-are h) (s .offsets-are h) room)) in
-        let j : judgeBy ts (make ts x) (make ts x .broken .number) ≡ finish (make ts x) = ap (λ (n : ℕ). judgeBy ts (make ts x) n) quiet in
+        let j : onRulesBy ts (make ts x) (make ts x .broken .number) ≡ finish (make ts x) = ap (λ (n : ℕ). onRulesBy ts (make ts x) n) quiet in
         subst (λ (z : T.Answer). Gives (inRoom (length out) z) out out′ a) (sym j) (subst (λ (z : T.Answer). Gives z out out′ a) e g)
 
 -- ── "4, 5" ──
@@ -129,10 +130,17 @@ module _ (ts : List Token) (kinds tape : List ℕ) (p : P.Answer) (d : Parsed ki
         rw tape-is (program-narrow kinds tree firstToken (p .at) whole (omega arith), program-nested 64 tree (read-is-within kinds firstToken tree (p .at) reads))
 
     pub some-program : (values out out′ : List ℕ) (a : Answer) → kinds ≡ kindsOf ts → values ≡ valuesOf ts → Small ts
-        → ((x : Statement) → Text ts x values (take (p .value) tape) → Gives (inRoom (length out) (judge ts (make ts x))) out out′ a)
+        → ((x : Statement) → Text ts x values (take (p .value) tape) → Gives (inRoom (length out) (onRules ts (make ts x))) out out′ a)
         → Gives (inRoom (length out) (afterTokens ts (program kinds firstToken))) out out′ a
     some-program values out out′ a ek ev small g =
-        rw reads (g tree (record { to = p .at; program = read-is-program (kindsOf ts) firstToken tree (p .at) (subst (λ (k : List ℕ). program k firstToken ≡ ok tree (p .at)) ek reads); small = small; values-are = ev; tape-is = tape-is }))
+        rw reads (g tree (record {
+          to = p .at;
+          program = read-is-program (kindsOf ts) firstToken tree (p .at)
+              (subst (λ (k : List ℕ). program k firstToken ≡ ok tree (p .at)) ek reads);
+          small = small;
+          values-are = ev;
+          tape-is = tape-is;
+        }))
 
 -- ── "1; 2, 3" ──
 

@@ -17,24 +17,24 @@ use Rattle.tape.specs.Written.{opOf, tokenOf}
 use Rattle.tape.proofs.Written.{tree-tape}
 use Rattle.ledger.specs.Book.{Wide, Thin, thinOf, thinColumn, onThin, zeros}
 use Rattle.ledger.proofs.Columns.{thin-length}
-use Rattle.names.specs.declared.Broken.{Broken}
-use Rattle.names.specs.declared.Noted.{Noted}
-use Rattle.names.specs.Broken.{unbroken, _⊕_}
-use Rattle.names.specs.Search.{firstToken}
-use Rattle.names.specs.Names.{Named}
-use Rattle.names.specs.Labels.{Labelled}
-use Rattle.names.proofs.Early.{Early, found-early}
-use Rattle.names.proofs.Joins.{quiet-right}
-use Rattle.kinds.specs.Meaning.{Meaning, nothing}
-use Rattle.kinds.specs.Meanings.{Meant, meanProgram, standard}
-use Rattle.kinds.specs.Tables.{Tables}
-use Rattle.kinds.specs.Kinds.{rulesOf}
-use Rattle.kinds.proofs.Bases.{bases-along}
-use Rattle.kinds.proofs.Known.{Known, known-text, known-standard}
+use Rattle.scopes.specs.declared.Broken.{Broken}
+use Rattle.scopes.specs.declared.Noted.{Noted}
+use Rattle.scopes.specs.Broken.{unbroken, _⊕_}
+use Rattle.scopes.specs.Search.{firstToken}
+use Rattle.scopes.specs.Names.{Named}
+use Rattle.scopes.specs.Labels.{Labelled}
+use Rattle.scopes.proofs.Early.{Early, found-early}
+use Rattle.scopes.proofs.Joins.{quiet-right}
+use Rattle.static_rules.specs.Meaning.{Meaning, nothing}
+use Rattle.static_rules.specs.Meanings.{Meant, meanProgram, standard}
+use Rattle.static_rules.specs.Tables.{Tables}
+use Rattle.static_rules.specs.Kinds.{rulesOf}
+use Rattle.static_rules.proofs.Bases.{bases-along}
+use Rattle.static_rules.proofs.Known.{Known, known-text, known-standard}
 use Rattle.tables.specs.Packed.{meaningsOf}
-use Rattle.search.specs.Naming.{nameOp, beginning}
-use Rattle.search.specs.Flat.{namedIn}
-use Rattle.search.proofs.Trees.{named-program}
+use Rattle.names.specs.Naming.{nameOp, beginning}
+use Rattle.names.specs.Flat.{namedIn}
+use Rattle.names.proofs.Trees.{named-program}
 use Rattle.labels.specs.Chains.{labelledIn}
 use Rattle.labels.specs.Labelling.{labelledAlong}
 use Rattle.labels.proofs.Trees.{labelled-program}
@@ -50,8 +50,8 @@ use Rattle.judge.proofs.Trees.{judged-program}
 use Rattle.layout.specs.Along.{Laying, layingOf, startEnds, layoutEvent, cappedEvent, Book, bookOf, layingIn, layoutIn}
 use Rattle.layout.proofs.Capped.{Capped, capped-layout}
 use Rattle.layout.proofs.Laid.{LaidAs, layout-of-tree}
-use Rattle.translator.specs.Translate.{kindsOf, valuesOf, named, labelled, meant}
-use Rattle.translator.proofs.Tables.{length-map}
+use Rattle.translation.specs.Translate.{kindsOf, valuesOf, named, labelled, meant}
+use Rattle.translation.proofs.Tables.{length-map}
 use Rattle.translate.specs.declared.Judged.{Judged}
 use Rattle.translate.specs.Texts.{Text, Blank, Bound, Cleared, meantIn, tablesIn, Settled, Stays}
 

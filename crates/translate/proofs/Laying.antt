@@ -11,9 +11,9 @@ use Rattle.base.proofs.Numbers.{length-bytesOf}
 use Rattle.base.proofs.Parts.{drop-turn, sets-append}
 use Rattle.base.proofs.Lists.{all-getD}
 use Rattle.ledger.specs.Book.{Wide, onWide, putValue}
-use Rattle.names.specs.Search.{inFront}
-use Rattle.translator.specs.Image.{words}
-use Rattle.translator.specs.Translate.{valuesOf}
+use Rattle.scopes.specs.Search.{inFront}
+use Rattle.translation.specs.Image.{words}
+use Rattle.translation.specs.Translate.{valuesOf}
 use Rattle.translate.specs.Texts.{placesOf}
 
 pub lay-turn : (xs l : List ℕ) (t v : ℕ) {z : List ℕ} → t < length xs → v ≡ getD xs t 0 → sets l t (drop t xs) ≡ z → sets (set l t v) (t + 1) (drop (t + 1) xs) ≡ z
@@ -54,7 +54,10 @@ module _ (vs image : List ℕ) (start i : ℕ) where
 
 -- they stand at no place of the text
 pub front-place : (t : ℕ) → 0 ≡ getD (placesOf inFront) t 0
-front-place t = all-getD (λ (v : ℕ). 0 ≡ v) (placesOf inFront) t 0 (refl, (refl, (refl, (refl, (refl, (refl, (refl, (refl, (refl, (refl, (refl, (refl, (refl, (refl, (refl, (refl, (refl, tt))))))))))))))))) refl
+front-place t = all-getD (λ (v : ℕ). 0 ≡ v) (placesOf inFront) t 0 (
+  refl,
+  (refl, (refl, (refl, (refl, (refl, (refl, (refl, (refl, (refl, (refl, (refl, (refl, (refl, (refl, (refl, (refl, tt)))))))))))))))),
+) refl
 
 -- their keys
 pub front-key :

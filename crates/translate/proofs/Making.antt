@@ -9,8 +9,8 @@ use lib.ListN.{length, take, length-take}
 use borrow.Author.Tests.{lt-ltb, le-ltb}
 use Rattle.base.specs.Choose.{if_then_else_}
 use Rattle.objtext.specs.Object.{objectText}
-use Rattle.translator.specs.Layout.{segmentLimit, roundUp}
-use Rattle.translator.specs.Translate.{accepted, refused, inRoom}
+use Rattle.translation.specs.Layout.{segmentLimit, roundUp}
+use Rattle.translation.specs.Translate.{accepted, refused, inRoom}
 use Rattle.ledger.specs.Book.{Wide, Thin}
 use Rattle.code.specs.Places.{Placing, onMarks, placesIn}
 use Rattle.code.specs.Coding.{Laid, laidOf, Holds, codeIn}

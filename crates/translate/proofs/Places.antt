@@ -15,7 +15,7 @@ use Rattle.token.specs.declared.Token.{Token}
 use Rattle.token.specs.declared.Next.{Next}
 use Rattle.token.specs.declared.Next.the-variants as N
 use Rattle.token.proofs.Readings.{rest, Reads, reads-start, Answered, one-more, the-last, reads-on, reads-no, all-read-from}
-use Rattle.names.specs.Search.{inFront, firstToken}
+use Rattle.scopes.specs.Search.{inFront, firstToken}
 use Rattle.translate.specs.Texts.{allTokens, placesOf}
 use Rattle.translate.proofs.Laying.{front-place}
 

@@ -18,7 +18,7 @@ use Rattle.token.specs.declared.Tokens.{Tokens}
 use Rattle.token.specs.declared.Tokens.the-variants as S
 use Rattle.token.proofs.Readings.{few-tokens, not-too-long, all-read-from, Reads, reads-start, reads-on, reads-last, reads-no, LaidOn, Answered, laid-on, laid-last, refused-inside, laid-no}
 use Rattle.ledger.specs.Book.{Wide, onWide, putValue}
-use Rattle.names.specs.Search.{inFront, firstToken}
+use Rattle.scopes.specs.Search.{inFront, firstToken}
 use Rattle.translate.specs.Texts.{allTokens, LaidBehind, ButValues, Behind, Fronted}
 
 -- a text that is not too long is read from its start
@@ -168,7 +168,8 @@ fronted-all src kinds kinds₁ kinds′ w w₁ w′ answer hk hv ek ew d = (
     is = d .is;
     kinds-are = λ n e. rw (count-is src answer (d .is) n e) (fronted kindOf kinds kinds₁ kinds′ (tokensOf src .tokens) (fits n e (length kinds) hk) ek (d .kinds-laid .front) (d .kinds-laid .behind));
     values-are = λ n e. rw (count-is src answer (d .is) n e)
-        (fronted valueOf (w .values) (w₁ .values) (w′ .values) (tokensOf src .tokens) (fits n e (length (w .values)) hv) (ap (λ (y : Wide). y .values) ew) (d .values-laid .front) (d .values-laid .behind));
+        (fronted valueOf (w .values) (w₁ .values) (w′ .values) (tokensOf src .tokens) (fits n e (length (w .values)) hv) (ap (λ (y : Wide). y .values) ew)
+        (d .values-laid .front) (d .values-laid .behind));
   },
   d .same ∙ ap (onWide 0 (λ (l : List ℕ). w′ .values)) ew,
 )

@@ -3,9 +3,9 @@ use mathlib.Core.Path.{_≡_, refl, sym, ap, ap₂, _∙_}
 use mathlib.Core.List.{List}
 use Prim.Native.Nat.{ℕ}
 use lib.ListN.{length}
-use Rattle.translator.specs.Translate as T
-use Rattle.translator.specs.Translate.{translate}
-use Rattle.translator.proofs.Theorems.{not-both}
+use Rattle.translation.specs.Translate as T
+use Rattle.translation.specs.Translate.{translate}
+use Rattle.translation.proofs.Theorems.{not-both}
 use Rattle.translate.specs.declared.Answer.{Answer}
 use Rattle.translate.specs.declared.Answer.the-variants.{Accepted, Refused}
 use Rattle.translate.specs.Answers.{Outcome, outcome, defined, numberOf, placeOf, lengthOf, Gives}
@@ -34,17 +34,23 @@ in-parts a before after r e =
 
 pub one-answer : (source before : List ℕ) (r q : Answer) (after other : List ℕ) → outcome r after ≡ defined (translate source (length before)) before
     → outcome q other ≡ defined (translate source (length before)) before → (r ≡ q) × (after ≡ other)
-one-answer source before r q after other e f = (go r q e f, in-parts (translate source (length before)) before after r e .buffer-is ∙ sym (in-parts (translate source (length before)) before other q f .buffer-is))
+one-answer source before r q after other e f = (
+  go r q e f,
+  in-parts (translate source (length before)) before after r e .buffer-is
+      ∙ sym (in-parts (translate source (length before)) before other q f .buffer-is),
+)
   where
     is : Outcome
     is = defined (translate source (length before)) before
 
     -- an acceptance of nothing and a refusal with the number 0 would say the same: the definition has neither
     neither : (n m p : ℕ) → outcome (Accepted n) after ≡ is → outcome (Refused m p) other ≡ is → ⊥
-    neither n m p a b = not-both source (length before) (sym (in-parts (translate source (length before)) before after (Accepted n) a .number-is)) (sym (in-parts (translate source (length before)) before other (Refused m p) b .length-is))
+    neither n m p a b = not-both source (length before) (sym (in-parts (translate source (length before)) before after (Accepted n) a .number-is))
+        (sym (in-parts (translate source (length before)) before other (Refused m p) b .length-is))
 
     turned : (n m p : ℕ) → outcome (Refused m p) after ≡ is → outcome (Accepted n) other ≡ is → ⊥
-    turned n m p a b = not-both source (length before) (sym (in-parts (translate source (length before)) before other (Accepted n) b .number-is)) (sym (in-parts (translate source (length before)) before after (Refused m p) a .length-is))
+    turned n m p a b = not-both source (length before) (sym (in-parts (translate source (length before)) before other (Accepted n) b .number-is))
+        (sym (in-parts (translate source (length before)) before after (Refused m p) a .length-is))
 
     go : (r q : Answer) → outcome r after ≡ is → outcome q other ≡ is → r ≡ q
     go (Accepted n) (Accepted m) a b = ap Accepted (ap (λ (o : Outcome). o .length) (a ∙ sym b))

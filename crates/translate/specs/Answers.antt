@@ -3,7 +3,7 @@ use mathlib.Core.Path.{_≡_}
 use mathlib.Core.List.{List, _++_}
 use Prim.Native.Nat.{ℕ}
 use lib.ListN.{length, drop}
-use Rattle.translator.specs.Translate as T
+use Rattle.translation.specs.Translate as T
 use Rattle.translate.specs.declared.Answer.{Answer}
 use Rattle.translate.specs.declared.Answer.the-variants.{Accepted, Refused}
 

@@ -13,17 +13,17 @@ use Rattle.grammar.specs.Tree.{Statement}
 use Rattle.grammar.specs.Derives.{isProgram}
 use Rattle.tape.specs.Tape.{tapeStatement}
 use Rattle.ledger.specs.Book.{Wide, Thin, onWide}
-use Rattle.names.specs.declared.Broken.{Broken}
-use Rattle.names.specs.Broken.{_⊕_}
-use Rattle.names.specs.Search.{inFront, firstToken}
-use Rattle.names.specs.Names.{Named}
-use Rattle.names.specs.Labels.{Labelled}
-use Rattle.kinds.specs.Meanings.{Meant}
-use Rattle.kinds.specs.Tables.{Tables}
-use Rattle.kinds.specs.Kinds.{rulesOf}
+use Rattle.scopes.specs.declared.Broken.{Broken}
+use Rattle.scopes.specs.Broken.{_⊕_}
+use Rattle.scopes.specs.Search.{inFront, firstToken}
+use Rattle.scopes.specs.Names.{Named}
+use Rattle.scopes.specs.Labels.{Labelled}
+use Rattle.static_rules.specs.Meanings.{Meant}
+use Rattle.static_rules.specs.Tables.{Tables}
+use Rattle.static_rules.specs.Kinds.{rulesOf}
 use Rattle.tables.specs.Packed.{meaningsOf}
-use Rattle.translator.specs.Layout.{placeCells, offsetOf}
-use Rattle.translator.specs.Translate.{kindsOf, valuesOf, placeAt, named, labelled, meant, tablesOf}
+use Rattle.translation.specs.Layout.{placeCells, offsetOf}
+use Rattle.translation.specs.Translate.{kindsOf, valuesOf, placeAt, named, labelled, meant, tablesOf}
 use Rattle.made.specs.Making.{endOf}
 use Rattle.translate.specs.declared.Judged.{Judged}
 

@@ -9,11 +9,11 @@ ghost use Rattle.token.specs.declared.Token.{Token};
 ghost use Rattle.token.specs.Text.{tokensOf};
 ghost use Rattle.grammar.specs.Tree.{Statement};
 ghost use Rattle.grammar.specs.Grammar.{program};
-ghost use Rattle.names.specs.Search.{inFront, firstToken};
+ghost use Rattle.scopes.specs.Search.{inFront, firstToken};
 ghost use Rattle.ledger.specs.Book.{wideOf, thinOf, onWide};
 ghost use Rattle.ledger.specs.Bounds.{Narrow, Nested};
-ghost use Rattle.translator.specs.Image.{words};
-ghost use Rattle.translator.specs.Translate.{kindsOf, valuesOf, accepted, inRoom, named, make, judge, afterTokens, translate as translation};
+ghost use Rattle.translation.specs.Image.{words};
+ghost use Rattle.translation.specs.Translate.{kindsOf, valuesOf, accepted, inRoom, named, make, onRules, afterTokens, translate as translation};
 ghost use Rattle.objtext.specs.Object.{objectText};
 ghost use Rattle.frames.specs.Frames.{lengthFor};
 ghost use Rattle.translate.specs.Answers.{Gives, outcome, defined};
@@ -24,8 +24,8 @@ use ledger::clear_opens;
 use ledger::clear_written;
 use ledger::put_value;
 use ledger::written;
-use names::Broken;
-use names::join;
+use scopes::Broken;
+use scopes::join;
 use token::Next;
 use token::Tokens;
 use token_lists::is_last;
@@ -122,7 +122,7 @@ fn bind(tape: &[u32], wide: &[u64], thin: &mut [u16]) -> Broken
     requires { ⌜ Narrow (now tape) × (4 * (17 + length (now tape)) ≤ length (now thin)) × (length (now thin) ≤ 262144) × (length (now wide) ≤ length (now thin)) ⌝ }
     ensures { λ r. ⌜ Cleared (now (thin .entry)) (thinOf (now (thin .exit))) × ((ts : List Token) (x : Statement) → Text ts x (wideOf (now (wide .entry)) .values) (now (tape .entry)) → Blank ts (thinOf (now (thin .entry)) .found) → Blank ts (thinOf (now (thin .entry)) .goes) → Bound ts x (thinOf (now (thin .exit))) r) ⌝ }
 {
-    let n = search::names(tape, wide, thin);
+    let n = names::names(tape, wide, thin);
     let l = labels::labels(tape, wide, thin);
     clear_opens(thin);
     clear_written(thin);
@@ -336,7 +336,7 @@ fn translate_tape(
     out: &mut [u8],
 ) -> Answer
     requires { ⌜ (tokensOf (now src) .number ≡ 0) × (17 + length (now tape) ≤ length (now kinds)) × Narrow (now tape) × Nested 64 0 0 (now tape) × Lent (length (now kinds)) (now wide) (now thin) ⌝ }
-    ensures { λ r. ⌜ (let ts = allTokens (now (src .entry)) in (x : Statement) → Text ts x (wideOf (now (wide .entry)) .values) (now (tape .entry)) → now (kinds .entry) ≡ kindsOf ts → Blanks ts (wideOf (now (wide .entry))) (thinOf (now (thin .entry))) → Gives (inRoom (length (now (out .entry))) (judge ts (make ts x))) (now (out .entry)) (now (out .exit)) r) ⌝ }
+    ensures { λ r. ⌜ (let ts = allTokens (now (src .entry)) in (x : Statement) → Text ts x (wideOf (now (wide .entry)) .values) (now (tape .entry)) → now (kinds .entry) ≡ kindsOf ts → Blanks ts (wideOf (now (wide .entry))) (thinOf (now (thin .entry))) → Gives (inRoom (length (now (out .entry))) (onRules ts (make ts x))) (now (out .entry)) (now (out .exit)) r) ⌝ }
 {
     let others = bind(tape, wide, thin);
     let s = settle(tape, kinds, wide, thin, others);

@@ -20,7 +20,8 @@ settled-code-requires : tie.Need-settled-code-requires
 settled-code-requires c κs = search needs
 
 returns : tie.Need-returns
-returns c = add-made (search needs) (search needs) (c .before .before .biased .ensures .0) (c .before .biased2 .ensures .0) (c .before .before .before .wrapping-add-u32 .ensures) (c .settled-code .ensures)
+returns c = add-made (search needs) (search needs) (c .before .before .biased .ensures .0) (c .before .biased2 .ensures .0)
+    (c .before .before .before .wrapping-add-u32 .ensures) (c .settled-code .ensures)
 
 pub add-spec : {M : Type 1} → statement M
 add-spec =

@@ -23,7 +23,8 @@ settled-code-requires : tie.Need-settled-code-requires
 settled-code-requires c κs = search needs
 
 returns : tie.Need-returns
-returns c = subtract-made (search needs) (search needs) (c .before .before .biased .ensures .0) (c .before .biased2 .ensures .0) (c .before .before .before .wrapping-sub-u32 .ensures) (search needs) (c .settled-code .ensures)
+returns c = subtract-made (search needs) (search needs) (c .before .before .biased .ensures .0) (c .before .biased2 .ensures .0)
+    (c .before .before .before .wrapping-sub-u32 .ensures) (search needs) (c .settled-code .ensures)
 
 pub subtract-spec : {M : Type 1} → statement M
 subtract-spec =

@@ -1,3 +1,4 @@
+-- Why `kind` meets its contract.
 use denote.Ref.{now}
 use lib.ListN.{List·getD-eq-default}
 use mathlib.Core.Path.{sym}
@@ -7,15 +8,12 @@ use Rattle.arrays.proofs.kind.Tie as tie
 use Rattle.arrays.proofs.kind.Reads as reads
 use Rattle.arrays.proofs.kind.Lts as lts
 
--- src/lib.rt:40:26
 shared-slice-read-result : tie.Need-shared-slice-read-result
 shared-slice-read-result c = search needs
 
--- src/lib.rt:37:1
 returns : tie.Need-returns
 returns c = search needs
 
--- src/lib.rt:37:1
 returns-2 : tie.Need-returns-2
 returns-2 c = sym (List·getD-eq-default (now (c .before .args .kinds)) 0 {n = c .before .args .t} (search needs))
 

@@ -1,3 +1,4 @@
+-- Why `put_wide` meets its contract.
 use lib.Seq.{set-out}
 use mathlib.Core.Path.{sym}
 use borrow.Author.Needs.{needs}
@@ -6,23 +7,18 @@ use Rattle.arrays.proofs.put_wide.Tie as tie
 use Rattle.arrays.proofs.put_wide.Reads as reads
 use Rattle.arrays.proofs.put_wide.Lts as lts
 
--- src/lib.rt:32:9
 mul-a : tie.Need-mul-a
 mul-a c = search needs
 
--- src/lib.rt:32:9
 slice-write-a : tie.Need-slice-write-a
 slice-write-a c = search needs
 
--- src/lib.rt:28:1
 same-length : tie.Need-same-length
 same-length c = search needs
 
--- src/lib.rt:28:1
 returns : tie.Need-returns
 returns c = search needs
 
--- src/lib.rt:28:1
 returns-2 : tie.Need-returns-2
 returns-2 c = sym (set-out _ _ _ (search needs))
 

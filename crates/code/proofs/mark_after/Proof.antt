@@ -103,4 +103,5 @@ returns-6 c =
 
 pub mark-after-spec : {M : Type 1} → statement M
 mark-after-spec = tie.close
-    (tie.spec put-mark-requires same-length returns put-mark-requires-2 same-length-2 returns-2 add-put-mark put-mark-requires-3 same-length-3 returns-3 mark-limit-requires same-length-4 returns-4 add-put-mark-2 put-mark-requires-4 same-length-5 returns-5 mark-closing-requires same-length-6 returns-6)
+    (tie.spec put-mark-requires same-length returns put-mark-requires-2 same-length-2 returns-2 add-put-mark put-mark-requires-3 same-length-3 returns-3
+    mark-limit-requires same-length-4 returns-4 add-put-mark-2 put-mark-requires-4 same-length-5 returns-5 mark-closing-requires same-length-6 returns-6)

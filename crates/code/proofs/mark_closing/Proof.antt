@@ -96,4 +96,5 @@ returns-6 c =
 
 pub mark-closing-spec : {M : Type 1} → statement M
 mark-closing-spec = tie.close
-    (tie.spec before-requires put-mark-requires same-length returns add-put-mark put-mark-requires-2 same-length-2 returns-2 put-mark-requires-3 same-length-3 returns-3 put-mark-requires-4 same-length-4 returns-4 put-mark-requires-5 same-length-5 returns-5 returns-6)
+    (tie.spec before-requires put-mark-requires same-length returns add-put-mark put-mark-requires-2 same-length-2 returns-2 put-mark-requires-3 same-length-3
+    returns-3 put-mark-requires-4 same-length-4 returns-4 put-mark-requires-5 same-length-5 returns-5 returns-6)

@@ -16,7 +16,10 @@ use Rattle.code.proofs.write_code.Statement.{statement}
 use Rattle.code.proofs.write_code.Tie as tie
 
 abbrev Inv-loop : tie.InvT-loop
-Inv-loop tape kinds wide thin start image₀ literals₀ at₀ w₀ i₀ image literals at w i = (i ≤ length tape) × (at .length ≤ 8 * i) × (at .literals ≤ 2 * i) × (at .literals ≤ length literals₀) × (length image ≡ length image₀) × (length literals ≡ length literals₀) × Coded start (length literals₀) kinds (wideOf wide) (thinOf thin) (at .length) (at .literals) image literals w (drop i tape) (pass (codeStep start kinds (wideOf wide) (thinOf thin)) (codingOf (laidOf 0 image₀ []) noWriting) tape)
+Inv-loop tape kinds wide thin start image₀ literals₀ at₀ w₀ i₀ image literals at w i = (i ≤ length tape) × (at .length ≤ 8 * i) × (at .literals ≤ 2 * i)
+    × (at .literals ≤ length literals₀) × (length image ≡ length image₀) × (length literals ≡ length literals₀)
+    × Coded start (length literals₀) kinds (wideOf wide) (thinOf thin) (at .length) (at .literals) image literals w (drop i tape)
+    (pass (codeStep start kinds (wideOf wide) (thinOf thin)) (codingOf (laidOf 0 image₀ []) noWriting) tape)
 
 abbrev μ-loop : tie.MeasureT-loop
 μ-loop tape kinds wide thin start image₀ literals₀ at₀ w₀ i₀ image literals at w i = length tape - i

@@ -28,7 +28,11 @@ shared-slice-read-if2-2 : tie.Need-shared-slice-read-if2-2 Inv-loop μ-loop
 shared-slice-read-if2-2 c = search needs
 
 returns-2 : tie.Need-returns-2 Inv-loop μ-loop
-returns-2 c = (common-not _ _ _ (c .before .before .before .before .before .loop .inv .2) (c .before .before .before .before .loop-test .taken) (c .before .before .before .if1 .left) (c .if2 .taken), search needs)
+returns-2 c = (
+  common-not _ _ _ (c .before .before .before .before .before .loop .inv .2) (c .before .before .before .before .loop-test .taken)
+      (c .before .before .before .if1 .left) (c .if2 .taken),
+  search needs,
+)
 
 add-i : tie.Need-add-i Inv-loop μ-loop
 add-i c = search needs
@@ -37,7 +41,12 @@ loop-less : tie.Need-loop-less Inv-loop μ-loop
 loop-less c = search needs
 
 loop-again : tie.Need-loop-again Inv-loop μ-loop
-loop-again c = (search needs, search needs, common-on _ _ _ (c .before .before .before .before .before .loop .inv .2) (c .before .before .before .before .loop-test .taken) (c .before .before .before .if1 .left) (c .if2 .left))
+loop-again c = (
+  search needs,
+  search needs,
+  common-on _ _ _ (c .before .before .before .before .before .loop .inv .2)
+      (c .before .before .before .before .loop-test .taken) (c .before .before .before .if1 .left) (c .if2 .left),
+)
 
 returns-3 : tie.Need-returns-3 Inv-loop μ-loop
 returns-3 c = (first-ends _ _ _ (c .before .loop .inv .2) (c .loop-test .left), search needs)

@@ -29,8 +29,13 @@ same-length c = search needs
 returns : tie.Need-returns
 unfolding differenceAt
 returns c =
-    called (rw (c .before .before .before .before .before .before .before .before .before .before .before .before .before .before .part .ensures, c .before .before .before .before .before .before .before .before .before .before .before .before .before .part2 .ensures, c .before .before .before .before .before .before .before .before .before .before .before .before .common .ensures .0))
-    (two (two (c .before .before .before .before .before .before .before .before .before .before .put-head .ensures) (c .before .before .before .before .before .before .put-lines .ensures)) (c .before .before .put-hint .ensures))
+    called (rw (
+      c .before .before .before .before .before .before .before .before .before .before .before .before .before .before .part .ensures,
+      c .before .before .before .before .before .before .before .before .before .before .before .before .before .part2 .ensures,
+      c .before .before .before .before .before .before .before .before .before .before .before .before .common .ensures .0,
+    ))
+    (two (two (c .before .before .before .before .before .before .before .before .before .before .put-head .ensures)
+    (c .before .before .before .before .before .before .put-lines .ensures)) (c .before .before .put-hint .ensures))
 
 pub put-difference-spec : {M : Type 1} → statement M
 put-difference-spec =

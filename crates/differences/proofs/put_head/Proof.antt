@@ -29,7 +29,9 @@ same-length c = search needs
 returns : tie.Need-returns
 unfolding headText
 returns c =
-    called (rw (c .before .before .before .before .before .before .before .before .before .before .before .before .common .ensures .0)) (two (two (c .before .before .before .before .before .before .before .before .before .before .put-place .ensures) (c .before .before .before .before .before .before .put-kind .ensures)) (c .before .before .put-end .ensures))
+    called (rw (c .before .before .before .before .before .before .before .before .before .before .before .before .common .ensures .0))
+    (two (two (c .before .before .before .before .before .before .before .before .before .before .put-place .ensures)
+    (c .before .before .before .before .before .before .put-kind .ensures)) (c .before .before .put-end .ensures))
 
 pub put-head-spec : {M : Type 1} → statement M
 put-head-spec =

@@ -30,7 +30,11 @@ same-length c = search needs
 
 returns-2 : tie.Need-returns-2
 unfolding hintText
-returns-2 c = called (rw (← c .before .before .before .before .before .before .before .before .front .ensures, told (c .before .before .before .before .before .before .same .ensures) (c .before .before .before .before .before .if1 .left))) (c .before .before .put-all .ensures)
+returns-2 c = called (rw (
+  ← c .before .before .before .before .before .before .before .before .front .ensures,
+  told (c .before .before .before .before .before .before .same .ensures) (c .before .before .before .before .before .if1 .left),
+))
+    (c .before .before .put-all .ensures)
 
 pub put-hint-spec : {M : Type 1} → statement M
 put-hint-spec =

@@ -29,7 +29,9 @@ same-length c = search needs
 returns : tie.Need-returns
 unfolding linesText
 returns c =
-    called (rw (c .before .before .before .common .ensures .0)) (two (two (c .before .before .before .before .before .before .before .before .before .before .before .before .put-shown .ensures) (c .before .before .before .before .before .before .before .put-shown2 .ensures)) (c .before .before .put-caret .ensures))
+    called (rw (c .before .before .before .common .ensures .0))
+    (two (two (c .before .before .before .before .before .before .before .before .before .before .before .before .put-shown .ensures)
+    (c .before .before .before .before .before .before .before .put-shown2 .ensures)) (c .before .before .put-caret .ensures))
 
 pub put-lines-spec : {M : Type 1} → statement M
 put-lines-spec =

@@ -34,7 +34,12 @@ same-length c = search needs
 returns-2 : tie.Need-returns-2
 unfolding offsetText
 returns-2 c =
-    called (rw (← c .before .before .before .before .before .before .before .before .before .before .before .before .byte .ensures, eq-eqb _ _ (c .before .before .before .before .before .before .before .before .before .before .before .if1 .left), c .before .before .before .front .ensures, c .before .before .before .before .rest .ensures))
+    called (rw (
+      ← c .before .before .before .before .before .before .before .before .before .before .before .before .byte .ensures,
+      eq-eqb _ _ (c .before .before .before .before .before .before .before .before .before .before .before .if1 .left),
+      c .before .before .before .front .ensures,
+      c .before .before .before .before .rest .ensures,
+    ))
     (two (c .before .before .before .before .before .before .before .before .put-all .ensures) (c .before .before .put-all2 .ensures))
 
 pub put-offset-spec : {M : Type 1} → statement M

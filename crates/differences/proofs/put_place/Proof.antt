@@ -55,7 +55,8 @@ returns c =
     let s6 = s5 .before .before .before .before .before in
     let s7 = s6 .before .before .before .before in
     let s8 = s7 .before .before .before .before .before in
-    two (two (two (two (two (two (two (s8 .put-all .ensures) (s7 .put-all2 .ensures)) (s6 .put-decimal .ensures)) (s5 .put-all3 .ensures)) (s4 .put-decimal2 .ensures)) (s3 .put-all4 .ensures)) (s2 .put-all5 .ensures)) (s1 .put-all6 .ensures)
+    two (two (two (two (two (two (two (s8 .put-all .ensures) (s7 .put-all2 .ensures)) (s6 .put-decimal .ensures)) (s5 .put-all3 .ensures))
+    (s4 .put-decimal2 .ensures)) (s3 .put-all4 .ensures)) (s2 .put-all5 .ensures)) (s1 .put-all6 .ensures)
 
 pub put-place-spec : {M : Type 1} → statement M
 put-place-spec =

@@ -102,4 +102,5 @@ returns-7 c =
 
 pub codes-of-spec : {M : Type 1} → statement M
 codes-of-spec = tie.close
-    (tie.spec first-requires returns before-requires kind-requires next-requires returns-2 compared-requires returns-3 limit-requires returns-4 bare-requires returns-5 step-requires returns-6 others-requires returns-7)
+    (tie.spec first-requires returns before-requires kind-requires next-requires returns-2 compared-requires returns-3 limit-requires returns-4 bare-requires
+    returns-5 step-requires returns-6 others-requires returns-7)

@@ -2,7 +2,7 @@
 use native.Mathlib.Omega.{arith}
 use borrow.Author.Needs.{needs}
 use Rattle.emit.proofs.Tables.{mask-past}
-use Rattle.translator.specs.Instructions.{falseMask}
+use Rattle.translation.specs.Instructions.{falseMask}
 use Rattle.emit.proofs.false_mask.Statement.{statement}
 use Rattle.emit.proofs.false_mask.Tie as tie
 

@@ -128,4 +128,5 @@ returns-8 c =
 
 pub others-spec : {M : Type 1} → statement M
 others-spec = tie.close
-    (tie.spec base-requires returns add-mark mark-requires branch-requires returns-2 returns-3 add-mark-2 mark-requires-2 branch-requires-2 returns-4 add-mark-3 mark-requires-3 branch-requires-3 returns-5 mark-requires-4 link-requires returns-6 mark-requires-5 branch-requires-4 returns-7 returns-8)
+    (tie.spec base-requires returns add-mark mark-requires branch-requires returns-2 returns-3 add-mark-2 mark-requires-2 branch-requires-2 returns-4
+    add-mark-3 mark-requires-3 branch-requires-3 returns-5 mark-requires-4 link-requires returns-6 mark-requires-5 branch-requires-4 returns-7 returns-8)

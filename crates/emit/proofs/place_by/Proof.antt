@@ -23,7 +23,10 @@ element-requires c κs = search needs
 
 returns-2 : tie.Need-returns-2
 unfolding placeBy
-returns-2 c = rw (sym (c .before .before .before .before .is-register .ensures) ∙ c .before .before .before .if1 .left, sym (c .before .before .is-cell .ensures) ∙ c .before .if2 .taken) (c .element .ensures)
+returns-2 c = rw (
+  sym (c .before .before .before .before .is-register .ensures) ∙ c .before .before .before .if1 .left,
+  sym (c .before .before .is-cell .ensures) ∙ c .before .if2 .taken,
+) (c .element .ensures)
 
 returns-3 : tie.Need-returns-3
 unfolding placeBy

@@ -74,4 +74,5 @@ returns-4 c =
 
 pub register-at-spec : {M : Type 1} → statement M
 register-at-spec = tie.close
-    (tie.spec add-meaning meaning-requires register-requires returns before-requires meaning-requires-2 register-requires-2 returns-2 meaning-requires-3 return-register-requires returns-3 meaning-requires-4 register-requires-3 returns-4)
+    (tie.spec add-meaning meaning-requires register-requires returns before-requires meaning-requires-2 register-requires-2 returns-2 meaning-requires-3
+    return-register-requires returns-3 meaning-requires-4 register-requires-3 returns-4)

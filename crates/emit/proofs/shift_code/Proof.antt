@@ -2,7 +2,7 @@
 use native.Mathlib.Omega.{arith}
 use borrow.Author.Needs.{needs}
 use Rattle.emit.proofs.Tables.{shift-past}
-use Rattle.translator.specs.Instructions.{shiftCode}
+use Rattle.translation.specs.Instructions.{shiftCode}
 use Rattle.emit.proofs.shift_code.Statement.{statement}
 use Rattle.emit.proofs.shift_code.Tie as tie
 

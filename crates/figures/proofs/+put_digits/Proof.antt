@@ -11,7 +11,7 @@ use Rattle.figures.proofs.put_digits.Reads as put-digits
 use Rattle.figures.proofs.put_digits.Kinds as kinds
 use Rattle.figures.proofs.+put_digits.Lts-put_digits as lts
 use Rattle.figures.proofs.digit.Reads as digit
-use Rattle.figures.proofs.less.Reads as less
+use Rattle.base.proofs.less.Reads as less
 use Rattle.figures.proofs.put.Reads as put
 use Rattle.figures.proofs.+put_digits.{statement}
 use Rattle.figures.proofs.+put_digits.Tie.{close}
@@ -43,7 +43,9 @@ same-length : (t : ℕ) → lts.Need-same-length (digit.Asked, digit.Learnt, put
 same-length t c = search needs
 
 returns-2 : (t : ℕ) → lts.Need-returns-2 (digit.Asked, digit.Learnt, put.Asked, put.Learnt, less.Asked, less.Learnt, below t, put-digits.Post) (put-digits-at t) put-digits.Post
-returns-2 t c = called (rw (c .before .before .before .before .before .digit .ensures) (numeral-short _ _ _ _ (c .before .before .before .before .before .before .if1 .left) (c .before .before .before .before .if2 .taken))) (c .before .before .put .ensures)
+returns-2 t c = called (rw (c .before .before .before .before .before .digit .ensures)
+    (numeral-short _ _ _ _ (c .before .before .before .before .before .before .if1 .left) (c .before .before .before .before .if2 .taken)))
+    (c .before .before .put .ensures)
 
 less-requires : (t : ℕ) → lts.Need-less-requires (digit.Asked, digit.Learnt, put.Asked, put.Learnt, less.Asked, less.Learnt, below t, put-digits.Post) (put-digits-at t) put-digits.Post
 less-requires t c κs = search needs
@@ -64,7 +66,13 @@ same-length-2 : (t : ℕ) → lts.Need-same-length-2 (digit.Asked, digit.Learnt,
 same-length-2 t c = search needs
 
 returns-3 : (t : ℕ) → lts.Need-returns-3 (digit.Asked, digit.Learnt, put.Asked, put.Learnt, less.Asked, less.Learnt, below t, put-digits.Post) (put-digits-at t) put-digits.Post
-returns-3 t c = called (rw (c .before .before .before .before .before .before .before .before .before .before .digit .ensures, c .before .before .before .before .before .before .before .less .ensures) (numeral-long _ _ _ _ (c .before .before .before .before .before .before .before .before .before .before .before .if1 .left) (c .before .before .before .before .before .before .before .before .before .if2 .left))) (two (c .before .before .before .before .before .before .put-digits .ensures) (c .before .before .put2 .ensures))
+returns-3 t c = called (rw (
+  c .before .before .before .before .before .before .before .before .before .before .digit .ensures,
+  c .before .before .before .before .before .before .before .less .ensures,
+)
+    (numeral-long _ _ _ _ (c .before .before .before .before .before .before .before .before .before .before .before .if1 .left)
+    (c .before .before .before .before .before .before .before .before .before .if2 .left)))
+    (two (c .before .before .before .before .before .before .put-digits .ensures) (c .before .before .put2 .ensures))
 
 pub +put-digits-spec : {M : Type 1} → statement M
 +put-digits-spec = close μ-put-digits λ t. lts.spec (digit.Asked, digit.Learnt, put.Asked, put.Learnt, less.Asked, less.Learnt, below t, put-digits.Post)

@@ -33,10 +33,18 @@ loop-less : tie.Need-loop-less Inv-loop μ-loop
 loop-less c = search needs
 
 loop-again : tie.Need-loop-again Inv-loop μ-loop
-loop-again c = (search needs, rw (c .left-after .ensures) (behind-on _ _ _ _ _ (c .before .before .if1 .left) (c .before .before .before .loop-test .taken) (c .before .before .before .before .loop .inv .1)))
+loop-again c = (
+  search needs,
+  rw (c .left-after .ensures)
+      (behind-on _ _ _ _ _ (c .before .before .if1 .left) (c .before .before .before .loop-test .taken) (c .before .before .before .before .loop .inv .1)),
+)
 
 returns-2 : tie.Need-returns-2 Inv-loop μ-loop
-returns-2 c = (behind-none (c .before .before .before .args .sep) (c .before .before .before .args .n) (c .before .before .before .args .s .now) (c .before .loop .i) (c .before .loop .left) (c .loop-test .left) (c .before .loop .inv .1), search needs)
+returns-2 c = (
+  behind-none (c .before .before .before .args .sep) (c .before .before .before .args .n) (c .before .before .before .args .s .now)
+      (c .before .loop .i) (c .before .loop .left) (c .loop-test .left) (c .before .loop .inv .1),
+  search needs,
+)
 
 pub behind-spec : {M : Type 1} → statement M
 behind-spec =

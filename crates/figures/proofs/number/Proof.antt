@@ -43,7 +43,14 @@ minus-requires : tie.Need-minus-requires
 minus-requires c κs = search needs
 
 returns-3 : tie.Need-returns-3
-returns-3 c = rw (c .minus .ensures, c .before .whole-number2 .ensures, to-end, ne-eqb _ _ (c .before .before .before .before .before .before .if1 .left), ne-eqb _ _ (c .before .before .before .before .if2 .left), c .before .before .before .if3 .taken)
+returns-3 c = rw (
+  c .minus .ensures,
+  c .before .whole-number2 .ensures,
+  to-end,
+  ne-eqb _ _ (c .before .before .before .before .before .before .if1 .left),
+  ne-eqb _ _ (c .before .before .before .before .if2 .left),
+  c .before .before .before .if3 .taken,
+)
 
 whole-number-requires-3 : tie.Need-whole-number-requires-3
 whole-number-requires-3 c κs = search needs

@@ -32,7 +32,9 @@ part-result-end : tie.Need-part-result-end
 part-result-end c = search needs
 
 returns : tie.Need-returns
-returns c = part-is (c .before .before .before .before .before .args .sep) (c .before .before .before .before .before .args .n) (c .before .before .before .before .before .args .s .now) (c .before .before .before .behind .result) (c .before .part-length .result) (c .before .before .before .behind .ensures .0) (c .before .part-length .ensures .0)
+returns c = part-is (c .before .before .before .before .before .args .sep) (c .before .before .before .before .before .args .n)
+    (c .before .before .before .before .before .args .s .now) (c .before .before .before .behind .result) (c .before .part-length .result)
+    (c .before .before .before .behind .ensures .0) (c .before .part-length .ensures .0)
 
 pub part-spec : {M : Type 1} → statement M
 part-spec =

@@ -33,10 +33,20 @@ loop-less : tie.Need-loop-less Inv-loop μ-loop
 loop-less c = search needs
 
 loop-again : tie.Need-loop-again Inv-loop μ-loop
-loop-again c = (search needs, search needs, rw (c .one-if .ensures .0) (count-on (c .before .before .before .before .before .args .sep) (c .before .before .before .before .before .args .s .now) (c .before .before .before .loop .i) (c .before .before .before .loop .n) (c .before .before .loop-test .taken) (c .before .before .before .loop .inv .2)))
+loop-again c = (
+  search needs,
+  search needs,
+  rw (c .one-if .ensures .0)
+      (count-on (c .before .before .before .before .before .args .sep) (c .before .before .before .before .before .args .s .now)
+      (c .before .before .before .loop .i) (c .before .before .before .loop .n) (c .before .before .loop-test .taken) (c .before .before .before .loop .inv .2)),
+)
 
 returns : tie.Need-returns Inv-loop μ-loop
-returns c = (count-end (c .before .before .before .args .sep) (c .before .before .before .args .s .now) (c .before .loop .i) (c .before .loop .n) (c .loop-test .left) (c .before .loop .inv .2), search needs)
+returns c = (
+  count-end (c .before .before .before .args .sep) (c .before .before .before .args .s .now) (c .before .loop .i) (c .before .loop .n)
+      (c .loop-test .left) (c .before .loop .inv .2),
+  search needs,
+)
 
 pub part-count-spec : {M : Type 1} → statement M
 part-count-spec =

@@ -35,13 +35,21 @@ loop-less : tie.Need-loop-less Inv-loop μ-loop
 loop-less c = search needs
 
 loop-again : tie.Need-loop-again Inv-loop μ-loop
-loop-again c = (search needs, search needs, called (filled-on (c .before .before .before .before .before .before .before .before .before .args .n) (c .before .before .before .before .before .before .before .before .before .args .phrase .now) (c .before .before .before .before .before .before .loop .i) (c .before .before .before .before .before .loop-test .taken)) (two (c .before .before .before .before .before .before .loop .inv .2) (c .before .before .put-shown .ensures)))
+loop-again c = (
+  search needs,
+  search needs,
+  called (filled-on (c .before .before .before .before .before .before .before .before .before .args .n)
+      (c .before .before .before .before .before .before .before .before .before .args .phrase .now) (c .before .before .before .before .before .before .loop .i)
+      (c .before .before .before .before .before .loop-test .taken))
+      (two (c .before .before .before .before .before .before .loop .inv .2) (c .before .before .put-shown .ensures)),
+)
 
 same-length : tie.Need-same-length Inv-loop μ-loop
 same-length c = search needs
 
 returns : tie.Need-returns Inv-loop μ-loop
-returns c = called (ap (filled (c .before .before .before .before .args .n)) (take-all (c .before .loop .i) (c .before .before .before .before .args .phrase .now) (c .loop-test .left))) (c .before .loop .inv .2)
+returns c = called (ap (filled (c .before .before .before .before .args .n))
+    (take-all (c .before .loop .i) (c .before .before .before .before .args .phrase .now) (c .loop-test .left))) (c .before .loop .inv .2)
 
 pub put-filled-spec : {M : Type 1} → statement M
 put-filled-spec =

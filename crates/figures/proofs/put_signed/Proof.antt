@@ -28,7 +28,8 @@ same-length-2 : tie.Need-same-length-2
 same-length-2 c = search needs
 
 returns-2 : tie.Need-returns-2
-returns-2 c = called (rw (le-ltb _ _ (c .before .before .before .before .before .before .before .before .if1 .left))) (two (c .before .before .before .before .before .before .put .ensures) (c .before .before .put-decimal2 .ensures))
+returns-2 c = called (rw (le-ltb _ _ (c .before .before .before .before .before .before .before .before .if1 .left)))
+    (two (c .before .before .before .before .before .before .put .ensures) (c .before .before .put-decimal2 .ensures))
 
 pub put-signed-spec : {M : Type 1} → statement M
 put-signed-spec =

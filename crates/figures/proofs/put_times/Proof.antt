@@ -27,7 +27,13 @@ loop-less : tie.Need-loop-less Inv-loop μ-loop
 loop-less c = search needs
 
 loop-again : tie.Need-loop-again Inv-loop μ-loop
-loop-again c = (search needs, search needs, again (c .before .before .before .before .before .loop .i) (c .before .before .before .before .before .before .before .args .b) (c .before .before .before .before .before .loop .inv .2) (c .before .before .put .ensures))
+loop-again c = (
+  search needs,
+  search needs,
+  again (c .before .before .before .before .before .loop .i)
+      (c .before .before .before .before .before .before .before .args .b) (c .before .before .before .before .before .loop .inv .2)
+      (c .before .before .put .ensures),
+)
 
 same-length : tie.Need-same-length Inv-loop μ-loop
 same-length c = search needs

@@ -36,7 +36,12 @@ loop-less : tie.Need-loop-less Inv-loop μ-loop
 loop-less c = search needs
 
 loop-again : tie.Need-loop-again Inv-loop μ-loop
-loop-again c = (search needs, search needs, same-on _ _ _ (c .before .before .before .before .loop .inv .1) (c .before .before .before .before .loop .inv .2) (c .before .before .before .loop-test .taken) (c .if2 .left))
+loop-again c = (
+  search needs,
+  search needs,
+  same-on _ _ _ (c .before .before .before .before .loop .inv .1) (c .before .before .before .before .loop .inv .2)
+      (c .before .before .before .loop-test .taken) (c .if2 .left),
+)
 
 returns-3 : tie.Need-returns-3 Inv-loop μ-loop
 returns-3 c = same-end _ _ _ (c .before .loop .inv .1) (c .before .loop .inv .2) (c .loop-test .left)

@@ -30,7 +30,14 @@ loop-less : tie.Need-loop-less Inv-loop μ-loop
 loop-less c = search needs
 
 loop-again : tie.Need-loop-again Inv-loop μ-loop
-loop-again c = (search needs, search needs, getD-set-other (c .before .before .loop .path) (c .before .before .loop .i) 4095 _ 1 (λ e. omega (arith, c .before .loop-test .taken)) ∙ c .before .before .loop .inv .2)
+loop-again c = (
+  search needs,
+  search needs,
+  getD-set-other (c .before .before .loop .path) (c .before .before .loop .i) 4095 _ 1 (λ e. omega (
+    arith,
+    c .before .loop-test .taken,
+  )) ∙ c .before .before .loop .inv .2,
+)
 
 returns : tie.Need-returns Inv-loop μ-loop
 returns c = c .before .loop .inv .2

@@ -12,7 +12,9 @@ use Rattle.frames.proofs.put_content.Statement.{statement}
 use Rattle.frames.proofs.put_content.Tie as tie
 
 abbrev Inv-loop : tie.InvT-loop
-Inv-loop out₀ at k content o₀ p₀ out o p = (o ≤ length content) × (length out ≡ length out₀) × (p + contentLength (length content - o) ≡ at + contentLength (length content)) × (sets out p (rest k content o) ≡ sets out₀ at (textOf (contentFrames (framesFor (length content)) k 0 content)))
+Inv-loop out₀ at k content o₀ p₀ out o p = (o ≤ length content) × (length out ≡ length out₀)
+    × (p + contentLength (length content - o) ≡ at + contentLength (length content))
+    × (sets out p (rest k content o) ≡ sets out₀ at (textOf (contentFrames (framesFor (length content)) k 0 content)))
 
 abbrev μ-loop : tie.MeasureT-loop
 μ-loop out₀ at k content o₀ p₀ out o p = length content - o
@@ -54,13 +56,37 @@ loop-less : tie.Need-loop-less Inv-loop μ-loop
 loop-less c = search needs
 
 loop-again : tie.Need-loop-again Inv-loop μ-loop
-loop-again c = (search needs, search needs, omega (arith, room-on (c .before .before .before .before .before .before .before .before .before .before .args .k) (c .before .before .before .before .before .before .before .before .before .before .args .content .now) (c .before .before .before .before .before .before .before .loop .o) (c .before .before .before .before .before .least .result) (c .before .before .before .before .before .before .loop-test .taken) (c .before .before .before .before .before .least .ensures)), content-on (c .before .before .before .before .before .before .before .before .before .before .args .k) (c .before .before .before .before .before .before .before .before .before .before .args .content .now) (c .before .before .before .before .before .before .before .loop .o) (c .before .before .before .before .before .least .result) (c .before .before .before .before .before .before .loop-test .taken) (c .before .before .before .before .before .least .ensures) (c .before .before .before .before .before .before .before .loop .out) _ (c .before .before .before .before .before .before .before .loop .p) (c .before .before .put-frame .ensures) (c .before .before .before .before .before .before .before .loop .inv .3))
+loop-again c = (
+  search needs,
+  search needs,
+  omega (
+    arith,
+    room-on (c .before .before .before .before .before .before .before .before .before .before .args .k)
+        (c .before .before .before .before .before .before .before .before .before .before .args .content .now)
+        (c .before .before .before .before .before .before .before .loop .o) (c .before .before .before .before .before .least .result)
+        (c .before .before .before .before .before .before .loop-test .taken) (c .before .before .before .before .before .least .ensures),
+  ),
+  content-on (c .before .before .before .before .before .before .before .before .before .before .args .k)
+      (c .before .before .before .before .before .before .before .before .before .before .args .content .now)
+      (c .before .before .before .before .before .before .before .loop .o) (c .before .before .before .before .before .least .result)
+      (c .before .before .before .before .before .before .loop-test .taken) (c .before .before .before .before .before .least .ensures)
+      (c .before .before .before .before .before .before .before .loop .out) _ (c .before .before .before .before .before .before .before .loop .p)
+      (c .before .before .put-frame .ensures) (c .before .before .before .before .before .before .before .loop .inv .3),
+)
 
 same-length : tie.Need-same-length Inv-loop μ-loop
 same-length c = search needs
 
 returns : tie.Need-returns Inv-loop μ-loop
-returns c = (omega (arith, room-end (length (c .before .before .before .before .args .content .now)) (c .before .loop .o) (c .loop-test .left), c .before .loop .inv .2), content-end (c .before .loop .out) (c .before .loop .p) (c .before .before .before .before .args .k) (c .before .before .before .before .args .content .now) (c .before .loop .o) (c .loop-test .left) (c .before .loop .inv .3))
+returns c = (
+  omega (
+    arith,
+    room-end (length (c .before .before .before .before .args .content .now)) (c .before .loop .o) (c .loop-test .left),
+    c .before .loop .inv .2,
+  ),
+  content-end (c .before .loop .out) (c .before .loop .p) (c .before .before .before .before .args .k)
+      (c .before .before .before .before .args .content .now) (c .before .loop .o) (c .loop-test .left) (c .before .loop .inv .3),
+)
 
 pub put-content-spec : {M : Type 1} → statement M
 put-content-spec =

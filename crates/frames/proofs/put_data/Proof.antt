@@ -38,7 +38,16 @@ same-length : tie.Need-same-length
 same-length c = search needs
 
 returns : tie.Need-returns
-returns c = (search needs, data-laid (c .before .before .before .before .before .before .before .before .before .before .before .args .out .now) _ _ (c .before .before .before .before .before .before .before .before .before .before .before .args .at) (c .before .before .before .before .before .before .before .before .before .before .before .args .k) (c .before .before .before .before .before .before .before .before .before .before .before .args .content .now) (c .before .before .before .before .before .before .before .before .before .before .before .args .from) (c .before .before .before .before .before .before .before .before .before .before .before .args .to) (c .before .before .before .before .before .before .put-line .ensures) (c .before .before .put-content .ensures .1))
+returns c = (
+  search needs,
+  data-laid (c .before .before .before .before .before .before .before .before .before .before .before .args .out .now) _ _
+      (c .before .before .before .before .before .before .before .before .before .before .before .args .at)
+      (c .before .before .before .before .before .before .before .before .before .before .before .args .k)
+      (c .before .before .before .before .before .before .before .before .before .before .before .args .content .now)
+      (c .before .before .before .before .before .before .before .before .before .before .before .args .from)
+      (c .before .before .before .before .before .before .before .before .before .before .before .args .to)
+      (c .before .before .before .before .before .before .put-line .ensures) (c .before .before .put-content .ensures .1),
+)
 
 pub put-data-spec : {M : Type 1} → statement M
 put-data-spec =

@@ -29,7 +29,12 @@ same-length : tie.Need-same-length
 same-length c = search needs
 
 returns : tie.Need-returns
-returns c = frame-laid (c .before .before .before .before .before .before .before .before .before .before .before .args .out .now) _ _ (c .before .before .before .before .before .before .before .before .before .before .before .args .at) (c .before .before .before .before .before .before .before .before .before .before .before .args .k) (c .before .before .before .before .before .before .before .before .before .before .before .args .o) (c .before .before .before .before .before .before .before .before .before .before .before .args .content .now) (c .before .before .before .before .before .before .put-hex .ensures) (c .before .before .put-line .ensures)
+returns c = frame-laid (c .before .before .before .before .before .before .before .before .before .before .before .args .out .now) _ _
+    (c .before .before .before .before .before .before .before .before .before .before .before .args .at)
+    (c .before .before .before .before .before .before .before .before .before .before .before .args .k)
+    (c .before .before .before .before .before .before .before .before .before .before .before .args .o)
+    (c .before .before .before .before .before .before .before .before .before .before .before .args .content .now)
+    (c .before .before .before .before .before .before .put-hex .ensures) (c .before .before .put-line .ensures)
 
 pub put-frame-spec : {M : Type 1} → statement M
 put-frame-spec =

@@ -59,13 +59,22 @@ loop-less : tie.Need-loop-less Inv-loop μ-loop
 loop-less c = search needs
 
 loop-again : tie.Need-loop-again Inv-loop μ-loop
-loop-again c = (search needs, search needs, hex-on (c .before .before .before .before .before .loop .out) (c .before .before .before .before .before .before .before .before .args .at) (c .before .before .before .before .before .before .before .before .args .bytes .now) (c .before .before .before .before .before .loop .i) (c .before .before .wide .result) _ _ (c .before .before .before .before .loop-test .taken) (c .before .before .wide .ensures .0) (c .before .digit .ensures) (c .digit2 .ensures) (c .before .before .before .before .before .loop .inv .2))
+loop-again c = (
+  search needs,
+  search needs,
+  hex-on (c .before .before .before .before .before .loop .out)
+      (c .before .before .before .before .before .before .before .before .args .at)
+      (c .before .before .before .before .before .before .before .before .args .bytes .now) (c .before .before .before .before .before .loop .i)
+      (c .before .before .wide .result) _ _ (c .before .before .before .before .loop-test .taken) (c .before .before .wide .ensures .0) (c .before .digit .ensures)
+      (c .digit2 .ensures) (c .before .before .before .before .before .loop .inv .2),
+)
 
 same-length : tie.Need-same-length Inv-loop μ-loop
 same-length c = search needs
 
 returns : tie.Need-returns Inv-loop μ-loop
-returns c = hex-end (c .before .loop .out) (c .before .before .before .before .args .at) (c .before .before .before .before .args .bytes .now) (c .before .loop .i) (c .loop-test .left) (c .before .loop .inv .2)
+returns c = hex-end (c .before .loop .out) (c .before .before .before .before .args .at) (c .before .before .before .before .args .bytes .now)
+    (c .before .loop .i) (c .loop-test .left) (c .before .loop .inv .2)
 
 pub put-hex-spec : {M : Type 1} → statement M
 put-hex-spec =

@@ -7,19 +7,50 @@ use Rattle.frames.proofs.put_later.Statement.{statement}
 use Rattle.frames.proofs.put_later.Tie as tie
 
 returns : tie.Need-returns
-returns c = (omega (arith, none-length (c .before .before .before .before .args .bases) (length (c .before .before .before .before .args .second .now)) (length (c .before .before .before .before .args .third .now)) (c .if1 .taken)), none-laid (c .before .before .before .before .args .second .now) (c .before .before .before .before .args .third .now) _ (c .before .before .before .before .args .at) (c .before .before .before .before .args .bases) (c .if1 .taken))
+returns c = (
+  omega (
+    arith,
+    none-length (c .before .before .before .before .args .bases) (length (c .before .before .before .before .args .second .now))
+        (length (c .before .before .before .before .args .third .now)) (c .if1 .taken),
+  ),
+  none-laid (c .before .before .before .before .args .second .now) (c .before .before .before .before .args .third .now) _
+      (c .before .before .before .before .args .at) (c .before .before .before .before .args .bases) (c .if1 .taken),
+)
 
 put-data-requires : tie.Need-put-data-requires
-put-data-requires c κs = omega (arith, some-length (c .before .before .before .before .before .args .bases) (length (c .before .before .before .before .before .args .second .now)) (length (c .before .before .before .before .before .args .third .now)) (c .before .if1 .left))
+put-data-requires c κs = omega (
+  arith,
+  some-length (c .before .before .before .before .before .args .bases)
+      (length (c .before .before .before .before .before .args .second .now)) (length (c .before .before .before .before .before .args .third .now))
+      (c .before .if1 .left),
+)
 
 same-length : tie.Need-same-length
 same-length c = search needs
 
 returns-2 : tie.Need-returns-2
-returns-2 c = (omega (arith, one-length (c .before .before .before .before .before .before .before .before .before .args .bases) (length (c .before .before .before .before .before .before .before .before .before .args .second .now)) (length (c .before .before .before .before .before .before .before .before .before .args .third .now)) (c .if2 .taken)), one-laid (c .before .before .before .before .before .before .before .before .before .args .second .now) (c .before .before .before .before .before .before .before .before .before .args .third .now) (c .before .before .before .before .before .before .before .before .before .args .out .now) _ (c .before .before .before .before .before .before .before .before .before .args .at) (c .before .before .before .before .before .before .before .before .before .args .bases) (c .if2 .taken) (c .before .before .before .put-data .ensures .1))
+returns-2 c = (
+  omega (
+    arith,
+    one-length (c .before .before .before .before .before .before .before .before .before .args .bases)
+        (length (c .before .before .before .before .before .before .before .before .before .args .second .now))
+        (length (c .before .before .before .before .before .before .before .before .before .args .third .now)) (c .if2 .taken),
+  ),
+  one-laid (c .before .before .before .before .before .before .before .before .before .args .second .now)
+      (c .before .before .before .before .before .before .before .before .before .args .third .now)
+      (c .before .before .before .before .before .before .before .before .before .args .out .now) _
+      (c .before .before .before .before .before .before .before .before .before .args .at)
+      (c .before .before .before .before .before .before .before .before .before .args .bases) (c .if2 .taken) (c .before .before .before .put-data .ensures .1),
+)
 
 put-data-requires-2 : tie.Need-put-data-requires-2
-put-data-requires-2 c κs = omega (arith, two-length (c .before .before .before .before .before .before .before .before .before .before .args .bases) (length (c .before .before .before .before .before .before .before .before .before .before .args .second .now)) (length (c .before .before .before .before .before .before .before .before .before .before .args .third .now)) (c .before .before .before .before .before .before .if1 .left) (c .before .if2 .left))
+put-data-requires-2 c κs = omega (
+  arith,
+  two-length (c .before .before .before .before .before .before .before .before .before .before .args .bases)
+      (length (c .before .before .before .before .before .before .before .before .before .before .args .second .now))
+      (length (c .before .before .before .before .before .before .before .before .before .before .args .third .now))
+      (c .before .before .before .before .before .before .if1 .left) (c .before .if2 .left),
+)
 
 same-length-2 : tie.Need-same-length-2
 same-length-2 c = search needs

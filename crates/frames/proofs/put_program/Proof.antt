@@ -26,7 +26,13 @@ same-length : tie.Need-same-length
 same-length c = search needs
 
 returns : tie.Need-returns
-returns c = (search needs, program-laid (c .before .before .before .before .before .before .before .before .before .before .before .args .out .now) _ _ (c .before .before .before .before .before .before .before .before .before .before .before .args .at) (c .before .before .before .before .before .before .before .before .before .before .before .args .content .now) (c .before .before .before .before .before .before .put-line .ensures) (c .before .before .put-content .ensures .1))
+returns c = (
+  search needs,
+  program-laid (c .before .before .before .before .before .before .before .before .before .before .before .args .out .now) _ _
+      (c .before .before .before .before .before .before .before .before .before .before .before .args .at)
+      (c .before .before .before .before .before .before .before .before .before .before .before .args .content .now)
+      (c .before .before .before .before .before .before .put-line .ensures) (c .before .before .put-content .ensures .1),
+)
 
 pub put-program-spec : {M : Type 1} → statement M
 put-program-spec =

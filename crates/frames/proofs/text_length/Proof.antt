@@ -42,7 +42,11 @@ add-result-2 c = search needs
 
 returns-2 : tie.Need-returns-2
 unfolding lengthFor
-returns-2 c = omega (arith, one-length (c .before .before .before .before .before .args .bases) (c .before .before .before .before .before .args .second) (c .before .before .before .before .before .args .third) (c .if2 .taken))
+returns-2 c = omega (
+  arith,
+  one-length (c .before .before .before .before .before .args .bases) (c .before .before .before .before .before .args .second)
+      (c .before .before .before .before .before .args .third) (c .if2 .taken),
+)
 
 content-length-requires-4 : tie.Need-content-length-requires-4
 content-length-requires-4 c κs = search needs
@@ -58,7 +62,12 @@ add-result-5 c = search needs
 
 returns-3 : tie.Need-returns-3
 unfolding lengthFor
-returns-3 c = omega (arith, two-length (c .before .before .before .before .before .before .args .bases) (c .before .before .before .before .before .before .args .second) (c .before .before .before .before .before .before .args .third) (c .before .before .before .if1 .left) (c .before .if2 .left))
+returns-3 c = omega (
+  arith,
+  two-length (c .before .before .before .before .before .before .args .bases)
+      (c .before .before .before .before .before .before .args .second) (c .before .before .before .before .before .before .args .third)
+      (c .before .before .before .if1 .left) (c .before .if2 .left),
+)
 
 pub text-length-spec : {M : Type 1} → statement M
 text-length-spec =

@@ -30,7 +30,10 @@ same-length-2 c = search needs
 
 returns-2 : tie.Need-returns-2
 unfolding from10
-returns-2 c = called (rw (le-ltb _ _ (c .before .before .before .before .before .before .if1 .left), lt-ltb _ _ (c .before .before .before .before .before .if2 .taken))) (c .before .before .put-part2 .ensures)
+returns-2 c = called (rw (
+  le-ltb _ _ (c .before .before .before .before .before .before .if1 .left),
+  lt-ltb _ _ (c .before .before .before .before .before .if2 .taken),
+)) (c .before .before .put-part2 .ensures)
 
 slice-aggregate-put-part-3 : tie.Need-slice-aggregate-put-part-3
 slice-aggregate-put-part-3 c = search needs
@@ -43,7 +46,10 @@ same-length-3 c = search needs
 
 returns-3 : tie.Need-returns-3
 unfolding commands
-returns-3 c = called (rw (le-ltb _ _ (c .before .before .before .before .before .before .if1 .left), le-ltb _ _ (c .before .before .before .before .before .if2 .left))) (c .before .before .put-part3 .ensures)
+returns-3 c = called (rw (
+  le-ltb _ _ (c .before .before .before .before .before .before .if1 .left),
+  le-ltb _ _ (c .before .before .before .before .before .if2 .left),
+)) (c .before .before .put-part3 .ensures)
 
 pub put-page-spec : {M : Type 1} → statement M
 put-page-spec =

@@ -103,4 +103,5 @@ returns-6 c = λ f s.
     ) (c .none .ensures)
 
 pub assignment-rule-spec : {M : Type 1} → statement M
-assignment-rule-spec = tie.close (tie.spec family-requires form-requires aim-rules-requires returns control-rules-requires returns-2 first-rules-requires returns-3 chain-rule-requires returns-4 sign-rule-requires returns-5 none-requires returns-6)
+assignment-rule-spec = tie.close (tie.spec family-requires form-requires aim-rules-requires returns control-rules-requires returns-2 first-rules-requires
+    returns-3 chain-rule-requires returns-4 sign-rule-requires returns-5 none-requires returns-6)

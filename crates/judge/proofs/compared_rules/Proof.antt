@@ -1,7 +1,7 @@
 -- The register of a condition, then its operand.
 use Rattle.rules.proofs.Answers as rules
-use Rattle.names.specs.Broken.{_⊕_}
-use Rattle.names.specs.declared.Broken.{Broken}
+use Rattle.scopes.specs.Broken.{_⊕_}
+use Rattle.scopes.specs.declared.Broken.{Broken}
 use mathlib.Core.Path.{ap₂, _∙_}
 use borrow.Author.Needs.{needs}
 use Rattle.judge.proofs.compared_rules.Statement.{statement}

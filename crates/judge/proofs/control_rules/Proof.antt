@@ -15,7 +15,8 @@ register-target-requires : tie.Need-register-target-requires
 register-target-requires c κs = search needs
 
 returns : tie.Need-returns
-returns c = λ f s. answers.control-register s _ _ (c .before .before .before .meaning .ensures) _ _ (sym (c .before .before .is-register .ensures) ∙ c .before .if1 .taken) (c .register-target .ensures)
+returns c = λ f s. answers.control-register s _ _ (c .before .before .before .meaning .ensures) _ _ (sym (c .before .before .is-register .ensures)
+    ∙ c .before .if1 .taken) (c .register-target .ensures)
 
 broken-requires : tie.Need-broken-requires
 broken-requires c κs = search needs

@@ -87,4 +87,5 @@ returns-6 c = λ f s.
     (c .none .ensures)
 
 pub declaration-rule-spec : {M : Type 1} → statement M
-declaration-rule-spec = tie.close (tie.spec family-requires add-value value-requires add-rule rule-requires returns value-requires-2 rule-requires-2 returns-2 value-requires-3 value-rule-requires returns-3 base-rules-requires returns-4 add-used-register used-register-requires returns-5 none-requires returns-6)
+declaration-rule-spec = tie.close (tie.spec family-requires add-value value-requires add-rule rule-requires returns value-requires-2 rule-requires-2 returns-2
+    value-requires-3 value-rule-requires returns-3 base-rules-requires returns-4 add-used-register used-register-requires returns-5 none-requires returns-6)

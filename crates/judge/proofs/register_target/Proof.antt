@@ -1,9 +1,9 @@
 -- A target register stands alone and is not protected.
 use Rattle.ledger.specs.Book.{wideOf}
 use Rattle.tables.specs.Stacks.{stackOf}
-use Rattle.kinds.specs.Rules.{writeRule}
-use Rattle.names.specs.Broken.{rule, _⊕_}
-use Rattle.names.specs.declared.Broken.{Broken}
+use Rattle.static_rules.specs.Rules.{writeRule}
+use Rattle.scopes.specs.Broken.{rule, _⊕_}
+use Rattle.scopes.specs.declared.Broken.{Broken}
 use Prim.Native.Nat.{ℕ}
 use mathlib.Core.Bool.{Bool}
 use mathlib.Core.Path.{ap, ap₂, _∙_}

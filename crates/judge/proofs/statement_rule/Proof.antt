@@ -60,4 +60,5 @@ returns-4 c = λ f s.
     ) (c .assignment-rule .ensures f s)
 
 pub statement-rule-spec : {M : Type 1} → statement M
-statement-rule-spec = tie.close (tie.spec family-requires form-requires compared-rules-requires returns form-requires-2 operand-rules-requires returns-2 call-rules-requires returns-3 assignment-rule-requires returns-4)
+statement-rule-spec = tie.close (tie.spec family-requires form-requires compared-rules-requires returns form-requires-2 operand-rules-requires returns-2
+    call-rules-requires returns-3 assignment-rule-requires returns-4)

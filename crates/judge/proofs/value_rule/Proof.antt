@@ -1,7 +1,7 @@
 -- A value is judged by the room that is left and the width of its cell.
-use Rattle.kinds.proofs.Elements.{short-is}
+use Rattle.static_rules.proofs.Elements.{short-is}
 use Rattle.judge.specs.Along.{valueRule}
-use Rattle.names.specs.Broken.{rule}
+use Rattle.scopes.specs.Broken.{rule}
 use borrow.Author.Tests.{eq-eqb, ne-eqb}
 use borrow.Author.Needs.{needs}
 use Rattle.judge.proofs.value_rule.Statement.{statement}

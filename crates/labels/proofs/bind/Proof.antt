@@ -25,7 +25,10 @@ same-length : tie.Need-same-length
 same-length c = search needs
 
 returns : tie.Need-returns
-returns c = bound _ _ _ _ (c .before .before .before .before .before .before .before .before .before .before .before .before .args .n) _ _ _ _ _ (thinOf (c .before .before .before .before .before .before .before .before .before .before .before .before .args .thin .now)) _ refl refl (c .before .before .before .before .before .before .before .value .ensures) (c .before .before .before .before .before .before .lookup .ensures .0) (c .before .before .before .before .put-goes .ensures) (c .before .rule .ensures) (c .join .ensures)
+returns c = bound _ _ _ _ (c .before .before .before .before .before .before .before .before .before .before .before .before .args .n) _ _ _ _ _
+    (thinOf (c .before .before .before .before .before .before .before .before .before .before .before .before .args .thin .now)) _ refl refl
+    (c .before .before .before .before .before .before .before .value .ensures) (c .before .before .before .before .before .before .lookup .ensures .0)
+    (c .before .before .before .before .put-goes .ensures) (c .before .rule .ensures) (c .join .ensures)
 
 pub bind-spec : {M : Type 1} → statement M
 bind-spec =

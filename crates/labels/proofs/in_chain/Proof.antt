@@ -1,7 +1,7 @@
 -- `in_chain` finds the first label of a chain with a key. The invariant: what the whole chain gives, the rest of it gives. Assumes nothing.
 use Rattle.labels.specs.Chains.{chain}
 use Rattle.labels.proofs.Chains.{after-less, hit, miss, out}
-use Rattle.names.specs.Search.{inBlock}
+use Rattle.scopes.specs.Search.{inBlock}
 use borrow.Author.Needs.{needs}
 use Rattle.ledger.specs.Book.{wideOf, thinOf}
 use native.Mathlib.Omega.{arith}
@@ -31,10 +31,18 @@ after-requires : tie.Need-after-requires Inv-loop μ-loop
 after-requires c κs = search needs
 
 loop-less : tie.Need-loop-less Inv-loop μ-loop
-loop-less c = omega (arith, c .after .ensures .0 (thinOf (c .before .before .before .before .before .before .before .before .args .thin .now) .opens) (c .before .opens .ensures .0), after-less (thinOf (c .before .before .before .before .before .before .before .before .args .thin .now) .opens) (c .before .before .before .before .before .loop .l) (c .before .before .before .before .loop-test .taken))
+loop-less c = omega (
+  arith,
+  c .after .ensures .0 (thinOf (c .before .before .before .before .before .before .before .before .args .thin .now) .opens)
+      (c .before .opens .ensures .0),
+  after-less (thinOf (c .before .before .before .before .before .before .before .before .args .thin .now) .opens)
+      (c .before .before .before .before .before .loop .l) (c .before .before .before .before .loop-test .taken),
+)
 
 loop-again : tie.Need-loop-again Inv-loop μ-loop
-loop-again c = miss _ _ _ _ (c .before .before .before .before .before .loop .l) _ _ (c .before .before .before .before .loop-test .taken) (c .before .before .before .value .ensures) (c .before .before .if1 .left) (c .after .ensures .0 _ (c .before .opens .ensures .0)) (c .before .before .before .before .before .loop .inv)
+loop-again c = miss _ _ _ _ (c .before .before .before .before .before .loop .l) _ _ (c .before .before .before .before .loop-test .taken)
+    (c .before .before .before .value .ensures) (c .before .before .if1 .left) (c .after .ensures .0 _ (c .before .opens .ensures .0))
+    (c .before .before .before .before .before .loop .inv)
 
 returns-2 : tie.Need-returns-2 Inv-loop μ-loop
 returns-2 c = sym (out _ _ _ _ (c .before .loop .l) (c .loop-test .left) (c .before .loop .inv))

@@ -37,13 +37,21 @@ block-after-requires : tie.Need-block-after-requires Inv-loop μ-loop
 block-after-requires c κs = (narrow-at (c .before .before .before .before .before .before .before .before .before .before .before .before .before .args .tape .now) _ _ (c .before .before .before .before .before .before .before .before .before .loop .i) (c .before .before .before .before .before .before .before .before .before .before .before .before .before .pre .0) (c .before .before .before .before .before .before .op .ensures .0) (c .before .before .before .before .before .token .ensures .0), c .before .before .before .before .before .before .before .before .before .loop .inv .small)
 
 add-i : tie.Need-add-i Inv-loop μ-loop
-add-i c = omega (arith, c .before .before .before .before .before .before .before .before .before .loop-test .taken, c .before .before .before .before .before .before .before .before .before .before .before .before .before .before .pre .1)
+add-i c = omega (
+  arith,
+  c .before .before .before .before .before .before .before .before .before .loop-test .taken,
+  c .before .before .before .before .before .before .before .before .before .before .before .before .before .before .pre .1,
+)
 
 loop-less : tie.Need-loop-less Inv-loop μ-loop
 loop-less c = omega (arith, c .before .before .before .before .before .before .before .before .before .loop-test .taken)
 
 loop-again : tie.Need-loop-again Inv-loop μ-loop
-loop-again c = binding-on (c .before .before .before .before .before .before .before .before .before .before .loop .inv) _ _ (c .before .before .before .before .before .before .before .before .before .loop-test .taken) (c .before .before .before .before .before .before .before .op .ensures .0) (c .before .before .before .before .before .before .token .ensures .0) (c .before .before .before .before .label-at .ensures) (c .block-after .ensures .0) (c .block-after .ensures .1) (c .before .before .before .before .label-at .kept .1 .1 .1 .0)
+loop-again c = binding-on (c .before .before .before .before .before .before .before .before .before .before .loop .inv) _ _
+    (c .before .before .before .before .before .before .before .before .before .loop-test .taken)
+    (c .before .before .before .before .before .before .before .op .ensures .0) (c .before .before .before .before .before .before .token .ensures .0)
+    (c .before .before .before .before .label-at .ensures) (c .block-after .ensures .0) (c .block-after .ensures .1)
+    (c .before .before .before .before .label-at .kept .1 .1 .1 .0)
 
 same-length : tie.Need-same-length Inv-loop μ-loop
 same-length c = c .before .loop .inv .same

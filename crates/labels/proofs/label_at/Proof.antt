@@ -1,7 +1,7 @@
 -- `label_at` does what the event asks: one law for each return. Assumes nothing.
 use Rattle.labels.specs.Labelling.{labelAt}
 use Rattle.labels.specs.Chains.{markIn, marking}
-use Rattle.names.specs.Labels.{Labelled}
+use Rattle.scopes.specs.Labels.{Labelled}
 use Rattle.ledger.specs.Book.{thinOf}
 use mathlib.Core.Path.{ap}
 use borrow.Author.Tests.{eq-eqb, ne-eqb}
@@ -17,7 +17,9 @@ same-length c = search needs
 
 returns : tie.Need-returns
 unfolding labelAt
-returns c = rw (eq-eqb _ 12 (c .before .before .if1 .taken)) (ap (λ (x : Labelled). marking (λ _ _ _. x) (markIn (thinOf (c .before .before .before .before .before .args .thin .now)) (c .before .before .before .before .before .args .n))) (c .set-label .ensures _))
+returns c = rw (eq-eqb _ 12 (c .before .before .if1 .taken))
+    (ap (λ (x : Labelled). marking (λ _ _ _. x) (markIn (thinOf (c .before .before .before .before .before .args .thin .now))
+    (c .before .before .before .before .before .args .n))) (c .set-label .ensures _))
 
 bind-requires : tie.Need-bind-requires
 bind-requires c κs = search needs

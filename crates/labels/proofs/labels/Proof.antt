@@ -15,7 +15,8 @@ same-length : tie.Need-same-length
 same-length c = search needs
 
 returns : tie.Need-returns
-returns c = both-loops _ _ (thinOf (c .before .before .before .before .before .before .before .before .before .before .before .args .thin .now)) _ _ _ _ (c .before .before .before .before .before .before .link-all .ensures) (c .before .before .label-all .ensures .0) (c .before .before .label-all .ensures .1)
+returns c = both-loops _ _ (thinOf (c .before .before .before .before .before .before .before .before .before .before .before .args .thin .now)) _ _ _ _
+    (c .before .before .before .before .before .before .link-all .ensures) (c .before .before .label-all .ensures .0) (c .before .before .label-all .ensures .1)
 
 pub labels-spec : {M : Type 1} → statement M
 labels-spec = tie.close (tie.spec link-all-requires label-all-requires same-length returns)

@@ -24,14 +24,23 @@ put-opens-requires-2 : tie.Need-put-opens-requires-2
 put-opens-requires-2 c κs = search needs
 
 put-opens-requires-3 : tie.Need-put-opens-requires-3
-put-opens-requires-3 c κs = c .before .before .before .before .before .before .before .before .before .before .pre (label-noted (c .before .before .before .before .before .before .before .before .before .before .args .op) (c .before .before .before .before .before .before .before .if2 .taken))
+put-opens-requires-3 c κs = c .before .before .before .before .before .before .before .before .before .before .pre
+    (label-noted (c .before .before .before .before .before .before .before .before .before .before .args .op)
+    (c .before .before .before .before .before .before .before .if2 .taken))
 
 same-length-2 : tie.Need-same-length-2
 same-length-2 c = search needs
 
 returns-2 : tie.Need-returns-2
 unfolding linksAfter
-returns-2 c = rw (ne-eqb _ 0 (c .before .before .before .before .before .before .before .before .before .before .before .if1 .left), eq-eqb _ 12 (c .before .before .before .before .before .before .before .before .before .before .if2 .taken)) (c .before .before .put-opens3 .ensures ∙ rw (c .before .before .before .before .before .before .put-opens2 .ensures, c .before .before .before .before .before .before .before .before .opens .ensures .0))
+returns-2 c = rw (
+  ne-eqb _ 0 (c .before .before .before .before .before .before .before .before .before .before .before .if1 .left),
+  eq-eqb _ 12 (c .before .before .before .before .before .before .before .before .before .before .if2 .taken),
+) (c .before .before .put-opens3 .ensures
+    ∙ rw (
+      c .before .before .before .before .before .before .put-opens2 .ensures,
+      c .before .before .before .before .before .before .before .before .opens .ensures .0,
+    ))
 
 returns-3 : tie.Need-returns-3
 unfolding linksAfter

@@ -30,10 +30,17 @@ token-requires : tie.Need-token-requires Inv-loop μ-loop
 token-requires c κs = search needs
 
 block-after-requires : tie.Need-block-after-requires Inv-loop μ-loop
-block-after-requires c κs = (narrow-at (c .before .before .before .before .before .before .before .before .args .tape .now) _ _ (c .before .before .before .before .before .loop .i) (c .before .before .before .before .before .before .before .before .pre) (c .before .before .op .ensures .0) (c .before .token .ensures .0), c .before .before .before .before .before .loop .inv .small)
+block-after-requires c κs = (
+  narrow-at (c .before .before .before .before .before .before .before .before .args .tape .now) _ _
+      (c .before .before .before .before .before .loop .i) (c .before .before .before .before .before .before .before .before .pre)
+      (c .before .before .op .ensures .0) (c .before .token .ensures .0),
+  c .before .before .before .before .before .loop .inv .small,
+)
 
 link-requires : tie.Need-link-requires Inv-loop μ-loop
-link-requires c κs = narrow-at (c .before .before .before .before .before .before .before .before .before .before .args .tape .now) _ _ (c .before .before .before .before .before .before .before .loop .i) (c .before .before .before .before .before .before .before .before .before .before .pre) (c .before .before .before .before .op .ensures .0) (c .before .before .before .token .ensures .0)
+link-requires c κs = narrow-at (c .before .before .before .before .before .before .before .before .before .before .args .tape .now) _ _
+    (c .before .before .before .before .before .before .before .loop .i) (c .before .before .before .before .before .before .before .before .before .before .pre)
+    (c .before .before .before .before .op .ensures .0) (c .before .before .before .token .ensures .0)
 
 enclose-requires : tie.Need-enclose-requires Inv-loop μ-loop
 enclose-requires c κs = c .before .before .before .before .before .before .before .before .before .before .before .loop .inv .small
@@ -45,7 +52,14 @@ loop-less : tie.Need-loop-less Inv-loop μ-loop
 loop-less c = omega (arith, c .before .before .before .before .before .before .before .before .before .before .before .before .before .loop-test .taken)
 
 loop-again : tie.Need-loop-again Inv-loop μ-loop
-loop-again c = linking-on (c .before .before .before .before .before .before .before .before .before .before .before .before .before .before .loop .inv) _ _ _ (c .before .before .before .before .before .before .before .before .before .before .before .before .before .loop-test .taken) (c .before .before .before .before .before .before .before .before .before .before .before .op .ensures .0) (c .before .before .before .before .before .before .before .before .before .before .token .ensures .0) (c .before .before .before .before .before .before .before .before .block-after .ensures .0) (c .before .before .before .before .before .before .link .ensures) (c .before .before .enclose .ensures) (c .before .before .before .before .before .before .before .before .block-after .ensures .1) (c .before .before .before .before .before .before .link .kept .1 .1 .1 .0) (c .before .before .enclose .kept .1 .1 .1 .0)
+loop-again c = linking-on (c .before .before .before .before .before .before .before .before .before .before .before .before .before .before .loop .inv) _ _ _
+    (c .before .before .before .before .before .before .before .before .before .before .before .before .before .loop-test .taken)
+    (c .before .before .before .before .before .before .before .before .before .before .before .op .ensures .0)
+    (c .before .before .before .before .before .before .before .before .before .before .token .ensures .0)
+    (c .before .before .before .before .before .before .before .before .block-after .ensures .0)
+    (c .before .before .before .before .before .before .link .ensures) (c .before .before .enclose .ensures)
+    (c .before .before .before .before .before .before .before .before .block-after .ensures .1)
+    (c .before .before .before .before .before .before .link .kept .1 .1 .1 .0) (c .before .before .enclose .kept .1 .1 .1 .0)
 
 same-length : tie.Need-same-length Inv-loop μ-loop
 same-length c = c .before .loop .inv .same

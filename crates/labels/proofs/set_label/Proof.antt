@@ -33,7 +33,12 @@ join-requires-2 : tie.Need-join-requires-2
 join-requires-2 c κs = search needs
 
 returns : tie.Need-returns
-returns c = label-set _ _ (thinOf (c .before .before .before .before .before .before .before .before .before .before .before .args .thin .now) .written) _ (c .before .before .before .before .before .before .before .before .before .before .before .args .n) _ _ _ _ _ _ _ (c .before .before .before .before .before .value .ensures) (c .before .before .before .before .before .before .after .ensures .0 _ (c .before .before .before .before .before .before .before .opens .ensures .0)) (c .before .before .before .before .in-chain .ensures) (c .before .before .before .rule .ensures) (c .before .before .rule2 .ensures) (c .before .join .ensures) (c .join2 .ensures)
+returns c = label-set _ _ (thinOf (c .before .before .before .before .before .before .before .before .before .before .before .args .thin .now) .written) _
+    (c .before .before .before .before .before .before .before .before .before .before .before .args .n) _ _ _ _ _ _ _
+    (c .before .before .before .before .before .value .ensures)
+    (c .before .before .before .before .before .before .after .ensures .0 _ (c .before .before .before .before .before .before .before .opens .ensures .0))
+    (c .before .before .before .before .in-chain .ensures) (c .before .before .before .rule .ensures) (c .before .before .rule2 .ensures)
+    (c .before .join .ensures) (c .join2 .ensures)
 
 pub set-label-spec : {M : Type 1} → statement M
 set-label-spec =

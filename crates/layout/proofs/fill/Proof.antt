@@ -43,13 +43,29 @@ loop-less : tie.Need-loop-less Inv-loop μ-loop
 loop-less c = search needs
 
 loop-again : tie.Need-loop-again Inv-loop μ-loop
-loop-again c = (search needs, search needs, search needs, rw (c .before .before .image-event .ensures .0) (pass-turn (imageIn (c .before .before .before .before .before .before .before .before .before .before .before .before .args .k) (wideOf (c .before .before .before .before .before .before .before .before .before .before .before .before .args .wide .now))) (imagingOf (c .before .before .before .before .before .before .before .before .loop .image) (c .before .before .before .before .before .before .before .before .loop .f)) (c .before .before .before .before .before .before .before .before .before .before .before .before .args .tape .now) (c .before .before .before .before .before .before .before .before .loop .i) (c .before .before .before .before .before .op .result) (c .before .before .before .before .token .result) (c .before .before .before .before .before .before .before .loop-test .taken) (c .before .before .before .before .before .op .ensures .0) (c .before .before .before .before .token .ensures .0) (c .before .before .before .before .before .before .before .before .loop .inv .3)))
+loop-again c = (
+  search needs,
+  search needs,
+  search needs,
+  rw (c .before .before .image-event .ensures .0) (pass-turn
+      (imageIn (c .before .before .before .before .before .before .before .before .before .before .before .before .args .k)
+      (wideOf (c .before .before .before .before .before .before .before .before .before .before .before .before .args .wide .now)))
+      (imagingOf (c .before .before .before .before .before .before .before .before .loop .image)
+      (c .before .before .before .before .before .before .before .before .loop .f))
+      (c .before .before .before .before .before .before .before .before .before .before .before .before .args .tape .now)
+      (c .before .before .before .before .before .before .before .before .loop .i) (c .before .before .before .before .before .op .result)
+      (c .before .before .before .before .token .result) (c .before .before .before .before .before .before .before .loop-test .taken)
+      (c .before .before .before .before .before .op .ensures .0) (c .before .before .before .before .token .ensures .0)
+      (c .before .before .before .before .before .before .before .before .loop .inv .3)),
+)
 
 same-length : tie.Need-same-length Inv-loop μ-loop
 same-length c = search needs
 
 returns : tie.Need-returns Inv-loop μ-loop
-returns c = pass-end (imageIn (c .before .before .before .before .before .args .k) (wideOf (c .before .before .before .before .before .args .wide .now))) (imagingOf (c .before .loop .image) (c .before .loop .f)) (c .before .before .before .before .before .args .tape .now) (c .before .loop .i) (c .loop-test .left) (c .before .loop .inv .3)
+returns c = pass-end (imageIn (c .before .before .before .before .before .args .k) (wideOf (c .before .before .before .before .before .args .wide .now)))
+    (imagingOf (c .before .loop .image) (c .before .loop .f)) (c .before .before .before .before .before .args .tape .now) (c .before .loop .i)
+    (c .loop-test .left) (c .before .loop .inv .3)
 
 pub fill-spec : {M : Type 1} → statement M
 fill-spec =

@@ -33,7 +33,14 @@ loop-less : tie.Need-loop-less Inv-loop μ-loop
 loop-less c = search needs
 
 loop-again : tie.Need-loop-again Inv-loop μ-loop
-loop-again c = (search needs, search needs, rw (c .before .before .put-byte .ensures) (store-turn (c .before .before .before .before .before .loop .s) (c .before .before .before .before .before .before .before .args .at) (c .before .before .before .before .before .loop .left) (c .before .before .before .before .before .loop .rest) (c .before .before .before .before .loop-test .taken) (c .before .before .before .before .before .loop .inv .2)))
+loop-again c = (
+  search needs,
+  search needs,
+  rw (c .before .before .put-byte .ensures)
+      (store-turn (c .before .before .before .before .before .loop .s) (c .before .before .before .before .before .before .before .args .at)
+      (c .before .before .before .before .before .loop .left) (c .before .before .before .before .before .loop .rest)
+      (c .before .before .before .before .loop-test .taken) (c .before .before .before .before .before .loop .inv .2)),
+)
 
 same-length : tie.Need-same-length Inv-loop μ-loop
 same-length c = search needs

@@ -14,7 +14,11 @@ same-length : tie.Need-same-length
 same-length c = search needs
 
 returns : tie.Need-returns
-returns c = (laid-is (c .before .before .before .before .before .before .args .image .now) (c .before .before .before .before .before .before .args .f) (c .before .before .before .before .before .before .args .v) (c .before .before .before .before .if1 .taken) (c .before .before .lay .ensures), search needs)
+returns c = (
+  laid-is (c .before .before .before .before .before .before .args .image .now) (c .before .before .before .before .before .before .args .f)
+      (c .before .before .before .before .before .before .args .v) (c .before .before .before .before .if1 .taken) (c .before .before .lay .ensures),
+  search needs,
+)
 
 returns-2 : tie.Need-returns-2
 returns-2 c = (not-laid (c .before .before .args .image .now) (c .before .before .args .f) (c .before .before .args .v) (c .if1 .left), search needs)

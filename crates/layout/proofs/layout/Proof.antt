@@ -1,7 +1,7 @@
 -- `layout` is the pass. The invariant `Going`: the pass over what is left makes the whole, and what it reads stays. Assumes nothing.
 use Rattle.layout.proofs.Along.{Going, going, going-on, going-end, begun}
 use Rattle.layout.specs.Along.{bookIn}
-use Rattle.names.specs.Broken.{unbroken}
+use Rattle.scopes.specs.Broken.{unbroken}
 use Rattle.ledger.specs.Book.{wideOf}
 use borrow.Author.Needs.{needs}
 use lib.ListN.{length}
@@ -49,7 +49,16 @@ loop-less : tie.Need-loop-less Inv-loop μ-loop
 loop-less c = omega (arith, c .before .before .before .before .before .before .before .before .before .before .loop-test .taken)
 
 loop-again : tie.Need-loop-again Inv-loop μ-loop
-loop-again c = (going-on _ _ (c .before .before .before .before .before .before .before .before .before .before .before .loop .inv .0) (c .before .before .before .before .before .before .before .before .before .before .loop-test .taken) (c .before .before .before .before .before .before .before .before .op .ensures .0) (c .before .before .before .before .before .before .before .token .ensures .0) (c .before .before .before .before .layout-event .ensures), c .before .before .before .before .layout-event .kept .1 .1 .0 ∙ c .before .before .before .before .before .before .before .before .before .before .before .loop .inv .1, c .before .before .before .before .layout-event .kept .1 .1 .1 .0 ∙ c .before .before .before .before .before .before .before .before .before .before .before .loop .inv .2)
+loop-again c = (
+  going-on _ _ (c .before .before .before .before .before .before .before .before .before .before .before .loop .inv .0)
+      (c .before .before .before .before .before .before .before .before .before .before .loop-test .taken)
+      (c .before .before .before .before .before .before .before .before .op .ensures .0)
+      (c .before .before .before .before .before .before .before .token .ensures .0) (c .before .before .before .before .layout-event .ensures),
+  c .before .before .before .before .layout-event .kept .1 .1 .0
+      ∙ c .before .before .before .before .before .before .before .before .before .before .before .loop .inv .1,
+  c .before .before .before .before .layout-event .kept .1 .1 .1 .0
+      ∙ c .before .before .before .before .before .before .before .before .before .before .before .loop .inv .2,
+)
 
 same-length : tie.Need-same-length Inv-loop μ-loop
 same-length c = c .before .loop .inv .1
@@ -58,7 +67,11 @@ same-length-2 : tie.Need-same-length-2 Inv-loop μ-loop
 same-length-2 c = c .before .loop .inv .2 ∙ (c .before .before .before .before .put-written .kept .0 ∙ c .before .before .before .before .before .before .before .before .clear-written .kept .0)
 
 returns : tie.Need-returns Inv-loop μ-loop
-returns c = going-end _ _ (c .before .loop .inv .0) (c .loop-test .left) ∙ begun (c .before .before .before .before .before .before .before .before .before .before .before .before .before .args .tape .now) (c .before .before .before .before .before .before .before .before .before .before .before .before .before .args .thin .now) (wideOf (c .before .before .before .before .before .before .before .before .before .before .before .before .before .args .wide .now)) (c .before .before .before .before .before .before .before .before .clear-written .ensures) (c .before .before .before .before .put-written .ensures)
+returns c = going-end _ _ (c .before .loop .inv .0) (c .loop-test .left)
+    ∙ begun (c .before .before .before .before .before .before .before .before .before .before .before .before .before .args .tape .now)
+    (c .before .before .before .before .before .before .before .before .before .before .before .before .before .args .thin .now)
+    (wideOf (c .before .before .before .before .before .before .before .before .before .before .before .before .before .args .wide .now))
+    (c .before .before .before .before .before .before .before .before .clear-written .ensures) (c .before .before .before .before .put-written .ensures)
 
 pub layout-spec : {M : Type 1} → statement M
 layout-spec =

@@ -15,10 +15,13 @@ same-length-2 : tie.Need-same-length-2
 same-length-2 c = search needs
 
 returns : tie.Need-returns
-returns c = item-is (c .before .before .before .before .before .before .before .before .before .before .args .op) (c .before .before .before .before .before .before .before .before .before .before .args .t) _ (c .before .before .before .before .before .before .before .if1 .taken) (c .before .before .before .before .place-cell .ensures)
+returns c = item-is (c .before .before .before .before .before .before .before .before .before .before .args .op)
+    (c .before .before .before .before .before .before .before .before .before .before .args .t) _
+    (c .before .before .before .before .before .before .before .if1 .taken) (c .before .before .before .before .place-cell .ensures)
 
 returns-2 : tie.Need-returns-2
-returns-2 c = other-is (c .before .before .before .args .op) (c .before .before .before .args .t) (bookIn (c .before .before .before .args .wide .now) (c .before .before .before .args .thin .now) (c .before .before .before .args .broken)) (c .if1 .left)
+returns-2 c = other-is (c .before .before .before .args .op) (c .before .before .before .args .t)
+    (bookIn (c .before .before .before .args .wide .now) (c .before .before .before .args .thin .now) (c .before .before .before .args .broken)) (c .if1 .left)
 
 pub layout-event-spec : {M : Type 1} → statement M
 layout-event-spec =

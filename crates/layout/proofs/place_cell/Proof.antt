@@ -25,10 +25,20 @@ number-requires : tie.Need-number-requires
 number-requires c κs = search needs
 
 mul-end : tie.Need-mul-end
-mul-end c = omega (arith, cell-small (c .before .before .before .before .before .before .element-size .result) (c .number .result) (c .before .before .before .before .before .before .element-size .ensures .2) (c .number .ensures .1))
+mul-end c = omega (
+  arith,
+  cell-small (c .before .before .before .before .before .before .element-size .result) (c .number .result)
+      (c .before .before .before .before .before .before .element-size .ensures .2) (c .number .ensures .1),
+)
 
 add-end : tie.Need-add-end
-add-end c = omega (arith, cell-small (c .before .before .before .before .before .before .element-size .result) (c .number .result) (c .before .before .before .before .before .before .element-size .ensures .2) (c .number .ensures .1), c .before .round-up .ensures .1, c .before .before .written .ensures .1)
+add-end c = omega (
+  arith,
+  cell-small (c .before .before .before .before .before .before .element-size .result) (c .number .result)
+      (c .before .before .before .before .before .before .element-size .ensures .2) (c .number .ensures .1),
+  c .before .round-up .ensures .1,
+  c .before .before .written .ensures .1,
+)
 
 put-offset-requires : tie.Need-put-offset-requires
 put-offset-requires c κs = search needs

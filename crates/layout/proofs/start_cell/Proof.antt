@@ -18,10 +18,20 @@ element-size-requires : tie.Need-element-size-requires
 element-size-requires c κs = search needs
 
 returns : tie.Need-returns
-returns c = (started-is (c .before .before .before .before .before .before .args .k) (wideOf (c .before .before .before .before .before .before .args .wide .now)) (c .before .before .before .before .before .before .args .t) (c .before .before .before .before .segment .ensures .0) (c .before .before .before .if1 .taken) (c .before .before .offset .ensures) (c .before .mean .ensures) (c .element-size .ensures .0), search needs)
+returns c = (
+  started-is (c .before .before .before .before .before .before .args .k)
+      (wideOf (c .before .before .before .before .before .before .args .wide .now)) (c .before .before .before .before .before .before .args .t)
+      (c .before .before .before .before .segment .ensures .0) (c .before .before .before .if1 .taken) (c .before .before .offset .ensures)
+      (c .before .mean .ensures) (c .element-size .ensures .0),
+  search needs,
+)
 
 returns-2 : tie.Need-returns-2
-returns-2 c = (elsewhere-is (c .before .before .before .args .k) (wideOf (c .before .before .before .args .wide .now)) (c .before .before .before .args .t) (c .before .segment .ensures .0) (c .if1 .left), search needs)
+returns-2 c = (
+  elsewhere-is (c .before .before .before .args .k) (wideOf (c .before .before .before .args .wide .now)) (c .before .before .before .args .t)
+      (c .before .segment .ensures .0) (c .if1 .left),
+  search needs,
+)
 
 pub start-cell-spec : {M : Type 1} → statement M
 start-cell-spec =

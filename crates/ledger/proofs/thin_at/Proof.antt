@@ -24,7 +24,11 @@ cast-result : tie.Need-cast-result
 cast-result c = omega (arith, c .shared-slice-known .given (c .before .before .args .t * 4 + c .before .before .args .column))
 
 returns : tie.Need-returns
-returns c = (thin-read (c .before .before .args .thin .now) (c .before .before .args .t) (c .before .before .args .column) (c .before .before .pre) (c .before .if1 .taken), omega (arith, c .shared-slice-known .given (c .before .before .args .t * 4 + c .before .before .args .column)))
+returns c = (
+  thin-read (c .before .before .args .thin .now) (c .before .before .args .t) (c .before .before .args .column) (c .before .before .pre)
+      (c .before .if1 .taken),
+  omega (arith, c .shared-slice-known .given (c .before .before .args .t * 4 + c .before .before .args .column)),
+)
 
 returns-2 : tie.Need-returns-2
 returns-2 c = (thin-past (c .before .args .thin .now) (c .before .args .t) (c .before .args .column) (c .if1 .left), omega arith)

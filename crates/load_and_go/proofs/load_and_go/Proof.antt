@@ -30,7 +30,10 @@ same-length-2 c = search needs
 
 returns-3 : tie.Need-returns-3
 unfolding loadAndGo
-returns-3 c = rw (le-ltb _ _ (c .before .before .before .before .before .before .before .before .if1 .left), le-ltb _ _ (c .before .before .before .before .before .before .before .if2 .left)) (c .before .before .before .before .go .ensures)
+returns-3 c = rw (
+  le-ltb _ _ (c .before .before .before .before .before .before .before .before .if1 .left),
+  le-ltb _ _ (c .before .before .before .before .before .before .before .if2 .left),
+) (c .before .before .before .before .go .ensures)
 
 pub load-and-go-spec : {M : Type 1} → statement M
 load-and-go-spec =

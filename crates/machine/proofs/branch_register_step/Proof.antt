@@ -30,7 +30,12 @@ go-requires-2 : tie.Need-go-requires-2
 go-requires-2 c κs = search needs
 
 returns-2 : tie.Need-returns-2
-returns-2 c = rw (ne-eqb _ _ (c .before .before .before .before .if1 .left), told (c .before .before .before .is-asked .ensures) (c .before .before .if2 .taken), c .go2 .ensures, c .before .get .ensures)
+returns-2 c = rw (
+  ne-eqb _ _ (c .before .before .before .before .if1 .left),
+  told (c .before .before .before .is-asked .ensures) (c .before .before .if2 .taken),
+  c .go2 .ensures,
+  c .before .get .ensures,
+)
 
 add-go-2 : tie.Need-add-go-2
 add-go-2 c = search needs

@@ -22,7 +22,14 @@ is-readable-requires : tie.Need-is-readable-requires
 is-readable-requires c κs = search needs
 
 load-requires : tie.Need-load-requires
-load-requires c κs = (search needs, omega (arith, whole _ needed _ (c .before .before .before .if1 .left) (c .before .before .before .before .before .pre .5) (c .before .before .is-readable .ensures .1 (c .before .if2 .taken))))
+load-requires c κs = (
+  search needs,
+  omega (
+    arith,
+    whole _ needed _ (c .before .before .before .if1 .left) (c .before .before .before .before .before .pre .5)
+        (c .before .before .is-readable .ensures .1 (c .before .if2 .taken)),
+  ),
+)
 
 extend-requires : tie.Need-extend-requires
 extend-requires c κs = search needs
@@ -34,7 +41,11 @@ execute-requires : tie.Need-execute-requires
 execute-requires c κs = search needs
 
 returns-2 : tie.Need-returns-2
-returns-2 c = rw (eq-eqb _ _ (c .before .before .before .before .before .before .if1 .left), told (c .before .before .before .before .before .is-readable .ensures .0) (c .before .before .before .before .if2 .taken)) (c .execute .ensures ∙ rw (c .before .extend .ensures, c .before .before .load .ensures .0))
+returns-2 c = rw (
+  eq-eqb _ _ (c .before .before .before .before .before .before .if1 .left),
+  told (c .before .before .before .before .before .is-readable .ensures .0) (c .before .before .before .before .if2 .taken),
+) (c .execute .ensures
+    ∙ rw (c .before .extend .ensures, c .before .before .load .ensures .0))
 
 halt-requires-2 : tie.Need-halt-requires-2
 halt-requires-2 c κs = search needs

@@ -34,13 +34,23 @@ pair-requires : tie.Need-pair-requires
 pair-requires c κs = search needs
 
 returns-3 : tie.Need-returns-3
-returns-3 c = rw (eq-eqb _ _ (c .before .before .before .before .before .before .if1 .left), eq-eqb _ _ (c .before .before .before .before .before .if2 .left), told (c .before .before .before .before .is-readable .ensures .0) (c .before .before .before .if3 .taken)) (c .pair .ensures ∙ rw (c .before .load .ensures .0))
+returns-3 c = rw (
+  eq-eqb _ _ (c .before .before .before .before .before .before .if1 .left),
+  eq-eqb _ _ (c .before .before .before .before .before .if2 .left),
+  told (c .before .before .before .before .is-readable .ensures .0) (c .before .before .before .if3 .taken),
+) (c .pair .ensures
+    ∙ rw (c .before .load .ensures .0))
 
 halt-requires-3 : tie.Need-halt-requires-3
 halt-requires-3 c κs = search needs
 
 returns-4 : tie.Need-returns-4
-returns-4 c = rw (eq-eqb _ _ (c .before .before .before .before .if1 .left), eq-eqb _ _ (c .before .before .before .if2 .left), told (c .before .before .is-readable .ensures .0) (c .before .if3 .left), c .halt3 .ensures)
+returns-4 c = rw (
+  eq-eqb _ _ (c .before .before .before .before .if1 .left),
+  eq-eqb _ _ (c .before .before .before .if2 .left),
+  told (c .before .before .is-readable .ensures .0) (c .before .if3 .left),
+  c .halt3 .ensures,
+)
 
 pub multiply-word-step-spec : {M : Type 1} → statement M
 multiply-word-step-spec =

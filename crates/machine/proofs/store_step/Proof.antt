@@ -24,7 +24,11 @@ get-requires : tie.Need-get-requires
 get-requires c κs = search needs
 
 store-requires : tie.Need-store-requires
-store-requires c κs = omega (arith, whole _ needed _ (c .before .before .before .before .if1 .left) (c .before .before .before .before .before .before .pre .5) (c .before .before .before .is-writable .ensures .1 (c .before .before .if2 .taken)))
+store-requires c κs = omega (
+  arith,
+  whole _ needed _ (c .before .before .before .before .if1 .left) (c .before .before .before .before .before .before .pre .5)
+      (c .before .before .before .is-writable .ensures .1 (c .before .before .if2 .taken)),
+)
 
 add-go : tie.Need-add-go
 add-go c = search needs
@@ -36,7 +40,11 @@ same-length : tie.Need-same-length
 same-length c = search needs
 
 returns-2 : tie.Need-returns-2
-returns-2 c = rw (eq-eqb _ _ (c .before .before .before .before .before .before .before .before .if1 .left), told (c .before .before .before .before .before .before .before .is-writable .ensures .0) (c .before .before .before .before .before .before .if2 .taken)) (rw (c .go .ensures, c .before .before .before .store .ensures, c .before .before .before .before .get .ensures))
+returns-2 c = rw (
+  eq-eqb _ _ (c .before .before .before .before .before .before .before .before .if1 .left),
+  told (c .before .before .before .before .before .before .before .is-writable .ensures .0) (c .before .before .before .before .before .before .if2 .taken),
+)
+    (rw (c .go .ensures, c .before .before .before .store .ensures, c .before .before .before .before .get .ensures))
 
 halt-requires-2 : tie.Need-halt-requires-2
 halt-requires-2 c κs = search needs

@@ -23,7 +23,10 @@ add-t10 : tie.Need-add-t10
 add-t10 c = search needs
 
 returns : tie.Need-returns
-returns c = λ under owners outer. moves.changed-base owners outer (c .before .before .before .before .args .s) (thinOf (now (c .before .before .before .before .args .thin)) .found) (wideOf (now (c .before .before .before .before .args .wide)) .means) under (c .before .before .before .before .args .t) (c .before .before .before .before .args .bases) _ _ (omega (arith, c .before .before .before .before .pre)) (c .before .meaning .ensures) (c .register .ensures .0)
+returns c = λ under owners outer. moves.changed-base owners outer (c .before .before .before .before .args .s)
+    (thinOf (now (c .before .before .before .before .args .thin)) .found) (wideOf (now (c .before .before .before .before .args .wide)) .means) under
+    (c .before .before .before .before .args .t) (c .before .before .before .before .args .bases) _ _ (omega (arith, c .before .before .before .before .pre))
+    (c .before .meaning .ensures) (c .register .ensures .0)
 
 pub change-base-spec : {M : Type 1} → statement M
 change-base-spec =

@@ -27,7 +27,13 @@ same-length : tie.Need-same-length
 same-length c = search needs
 
 returns : tie.Need-returns
-returns c = λ n. ap (λ (w : Wide). viewOf w (thinOf (now (c .before .before .before .before .before .before .before .before .before .before .args .thin))) n) (c .before .before .put-mean .ensures) ∙ views.routine-declared (wideOf (now (c .before .before .before .before .before .before .before .before .before .before .args .wide))) (thinOf (now (c .before .before .before .before .before .before .before .before .before .before .args .thin))) n (c .before .before .before .before .before .before .before .before .before .before .args .t) _ _ _ (c .before .before .before .before .before .before .meaning .ensures) (c .before .before .before .before .before .register .ensures .0) (c .before .before .before .before .before .register .ensures .1) (c .before .before .before .packed .ensures)
+returns c = λ n. ap (λ (w : Wide). viewOf w (thinOf (now (c .before .before .before .before .before .before .before .before .before .before .args .thin))) n)
+    (c .before .before .put-mean .ensures) ∙ views.routine-declared
+    (wideOf (now (c .before .before .before .before .before .before .before .before .before .before .args .wide)))
+    (thinOf (now (c .before .before .before .before .before .before .before .before .before .before .args .thin))) n
+    (c .before .before .before .before .before .before .before .before .before .before .args .t) _ _ _
+    (c .before .before .before .before .before .before .meaning .ensures) (c .before .before .before .before .before .register .ensures .0)
+    (c .before .before .before .before .before .register .ensures .1) (c .before .before .before .packed .ensures)
 
 pub declare-routine-spec : {M : Type 1} → statement M
 declare-routine-spec =

@@ -27,7 +27,18 @@ same-length c = search needs
 
 returns : tie.Need-returns
 unfolding declaredAfter
-returns c = (rw (c .before .before .before .before .before .before .before .if1 .taken, c .before .before .put-mean .ensures) (views.register-declared (wideOf (now (c .before .before .before .before .before .before .before .before .before .before .args .wide))) (thinOf (now (c .before .before .before .before .before .before .before .before .before .before .args .thin))) (c .before .before .before .before .before .before .before .before .before .before .args .bases) (c .before .before .before .before .before .before .before .before .before .before .args .t) _ _ (c .before .before .before .before .value .ensures) (c .before .before .before .packed .ensures)), omega arith)
+returns c = (
+  rw (
+    c .before .before .before .before .before .before .before .if1 .taken,
+    c .before .before .put-mean .ensures,
+  ) (views.register-declared
+      (wideOf (now (c .before .before .before .before .before .before .before .before .before .before .args .wide)))
+      (thinOf (now (c .before .before .before .before .before .before .before .before .before .before .args .thin)))
+      (c .before .before .before .before .before .before .before .before .before .before .args .bases)
+      (c .before .before .before .before .before .before .before .before .before .before .args .t) _ _ (c .before .before .before .before .value .ensures)
+      (c .before .before .before .packed .ensures)),
+  omega arith,
+)
 
 put-mean-requires-2 : tie.Need-put-mean-requires-2
 put-mean-requires-2 c κs = search needs
@@ -40,7 +51,22 @@ same-length-2 c = search needs
 
 returns-2 : tie.Need-returns-2
 unfolding declaredAfter
-returns-2 c = (rw (c .before .before .before .before .before .before .before .before .if2 .taken, c .before .before .put-under .ensures, c .before .before .before .before .before .before .put-mean2 .ensures) (views.item-declared (wideOf (now (c .before .before .before .before .before .before .before .before .before .before .before .before .args .wide))) (thinOf (now (c .before .before .before .before .before .before .before .before .before .before .before .before .args .thin))) (c .before .before .before .before .before .before .before .before .before .before .before .before .args .bases) (c .before .before .before .before .before .before .before .before .before .before .before .before .args .t) _ _ (omega (arith, wide-length 1 (now (c .before .before .before .before .before .before .before .before .before .before .before .before .args .wide)), wide-length 2 (now (c .before .before .before .before .before .before .before .before .before .before .before .before .args .wide))))), omega arith)
+returns-2 c = (
+  rw (
+    c .before .before .before .before .before .before .before .before .if2 .taken,
+    c .before .before .put-under .ensures,
+    c .before .before .before .before .before .before .put-mean2 .ensures,
+  )
+      (views.item-declared (wideOf (now (c .before .before .before .before .before .before .before .before .before .before .before .before .args .wide)))
+      (thinOf (now (c .before .before .before .before .before .before .before .before .before .before .before .before .args .thin)))
+      (c .before .before .before .before .before .before .before .before .before .before .before .before .args .bases)
+      (c .before .before .before .before .before .before .before .before .before .before .before .before .args .t) _ _ (omega (
+        arith,
+        wide-length 1 (now (c .before .before .before .before .before .before .before .before .before .before .before .before .args .wide)),
+        wide-length 2 (now (c .before .before .before .before .before .before .before .before .before .before .before .before .args .wide)),
+      ))),
+  omega arith,
+)
 
 open-base-requires : tie.Need-open-base-requires
 open-base-requires c κs = search needs
@@ -66,7 +92,11 @@ same-length-6 c = search needs
 
 returns-4 : tie.Need-returns-4
 unfolding declaredAfter
-returns-4 c = (rw (c .before .before .before .before .before .if4 .taken) (c .before .before .declare-routine .ensures (c .before .before .before .before .before .before .before .before .before .before .before .args .bases)), omega arith)
+returns-4 c = (
+  rw (c .before .before .before .before .before .if4 .taken)
+      (c .before .before .declare-routine .ensures (c .before .before .before .before .before .before .before .before .before .before .before .args .bases)),
+  omega arith,
+)
 
 write-text-requires : tie.Need-write-text-requires
 write-text-requires c κs = search needs
@@ -76,11 +106,24 @@ same-length-7 c = search needs
 
 returns-5 : tie.Need-returns-5
 unfolding declaredAfter
-returns-5 c = (rw (c .before .before .before .before .if5 .taken) (c .before .before .write-text .ensures (wideOf (now (c .before .before .before .before .before .before .before .before .before .before .before .args .wide))) (c .before .before .before .before .before .before .before .before .before .before .before .args .bases)), omega arith)
+returns-5 c = (
+  rw (c .before .before .before .before .if5 .taken)
+      (c .before .before .write-text .ensures (wideOf (now (c .before .before .before .before .before .before .before .before .before .before .before .args .wide))) (c .before .before .before .before .before .before .before .before .before .before .before .args .bases)),
+  omega arith,
+)
 
 returns-6 : tie.Need-returns-6
 unfolding declaredAfter
-returns-6 c = (rw (ne-eqb _ 2 (c .before .before .before .before .if1 .left), ne-eqb _ 7 (c .before .before .before .if2 .left), ne-eqb _ 9 (c .before .before .if3 .left), ne-eqb _ 10 (c .before .if4 .left), ne-eqb _ 11 (c .if5 .left)), omega arith)
+returns-6 c = (
+  rw (
+    ne-eqb _ 2 (c .before .before .before .before .if1 .left),
+    ne-eqb _ 7 (c .before .before .before .if2 .left),
+    ne-eqb _ 9 (c .before .before .if3 .left),
+    ne-eqb _ 10 (c .before .if4 .left),
+    ne-eqb _ 11 (c .if5 .left),
+  ),
+  omega arith,
+)
 
 pub declared-after-spec : {M : Type 1} → statement M
 declared-after-spec =

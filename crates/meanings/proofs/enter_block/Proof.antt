@@ -15,7 +15,8 @@ same-length : tie.Need-same-length
 same-length c = search needs
 
 returns : tie.Need-returns
-returns c = λ owners. moves.entered-block owners (now (c .before .before .before .before .before .args .outer)) (c .before .before .before .before .before .args .s) (c .before .before .before .before .before .pre) (c .before .before .put-wide .ensures)
+returns c = λ owners. moves.entered-block owners (now (c .before .before .before .before .before .args .outer))
+    (c .before .before .before .before .before .args .s) (c .before .before .before .before .before .pre) (c .before .before .put-wide .ensures)
 
 pub enter-block-spec : {M : Type 1} → statement M
 enter-block-spec = tie.close (tie.spec put-wide-requires add-t8 same-length returns)

@@ -15,7 +15,9 @@ same-length : tie.Need-same-length
 same-length c = search needs
 
 returns : tie.Need-returns
-returns c = λ outer. moves.entered-procedure (now (c .before .before .before .before .before .args .owners)) outer (c .before .before .before .before .before .args .s) (c .before .before .before .before .before .args .t) (c .before .before .before .before .before .pre) (c .before .before .put-wide .ensures)
+returns c = λ outer. moves.entered-procedure (now (c .before .before .before .before .before .args .owners)) outer
+    (c .before .before .before .before .before .args .s) (c .before .before .before .before .before .args .t) (c .before .before .before .before .before .pre)
+    (c .before .before .put-wide .ensures)
 
 pub enter-procedure-spec : {M : Type 1} → statement M
 enter-procedure-spec = tie.close (tie.spec put-wide-requires add-t10 same-length returns)

@@ -29,7 +29,13 @@ packed-requires-2 c κs = search needs
 
 returns-2 : tie.Need-returns-2
 unfolding formAfter
-returns-2 c = rw (← (c .before .before .before .before .before .family .ensures), ne-eqb _ 3 (c .before .before .before .if1 .left), eq-eqb _ 5 (c .before .before .if2 .taken), ← (c .before .before .before .before .form .ensures .0), ← (c .before .value .ensures)) (c .packed2 .ensures)
+returns-2 c = rw (
+  ← (c .before .before .before .before .before .family .ensures),
+  ne-eqb _ 3 (c .before .before .before .if1 .left),
+  eq-eqb _ 5 (c .before .before .if2 .taken),
+  ← (c .before .before .before .before .form .ensures .0),
+  ← (c .before .value .ensures),
+) (c .packed2 .ensures)
 
 returns-3 : tie.Need-returns-3
 unfolding formAfter

@@ -36,7 +36,10 @@ name-registers-requires c κs = search needs
 
 loop-holds : tie.Need-loop-holds Inv-loop μ-loop
 unfolding basedIn
-loop-holds c = (going _ _ _ _ _ _ _ _ refl refl (c .before .before .before .before .before .before .before .before .before .before .pre), record { same-wide = refl; same-thin = refl; same-owners = refl; same-outer = refl })
+loop-holds c = (
+  going _ _ _ _ _ _ _ _ refl refl (c .before .before .before .before .before .before .before .before .before .before .pre),
+  record { same-wide = refl; same-thin = refl; same-owners = refl; same-outer = refl },
+)
 
 mul-e : tie.Need-mul-e Inv-loop μ-loop
 mul-e c = search needs
@@ -87,7 +90,13 @@ same-length-4 : tie.Need-same-length-4 Inv-loop μ-loop
 same-length-4 c = c .before .loop .inv .1 .same-outer
 
 returns : tie.Need-returns Inv-loop μ-loop
-returns c = going-end _ _ _ (c .before .loop .inv .0) (c .loop-test .left) ∙ ap (λ (w : Wide). changed (λ s. (pass (meanEvent (now (c .before .before .before .before .before .before .before .before .before .before .before .before .args .kinds)) (w .values) (thinOf (now (c .before .before .before .before .before .before .before .before .before .before .before .before .args .thin)) .found)) (beginning s) (now (c .before .before .before .before .before .before .before .before .before .before .before .before .args .tape))) .meant) (viewOf w (thinOf (now (c .before .before .before .before .before .before .before .before .before .before .before .before .args .thin))) 0)) (c .before .before .before .before .name-registers .ensures)
+returns c = going-end _ _ _ (c .before .loop .inv .0) (c .loop-test .left)
+    ∙ ap (λ (w : Wide). changed (λ s. (pass (meanEvent (now
+    (c .before .before .before .before .before .before .before .before .before .before .before .before .args .kinds)) (w .values)
+    (thinOf (now (c .before .before .before .before .before .before .before .before .before .before .before .before .args .thin)) .found)) (beginning s)
+    (now (c .before .before .before .before .before .before .before .before .before .before .before .before .args .tape))) .meant)
+    (viewOf w (thinOf (now (c .before .before .before .before .before .before .before .before .before .before .before .before .args .thin))) 0))
+    (c .before .before .before .before .name-registers .ensures)
 
 pub meanings-spec : {M : Type 1} → statement M
 meanings-spec =

@@ -39,7 +39,15 @@ loop-less : tie.Need-loop-less Inv-loop μ-loop
 loop-less c = search needs
 
 loop-again : tie.Need-loop-again Inv-loop μ-loop
-loop-again c = (omega arith, (c .before .before .put-mean .ensures ∙ views.one-named (wideOf (now (c .before .before .before .before .before .before .before .before .args .wide))) _ _ _ (c .before .before .before .before .before .before .loop .inv .1 .0) (c .before .before .before .packed .ensures), search needs))
+loop-again c = (
+  omega arith,
+  (
+    c .before .before .put-mean .ensures
+        ∙ views.one-named (wideOf (now (c .before .before .before .before .before .before .before .before .args .wide))) _ _ _
+        (c .before .before .before .before .before .before .loop .inv .1 .0) (c .before .before .before .packed .ensures),
+    search needs,
+  ),
+)
 
 same-length : tie.Need-same-length Inv-loop μ-loop
 same-length c = search needs

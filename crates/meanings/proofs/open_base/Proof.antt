@@ -5,7 +5,7 @@ use Rattle.meanings.proofs.Views as views
 use Rattle.ledger.specs.Book.{Thin, wideOf, thinOf}
 use Rattle.meanings.specs.Flat.{viewOf, changed}
 use Prim.Native.Nat.{_+_}
-use Rattle.kinds.specs.Meanings.{write}
+use Rattle.static_rules.specs.Meanings.{write}
 use Rattle.tables.specs.Packed.{packedAt}
 use borrow.Author.Needs.{needs}
 use Rattle.meanings.proofs.open_base.Statement.{statement}
@@ -33,7 +33,24 @@ same-length : tie.Need-same-length
 same-length c = search needs
 
 returns : tie.Need-returns
-returns c = (c .before .before .write .ensures (wideOf (now (c .before .before .before .before .before .before .before .before .before .before .before .before .before .args .wide))) (c .before .before .before .before .before .before .before .before .before .before .before .before .before .args .bases + 1) ∙ (ap (λ (b : Thin). changed (write (c .before .before .before .before .before .before .before .before .before .before .before .before .before .args .own) (c .before .before .before .register .result)) (viewOf (wideOf (now (c .before .before .before .before .before .before .before .before .before .before .before .before .before .args .wide))) b (c .before .before .before .before .before .before .before .before .before .before .before .before .before .args .bases + 1))) (c .before .before .before .before .before .before .before .before .before .put-opens .ensures) ∙ views.base-opened (wideOf (now (c .before .before .before .before .before .before .before .before .before .before .before .before .before .args .wide))) (thinOf (now (c .before .before .before .before .before .before .before .before .before .before .before .before .before .args .thin))) (c .before .before .before .before .before .before .before .before .before .before .before .before .before .args .bases) (c .before .before .before .before .before .before .before .before .before .before .before .before .before .args .own) (c .before .before .before .before .before .before .before .before .before .before .before .before .before .args .t) _ _ (c .before .before .before .before .meaning .ensures ∙ ap (λ (b : Thin). packedAt (b .found) (wideOf (now (c .before .before .before .before .before .before .before .before .before .before .before .before .before .args .wide)) .means) (c .before .before .before .before .before .before .before .before .before .before .before .before .before .args .t)) (c .before .before .before .before .before .before .before .before .before .put-opens .ensures)) (c .before .before .before .register .ensures .0)), refl)
+returns c = (
+  c .before .before .write .ensures (wideOf
+      (now (c .before .before .before .before .before .before .before .before .before .before .before .before .before .args .wide)))
+      (c .before .before .before .before .before .before .before .before .before .before .before .before .before .args .bases + 1)
+      ∙ (ap (λ (b : Thin). changed (write (c .before .before .before .before .before .before .before .before .before .before .before .before .before .args .own)
+      (c .before .before .before .register .result)) (viewOf
+      (wideOf (now (c .before .before .before .before .before .before .before .before .before .before .before .before .before .args .wide))) b
+      (c .before .before .before .before .before .before .before .before .before .before .before .before .before .args .bases + 1)))
+      (c .before .before .before .before .before .before .before .before .before .put-opens .ensures)
+      ∙ views.base-opened (wideOf (now (c .before .before .before .before .before .before .before .before .before .before .before .before .before .args .wide)))
+      (thinOf (now (c .before .before .before .before .before .before .before .before .before .before .before .before .before .args .thin)))
+      (c .before .before .before .before .before .before .before .before .before .before .before .before .before .args .bases)
+      (c .before .before .before .before .before .before .before .before .before .before .before .before .before .args .own)
+      (c .before .before .before .before .before .before .before .before .before .before .before .before .before .args .t) _ _
+      (c .before .before .before .before .meaning .ensures ∙ ap (λ (b : Thin).
+      packedAt (b .found) (wideOf (now (c .before .before .before .before .before .before .before .before .before .before .before .before .before .args .wide)) .means) (c .before .before .before .before .before .before .before .before .before .before .before .before .before .args .t)) (c .before .before .before .before .before .before .before .before .before .put-opens .ensures)) (c .before .before .before .register .ensures .0)),
+  refl,
+)
 
 pub open-base-spec : {M : Type 1} → statement M
 open-base-spec =

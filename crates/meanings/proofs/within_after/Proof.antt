@@ -16,7 +16,8 @@ same-length c = search needs
 
 returns : tie.Need-returns
 unfolding withinAfter
-returns c = λ under. rw (c .before .before .before .before .if1 .taken) (c .before .before .enter-block .ensures (now (c .before .before .before .before .before .before .before .before .before .args .owners)))
+returns c = λ under. rw (c .before .before .before .before .if1 .taken)
+    (c .before .before .enter-block .ensures (now (c .before .before .before .before .before .before .before .before .before .args .owners)))
 
 leave-block-requires : tie.Need-leave-block-requires
 leave-block-requires c κs = search needs
@@ -33,7 +34,9 @@ change-base-requires c κs = search needs
 
 returns-3 : tie.Need-returns-3
 unfolding withinAfter
-returns-3 c = λ under. rw (c .before .if3 .taken) (c .change-base .ensures under (now (c .before .before .before .before .before .before .before .before .args .owners)) (now (c .before .before .before .before .before .before .before .before .args .outer)))
+returns-3 c = λ under. rw (c .before .if3 .taken) (c .change-base .ensures under
+    (now (c .before .before .before .before .before .before .before .before .args .owners))
+    (now (c .before .before .before .before .before .before .before .before .args .outer)))
 
 enter-procedure-requires : tie.Need-enter-procedure-requires
 enter-procedure-requires c κs = search needs
@@ -43,7 +46,8 @@ same-length-3 c = search needs
 
 returns-4 : tie.Need-returns-4
 unfolding withinAfter
-returns-4 c = λ under. rw (c .before .before .before .before .if4 .taken) (c .before .before .enter-procedure .ensures (now (c .before .before .before .before .before .before .before .before .before .before .before .before .args .outer)))
+returns-4 c = λ under. rw (c .before .before .before .before .if4 .taken)
+    (c .before .before .enter-procedure .ensures (now (c .before .before .before .before .before .before .before .before .before .before .before .before .args .outer)))
 
 leave-procedure-requires : tie.Need-leave-procedure-requires
 leave-procedure-requires c κs = search needs
@@ -57,7 +61,13 @@ returns-5 c = λ under. rw (c .before .before .if5 .taken) (c .leave-procedure .
 
 returns-6 : tie.Need-returns-6
 unfolding withinAfter
-returns-6 c = λ under. rw (ne-eqb _ 0 (c .before .before .before .before .if1 .left), ne-eqb _ 1 (c .before .before .before .if2 .left), ne-eqb _ 9 (c .before .before .if3 .left), ne-eqb _ 10 (c .before .if4 .left), ne-eqb _ 11 (c .if5 .left)) (record { is = refl; blocks-are = refl; procedures-are = refl })
+returns-6 c = λ under. rw (
+  ne-eqb _ 0 (c .before .before .before .before .if1 .left),
+  ne-eqb _ 1 (c .before .before .before .if2 .left),
+  ne-eqb _ 9 (c .before .before .if3 .left),
+  ne-eqb _ 10 (c .before .if4 .left),
+  ne-eqb _ 11 (c .if5 .left),
+) (record { is = refl; blocks-are = refl; procedures-are = refl })
 
 pub within-after-spec : {M : Type 1} → statement M
 within-after-spec =

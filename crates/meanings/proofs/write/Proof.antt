@@ -21,7 +21,11 @@ same-length : tie.Need-same-length
 same-length c = search needs
 
 returns : tie.Need-returns
-returns c = λ w n. ap (λ (b : Thin). viewOf w b n) (c .before .before .put-written .ensures) ∙ views.one-written w (thinOf (now (c .before .before .before .before .before .before .before .before .args .thin))) n (c .before .before .before .before .before .before .before .before .args .own) (c .before .before .before .before .before .before .before .before .args .r) _ _ (c .before .before .before .before .written .ensures .0) (c .before .before .before .with-register .ensures .0)
+returns c = λ w n. ap (λ (b : Thin). viewOf w b n) (c .before .before .put-written .ensures)
+    ∙ views.one-written w (thinOf (now (c .before .before .before .before .before .before .before .before .args .thin))) n
+    (c .before .before .before .before .before .before .before .before .args .own)
+    (c .before .before .before .before .before .before .before .before .args .r) _ _ (c .before .before .before .before .written .ensures .0)
+    (c .before .before .before .with-register .ensures .0)
 
 pub write-spec : {M : Type 1} → statement M
 write-spec =

@@ -4,7 +4,7 @@ use mathlib.Core.Path.{sym, ap, _∙_}
 use Rattle.meanings.proofs.Views as views
 use Rattle.ledger.specs.Book.{wideOf, thinOf}
 use Rattle.meanings.specs.Flat.{changed}
-use Rattle.kinds.specs.Meanings.{writeText}
+use Rattle.static_rules.specs.Meanings.{writeText}
 use borrow.Author.Needs.{needs}
 use Rattle.meanings.proofs.write_call.Statement.{statement}
 use Rattle.meanings.proofs.write_call.Tie as tie
@@ -31,13 +31,17 @@ same-length : tie.Need-same-length
 same-length c = search needs
 
 returns : tie.Need-returns
-returns c = λ n. c .before .before .write-text .ensures (wideOf (now (c .before .before .before .before .before .before .before .before .before .before .before .before .before .before .before .before .args .wide))) n ∙ (ap (changed (writeText (c .before .before .before .before .before .before .before .before .before .before .before .before .before .before .before .before .args .own) (c .before .before .before .before .before .before .before .before .before .before .before .before .found .result))) (c .before .before .before .before .before .before .write .ensures (wideOf (now (c .before .before .before .before .before .before .before .before .before .before .before .before .before .before .before .before .args .wide))) n) ∙ views.call-written (wideOf (now (c .before .before .before .before .before .before .before .before .before .before .before .before .before .before .before .before .args .wide))) (thinOf (now (c .before .before .before .before .before .before .before .before .before .before .before .before .before .before .before .before .args .thin))) n (c .before .before .before .before .before .before .before .before .before .before .before .before .before .before .before .before .args .own) (c .before .before .before .before .before .before .before .before .before .before .before .before .before .before .before .before .args .t) _ _ _ (c .before .before .before .before .before .before .before .before .before .before .before .before .found .ensures .0) (c .before .before .before .before .before .before .before .before .before .before .before .mean .ensures) (sym (c .before .before .before .before .before .before .before .before .before .before .is-routine .ensures) ∙ c .before .before .before .before .before .before .before .before .before .if1 .taken) (c .before .before .before .before .before .before .before .number .ensures .0))
+returns c = λ n. c .before .before .write-text .ensures
+    (wideOf (now (c .before .before .before .before .before .before .before .before .before .before .before .before .before .before .before .before .args .wide))) n ∙ (ap (changed (writeText (c .before .before .before .before .before .before .before .before .before .before .before .before .before .before .before .before .args .own) (c .before .before .before .before .before .before .before .before .before .before .before .before .found .result))) (c .before .before .before .before .before .before .write .ensures (wideOf (now (c .before .before .before .before .before .before .before .before .before .before .before .before .before .before .before .before .args .wide))) n) ∙ views.call-written (wideOf (now (c .before .before .before .before .before .before .before .before .before .before .before .before .before .before .before .before .args .wide))) (thinOf (now (c .before .before .before .before .before .before .before .before .before .before .before .before .before .before .before .before .args .thin))) n (c .before .before .before .before .before .before .before .before .before .before .before .before .before .before .before .before .args .own) (c .before .before .before .before .before .before .before .before .before .before .before .before .before .before .before .before .args .t) _ _ _ (c .before .before .before .before .before .before .before .before .before .before .before .before .found .ensures .0) (c .before .before .before .before .before .before .before .before .before .before .before .mean .ensures) (sym (c .before .before .before .before .before .before .before .before .before .before .is-routine .ensures) ∙ c .before .before .before .before .before .before .before .before .before .if1 .taken) (c .before .before .before .before .before .before .before .number .ensures .0))
 
 same-length-2 : tie.Need-same-length-2
 same-length-2 c = search needs
 
 returns-2 : tie.Need-returns-2
-returns-2 c = λ n. views.no-call (wideOf (now (c .before .before .before .before .before .before .before .args .wide))) (thinOf (now (c .before .before .before .before .before .before .before .args .thin))) n (c .before .before .before .before .before .before .before .args .own) (c .before .before .before .before .before .before .before .args .t) _ _ (c .before .before .before .found .ensures .0) (c .before .before .mean .ensures) (sym (c .before .is-routine .ensures) ∙ c .if1 .left)
+returns-2 c = λ n. views.no-call (wideOf (now (c .before .before .before .before .before .before .before .args .wide)))
+    (thinOf (now (c .before .before .before .before .before .before .before .args .thin))) n
+    (c .before .before .before .before .before .before .before .args .own) (c .before .before .before .before .before .before .before .args .t) _ _
+    (c .before .before .before .found .ensures .0) (c .before .before .mean .ensures) (sym (c .before .is-routine .ensures) ∙ c .if1 .left)
 
 pub write-call-spec : {M : Type 1} → statement M
 write-call-spec =

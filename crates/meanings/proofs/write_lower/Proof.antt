@@ -23,7 +23,10 @@ same-length : tie.Need-same-length
 same-length c = search needs
 
 returns-2 : tie.Need-returns-2
-returns-2 c = λ w n. c .before .before .write .ensures w n ∙ views.some-lower (c .before .before .before .before .before .before .before .args .own) (c .before .before .before .before .before .before .before .args .target) _ _ (c .before .before .before .before .before .if1 .left) (c .before .before .before .less .ensures)
+returns-2 c = λ w n. c .before .before .write .ensures w n
+    ∙ views.some-lower (c .before .before .before .before .before .before .before .args .own)
+    (c .before .before .before .before .before .before .before .args .target) _ _ (c .before .before .before .before .before .if1 .left)
+    (c .before .before .before .less .ensures)
 
 pub write-lower-spec : {M : Type 1} → statement M
 write-lower-spec =

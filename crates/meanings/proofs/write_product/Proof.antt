@@ -17,7 +17,12 @@ same-length c = search needs
 
 returns : tie.Need-returns
 unfolding writeProduct
-returns c = λ n. rw (← (c .before .before .before .before .before .is-product .ensures (wideOf (now (c .before .before .before .before .before .before .before .before .before .before .args .wide)) .under)), c .before .before .before .before .if1 .taken) (c .before .before .write-lower .ensures (wideOf (now (c .before .before .before .before .before .before .before .before .before .before .args .wide))) n)
+returns c = λ n. rw (
+  ← (c .before .before .before .before .before .is-product .ensures
+      (wideOf (now (c .before .before .before .before .before .before .before .before .before .before .args .wide)) .under)),
+  c .before .before .before .before .if1 .taken,
+) (c .before .before .write-lower .ensures
+    (wideOf (now (c .before .before .before .before .before .before .before .before .before .before .args .wide))) n)
 
 same-length-2 : tie.Need-same-length-2
 same-length-2 c = search needs

@@ -20,7 +20,9 @@ same-length : tie.Need-same-length
 same-length c = search needs
 
 returns-2 : tie.Need-returns-2
-returns-2 c = λ w n. c .before .before .write .ensures w n ∙ views.some-target (c .before .before .before .before .before .before .args .own) (c .before .before .before .before .before .before .args .target) _ (c .before .before .before .before .if1 .left)
+returns-2 c = λ w n. c .before .before .write .ensures w n
+    ∙ views.some-target (c .before .before .before .before .before .before .args .own) (c .before .before .before .before .before .before .args .target) _
+    (c .before .before .before .before .if1 .left)
 
 pub write-target-spec : {M : Type 1} → statement M
 write-target-spec = tie.close (tie.spec returns sub-write write-requires same-length returns-2)

@@ -22,7 +22,11 @@ same-length : tie.Need-same-length
 same-length c = search needs
 
 returns : tie.Need-returns
-returns c = λ w n. ap (λ (b : Thin). viewOf w b n) (c .before .before .put-written .ensures) ∙ views.text-written w (thinOf (now (c .before .before .before .before .before .before .before .before .before .args .thin))) n (c .before .before .before .before .before .before .before .before .before .args .own) (c .before .before .before .before .before .before .before .before .before .args .p) _ _ (c .before .before .before .before .before .written .ensures .0) (c .before .before .before .written2 .ensures .0)
+returns c = λ w n. ap (λ (b : Thin). viewOf w b n) (c .before .before .put-written .ensures)
+    ∙ views.text-written w (thinOf (now (c .before .before .before .before .before .before .before .before .before .args .thin))) n
+    (c .before .before .before .before .before .before .before .before .before .args .own)
+    (c .before .before .before .before .before .before .before .before .before .args .p) _ _ (c .before .before .before .before .before .written .ensures .0)
+    (c .before .before .before .written2 .ensures .0)
 
 pub write-text-spec : {M : Type 1} → statement M
 write-text-spec =

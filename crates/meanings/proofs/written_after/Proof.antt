@@ -19,7 +19,11 @@ same-length c = search needs
 
 returns : tie.Need-returns
 unfolding writtenAfter
-returns c = λ n. rw (← (c .before .before .before .before .before .family .ensures), c .before .before .before .before .if1 .taken) (c .before .before .write-target .ensures (wideOf (now (c .before .before .before .before .before .before .before .before .before .args .wide))) n)
+returns c = λ n. rw (
+  ← (c .before .before .before .before .before .family .ensures),
+  c .before .before .before .before .if1 .taken,
+) (c .before .before .write-target .ensures
+    (wideOf (now (c .before .before .before .before .before .before .before .before .before .args .wide))) n)
 
 write-product-requires : tie.Need-write-product-requires
 write-product-requires c κs = search needs
@@ -29,7 +33,11 @@ same-length-2 c = search needs
 
 returns-2 : tie.Need-returns-2
 unfolding writtenAfter
-returns-2 c = λ n. rw (← (c .before .before .before .before .before .before .family .ensures), c .before .before .before .before .before .if1 .left, eq-eqb _ 29 (c .before .before .before .before .if2 .taken)) (c .before .before .write-product .ensures n)
+returns-2 c = λ n. rw (
+  ← (c .before .before .before .before .before .before .family .ensures),
+  c .before .before .before .before .before .if1 .left,
+  eq-eqb _ 29 (c .before .before .before .before .if2 .taken),
+) (c .before .before .write-product .ensures n)
 
 write-call-requires : tie.Need-write-call-requires
 write-call-requires c κs = search needs

@@ -27,7 +27,13 @@ same-length c = search needs
 
 returns : tie.Need-returns
 unfolding placedText
-returns c = into (renamed (two (c .before .before .before .before .before .before .put-first .ensures) (c .before .before .put-others .ensures)) (rw (c .before .before .before .before .before .before .before .before .least2 .ensures, c .before .before .before .before .before .before .before .before .before .least .ensures, told (c .before .before .before .before .before .before .before .before .before .before .before .has-place .ensures) (c .before .before .before .before .before .before .before .before .before .before .if1 .taken))))
+returns c = into (renamed (two (c .before .before .before .before .before .before .put-first .ensures) (c .before .before .put-others .ensures))
+    (rw (
+      c .before .before .before .before .before .before .before .before .least2 .ensures,
+      c .before .before .before .before .before .before .before .before .before .least .ensures,
+      told (c .before .before .before .before .before .before .before .before .before .before .before .has-place .ensures)
+          (c .before .before .before .before .before .before .before .before .before .before .if1 .taken),
+    )))
 
 put-all-requires : tie.Need-put-all-requires
 put-all-requires c κs = search needs
@@ -39,7 +45,9 @@ same-length-2 : tie.Need-same-length-2
 same-length-2 c = search needs
 
 returns-2 : tie.Need-returns-2
-returns-2 c = into (renamed (two (c .before .before .before .before .before .before .put-all .ensures) (c .before .before .put-head .ensures)) (rw (told (c .before .before .before .before .before .before .before .before .before .has-place .ensures) (c .before .before .before .before .before .before .before .before .if1 .left))))
+returns-2 c = into (renamed (two (c .before .before .before .before .before .before .put-all .ensures) (c .before .before .put-head .ensures))
+    (rw (told (c .before .before .before .before .before .before .before .before .before .has-place .ensures)
+    (c .before .before .before .before .before .before .before .before .if1 .left))))
 
 pub message-spec : {M : Type 1} → statement M
 message-spec =

@@ -29,7 +29,13 @@ same-length c = search needs
 
 returns : tie.Need-returns
 unfolding otherLines
-returns c = renamed (two (c .before .before .before .before .before .before .put-line .ensures) (c .before .before .put-carets .ensures)) (rw (c .before .before .before .before .before .before .before .shown-line .ensures, c .before .before .before .before .before .before .before .before .before .before .before .shown-before .ensures, c .before .before .before .before .before .before .before .before .before .before .wide-at .ensures, c .before .before .before .before .before .before .before .before .before .note-at .ensures))
+returns c = renamed (two (c .before .before .before .before .before .before .put-line .ensures) (c .before .before .put-carets .ensures))
+    (rw (
+      c .before .before .before .before .before .before .before .shown-line .ensures,
+      c .before .before .before .before .before .before .before .before .before .before .before .shown-before .ensures,
+      c .before .before .before .before .before .before .before .before .before .before .wide-at .ensures,
+      c .before .before .before .before .before .before .before .before .before .note-at .ensures,
+    ))
 
 pub put-others-spec : {M : Type 1} → statement M
 put-others-spec =

@@ -38,7 +38,15 @@ loop-less : tie.Need-loop-less Inv-loop μ-loop
 loop-less c = search needs
 
 loop-again : tie.Need-loop-again Inv-loop μ-loop
-loop-again c = (search needs, search needs, called (visibles-on (c .before .before .before .before .before .before .before .before .before .before .args .line .now) (c .before .before .before .before .before .before .before .loop .i) (c .before .before .before .before .before .before .loop-test .taken)) (two (c .before .before .before .before .before .before .before .loop .inv .2) (called (ap (λ (b : ℕ). b ∷ []) (c .before .before .before .visible .ensures)) (c .before .before .put .ensures))))
+loop-again c = (
+  search needs,
+  search needs,
+  called (visibles-on
+      (c .before .before .before .before .before .before .before .before .before .before .args .line .now)
+      (c .before .before .before .before .before .before .before .loop .i) (c .before .before .before .before .before .before .loop-test .taken))
+      (two (c .before .before .before .before .before .before .before .loop .inv .2)
+      (called (ap (λ (b : ℕ). b ∷ []) (c .before .before .before .visible .ensures)) (c .before .before .put .ensures))),
+)
 
 same-length : tie.Need-same-length Inv-loop μ-loop
 same-length c = search needs

@@ -30,7 +30,13 @@ loop-less : tie.Need-loop-less Inv-loop μ-loop
 loop-less c = search needs
 
 loop-again : tie.Need-loop-again Inv-loop μ-loop
-loop-again c = (search needs, search needs, rw (c .since-after .ensures .0) (since-on (c .before .before .before .before .before .args .s .now) (c .before .before .before .loop .i) (c .before .before .before .loop .k) (c .before .before .before .loop .inv .2) (c .before .before .loop-test .taken)))
+loop-again c = (
+  search needs,
+  search needs,
+  rw (c .since-after .ensures .0)
+      (since-on (c .before .before .before .before .before .args .s .now) (c .before .before .before .loop .i) (c .before .before .before .loop .k)
+      (c .before .before .before .loop .inv .2) (c .before .before .loop-test .taken)),
+)
 
 returns : tie.Need-returns Inv-loop μ-loop
 returns c = (since-end (c .before .before .before .args .s .now) (c .before .loop .i) (c .before .loop .k) (c .before .loop .inv .2) (c .loop-test .left), search needs)

@@ -24,7 +24,16 @@ join-requires : tie.Need-join-requires
 join-requires c κs = search needs
 
 returns : tie.Need-returns
-returns c = (c .join .ensures .0 ∙ rw (c .before .before .before .digit .ensures .0, c .before .digit2 .ensures .0, c .before .before .before .before .char-at .ensures, c .before .before .char-at2 .ensures) (byte-place (c .before .before .before .before .before .before .args .t .now) (c .before .before .before .before .before .before .args .i)), c .join .ensures .1)
+returns c = (
+  c .join .ensures .0 ∙ rw (
+    c .before .before .before .digit .ensures .0,
+    c .before .digit2 .ensures .0,
+    c .before .before .before .before .char-at .ensures,
+    c .before .before .char-at2 .ensures,
+  )
+      (byte-place (c .before .before .before .before .before .before .args .t .now) (c .before .before .before .before .before .before .args .i)),
+  c .join .ensures .1,
+)
 
 pub byte-at-spec : {M : Type 1} → statement M
 byte-at-spec =

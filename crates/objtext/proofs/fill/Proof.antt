@@ -54,13 +54,22 @@ loop-less : tie.Need-loop-less Inv-loop μ-loop
 loop-less c = search needs
 
 loop-again : tie.Need-loop-again Inv-loop μ-loop
-loop-again c = (search needs, search needs, fill-on (c .before .before .before .before .before .args .t .now) (c .before .before .before .before .before .args .i) (c .before .before .before .before .before .args .n) (c .before .before .loop .s) (c .before .before .before .before .before .args .at) (c .before .before .loop .j) _ (c .before .loop-test .taken) (c .byte-at .ensures .0) (c .before .before .loop .inv .2))
+loop-again c = (
+  search needs,
+  search needs,
+  fill-on (c .before .before .before .before .before .args .t .now)
+      (c .before .before .before .before .before .args .i) (c .before .before .before .before .before .args .n) (c .before .before .loop .s)
+      (c .before .before .before .before .before .args .at) (c .before .before .loop .j) _ (c .before .loop-test .taken) (c .byte-at .ensures .0)
+      (c .before .before .loop .inv .2),
+)
 
 same-length : tie.Need-same-length Inv-loop μ-loop
 same-length c = search needs
 
 returns : tie.Need-returns Inv-loop μ-loop
-returns c = fill-end (c .before .before .before .before .args .t .now) (c .before .before .before .before .args .i) (c .before .before .before .before .args .n) (c .before .loop .s) (c .before .before .before .before .args .at) (c .before .loop .j) (c .loop-test .left) (c .before .loop .inv .2)
+returns c = fill-end (c .before .before .before .before .args .t .now) (c .before .before .before .before .args .i)
+    (c .before .before .before .before .args .n) (c .before .loop .s) (c .before .before .before .before .args .at) (c .before .loop .j) (c .loop-test .left)
+    (c .before .loop .inv .2)
 
 pub fill-spec : {M : Type 1} → statement M
 fill-spec =

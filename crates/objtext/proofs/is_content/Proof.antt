@@ -31,7 +31,11 @@ is-content-frame-requires : tie.Need-is-content-frame-requires Inv-loop μ-loop
 is-content-frame-requires c κs = search needs
 
 returns : tie.Need-returns Inv-loop μ-loop
-returns c = frame-stop (c .before .before .before .before .before .before .args .t .now) (c .before .before .before .before .before .before .args .k) (c .before .before .before .before .loop .at) (c .before .before .before .before .loop .o) (c .before .before .before .before .loop .left) (c .before .before .before .before .loop .frames) (c .before .before .before .loop-test .taken) (rw (c .before .before .least .ensures) at (told (c .before .is-content-frame .ensures) (not-true _ (c .if1 .taken)))) (c .before .before .before .before .loop .inv .3)
+returns c = frame-stop (c .before .before .before .before .before .before .args .t .now) (c .before .before .before .before .before .before .args .k)
+    (c .before .before .before .before .loop .at) (c .before .before .before .before .loop .o) (c .before .before .before .before .loop .left)
+    (c .before .before .before .before .loop .frames) (c .before .before .before .loop-test .taken)
+    (rw (c .before .before .least .ensures) at (told (c .before .is-content-frame .ensures) (not-true _ (c .if1 .taken))))
+    (c .before .before .before .before .loop .inv .3)
 
 add-at : tie.Need-add-at Inv-loop μ-loop
 add-at c = search needs
@@ -49,10 +53,20 @@ loop-less : tie.Need-loop-less Inv-loop μ-loop
 loop-less c = search needs
 
 loop-again : tie.Need-loop-again Inv-loop μ-loop
-loop-again c = (search needs, search needs, search needs, rw (c .before .before .least .ensures) (frame-on (c .before .before .before .before .before .before .args .t .now) (c .before .before .before .before .before .before .args .k) (c .before .before .before .before .loop .at) (c .before .before .before .before .loop .o) (c .before .before .before .before .loop .left) (c .before .before .before .before .loop .frames) (c .before .before .before .loop-test .taken) (rw (c .before .before .least .ensures) at (told (c .before .is-content-frame .ensures) (not-false _ (c .if1 .left)))) (c .before .before .before .before .loop .inv .3)))
+loop-again c = (
+  search needs,
+  search needs,
+  search needs,
+  rw (c .before .before .least .ensures) (frame-on (c .before .before .before .before .before .before .args .t .now)
+      (c .before .before .before .before .before .before .args .k) (c .before .before .before .before .loop .at) (c .before .before .before .before .loop .o)
+      (c .before .before .before .before .loop .left) (c .before .before .before .before .loop .frames) (c .before .before .before .loop-test .taken)
+      (rw (c .before .before .least .ensures) at (told (c .before .is-content-frame .ensures) (not-false _ (c .if1 .left))))
+      (c .before .before .before .before .loop .inv .3)),
+)
 
 returns-2 : tie.Need-returns-2 Inv-loop μ-loop
-returns-2 c = frame-end (c .before .before .before .args .t .now) (c .before .before .before .args .k) (c .before .loop .at) (c .before .loop .o) (c .before .loop .left) (c .before .loop .frames) (c .loop-test .left) (c .before .loop .inv .3)
+returns-2 c = frame-end (c .before .before .before .args .t .now) (c .before .before .before .args .k) (c .before .loop .at) (c .before .loop .o)
+    (c .before .loop .left) (c .before .loop .frames) (c .loop-test .left) (c .before .loop .inv .3)
 
 pub is-content-spec : {M : Type 1} → statement M
 is-content-spec =

@@ -33,10 +33,19 @@ byte-at-requires-3 : tie.Need-byte-at-requires-3
 byte-at-requires-3 c κs = search needs
 
 returns : tie.Need-returns
-returns c = rw (c .before .before .before .byte-at .ensures .0, c .before .before .byte-at2 .ensures .0, c .before .two-at .ensures .0, c .byte-at3 .ensures .0) (frame-place (c .before .before .before .before .before .before .before .args .t .now) (c .before .before .before .before .before .before .before .args .i) (c .before .before .before .before .before .before .before .args .k) (c .before .before .before .before .before .before .before .args .o) (c .before .before .before .before .before .before .before .args .n) (told (c .before .before .before .before .before .is-line .ensures) (c .before .before .before .before .if1 .taken)))
+returns c = rw (
+  c .before .before .before .byte-at .ensures .0,
+  c .before .before .byte-at2 .ensures .0,
+  c .before .two-at .ensures .0,
+  c .byte-at3 .ensures .0,
+) (frame-place (c .before .before .before .before .before .before .before .args .t .now)
+    (c .before .before .before .before .before .before .before .args .i) (c .before .before .before .before .before .before .before .args .k)
+    (c .before .before .before .before .before .before .before .args .o) (c .before .before .before .before .before .before .before .args .n)
+    (told (c .before .before .before .before .before .is-line .ensures) (c .before .before .before .before .if1 .taken)))
 
 returns-2 : tie.Need-returns-2
-returns-2 c = no-frame (c .before .before .before .args .t .now) (c .before .before .before .args .i) (c .before .before .before .args .k) (c .before .before .before .args .o) (c .before .before .before .args .n) (told (c .before .is-line .ensures) (c .if1 .left))
+returns-2 c = no-frame (c .before .before .before .args .t .now) (c .before .before .before .args .i) (c .before .before .before .args .k)
+    (c .before .before .before .args .o) (c .before .before .before .args .n) (told (c .before .is-line .ensures) (c .if1 .left))
 
 pub is-content-frame-spec : {M : Type 1} → statement M
 is-content-frame-spec =

@@ -21,7 +21,8 @@ byte-at-requires : tie.Need-byte-at-requires Inv-loop μ-loop
 byte-at-requires c κs = search needs
 
 returns : tie.Need-returns Inv-loop μ-loop
-returns c = line-stop (c .before .before .before .before .before .args .t .now) (c .before .before .before .loop .at) (c .before .before .before .loop .left) (c .before .before .loop-test .taken) (rw (c .before .byte-at .ensures .0) at (c .if1 .taken)) (c .before .before .before .loop .inv .2)
+returns c = line-stop (c .before .before .before .before .before .args .t .now) (c .before .before .before .loop .at) (c .before .before .before .loop .left)
+    (c .before .before .loop-test .taken) (rw (c .before .byte-at .ensures .0) at (c .if1 .taken)) (c .before .before .before .loop .inv .2)
 
 add-at : tie.Need-add-at Inv-loop μ-loop
 add-at c = search needs
@@ -33,13 +34,20 @@ loop-less : tie.Need-loop-less Inv-loop μ-loop
 loop-less c = search needs
 
 loop-again : tie.Need-loop-again Inv-loop μ-loop
-loop-again c = (search needs, search needs, line-on (c .before .before .before .before .before .args .t .now) (c .before .before .before .loop .at) (c .before .before .before .loop .left) (c .before .before .loop-test .taken) (rw (c .before .byte-at .ensures .0) at (c .if1 .left)) (c .before .before .before .loop .inv .2))
+loop-again c = (
+  search needs,
+  search needs,
+  line-on (c .before .before .before .before .before .args .t .now) (c .before .before .before .loop .at)
+      (c .before .before .before .loop .left) (c .before .before .loop-test .taken) (rw (c .before .byte-at .ensures .0) at (c .if1 .left))
+      (c .before .before .before .loop .inv .2),
+)
 
 char-at-requires : tie.Need-char-at-requires Inv-loop μ-loop
 char-at-requires c κs = search needs
 
 returns-2 : tie.Need-returns-2 Inv-loop μ-loop
-returns-2 c = rw (c .char-at .ensures) (line-end (c .before .before .before .before .args .t .now) (c .before .before .loop .at) (c .before .before .loop .left) (c .before .loop-test .left) (c .before .before .loop .inv .2))
+returns-2 c = rw (c .char-at .ensures) (line-end (c .before .before .before .before .args .t .now) (c .before .before .loop .at)
+    (c .before .before .loop .left) (c .before .loop-test .left) (c .before .before .loop .inv .2))
 
 pub is-line-spec : {M : Type 1} → statement M
 is-line-spec =

@@ -14,7 +14,14 @@ two-at-requires : tie.Need-two-at-requires
 two-at-requires c κs = search needs
 
 returns : tie.Need-returns
-returns c = (long-program (c .before .before .before .args .t .now) (c .before .before .before .args .i) (c .before .before .before .args .k) (omega (arith, c .before .two-at .ensures .0, length-place (c .before .before .before .args .t .now) (c .before .before .before .args .i))), λ e. never-true e)
+returns c = (
+  long-program (c .before .before .before .args .t .now) (c .before .before .before .args .i) (c .before .before .before .args .k) (omega (
+    arith,
+    c .before .two-at .ensures .0,
+    length-place (c .before .before .before .args .t .now) (c .before .before .before .args .i),
+  )),
+  λ e. never-true e,
+)
 
 is-line-requires : tie.Need-is-line-requires
 is-line-requires c κs = search needs
@@ -35,11 +42,24 @@ is-content-requires : tie.Need-is-content-requires
 is-content-requires c κs = search needs
 
 returns-2 : tie.Need-returns-2
-returns-2 c = (let e = c .before .before .before .before .before .before .two-at .ensures .0 ∙ length-place (c .before .before .before .before .before .before .before .before .args .t .now) (c .before .before .before .before .before .before .before .before .args .i) in
-    (c .is-content .ensures ∙ rw e (program-place (c .before .before .before .before .before .before .before .before .args .t .now) (c .before .before .before .before .before .before .before .before .args .i) (c .before .before .before .before .before .before .before .before .args .k) (rw (c .before .before .before .before .is-line .ensures, c .before .before .before .byte-at .ensures .0, c .before .before .byte-at2 .ensures .0) at (c .before .if2 .taken)) (omega (arith, e))), λ q. omega (arith, e)))
+returns-2 c = (let e = c .before .before .before .before .before .before .two-at .ensures .0 ∙ length-place (c .before .before .before .before .before .before .before .before .args .t .now) (c .before .before .before .before .before .before .before .before .args .i) in (
+  c .is-content .ensures ∙ rw e (program-place (c .before .before .before .before .before .before .before .before .args .t .now)
+      (c .before .before .before .before .before .before .before .before .args .i) (c .before .before .before .before .before .before .before .before .args .k)
+      (rw (
+        c .before .before .before .before .is-line .ensures,
+        c .before .before .before .byte-at .ensures .0,
+        c .before .before .byte-at2 .ensures .0,
+      ) at (c .before .if2 .taken)) (omega (arith, e))),
+  λ q. omega (arith, e),
+))
 
 returns-3 : tie.Need-returns-3
-returns-3 c = (no-program (c .before .before .before .before .before .before .before .args .t .now) (c .before .before .before .before .before .before .before .args .i) (c .before .before .before .before .before .before .before .args .k) (rw (c .before .before .before .is-line .ensures, c .before .before .byte-at .ensures .0, c .before .byte-at2 .ensures .0) at (c .if2 .left)), λ e. never-true e)
+returns-3 c = (
+  no-program (c .before .before .before .before .before .before .before .args .t .now)
+      (c .before .before .before .before .before .before .before .args .i) (c .before .before .before .before .before .before .before .args .k)
+      (rw (c .before .before .before .is-line .ensures, c .before .before .byte-at .ensures .0, c .before .byte-at2 .ensures .0) at (c .if2 .left)),
+  λ e. never-true e,
+)
 
 pub is-program-spec : {M : Type 1} → statement M
 is-program-spec =

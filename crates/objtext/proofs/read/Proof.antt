@@ -26,25 +26,42 @@ is-data-requires : tie.Need-is-data-requires Inv-loop μ-loop
 is-data-requires c κs = search needs
 
 returns-2 : tie.Need-returns-2 Inv-loop μ-loop
-returns-2 c = no-data (c .before .before .before .before .before .before .args .t .now) (c .before .before .after-program .result) (told (c .before .before .before .before .is-program .ensures .0) (not-false _ (c .before .before .before .if1 .left))) (rw (c .before .before .after-program .ensures .0) (after-program-place (c .before .before .before .before .before .before .args .t .now))) (told (c .before .is-data .ensures .0) (not-true _ (c .if2 .taken)))
+returns-2 c = no-data (c .before .before .before .before .before .before .args .t .now) (c .before .before .after-program .result)
+    (told (c .before .before .before .before .is-program .ensures .0) (not-false _ (c .before .before .before .if1 .left)))
+    (rw (c .before .before .after-program .ensures .0) (after-program-place (c .before .before .before .before .before .before .args .t .now)))
+    (told (c .before .is-data .ensures .0) (not-true _ (c .if2 .taken)))
 
 after-data-requires : tie.Need-after-data-requires Inv-loop μ-loop
 after-data-requires c κs = (search needs, c .before .is-data .ensures .1 (not-false _ (c .if2 .left)))
 
 loop-holds : tie.Need-loop-holds Inv-loop μ-loop
-loop-holds c = (search needs, search needs, search needs, rw (c .after-data .ensures .0) (first-data (c .before .before .before .before .before .before .before .args .t .now) (c .before .before .before .after-program .result) (told (c .before .before .before .before .before .is-program .ensures .0) (not-false _ (c .before .before .before .before .if1 .left))) (rw (c .before .before .before .after-program .ensures .0) (after-program-place (c .before .before .before .before .before .before .before .args .t .now))) (told (c .before .before .is-data .ensures .0) (not-false _ (c .before .if2 .left)))))
+loop-holds c = (
+  search needs,
+  search needs,
+  search needs,
+  rw (c .after-data .ensures .0) (first-data (c .before .before .before .before .before .before .before .args .t .now)
+      (c .before .before .before .after-program .result) (told (c .before .before .before .before .before .is-program .ensures .0)
+      (not-false _ (c .before .before .before .before .if1 .left)))
+      (rw (c .before .before .before .after-program .ensures .0) (after-program-place (c .before .before .before .before .before .before .before .args .t .now)))
+      (told (c .before .before .is-data .ensures .0) (not-false _ (c .before .if2 .left)))),
+)
 
 is-last-requires : tie.Need-is-last-requires Inv-loop μ-loop
 is-last-requires c κs = search needs
 
 returns-3 : tie.Need-returns-3 Inv-loop μ-loop
-returns-3 c = at-last (c .before .before .before .before .before .before .before .before .before .before .before .args .t .now) (c .before .before .before .loop .k) (c .before .before .before .loop .at) (search needs) (c .before .before .before .loop .inv .3) (told (c .before .is-last .ensures) (c .if3 .taken))
+returns-3 c = at-last (c .before .before .before .before .before .before .before .before .before .before .before .args .t .now)
+    (c .before .before .before .loop .k) (c .before .before .before .loop .at) (search needs) (c .before .before .before .loop .inv .3)
+    (told (c .before .is-last .ensures) (c .if3 .taken))
 
 is-data-requires-2 : tie.Need-is-data-requires-2 Inv-loop μ-loop
 is-data-requires-2 c κs = search needs
 
 returns-4 : tie.Need-returns-4 Inv-loop μ-loop
-returns-4 c = no-more (c .before .before .before .before .before .before .before .before .before .before .before .before .before .args .t .now) (c .before .before .before .before .before .loop .k) (c .before .before .before .before .before .loop .at) (search needs) (c .before .before .before .before .before .loop .inv .3) (c .before .before .before .before .loop-test .taken) (told (c .before .before .before .is-last .ensures) (c .before .before .if3 .left)) (told (c .before .is-data2 .ensures .0) (not-true _ (c .if4 .taken)))
+returns-4 c = no-more (c .before .before .before .before .before .before .before .before .before .before .before .before .before .args .t .now)
+    (c .before .before .before .before .before .loop .k) (c .before .before .before .before .before .loop .at) (search needs)
+    (c .before .before .before .before .before .loop .inv .3) (c .before .before .before .before .loop-test .taken)
+    (told (c .before .before .before .is-last .ensures) (c .before .before .if3 .left)) (told (c .before .is-data2 .ensures .0) (not-true _ (c .if4 .taken)))
 
 after-data-requires-2 : tie.Need-after-data-requires-2 Inv-loop μ-loop
 after-data-requires-2 c κs = (search needs, c .before .is-data2 .ensures .1 (not-false _ (c .if4 .left)))
@@ -56,16 +73,25 @@ loop-less : tie.Need-loop-less Inv-loop μ-loop
 loop-less c = search needs
 
 loop-again : tie.Need-loop-again Inv-loop μ-loop
-loop-again c = (search needs, search needs, search needs, rw (c .after-data2 .ensures .0) (one-more (c .before .before .before .before .before .before .before .before .before .before .before .before .before .before .args .t .now) (c .before .before .before .before .before .before .loop .k) (c .before .before .before .before .before .before .loop .at) (search needs) (c .before .before .before .before .before .before .loop .inv .3) (c .before .before .before .before .before .loop-test .taken) (told (c .before .before .before .before .is-last .ensures) (c .before .before .before .if3 .left)) (told (c .before .before .is-data2 .ensures .0) (not-false _ (c .before .if4 .left)))))
+loop-again c = (
+  search needs,
+  search needs,
+  search needs,
+  rw (c .after-data2 .ensures .0) (one-more (c .before .before .before .before .before .before .before .before .before .before .before .before .before .before .args .t .now) (c .before .before .before .before .before .before .loop .k) (c .before .before .before .before .before .before .loop .at) (search needs) (c .before .before .before .before .before .before .loop .inv .3) (c .before .before .before .before .before .loop-test .taken) (told (c .before .before .before .before .is-last .ensures) (c .before .before .before .if3 .left)) (told (c .before .before .is-data2 .ensures .0) (not-false _ (c .before .if4 .left)))),
+)
 
 is-last-requires-2 : tie.Need-is-last-requires-2 Inv-loop μ-loop
 is-last-requires-2 c κs = search needs
 
 returns-5 : tie.Need-returns-5 Inv-loop μ-loop
-returns-5 c = at-last (c .before .before .before .before .before .before .before .before .before .before .before .args .t .now) (c .before .before .before .loop .k) (c .before .before .before .loop .at) (search needs) (c .before .before .before .loop .inv .3) (told (c .before .is-last2 .ensures) (c .if5 .taken))
+returns-5 c = at-last (c .before .before .before .before .before .before .before .before .before .before .before .args .t .now)
+    (c .before .before .before .loop .k) (c .before .before .before .loop .at) (search needs) (c .before .before .before .loop .inv .3)
+    (told (c .before .is-last2 .ensures) (c .if5 .taken))
 
 returns-6 : tie.Need-returns-6 Inv-loop μ-loop
-returns-6 c = not-last (c .before .before .before .before .before .before .before .before .before .before .before .args .t .now) (c .before .before .before .loop .k) (c .before .before .before .loop .at) (search needs) (c .before .before .before .loop .inv .3) (c .before .before .loop-test .left) (told (c .before .is-last2 .ensures) (c .if5 .left))
+returns-6 c = not-last (c .before .before .before .before .before .before .before .before .before .before .before .args .t .now)
+    (c .before .before .before .loop .k) (c .before .before .before .loop .at) (search needs) (c .before .before .before .loop .inv .3)
+    (c .before .before .loop-test .left) (told (c .before .is-last2 .ensures) (c .if5 .left))
 
 pub read-spec : {M : Type 1} → statement M
 read-spec =

@@ -19,7 +19,9 @@ refused-requires c κs = search needs
 
 returns : tie.Need-returns
 unfolding G.program andThen look
-returns c = parsed (now (c .before .before .before .before .before .args .tape)) (rw (ne-eqb _ _ (other (c .before .before .kind-at .ensures .is) (c .before .if1 .taken))) (no (c .refused .ensures) tt (search needs))) (λ z. search needs) (search needs) (search needs)
+returns c = parsed (now (c .before .before .before .before .before .args .tape))
+    (rw (ne-eqb _ _ (other (c .before .before .kind-at .ensures .is) (c .before .if1 .taken))) (no (c .refused .ensures) tt (search needs))) (λ z. search needs)
+    (search needs) (search needs)
 
 statement-requires : tie.Need-statement-requires
 statement-requires c κs = search needs
@@ -32,7 +34,11 @@ same-length c = search needs
 
 returns-2 : tie.Need-returns-2
 unfolding G.program andThen look
-returns-2 c = parsed (now (c .before .before .before .before .before .before .before .before .before .before .before .args .tape)) (rw (eq-eqb _ _ (same (c .before .before .before .before .before .before .before .before .kind-at .ensures .is) (c .before .before .before .before .before .before .before .if1 .left))) (halts _ (c .before .before .before .before .before .statement .ensures .read) (c .before .if2 .taken) (c .refused2 .ensures))) (λ z. search needs) (search needs) (search needs)
+returns-2 c = parsed (now (c .before .before .before .before .before .before .before .before .before .before .before .args .tape))
+    (rw (eq-eqb _ _ (same (c .before .before .before .before .before .before .before .before .kind-at .ensures .is)
+    (c .before .before .before .before .before .before .before .if1 .left)))
+    (halts _ (c .before .before .before .before .before .statement .ensures .read) (c .before .if2 .taken) (c .refused2 .ensures))) (λ z. search needs)
+    (search needs) (search needs)
 
 wanted-requires : tie.Need-wanted-requires
 wanted-requires c κs = search needs
@@ -42,7 +48,11 @@ same-length-2 c = search needs
 
 returns-3 : tie.Need-returns-3
 unfolding G.program andThen look
-returns-3 c = parsed (now (c .before .before .before .before .before .before .before .before .before .before .before .before .before .args .tape)) (rw (eq-eqb _ _ (same (c .before .before .before .before .before .before .before .before .before .before .kind-at .ensures .is) (c .before .before .before .before .before .before .before .before .before .if1 .left))) (goes _ (c .before .before .before .before .before .before .before .statement .ensures .read) (c .before .before .before .if2 .left) (λ x w. stops _ (c .before .before .wanted .ensures .read) (c .if3 .taken)))) (λ z. search needs) (search needs) (search needs)
+returns-3 c = parsed (now (c .before .before .before .before .before .before .before .before .before .before .before .before .before .args .tape))
+    (rw (eq-eqb _ _ (same (c .before .before .before .before .before .before .before .before .before .before .kind-at .ensures .is)
+    (c .before .before .before .before .before .before .before .before .before .if1 .left)))
+    (goes _ (c .before .before .before .before .before .before .before .statement .ensures .read) (c .before .before .before .if2 .left) (λ x w.
+    stops _ (c .before .before .wanted .ensures .read) (c .if3 .taken)))) (λ z. search needs) (search needs) (search needs)
 
 read-requires : tie.Need-read-requires
 read-requires c κs = search needs
@@ -52,7 +62,12 @@ same-length-3 c = search needs
 
 returns-4 : tie.Need-returns-4
 unfolding G.program andThen look
-returns-4 c = parsed (now (c .before .before .before .before .before .before .before .before .before .before .before .before .before .before .args .tape)) (rw (eq-eqb _ _ (same (c .before .before .before .before .before .before .before .before .before .before .before .kind-at .ensures .is) (c .before .before .before .before .before .before .before .before .before .before .if1 .left))) (goes _ (c .before .before .before .before .before .before .before .before .statement .ensures .read) (c .before .before .before .before .if2 .left) (λ x w. goes _ (c .before .before .before .wanted .ensures .read) (c .before .if3 .left) (λ u e. done (c .read .ensures) (omega arith) (omega arith) w)))) (λ z. absurd (z (c .read .ensures .number-is))) (search needs) (search needs)
+returns-4 c = parsed (now (c .before .before .before .before .before .before .before .before .before .before .before .before .before .before .args .tape))
+    (rw (eq-eqb _ _ (same (c .before .before .before .before .before .before .before .before .before .before .before .kind-at .ensures .is)
+    (c .before .before .before .before .before .before .before .before .before .before .if1 .left)))
+    (goes _ (c .before .before .before .before .before .before .before .before .statement .ensures .read) (c .before .before .before .before .if2 .left) (λ x w.
+    goes _ (c .before .before .before .wanted .ensures .read) (c .before .if3 .left) (λ u e. done (c .read .ensures) (omega arith) (omega arith) w)))) (λ z.
+    absurd (z (c .read .ensures .number-is))) (search needs) (search needs)
 
 pub program-spec : {M : Type 1} → statement M
 program-spec =

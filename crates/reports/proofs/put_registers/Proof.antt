@@ -40,7 +40,8 @@ loop-again : tie.Need-loop-again Inv-loop μ-loop
 loop-again c = (
   search needs,
   search needs,
-  called (registers-on (c .before .before .before .before .before .before .before .before .before .args .regs .now) (c .before .before .before .before .before .before .loop .i) (c .before .before .before .before .before .loop-test .taken))
+  called (registers-on (c .before .before .before .before .before .before .before .before .before .args .regs .now)
+      (c .before .before .before .before .before .before .loop .i) (c .before .before .before .before .before .loop-test .taken))
       (two (c .before .before .before .before .before .before .loop .inv .2) (c .before .before .put-register .ensures)),
 )
 

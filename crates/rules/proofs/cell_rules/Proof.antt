@@ -1,6 +1,6 @@
 -- A cell's designator has a subscript or index only on an array, the subscript inside it, the index a register.
-use Rattle.names.specs.Broken.{_⊕_, rule}
-use Rattle.names.specs.declared.Broken.{Broken}
+use Rattle.scopes.specs.Broken.{_⊕_, rule}
+use Rattle.scopes.specs.declared.Broken.{Broken}
 use mathlib.Core.Bool.{Bool, _||_}
 use mathlib.Core.Path.{ap₂, _∙_}
 use borrow.Author.Needs.{needs}

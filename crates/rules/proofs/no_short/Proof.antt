@@ -1,5 +1,5 @@
 -- A number is never short; a name is by what it means.
-use Rattle.kinds.specs.Rules.{noShort}
+use Rattle.static_rules.specs.Rules.{noShort}
 use Rattle.rules.proofs.Answers as answers
 use borrow.Author.Needs.{needs}
 use Rattle.rules.proofs.no_short.Statement.{statement}
@@ -25,7 +25,8 @@ rule-requires : tie.Need-rule-requires
 rule-requires c κs = search needs
 
 returns-2 : tie.Need-returns-2
-returns-2 c = λ f s. answers.not-short s _ _ (c .before .before .before .meaning .ensures) _ (c .before .before .before .before .if1 .left) (c .before .before .is-cell .ensures) (c .before .is-short .ensures) (c .rule .ensures)
+returns-2 c = λ f s. answers.not-short s _ _ (c .before .before .before .meaning .ensures) _ (c .before .before .before .before .if1 .left)
+    (c .before .before .is-cell .ensures) (c .before .is-short .ensures) (c .rule .ensures)
 
 pub no-short-spec : {M : Type 1} → statement M
 no-short-spec = tie.close (tie.spec none-requires returns meaning-requires is-cell-requires is-short-requires rule-requires returns-2)

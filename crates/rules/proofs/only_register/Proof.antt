@@ -1,5 +1,5 @@
 -- A number is no register; a name is by what it means, and stands alone.
-use Rattle.kinds.specs.Rules.{onlyRegister}
+use Rattle.static_rules.specs.Rules.{onlyRegister}
 use Rattle.rules.proofs.Answers as answers
 use borrow.Author.Needs.{needs}
 use Rattle.rules.proofs.only_register.Statement.{statement}

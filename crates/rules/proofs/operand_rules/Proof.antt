@@ -1,5 +1,5 @@
 -- A number has no rule; all else is a designator.
-use Rattle.kinds.specs.Rules.{operandRules}
+use Rattle.static_rules.specs.Rules.{operandRules}
 use Rattle.rules.proofs.Answers as answers
 use borrow.Author.Needs.{needs}
 use Rattle.rules.proofs.operand_rules.Statement.{statement}

@@ -29,7 +29,8 @@ cell-rules-requires : tie.Need-cell-rules-requires
 cell-rules-requires c κs = search needs
 
 returns-2 : tie.Need-returns-2
-returns-2 c = λ f s. answers.placed-cell s _ _ (c .before .before .before .before .before .meaning .ensures) _ (sym (c .before .before .is-cell .ensures) ∙ c .before .if2 .taken) (c .cell-rules .ensures f s)
+returns-2 c = λ f s. answers.placed-cell s _ _ (c .before .before .before .before .before .meaning .ensures) _ (sym (c .before .before .is-cell .ensures)
+    ∙ c .before .if2 .taken) (c .cell-rules .ensures f s)
 
 broken-requires : tie.Need-broken-requires
 broken-requires c κs = search needs

@@ -1,5 +1,5 @@
 -- The sort in the packed number is that of the meaning.
-use Rattle.names.specs.Broken.{rule}
+use Rattle.scopes.specs.Broken.{rule}
 use mathlib.Core.Bool.{Bool}
 use Rattle.rules.proofs.Sorts as sorts
 use mathlib.Core.Path.{ap, _∙_}

@@ -1,8 +1,8 @@
 -- The rules of a shift's operand, by its shape: a number is compared as it is, since what is at most 63 is not negative.
-use Rattle.kinds.specs.Rules.{shiftRules}
-use Rattle.kinds.proofs.Elements.{from-zero}
-use Rattle.names.specs.Broken.{_⊕_}
-use Rattle.names.specs.declared.Broken.{Broken}
+use Rattle.static_rules.specs.Rules.{shiftRules}
+use Rattle.static_rules.proofs.Elements.{from-zero}
+use Rattle.scopes.specs.Broken.{_⊕_}
+use Rattle.scopes.specs.declared.Broken.{Broken}
 use Rattle.rules.proofs.Answers as answers
 use mathlib.Core.Path.{ap₂, _∙_}
 use native.Mathlib.Omega.{arith}

@@ -2,7 +2,7 @@
 use Rattle.ledger.specs.Book.{wideOf}
 use Rattle.tables.specs.Stacks.{stackOf}
 use Rattle.tables.specs.Packed.{setOf}
-use Rattle.kinds.specs.Registers.{spares}
+use Rattle.static_rules.specs.Registers.{spares}
 use Rattle.rules.proofs.Sorts as sorts
 use mathlib.Core.Path.{_≡_, refl, sym}
 use native.Mathlib.Omega.{arith}

@@ -1,6 +1,6 @@
 -- Both rules by the one meaning that is read.
-use Rattle.names.specs.Broken.{_⊕_}
-use Rattle.names.specs.declared.Broken.{Broken}
+use Rattle.scopes.specs.Broken.{_⊕_}
+use Rattle.scopes.specs.declared.Broken.{Broken}
 use Rattle.rules.proofs.Answers as answers
 use mathlib.Core.Path.{ap₂, _∙_}
 use borrow.Author.Needs.{needs}

@@ -1,6 +1,6 @@
 -- A register is judged by whether it is among the protected ones.
-use Rattle.kinds.specs.Rules.{writeRule}
-use Rattle.names.specs.Broken.{rule}
+use Rattle.static_rules.specs.Rules.{writeRule}
+use Rattle.scopes.specs.Broken.{rule}
 use mathlib.Core.Bool.{Bool, not}
 use mathlib.Core.Path.{ap, _∙_}
 use borrow.Author.Needs.{needs}

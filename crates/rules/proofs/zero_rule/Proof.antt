@@ -1,5 +1,5 @@
 -- Register 0 is told by the packed number.
-use Rattle.names.specs.Broken.{rule}
+use Rattle.scopes.specs.Broken.{rule}
 use Prim.Native.Nat.{ℕ}
 use lib.Dec.{eqb}
 use mathlib.Core.Bool.{Bool, not, _&&_}

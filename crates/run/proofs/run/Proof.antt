@@ -28,7 +28,8 @@ same-length : tie.Need-same-length Inv-loop μ-loop
 same-length c = search needs
 
 returns : tie.Need-returns Inv-loop μ-loop
-returns c = run-stop _ _ _ (c .before .before .before .before .step .ensures) _ _ (c .before .before .before .before .before .before .before .loop-test .taken) (c .if1 .taken) (c .before .before .before .before .before .before .before .before .loop .inv .2)
+returns c = run-stop _ _ _ (c .before .before .before .before .step .ensures) _ _ (c .before .before .before .before .before .before .before .loop-test .taken)
+    (c .if1 .taken) (c .before .before .before .before .before .before .before .before .loop .inv .2)
 
 add-count : tie.Need-add-count Inv-loop μ-loop
 add-count c = search needs
@@ -37,7 +38,13 @@ loop-less : tie.Need-loop-less Inv-loop μ-loop
 loop-less c = search needs
 
 loop-again : tie.Need-loop-again Inv-loop μ-loop
-loop-again c = (search needs, search needs, run-on _ _ _ (c .before .before .before .before .step .ensures) _ _ (c .before .before .before .before .before .before .before .loop-test .taken) (c .if1 .left) (c .before .before .before .before .before .before .before .before .loop .inv .2))
+loop-again c = (
+  search needs,
+  search needs,
+  run-on _ _ _ (c .before .before .before .before .step .ensures) _ _
+      (c .before .before .before .before .before .before .before .loop-test .taken) (c .if1 .left)
+      (c .before .before .before .before .before .before .before .before .loop .inv .2),
+)
 
 same-length-2 : tie.Need-same-length-2 Inv-loop μ-loop
 same-length-2 c = search needs

@@ -7,7 +7,8 @@ use Rattle.run_vectors.proofs.compare_all.Statement.{statement}
 use Rattle.run_vectors.proofs.compare_all.Tie as tie
 
 abbrev Inv-loop : tie.InvT-loop
-Inv-loop name input₀ store₀ out₀ fd at₀ to₀ compared₀ equal₀ input store out at to compared equal = (at ≤ to) × (to ≤ length input) × (length input ≡ length input₀) × (length store ≡ length store₀) × (length out ≡ length out₀) × (compared ≤ 1000000) × (equal ≤ compared)
+Inv-loop name input₀ store₀ out₀ fd at₀ to₀ compared₀ equal₀ input store out at to compared equal = (at ≤ to) × (to ≤ length input)
+    × (length input ≡ length input₀) × (length store ≡ length store₀) × (length out ≡ length out₀) × (compared ≤ 1000000) × (equal ≤ compared)
 
 abbrev μ-loop : tie.MeasureT-loop
 μ-loop name input₀ store₀ out₀ fd at₀ to₀ compared₀ equal₀ input store out at to compared equal = 1000000 - compared

@@ -30,7 +30,16 @@ same-length-2 : tie.Need-same-length-2
 same-length-2 c = search needs
 
 returns : tie.Need-returns
-returns c = omega (arith, c .before .before .before .before .compare .ensures, length-drop (c .before .before .before .before .before .before .before .before .before .before .before .before .args .at) (take (c .before .before .before .before .before .before .before .before .before .before .before .before .args .to) (now (c .before .before .before .before .before .before .before .before .before .before .before .before .args .input))), length-take-le (c .before .before .before .before .before .before .before .before .before .before .before .before .args .to) (now (c .before .before .before .before .before .before .before .before .before .before .before .before .args .input)) (c .before .before .before .before .before .before .before .before .before .before .before .before .pre .1))
+returns c = omega (
+  arith,
+  c .before .before .before .before .compare .ensures,
+  length-drop (c .before .before .before .before .before .before .before .before .before .before .before .before .args .at)
+      (take (c .before .before .before .before .before .before .before .before .before .before .before .before .args .to)
+      (now (c .before .before .before .before .before .before .before .before .before .before .before .before .args .input))),
+  length-take-le (c .before .before .before .before .before .before .before .before .before .before .before .before .args .to)
+      (now (c .before .before .before .before .before .before .before .before .before .before .before .before .args .input))
+      (c .before .before .before .before .before .before .before .before .before .before .before .before .pre .1),
+)
 
 pub compare-at-spec : {M : Type 1} → statement M
 compare-at-spec =

@@ -25,8 +25,14 @@ after-program-requires c κs = program-short 0 (c .before .args .t .now) (object
 loop-holds : tie.Need-loop-holds Inv-loop μ-loop
 loop-holds c =
     (let w = object-walk (c .before .before .args .count) (c .before .before .args .t .now) (c .before .before .pre .0) (c .before .before .pre .1) in
-    let f = w .few in
-    (search needs, search needs, f, search needs, rw (c .after-program .ensures .0, after-program-place (c .before .before .args .t .now)) (w .data-segments), rw (c .after-program .ensures .0, after-program-place (c .before .before .args .t .now))))
+    let f = w .few in (
+      search needs,
+      search needs,
+      f,
+      search needs,
+      rw (c .after-program .ensures .0, after-program-place (c .before .before .args .t .now)) (w .data-segments),
+      rw (c .after-program .ensures .0, after-program-place (c .before .before .args .t .now)),
+    ))
 
 add-two-at : tie.Need-add-two-at Inv-loop μ-loop
 add-two-at c = search needs
@@ -44,7 +50,13 @@ element-write-entries : tie.Need-element-write-entries Inv-loop μ-loop
 element-write-entries c = search needs
 
 after-data-requires : tie.Need-after-data-requires Inv-loop μ-loop
-after-data-requires c κs = (search needs, data-short (c .before .before .loop .k) (drop (c .before .before .loop .at) (c .before .before .before .before .before .args .t .now)) (walk-here (c .before .before .before .before .before .args .t .now) (c .before .before .before .before .before .args .count) (c .before .before .loop .k) (c .before .before .loop .at) (c .before .loop-test .taken) (c .before .before .loop .inv .4)))
+after-data-requires c κs = (
+  search needs,
+  data-short (c .before .before .loop .k)
+      (drop (c .before .before .loop .at) (c .before .before .before .before .before .args .t .now))
+      (walk-here (c .before .before .before .before .before .args .t .now) (c .before .before .before .before .before .args .count) (c .before .before .loop .k)
+      (c .before .before .loop .at) (c .before .loop-test .taken) (c .before .before .loop .inv .4)),
+)
 
 add-k : tie.Need-add-k Inv-loop μ-loop
 add-k c = search needs
@@ -58,12 +70,18 @@ loop-again c = (
   search needs,
   search needs,
   search needs,
-  rw (c .after-data .ensures .0) (walk-on (c .before .before .before .before .before .before .args .t .now) (c .before .before .before .before .before .before .args .count) (c .before .before .before .loop .k) (c .before .before .before .loop .at) (c .before .before .loop-test .taken) (c .before .before .before .loop .inv .4)),
-  rw (c .after-data .ensures .0, c .before .two-at .ensures .0) (list-on (c .before .before .before .before .before .before .args .t .now) (c .before .before .before .before .before .before .args .count) (c .before .before .before .loop .k) (c .before .before .before .loop .at) (c .before .before .loop-test .taken) (c .before .before .before .before .before .before .args .o) (c .before .before .before .loop .entries) (c .before .before .before .loop .inv .5)),
+  rw (c .after-data .ensures .0) (walk-on (c .before .before .before .before .before .before .args .t .now)
+      (c .before .before .before .before .before .before .args .count) (c .before .before .before .loop .k) (c .before .before .before .loop .at)
+      (c .before .before .loop-test .taken) (c .before .before .before .loop .inv .4)),
+  rw (c .after-data .ensures .0, c .before .two-at .ensures .0)
+      (list-on (c .before .before .before .before .before .before .args .t .now) (c .before .before .before .before .before .before .args .count)
+      (c .before .before .before .loop .k) (c .before .before .before .loop .at) (c .before .before .loop-test .taken)
+      (c .before .before .before .before .before .before .args .o) (c .before .before .before .loop .entries) (c .before .before .before .loop .inv .5)),
 )
 
 returns : tie.Need-returns Inv-loop μ-loop
-returns c = list-end (c .before .before .before .before .args .count) (c .before .loop .k) (c .loop-test .left) (c .before .before .before .before .args .o) (drop (c .before .loop .at) (c .before .before .before .before .args .t .now)) (c .before .loop .entries) (c .before .loop .inv .5)
+returns c = list-end (c .before .before .before .before .args .count) (c .before .loop .k) (c .loop-test .left) (c .before .before .before .before .args .o)
+    (drop (c .before .loop .at) (c .before .before .before .before .args .t .now)) (c .before .loop .entries) (c .before .loop .inv .5)
 
 pub list-spec : {M : Type 1} → statement M
 list-spec =

@@ -25,16 +25,36 @@ two-at-requires : tie.Need-two-at-requires Inv-loop μ-loop
 two-at-requires c κs = search needs
 
 fill-requires : tie.Need-fill-requires Inv-loop μ-loop
-fill-requires c κs = omega (arith, c .before .two-at .ensures .0, program-short 0 (c .before .before .before .before .args .t .now) (object-walk (c .before .before .before .before .args .count) (c .before .before .before .before .args .t .now) (c .before .before .before .before .pre .0) (c .before .before .before .before .pre .1) .program))
+fill-requires c κs = omega (
+  arith,
+  c .before .two-at .ensures .0,
+  program-short 0 (c .before .before .before .before .args .t .now)
+      (object-walk (c .before .before .before .before .args .count) (c .before .before .before .before .args .t .now) (c .before .before .before .before .pre .0)
+      (c .before .before .before .before .pre .1) .program),
+)
 
 after-program-requires : tie.Need-after-program-requires Inv-loop μ-loop
-after-program-requires c κs = program-short 0 (c .before .before .before .before .before .before .before .args .t .now) (object-walk (c .before .before .before .before .before .before .before .args .count) (c .before .before .before .before .before .before .before .args .t .now) (c .before .before .before .before .before .before .before .pre .0) (c .before .before .before .before .before .before .before .pre .1) .program)
+after-program-requires c κs = program-short 0 (c .before .before .before .before .before .before .before .args .t .now)
+    (object-walk (c .before .before .before .before .before .before .before .args .count)
+    (c .before .before .before .before .before .before .before .args .t .now) (c .before .before .before .before .before .before .before .pre .0)
+    (c .before .before .before .before .before .before .before .pre .1) .program)
 
 loop-holds : tie.Need-loop-holds Inv-loop μ-loop
 loop-holds c =
     (let w = object-walk (c .before .before .before .before .before .before .before .before .args .count) (c .before .before .before .before .before .before .before .before .args .t .now) (c .before .before .before .before .before .before .before .before .pre .0) (c .before .before .before .before .before .before .before .before .pre .1) in
-    let f = w .few in
-    (search needs, search needs, f, search needs, search needs, rw (c .after-program .ensures .0, after-program-place (c .before .before .before .before .before .before .before .before .args .t .now)) (w .data-segments), rw (c .after-program .ensures .0, after-program-place (c .before .before .before .before .before .before .before .before .args .t .now))))
+    let f = w .few in (
+      search needs,
+      search needs,
+      f,
+      search needs,
+      search needs,
+      rw (c .after-program .ensures .0, after-program-place (c .before .before .before .before .before .before .before .before .args .t .now))
+          (w .data-segments),
+      rw (
+        c .after-program .ensures .0,
+        after-program-place (c .before .before .before .before .before .before .before .before .args .t .now),
+      ),
+    ))
 
 add-fill : tie.Need-add-fill Inv-loop μ-loop
 add-fill c = search needs
@@ -52,10 +72,26 @@ mul-fill : tie.Need-mul-fill Inv-loop μ-loop
 mul-fill c = search needs
 
 fill-requires-2 : tie.Need-fill-requires-2 Inv-loop μ-loop
-fill-requires-2 c κs = omega (arith, c .before .two-at2 .ensures .0, length-place (c .before .before .before .before .before .before .before .before .before .before .before .before .args .t .now) (c .before .before .before .loop .at), data-short (c .before .before .before .loop .k) (drop (c .before .before .before .loop .at) (c .before .before .before .before .before .before .before .before .before .before .before .before .args .t .now)) (walk-here (c .before .before .before .before .before .before .before .before .before .before .before .before .args .t .now) (c .before .before .before .before .before .before .before .before .before .before .before .before .args .count) (c .before .before .before .loop .k) (c .before .before .before .loop .at) (c .before .before .loop-test .taken) (c .before .before .before .loop .inv .5)))
+fill-requires-2 c κs = omega (
+  arith,
+  c .before .two-at2 .ensures .0,
+  length-place (c .before .before .before .before .before .before .before .before .before .before .before .before .args .t .now)
+      (c .before .before .before .loop .at),
+  data-short (c .before .before .before .loop .k)
+      (drop (c .before .before .before .loop .at) (c .before .before .before .before .before .before .before .before .before .before .before .before .args .t .now)) (walk-here (c .before .before .before .before .before .before .before .before .before .before .before .before .args .t .now) (c .before .before .before .before .before .before .before .before .before .before .before .before .args .count) (c .before .before .before .loop .k) (c .before .before .before .loop .at) (c .before .before .loop-test .taken) (c .before .before .before .loop .inv .5)),
+)
 
 after-data-requires : tie.Need-after-data-requires Inv-loop μ-loop
-after-data-requires c κs = (search needs, data-short (c .before .before .before .before .before .before .loop .k) (drop (c .before .before .before .before .before .before .loop .at) (c .before .before .before .before .before .before .before .before .before .before .before .before .before .before .before .args .t .now)) (walk-here (c .before .before .before .before .before .before .before .before .before .before .before .before .before .before .before .args .t .now) (c .before .before .before .before .before .before .before .before .before .before .before .before .before .before .before .args .count) (c .before .before .before .before .before .before .loop .k) (c .before .before .before .before .before .before .loop .at) (c .before .before .before .before .before .loop-test .taken) (c .before .before .before .before .before .before .loop .inv .5)))
+after-data-requires c κs = (
+  search needs,
+  data-short (c .before .before .before .before .before .before .loop .k)
+      (drop (c .before .before .before .before .before .before .loop .at)
+      (c .before .before .before .before .before .before .before .before .before .before .before .before .before .before .before .args .t .now))
+      (walk-here (c .before .before .before .before .before .before .before .before .before .before .before .before .before .before .before .args .t .now)
+      (c .before .before .before .before .before .before .before .before .before .before .before .before .before .before .before .args .count)
+      (c .before .before .before .before .before .before .loop .k) (c .before .before .before .before .before .before .loop .at)
+      (c .before .before .before .before .before .loop-test .taken) (c .before .before .before .before .before .before .loop .inv .5)),
+)
 
 add-k : tie.Need-add-k Inv-loop μ-loop
 add-k c = search needs
@@ -71,14 +107,27 @@ loop-again c = (
   search needs,
   rw (c .before .before .before .fill2 .ensures) (simp length-sets (c .before .before .before .before .before .before .before .loop .inv .4)),
   rw (c .after-data .ensures .0) (walk-on (c .before .before .before .before .before .before .before .before .before .before .before .before .before .before .before .before .args .t .now) (c .before .before .before .before .before .before .before .before .before .before .before .before .before .before .before .before .args .count) (c .before .before .before .before .before .before .before .loop .k) (c .before .before .before .before .before .before .before .loop .at) (c .before .before .before .before .before .before .loop-test .taken) (c .before .before .before .before .before .before .before .loop .inv .5)),
-  rw (c .after-data .ensures .0, c .before .before .before .fill2 .ensures, c .before .before .before .before .before .two-at2 .ensures .0, length-place (c .before .before .before .before .before .before .before .before .before .before .before .before .before .before .before .before .args .t .now) (c .before .before .before .before .before .before .before .loop .at)) (place-on (c .before .before .before .before .before .before .before .before .before .before .before .before .before .before .before .before .args .t .now) (c .before .before .before .before .before .before .before .before .before .before .before .before .before .before .before .before .args .count) (c .before .before .before .before .before .before .before .loop .k) (c .before .before .before .before .before .before .before .loop .at) (c .before .before .before .before .before .before .loop-test .taken) (c .before .before .before .before .before .before .before .loop .s) (c .before .before .before .before .before .before .before .loop .inv .6)),
+  rw (
+    c .after-data .ensures .0,
+    c .before .before .before .fill2 .ensures,
+    c .before .before .before .before .before .two-at2 .ensures .0,
+    length-place (c .before .before .before .before .before .before .before .before .before .before .before .before .before .before .before .before .args .t .now) (c .before .before .before .before .before .before .before .loop .at),
+  ) (place-on (c .before .before .before .before .before .before .before .before .before .before .before .before .before .before .before .before .args .t .now) (c .before .before .before .before .before .before .before .before .before .before .before .before .before .before .before .before .args .count) (c .before .before .before .before .before .before .before .loop .k) (c .before .before .before .before .before .before .before .loop .at) (c .before .before .before .before .before .before .loop-test .taken) (c .before .before .before .before .before .before .before .loop .s) (c .before .before .before .before .before .before .before .loop .inv .6)),
 )
 
 same-length : tie.Need-same-length Inv-loop μ-loop
 same-length c = search needs
 
 returns : tie.Need-returns Inv-loop μ-loop
-returns c = placed-all (c .before .before .before .before .before .before .before .before .before .before .args .t .now) (c .before .before .before .before .before .before .before .before .before .before .args .count) _ (c .before .before .before .before .before .before .before .before .before .before .pre .0) (rw (c .before .before .before .before .before .fill .ensures, c .before .before .before .before .before .before .before .two-at .ensures .0) at (place-end (c .before .before .before .before .before .before .before .before .before .before .args .count) (c .before .loop .k) (c .loop-test .left) (drop (c .before .loop .at) (c .before .before .before .before .before .before .before .before .before .before .args .t .now)) (c .before .loop .s) (c .before .loop .inv .6)))
+returns c = placed-all (c .before .before .before .before .before .before .before .before .before .before .args .t .now)
+    (c .before .before .before .before .before .before .before .before .before .before .args .count) _
+    (c .before .before .before .before .before .before .before .before .before .before .pre .0) (rw (
+      c .before .before .before .before .before .fill .ensures,
+      c .before .before .before .before .before .before .before .two-at .ensures .0,
+    ) at
+    (place-end (c .before .before .before .before .before .before .before .before .before .before .args .count) (c .before .loop .k) (c .loop-test .left)
+    (drop (c .before .loop .at) (c .before .before .before .before .before .before .before .before .before .before .args .t .now)) (c .before .loop .s)
+    (c .before .loop .inv .6)))
 
 pub place-spec : {M : Type 1} → statement M
 place-spec =

@@ -30,7 +30,18 @@ two-at-requires : tie.Need-two-at-requires
 two-at-requires c κs = search needs
 
 run-requires : tie.Need-run-requires
-run-requires c κs = (omega (arith, c .before .before .before .before .two-at .ensures .0, program-short 0 (c .before .before .before .before .before .before .before .before .before .before .before .before .before .args .t .now) (object-walk (c .before .before .before .before .before .before .before .before .before .before .before .before .before .args .count) (c .before .before .before .before .before .before .before .before .before .before .before .before .before .args .t .now) (c .before .before .before .before .before .before .before .before .before .before .before .before .before .pre .0) (c .before .before .before .before .before .before .before .before .before .before .before .before .before .pre .1) .program)), search needs)
+run-requires c κs = (
+  omega (
+    arith,
+    c .before .before .before .before .two-at .ensures .0,
+    program-short 0 (c .before .before .before .before .before .before .before .before .before .before .before .before .before .args .t .now)
+        (object-walk (c .before .before .before .before .before .before .before .before .before .before .before .before .before .args .count)
+        (c .before .before .before .before .before .before .before .before .before .before .before .before .before .args .t .now)
+        (c .before .before .before .before .before .before .before .before .before .before .before .before .before .pre .0)
+        (c .before .before .before .before .before .before .before .before .before .before .before .before .before .pre .1) .program),
+  ),
+  search needs,
+)
 
 stop-of-requires : tie.Need-stop-of-requires
 stop-of-requires c κs = subst (λ (n : ℕ). n < 5) (sym (ap (λ (r : Result). r .stop) (c .before .before .before .run .ensures))) (run-stops _ _ _ _)

@@ -27,7 +27,16 @@ loop-less : tie.Need-loop-less Inv-loop μ-loop
 loop-less c = search needs
 
 loop-again : tie.Need-loop-again Inv-loop μ-loop
-loop-again c = (search needs, rw (c .before .before .table-word .ensures) (length-word (c .before .before .before .before .before .before .before .args .l) (c .before .before .before .before .before .loop .k) (c .before .before .before .before .before .loop .s) ∙ c .before .before .before .before .before .loop .inv .1), rw (c .before .before .table-word .ensures) (table-on (c .before .before .before .before .before .before .before .args .l) (c .before .before .before .before .before .before .before .args .count) (c .before .before .before .before .before .loop .k) (c .before .before .before .before .before .loop .s) (c .before .before .before .before .loop-test .taken) (c .before .before .before .before .before .loop .inv .2)))
+loop-again c = (
+  search needs,
+  rw (c .before .before .table-word .ensures)
+      (length-word (c .before .before .before .before .before .before .before .args .l) (c .before .before .before .before .before .loop .k)
+      (c .before .before .before .before .before .loop .s) ∙ c .before .before .before .before .before .loop .inv .1),
+  rw (c .before .before .table-word .ensures) (table-on (c .before .before .before .before .before .before .before .args .l)
+      (c .before .before .before .before .before .before .before .args .count) (c .before .before .before .before .before .loop .k)
+      (c .before .before .before .before .before .loop .s) (c .before .before .before .before .loop-test .taken)
+      (c .before .before .before .before .before .loop .inv .2)),
+)
 
 same-length : tie.Need-same-length Inv-loop μ-loop
 same-length c = search needs

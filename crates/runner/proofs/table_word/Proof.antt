@@ -36,7 +36,8 @@ same-length : tie.Need-same-length
 same-length c = search needs
 
 returns : tie.Need-returns
-returns c = c .before .before .store .ensures ∙ word-fits (c .before .before .before .before .before .before .args .l) (c .before .before .before .before .before .before .args .k) _ (c .before .before .before .before .if1 .taken)
+returns c = c .before .before .store .ensures ∙ word-fits (c .before .before .before .before .before .before .args .l)
+    (c .before .before .before .before .before .before .args .k) _ (c .before .before .before .before .if1 .taken)
 
 returns-2 : tie.Need-returns-2
 returns-2 c = word-out (c .before .before .args .l) (c .before .before .args .k) _ (c .if1 .left)

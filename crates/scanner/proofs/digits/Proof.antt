@@ -52,7 +52,13 @@ loop-less : tie.Need-loop-less Inv-loop μ-loop
 loop-less c = search needs
 
 loop-again : tie.Need-loop-again Inv-loop μ-loop
-loop-again c = (search needs, run-on _ _ _ (search needs) (rw (← c .before .before .digit .ensures .0) (search tests)) (search needs), value-on _ (c .before .before .before .before .before .before .before .args .base) (now (c .before .before .before .before .before .before .before .args .s)) (c .before .before .before .before .before .loop .i) (c .before .before .before .before .before .loop .v) (c .before .before .digit .result) _ (c .before .before .before .before .before .loop .inv .2) (search needs) (search needs) (search needs))
+loop-again c = (
+  search needs,
+  run-on _ _ _ (search needs) (rw (← c .before .before .digit .ensures .0) (search tests)) (search needs),
+  value-on _ (c .before .before .before .before .before .before .before .args .base) (now (c .before .before .before .before .before .before .before .args .s))
+      (c .before .before .before .before .before .loop .i) (c .before .before .before .before .before .loop .v) (c .before .before .digit .result) _
+      (c .before .before .before .before .before .loop .inv .2) (search needs) (search needs) (search needs),
+)
 
 returns-2 : tie.Need-returns-2 Inv-loop μ-loop
 returns-2 c = record { size = run-end _ _ _ (search needs) (search needs); value = search needs; fits = search needs }

@@ -72,7 +72,13 @@ number-requires-3 c κs = search needs
 returns-5 : tie.Need-returns-5
 unfolding lexeme
 returns-5 c = let s = now (c .before .before .before .before .before .before .before .before .before .args .s) in
-    rw (c .before .before .before .before .before .before .if1 .left, c .before .before .before .before .before .if2 .left, c .before .before .before .before .if3 .left, ne-eqb _ _ (c .before .before .before .if4 .left), eq-eqb _ _ (c .before .before .if5 .taken))
+    rw (
+      c .before .before .before .before .before .before .if1 .left,
+      c .before .before .before .before .before .if2 .left,
+      c .before .before .before .before .if3 .left,
+      ne-eqb _ _ (c .before .before .before .if4 .left),
+      eq-eqb _ _ (c .before .before .if5 .taken),
+    )
     (c .number3 .ensures ∙ ap (λ (t : List ℕ). number (inBase 16) 16 4294967295 plain 1 t) (to-end s 1) ∙ ap (λ (p : ℕ → Bool). number p 16 4294967295 plain 1 (drop 1 s)) hexadecimal)
 
 sign-requires : tie.Need-sign-requires
@@ -80,7 +86,13 @@ sign-requires c κs = search needs
 
 returns-6 : tie.Need-returns-6
 unfolding lexeme
-returns-6 c = rw (c .before .before .before .before .before .if1 .left, c .before .before .before .before .if2 .left, c .before .before .before .if3 .left, ne-eqb _ _ (c .before .before .if4 .left), ne-eqb _ _ (c .before .if5 .left)) (c .sign .ensures)
+returns-6 c = rw (
+  c .before .before .before .before .before .if1 .left,
+  c .before .before .before .before .if2 .left,
+  c .before .before .before .if3 .left,
+  ne-eqb _ _ (c .before .before .if4 .left),
+  ne-eqb _ _ (c .before .if5 .left),
+) (c .sign .ensures)
 
 pub front-spec : {M : Type 1} → statement M
 front-spec =

@@ -23,7 +23,8 @@ digits-requires : tie.Need-digits-requires
 digits-requires c κs = search needs
 
 returns : tie.Need-returns
-returns c = short-name (now (c .before .before .before .before .before .args .s)) (c .before .before .before .least .result) (c .before .digits .result) (c .before .before .before .least .ensures) (c .before .digits .ensures) (c .if1 .taken)
+returns c = short-name (now (c .before .before .before .before .before .args .s)) (c .before .before .before .least .result) (c .before .digits .result)
+    (c .before .before .before .least .ensures) (c .before .digits .ensures) (c .if1 .taken)
 
 sub-digits : tie.Need-sub-digits
 sub-digits c = omega (arith, c .before .digits .ensures .fits, length-take (c .before .before .before .least .result) (now (c .before .before .before .before .before .args .s)))
@@ -38,11 +39,19 @@ digits-requires-2 : tie.Need-digits-requires-2
 digits-requires-2 c κs = search needs
 
 add-t8 : tie.Need-add-t8
-add-t8 c = omega (arith, c .digits2 .ensures .fits, length-take (length (now (c .before .before .before .before .before .before .before .args .s)) - 10) (drop 10 (now (c .before .before .before .before .before .before .before .args .s))), length-drop 10 (now (c .before .before .before .before .before .before .before .args .s)))
+add-t8 c = omega (
+  arith,
+  c .digits2 .ensures .fits,
+  length-take (length (now (c .before .before .before .before .before .before .before .args .s)) - 10)
+      (drop 10 (now (c .before .before .before .before .before .before .before .args .s))),
+  length-drop 10 (now (c .before .before .before .before .before .before .before .args .s)),
+)
 
 returns-2 : tie.Need-returns-2
 returns-2 c = let s = now (c .before .before .before .before .before .before .before .args .s) in
-    long-name s (c .before .before .before .before .before .least .result) (c .before .before .before .digits .result) (c .before .before .before .before .before .least .ensures) (c .before .before .before .digits .ensures) (c .digits2 .result .size) (c .before .before .if1 .left) (c .digits2 .ensures .size ∙ ap (λ (t : List ℕ). runLen (inBase 36) t) (to-end s 10))
+    long-name s (c .before .before .before .before .before .least .result) (c .before .before .before .digits .result)
+    (c .before .before .before .before .before .least .ensures) (c .before .before .before .digits .ensures) (c .digits2 .result .size)
+    (c .before .before .if1 .left) (c .digits2 .ensures .size ∙ ap (λ (t : List ℕ). runLen (inBase 36) t) (to-end s 10))
 
 pub name-spec : {M : Type 1} → statement M
 name-spec =

@@ -37,32 +37,58 @@ enum-known-l : tie.Need-enum-known-l Inv-loop μ-loop
 enum-known-l c = search needs
 
 add-at : tie.Need-add-at Inv-loop μ-loop
-add-at c = omega (arith, fits (now (c .before .before .before .before .before .before .before .before .args .s)) (c .before .before .before .before .before .before .loop .at) (c .before .before .before .front .result) (c .before .before .before .before .before .loop-test .taken) (c .before .before .before .front .ensures), ap sizeOf (c .before .l .given .1))
+add-at c = omega (
+  arith,
+  fits (now (c .before .before .before .before .before .before .before .before .args .s))
+      (c .before .before .before .before .before .before .loop .at) (c .before .before .before .front .result)
+      (c .before .before .before .before .before .loop-test .taken) (c .before .before .before .front .ensures),
+  ap sizeOf (c .before .l .given .1),
+)
 
 loop-less : tie.Need-loop-less Inv-loop μ-loop
-loop-less c = omega (arith, some (now (c .before .before .before .before .before .before .before .before .args .s)) (c .before .before .before .before .before .before .loop .at) (c .before .before .before .front .result) (c .before .before .before .before .before .loop-test .taken) (c .before .before .before .front .ensures), ap sizeOf (c .before .l .given .1))
+loop-less c = omega (
+  arith,
+  some (now (c .before .before .before .before .before .before .before .before .args .s))
+      (c .before .before .before .before .before .before .loop .at) (c .before .before .before .front .result)
+      (c .before .before .before .before .before .loop-test .taken) (c .before .before .before .front .ensures),
+  ap sizeOf (c .before .l .given .1),
+)
 
 loop-again : tie.Need-loop-again Inv-loop μ-loop
 loop-again c = let s = now (c .before .before .before .before .before .before .before .before .args .s) in
     let l = c .before .before .before .front in
     let at = c .before .before .before .before .before .before .loop .at in
-    let h = c .before .before .before .before .before .loop-test .taken in
-    (omega (arith, fits s at (l .result) h (l .ensures), ap sizeOf (c .before .l .given .1)), c .before .before .before .before .before .before .loop .inv .1 ∙ past s at (l .result) h (l .ensures) _ (c .before .l .given .1))
+    let h = c .before .before .before .before .before .loop-test .taken in (
+      omega (arith, fits s at (l .result) h (l .ensures), ap sizeOf (c .before .l .given .1)),
+      c .before .before .before .before .before .before .loop .inv .1
+          ∙ past s at (l .result) h (l .ensures) _ (c .before .l .given .1),
+    )
 
 enum-known-l-2 : tie.Need-enum-known-l-2 Inv-loop μ-loop
 enum-known-l-2 c = search needs
 
 add-t14 : tie.Need-add-t14 Inv-loop μ-loop
-add-t14 c = omega (arith, fits (now (c .before .before .before .before .before .before .before .before .args .s)) (c .before .before .before .before .before .before .loop .at) (c .before .before .before .front .result) (c .before .before .before .before .before .loop-test .taken) (c .before .before .before .front .ensures), ap sizeOf (c .before .l2 .given .1))
+add-t14 c = omega (
+  arith,
+  fits (now (c .before .before .before .before .before .before .before .before .args .s))
+      (c .before .before .before .before .before .before .loop .at) (c .before .before .before .front .result)
+      (c .before .before .before .before .before .loop-test .taken) (c .before .before .before .front .ensures),
+  ap sizeOf (c .before .l2 .given .1),
+)
 
 returns : tie.Need-returns Inv-loop μ-loop
-returns c = sym (c .before .before .before .before .before .before .loop .inv .1 ∙ found (now (c .before .before .before .before .before .before .before .before .args .s)) (c .before .before .before .before .before .before .loop .at) (c .before .before .before .front .result) (c .before .before .before .before .before .loop-test .taken) (c .before .before .before .front .ensures) _ _ _ (c .before .l2 .given .1))
+returns c = sym (c .before .before .before .before .before .before .loop .inv .1
+    ∙ found (now (c .before .before .before .before .before .before .before .before .args .s)) (c .before .before .before .before .before .before .loop .at)
+    (c .before .before .before .front .result) (c .before .before .before .before .before .loop-test .taken) (c .before .before .before .front .ensures) _ _ _
+    (c .before .l2 .given .1))
 
 enum-told : tie.Need-enum-told Inv-loop μ-loop
 enum-told c = search needs
 
 returns-2 : tie.Need-returns-2 Inv-loop μ-loop
-returns-2 c = sym (c .before .before .before .before .before .loop .inv .1 ∙ no-token (now (c .before .before .before .before .before .before .before .args .s)) (c .before .before .before .before .before .loop .at) (c .before .before .front .result) (c .before .before .before .before .loop-test .taken) (c .before .before .front .ensures) (c .enum-told .given .1))
+returns-2 c = sym (c .before .before .before .before .before .loop .inv .1
+    ∙ no-token (now (c .before .before .before .before .before .before .before .args .s)) (c .before .before .before .before .before .loop .at)
+    (c .before .before .front .result) (c .before .before .before .before .loop-test .taken) (c .before .before .front .ensures) (c .enum-told .given .1))
 
 enum-told-2 : tie.Need-enum-told-2 Inv-loop μ-loop
 enum-told-2 c = search needs

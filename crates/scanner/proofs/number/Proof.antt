@@ -23,13 +23,17 @@ add-t12 : tie.Need-add-t12
 add-t12 c = omega (arith, c .before .before .before .digits .ensures .fits)
 
 returns-3 : tie.Need-returns-3
-returns-3 c = rw (c .if3 .taken) (a-number (c .before .before .before .before .before .args .most) (bitsOf true) (c .before .before .before .before .before .args .mark) (c .before .before .before .digits .ensures) (c .before .before .if1 .left) (c .before .before .before .before .before .pre .1) (c .before .if2 .left))
+returns-3 c = rw (c .if3 .taken) (a-number (c .before .before .before .before .before .args .most) (bitsOf true)
+    (c .before .before .before .before .before .args .mark) (c .before .before .before .digits .ensures) (c .before .before .if1 .left)
+    (c .before .before .before .before .before .pre .1) (c .before .if2 .left))
 
 add-t13 : tie.Need-add-t13
 add-t13 c = omega (arith, c .before .before .before .digits .ensures .fits)
 
 returns-4 : tie.Need-returns-4
-returns-4 c = rw (c .if3 .left) (a-number (c .before .before .before .before .before .args .most) (bitsOf false) (c .before .before .before .before .before .args .mark) (c .before .before .before .digits .ensures) (c .before .before .if1 .left) (c .before .before .before .before .before .pre .1) (c .before .if2 .left))
+returns-4 c = rw (c .if3 .left) (a-number (c .before .before .before .before .before .args .most) (bitsOf false)
+    (c .before .before .before .before .before .args .mark) (c .before .before .before .digits .ensures) (c .before .before .if1 .left)
+    (c .before .before .before .before .before .pre .1) (c .before .if2 .left))
 
 pub number-spec : {M : Type 1} → statement M
 number-spec =

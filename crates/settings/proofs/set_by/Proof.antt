@@ -26,13 +26,28 @@ valued-requires : tie.Need-valued-requires
 valued-requires c κs = search needs
 
 returns : tie.Need-returns
-returns c = rw (← c .before .before .before .before .before .before .before .part-length .ensures .0, ← c .before .before .before .before .before .before .front .ensures, ← c .before .before .before .before .before .register .ensures .0, c .valued .ensures, c .before .number .ensures, c .before .before .rest2 .ensures, c .before .before .before .rest .ensures, lt-ltb _ _ (c .before .before .before .before .if1 .taken))
+returns c = rw (
+  ← c .before .before .before .before .before .before .before .part-length .ensures .0,
+  ← c .before .before .before .before .before .before .front .ensures,
+  ← c .before .before .before .before .before .register .ensures .0,
+  c .valued .ensures,
+  c .before .number .ensures,
+  c .before .before .rest2 .ensures,
+  c .before .before .before .rest .ensures,
+  lt-ltb _ _ (c .before .before .before .before .if1 .taken),
+)
 
 wrong-at-requires : tie.Need-wrong-at-requires
 wrong-at-requires c κs = search needs
 
 returns-2 : tie.Need-returns-2
-returns-2 c = rw (← c .before .before .before .before .part-length .ensures .0, ← c .before .before .before .front .ensures, ← c .before .before .register .ensures .0, c .wrong-at .ensures, le-ltb _ _ (c .before .if1 .left))
+returns-2 c = rw (
+  ← c .before .before .before .before .part-length .ensures .0,
+  ← c .before .before .before .front .ensures,
+  ← c .before .before .register .ensures .0,
+  c .wrong-at .ensures,
+  le-ltb _ _ (c .before .if1 .left),
+)
 
 pub set-by-spec : {M : Type 1} → statement M
 set-by-spec =

@@ -44,7 +44,16 @@ loop-less : tie.Need-loop-less Inv-loop μ-loop
 loop-less c = search needs
 
 loop-again : tie.Need-loop-again Inv-loop μ-loop
-loop-again c = (search needs, rw (c .said-by .ensures, c .before .part2 .ensures, c .before .before .run-option .ensures, c .before .before .before .part .ensures) (word-on _ _ _ _ (c .before .before .before .before .before .loop .inv .1) (c .before .before .before .before .loop-test .taken)))
+loop-again c = (
+  search needs,
+  rw (
+    c .said-by .ensures,
+    c .before .part2 .ensures,
+    c .before .before .run-option .ensures,
+    c .before .before .before .part .ensures,
+  ) (word-on _ _ _ _ (c .before .before .before .before .before .loop .inv .1)
+      (c .before .before .before .before .loop-test .taken)),
+)
 
 returns : tie.Need-returns Inv-loop μ-loop
 returns c = words-end _ _ _ _ (c .before .loop .inv .1) (c .loop-test .left)

@@ -263,7 +263,13 @@ body-same-length t c = search needs
 
 body-returns : (t : ℕ) → body-lts.Need-returns (body-calls t) (body-at t) body.Post body-Inv-loop body-μ-loop
 unfolding bodyOf andThen look
-body-returns t c = record { read = leaves (c .before .before .before .before .before .before .before .before .before .loop .inv) (λ f. rw (among declarators (c .before .before .before .before .before .before .before .before .kind-at .ensures) (c .before .before .before .before .before .before .before .declares .ensures) (c .before .before .before .before .before .before .if1 .taken)) (stops _ (c .before .before .before .before .declaration .ensures .read) (c .if2 .taken))); low = search needs }
+body-returns t c = record {
+  read = leaves (c .before .before .before .before .before .before .before .before .before .loop .inv) (λ f.
+      rw (among declarators (c .before .before .before .before .before .before .before .before .kind-at .ensures)
+      (c .before .before .before .before .before .before .before .declares .ensures) (c .before .before .before .before .before .before .if1 .taken))
+      (stops _ (c .before .before .before .before .declaration .ensures .read) (c .if2 .taken)));
+  low = search needs;
+}
 
 body-wanted-requires : (t : ℕ) → body-lts.Need-wanted-requires (body-calls t) (body-at t) body.Post body-Inv-loop body-μ-loop
 body-wanted-requires t c κs = search needs
@@ -273,14 +279,28 @@ body-same-length-2 t c = search needs
 
 body-returns-2 : (t : ℕ) → body-lts.Need-returns-2 (body-calls t) (body-at t) body.Post body-Inv-loop body-μ-loop
 unfolding bodyOf andThen look
-body-returns-2 t c = record { read = leaves (c .before .before .before .before .before .before .before .before .before .before .before .before .loop .inv) (λ f. rw (among declarators (c .before .before .before .before .before .before .before .before .before .before .before .kind-at .ensures) (c .before .before .before .before .before .before .before .before .before .before .declares .ensures) (c .before .before .before .before .before .before .before .before .before .if1 .taken)) (goes _ (c .before .before .before .before .before .before .before .declaration .ensures .read) (c .before .before .before .if2 .left) (λ d w. stops _ (c .before .before .wanted .ensures .read) (c .if3 .taken)))); low = search needs }
+body-returns-2 t c = record {
+  read = leaves (c .before .before .before .before .before .before .before .before .before .before .before .before .loop .inv)
+      (λ f. rw (among declarators (c .before .before .before .before .before .before .before .before .before .before .before .kind-at .ensures)
+      (c .before .before .before .before .before .before .before .before .before .before .declares .ensures)
+      (c .before .before .before .before .before .before .before .before .before .if1 .taken))
+      (goes _ (c .before .before .before .before .before .before .before .declaration .ensures .read) (c .before .before .before .if2 .left) (λ d w.
+      stops _ (c .before .before .wanted .ensures .read) (c .if3 .taken))));
+  low = search needs;
+}
 
 body-loop-less : (t : ℕ) → body-lts.Need-loop-less (body-calls t) (body-at t) body.Post body-Inv-loop body-μ-loop
 body-loop-less t c = search needs
 
 body-loop-again : (t : ℕ) → body-lts.Need-loop-again (body-calls t) (body-at t) body.Post body-Inv-loop body-μ-loop
 unfolding bodyOf andThen look tapeBody
-body-loop-again t c = turn (c .before .before .before .before .before .before .before .before .before .before .before .before .loop .inv) (search needs) (search needs) (search needs) (search needs) (λ f s after r. rw (among declarators (c .before .before .before .before .before .before .before .before .before .before .before .kind-at .ensures) (c .before .before .before .before .before .before .before .before .before .before .declares .ensures) (c .before .before .before .before .before .before .before .before .before .if1 .taken)) (goes _ (c .before .before .before .before .before .before .before .declaration .ensures .read) (c .before .before .before .if2 .left) (λ d w. goes _ (c .before .before .wanted .ensures .read) (c .if3 .left) (λ u e. gives (T.declare d) (λ b l k. l k ∙ w _) r))))
+body-loop-again t c = turn (c .before .before .before .before .before .before .before .before .before .before .before .before .loop .inv) (search needs)
+    (search needs) (search needs) (search needs) (λ f s after r.
+    rw (among declarators (c .before .before .before .before .before .before .before .before .before .before .before .kind-at .ensures)
+    (c .before .before .before .before .before .before .before .before .before .before .declares .ensures)
+    (c .before .before .before .before .before .before .before .before .before .if1 .taken))
+    (goes _ (c .before .before .before .before .before .before .before .declaration .ensures .read) (c .before .before .before .if2 .left) (λ d w.
+    goes _ (c .before .before .wanted .ensures .read) (c .if3 .left) (λ u e. gives (T.declare d) (λ b l k. l k ∙ w _) r))))
 
 body-items-requires : (t : ℕ) → body-lts.Need-items-requires (body-calls t) (body-at t) body.Post body-Inv-loop body-μ-loop
 body-items-requires t c κs = search needs
@@ -290,7 +310,16 @@ body-same-length-3 t c = search needs
 
 body-returns-3 : (t : ℕ) → body-lts.Need-returns-3 (body-calls t) (body-at t) body.Post body-Inv-loop body-μ-loop
 unfolding bodyOf andThen look tapeBody
-body-returns-3 t c = record { read = leaves (c .before .before .before .before .before .before .before .before .loop .inv) (λ f. rw (among declarators (c .before .before .before .before .before .before .before .kind-at .ensures) (c .before .before .before .before .before .before .declares .ensures) (c .before .before .before .before .before .if1 .left), ne-eqb _ _ (other (c .before .before .before .before .before .before .before .kind-at .ensures .is) (c .before .before .before .before .if4 .taken))) (gives T.items (λ b l. l) (c .before .before .items .ensures .read))); low = search needs }
+body-returns-3 t c = record {
+  read = leaves (c .before .before .before .before .before .before .before .before .loop .inv) (λ f.
+      rw (
+        among declarators (c .before .before .before .before .before .before .before .kind-at .ensures)
+            (c .before .before .before .before .before .before .declares .ensures) (c .before .before .before .before .before .if1 .left),
+        ne-eqb _ _ (other (c .before .before .before .before .before .before .before .kind-at .ensures .is) (c .before .before .before .before .if4 .taken)),
+      )
+      (gives T.items (λ b l. l) (c .before .before .items .ensures .read)));
+  low = search needs;
+}
 
 body-procedure-requires : (t : ℕ) → body-lts.Need-procedure-requires (body-calls t) (body-at t) body.Post body-Inv-loop body-μ-loop
 body-procedure-requires t c κs = search needs
@@ -300,7 +329,17 @@ body-same-length-4 t c = search needs
 
 body-returns-4 : (t : ℕ) → body-lts.Need-returns-4 (body-calls t) (body-at t) body.Post body-Inv-loop body-μ-loop
 unfolding bodyOf andThen look
-body-returns-4 t c = record { read = leaves (c .before .before .before .before .before .before .before .before .before .before .loop .inv) (λ f. rw (among declarators (c .before .before .before .before .before .before .before .before .before .kind-at .ensures) (c .before .before .before .before .before .before .before .before .declares .ensures) (c .before .before .before .before .before .before .before .if1 .left), eq-eqb _ _ (same (c .before .before .before .before .before .before .before .before .before .kind-at .ensures .is) (c .before .before .before .before .before .before .if4 .left))) (stops _ (c .before .before .before .before .procedure .ensures .read) (c .if5 .taken))); low = search needs }
+body-returns-4 t c = record {
+  read = leaves (c .before .before .before .before .before .before .before .before .before .before .loop .inv) (λ f.
+      rw (
+        among declarators (c .before .before .before .before .before .before .before .before .before .kind-at .ensures)
+            (c .before .before .before .before .before .before .before .before .declares .ensures)
+            (c .before .before .before .before .before .before .before .if1 .left),
+        eq-eqb _ _ (same (c .before .before .before .before .before .before .before .before .before .kind-at .ensures .is)
+            (c .before .before .before .before .before .before .if4 .left)),
+      ) (stops _ (c .before .before .before .before .procedure .ensures .read) (c .if5 .taken)));
+  low = search needs;
+}
 
 body-wanted-requires-2 : (t : ℕ) → body-lts.Need-wanted-requires-2 (body-calls t) (body-at t) body.Post body-Inv-loop body-μ-loop
 body-wanted-requires-2 t c κs = search needs
@@ -317,7 +356,17 @@ body-loop-less-2 t c = search needs
 
 body-loop-again-2 : (t : ℕ) → body-lts.Need-loop-again-2 (body-calls t) (body-at t) body.Post body-Inv-loop body-μ-loop
 unfolding bodyOf andThen look tapeBody
-body-loop-again-2 t c = turn (c .before .before .before .before .before .before .before .before .before .before .before .before .before .loop .inv) (search needs) (search needs) (search needs) (search needs) (λ f s after r. rw (among declarators (c .before .before .before .before .before .before .before .before .before .before .before .before .kind-at .ensures) (c .before .before .before .before .before .before .before .before .before .before .before .declares .ensures) (c .before .before .before .before .before .before .before .before .before .before .if1 .left), eq-eqb _ _ (same (c .before .before .before .before .before .before .before .before .before .before .before .before .kind-at .ensures .is) (c .before .before .before .before .before .before .before .before .before .if4 .left))) (goes _ (c .before .before .before .before .before .before .before .procedure .ensures .read) (c .before .before .before .if5 .left) (λ d w. goes _ (c .before .before .wanted2 .ensures .read) (c .if6 .left) (λ u e. gives (T.procedure (d .name) (d .return) (d .body)) (λ b l k. l k ∙ w _) r))))
+body-loop-again-2 t c = turn (c .before .before .before .before .before .before .before .before .before .before .before .before .before .loop .inv)
+    (search needs) (search needs) (search needs) (search needs) (λ f s after r.
+    rw (
+      among declarators (c .before .before .before .before .before .before .before .before .before .before .before .before .kind-at .ensures)
+          (c .before .before .before .before .before .before .before .before .before .before .before .declares .ensures)
+          (c .before .before .before .before .before .before .before .before .before .before .if1 .left),
+      eq-eqb _ _ (same (c .before .before .before .before .before .before .before .before .before .before .before .before .kind-at .ensures .is)
+          (c .before .before .before .before .before .before .before .before .before .if4 .left)),
+    )
+    (goes _ (c .before .before .before .before .before .before .before .procedure .ensures .read) (c .before .before .before .if5 .left) (λ d w.
+    goes _ (c .before .before .wanted2 .ensures .read) (c .if6 .left) (λ u e. gives (T.procedure (d .name) (d .return) (d .body)) (λ b l k. l k ∙ w _) r))))
 
 for-do-add-control : (t : ℕ) → for-do-lts.Need-add-control (for-do-calls t) (for-do-at t) for-do.Post
 for-do-add-control t c = search needs
@@ -329,7 +378,13 @@ for-do-same-length : (t : ℕ) → for-do-lts.Need-same-length (for-do-calls t) 
 for-do-same-length t c = search needs
 
 for-do-returns : (t : ℕ) → for-do-lts.Need-returns (for-do-calls t) (for-do-at t) for-do.Post
-for-do-returns t c = record { read = since (omega arith) (along (for-parts (G.statement (c .before .before .before .before .before .before .before .before .args .room)) (c .before .before .before .before .before .before .before .before .args .i) _ _) (stops _ (c .before .before .before .before .control .ensures .0 .read) (c .if1 .taken))); low = search needs }
+for-do-returns t c = record {
+  read = since (omega arith)
+      (along (for-parts (G.statement (c .before .before .before .before .before .before .before .before .args .room))
+      (c .before .before .before .before .before .before .before .before .args .i) _ _)
+      (stops _ (c .before .before .before .before .control .ensures .0 .read) (c .if1 .taken)));
+  low = search needs;
+}
 
 for-do-limit-requires : (t : ℕ) → for-do-lts.Need-limit-requires (for-do-calls t) (for-do-at t) for-do.Post
 for-do-limit-requires t c κs = search needs
@@ -338,7 +393,11 @@ for-do-same-length-2 : (t : ℕ) → for-do-lts.Need-same-length-2 (for-do-calls
 for-do-same-length-2 t c = search needs
 
 for-do-returns-2 : (t : ℕ) → for-do-lts.Need-returns-2 (for-do-calls t) (for-do-at t) for-do.Post
-for-do-returns-2 t c = record { read = since (omega arith) (along (for-parts (G.statement (c .before .before .before .before .before .before .before .before .before .before .before .before .before .before .args .room)) (c .before .before .before .before .before .before .before .before .before .before .before .before .before .before .args .i) _ _) (goes _ (c .before .before .before .before .before .before .before .before .before .before .control .ensures .0 .read) (c .before .before .before .before .before .before .if1 .left) (λ a w. stops _ (c .before .before .before .before .limit .ensures .0 .read) (c .if2 .taken)))); low = search needs }
+for-do-returns-2 t c = record {
+  read = since (omega arith)
+      (along (for-parts (G.statement (c .before .before .before .before .before .before .before .before .before .before .before .before .before .before .args .room)) (c .before .before .before .before .before .before .before .before .before .before .before .before .before .before .args .i) _ _) (goes _ (c .before .before .before .before .before .before .before .before .before .before .control .ensures .0 .read) (c .before .before .before .before .before .before .if1 .left) (λ a w. stops _ (c .before .before .before .before .limit .ensures .0 .read) (c .if2 .taken))));
+  low = search needs;
+}
 
 for-do-statement-requires : (t : ℕ) → for-do-lts.Need-statement-requires (for-do-calls t) (for-do-at t) for-do.Post
 for-do-statement-requires t c κs = search needs
@@ -375,7 +434,13 @@ if-then-same-length : (t : ℕ) → if-then-lts.Need-same-length (if-then-calls 
 if-then-same-length t c = search needs
 
 if-then-returns : (t : ℕ) → if-then-lts.Need-returns (if-then-calls t) (if-then-at t) if-then.Post
-if-then-returns t c = record { read = since (omega arith) (along (if-parts (G.statement (c .before .before .before .before .before .before .before .before .args .room)) (c .before .before .before .before .before .before .before .before .args .i) _ _) (stops _ (c .before .before .before .before .head .ensures .0 .read) (c .if1 .taken))); low = search needs }
+if-then-returns t c = record {
+  read = since (omega arith)
+      (along (if-parts (G.statement (c .before .before .before .before .before .before .before .before .args .room))
+      (c .before .before .before .before .before .before .before .before .args .i) _ _)
+      (stops _ (c .before .before .before .before .head .ensures .0 .read) (c .if1 .taken)));
+  low = search needs;
+}
 
 if-then-kind-at-requires : (t : ℕ) → if-then-lts.Need-kind-at-requires (if-then-calls t) (if-then-at t) if-then.Post
 if-then-kind-at-requires t c κs = search needs
@@ -485,7 +550,16 @@ items-same-length : (t : ℕ) → items-lts.Need-same-length (items-calls t) (it
 items-same-length t c = search needs
 
 items-returns : (t : ℕ) → items-lts.Need-returns (items-calls t) (items-at t) items.Post items-Inv-loop items-μ-loop
-items-returns t c = record { read = leaves (c .before .before .before .before .before .before .before .before .before .before .loop .inv) (λ f. along (item-is (now (c .before .before .before .before .before .before .before .before .before .before .before .before .before .args .kinds)) (c .before .before .before .before .before .before .before .before .before .before .loop .at) (c .before .before .before .before .before .before .before .has-label .ensures) _ f (c .before .before .before .before .before .before .if2 .left) (other (c .before .before .before .before .before .before .before .before .before .kind-at .ensures .is) (c .before .before .before .before .before .before .before .before .if1 .taken))) (stops _ (c .before .before .before .before .statement .ensures .read) (c .if3 .taken))); low = search needs }
+items-returns t c = record {
+  read = leaves (c .before .before .before .before .before .before .before .before .before .before .loop .inv) (λ f.
+      along (item-is (now (c .before .before .before .before .before .before .before .before .before .before .before .before .before .args .kinds))
+      (c .before .before .before .before .before .before .before .before .before .before .loop .at)
+      (c .before .before .before .before .before .before .before .has-label .ensures) _ f (c .before .before .before .before .before .before .if2 .left)
+      (other (c .before .before .before .before .before .before .before .before .before .kind-at .ensures .is)
+      (c .before .before .before .before .before .before .before .before .if1 .taken)))
+      (stops _ (c .before .before .before .before .statement .ensures .read) (c .if3 .taken)));
+  low = search needs;
+}
 
 items-wanted-requires : (t : ℕ) → items-lts.Need-wanted-requires (items-calls t) (items-at t) items.Post items-Inv-loop items-μ-loop
 items-wanted-requires t c κs = search needs
@@ -501,7 +575,9 @@ items-loop-less-2 t c = search needs
 
 items-loop-again-2 : (t : ℕ) → items-lts.Need-loop-again-2 (items-calls t) (items-at t) items.Post items-Inv-loop items-μ-loop
 unfolding tapeItems
-items-loop-again-2 t c = turn (c .before .before .before .before .before .before .before .before .before .before .before .before .before .loop .inv) (search needs) (search needs) (search needs) (search needs) (λ f s after r. along (item-is (now (c .before .before .before .before .before .before .before .before .before .before .before .before .before .before .before .before .args .kinds)) (c .before .before .before .before .before .before .before .before .before .before .before .before .before .loop .at) (c .before .before .before .before .before .before .before .before .before .before .has-label .ensures) _ f (c .before .before .before .before .before .before .before .before .before .if2 .left) (other (c .before .before .before .before .before .before .before .before .before .before .before .before .kind-at .ensures .is) (c .before .before .before .before .before .before .before .before .before .before .before .if1 .taken))) (goes _ (c .before .before .before .before .before .before .before .statement .ensures .read) (c .before .before .before .if3 .left) (λ x w. goes _ (c .before .before .wanted .ensures .read) (c .if4 .left) (λ u e. gives (T.item x) (λ b l k. l k ∙ w _) r))))
+items-loop-again-2 t c = turn (c .before .before .before .before .before .before .before .before .before .before .before .before .before .loop .inv)
+    (search needs) (search needs) (search needs) (search needs) (λ f s after r.
+    along (item-is (now (c .before .before .before .before .before .before .before .before .before .before .before .before .before .before .before .before .args .kinds)) (c .before .before .before .before .before .before .before .before .before .before .before .before .before .loop .at) (c .before .before .before .before .before .before .before .before .before .before .has-label .ensures) _ f (c .before .before .before .before .before .before .before .before .before .if2 .left) (other (c .before .before .before .before .before .before .before .before .before .before .before .before .kind-at .ensures .is) (c .before .before .before .before .before .before .before .before .before .before .before .if1 .taken))) (goes _ (c .before .before .before .before .before .before .before .statement .ensures .read) (c .before .before .before .if3 .left) (λ x w. goes _ (c .before .before .wanted .ensures .read) (c .if4 .left) (λ u e. gives (T.item x) (λ b l k. l k ∙ w _) r))))
 
 items-write-requires-2 : (t : ℕ) → items-lts.Need-write-requires-2 (items-calls t) (items-at t) items.Post items-Inv-loop items-μ-loop
 items-write-requires-2 t c κs = search needs
@@ -520,7 +596,12 @@ items-same-length-3 t c = search needs
 
 items-returns-3 : (t : ℕ) → items-lts.Need-returns-3 (items-calls t) (items-at t) items.Post items-Inv-loop items-μ-loop
 unfolding itemsOf andThen look next tapeItems
-items-returns-3 t c = record { read = leaves (c .before .before .before .before .before .before .before .loop .inv) (λ f. rw (same (c .before .before .before .before .before .before .kind-at .ensures .is) (c .before .before .before .before .before .if1 .left)) (done (c .read .ensures) (omega arith) (omega arith) (c .before .before .before .write2 .ensures))); low = search needs }
+items-returns-3 t c = record {
+  read = leaves (c .before .before .before .before .before .before .before .loop .inv) (λ f.
+      rw (same (c .before .before .before .before .before .before .kind-at .ensures .is) (c .before .before .before .before .before .if1 .left))
+      (done (c .read .ensures) (omega arith) (omega arith) (c .before .before .before .write2 .ensures)));
+  low = search needs;
+}
 
 procedure-refused-requires : (t : ℕ) → procedure-lts.Need-refused-requires (procedure-calls t) (procedure-at t) procedure.Post
 procedure-refused-requires t c κs = search needs
@@ -538,7 +619,11 @@ procedure-same-length : (t : ℕ) → procedure-lts.Need-same-length (procedure-
 procedure-same-length t c = search needs
 
 procedure-returns-2 : (t : ℕ) → procedure-lts.Need-returns-2 (procedure-calls t) (procedure-at t) procedure.Post
-procedure-returns-2 t c = record { read = along (procedure-parts _ _ _ (c .before .before .before .before .before .before .if1 .left)) (since (omega arith) (stops _ (c .before .before .before .before .procedure-head .ensures .0 .read) (c .if2 .taken))); low = search needs }
+procedure-returns-2 t c = record {
+  read = along (procedure-parts _ _ _ (c .before .before .before .before .before .before .if1 .left))
+      (since (omega arith) (stops _ (c .before .before .before .before .procedure-head .ensures .0 .read) (c .if2 .taken)));
+  low = search needs;
+}
 
 procedure-sub-statement : (t : ℕ) → procedure-lts.Need-sub-statement (procedure-calls t) (procedure-at t) procedure.Post
 procedure-sub-statement t c = search needs
@@ -550,7 +635,14 @@ procedure-same-length-2 : (t : ℕ) → procedure-lts.Need-same-length-2 (proced
 procedure-same-length-2 t c = search needs
 
 procedure-returns-3 : (t : ℕ) → procedure-lts.Need-returns-3 (procedure-calls t) (procedure-at t) procedure.Post
-procedure-returns-3 t c = record { read = along (procedure-parts _ _ _ (c .before .before .before .before .before .before .before .before .before .before .before .before .if1 .left)) (since (omega arith) (goes _ (c .before .before .before .before .before .before .before .before .before .before .procedure-head .ensures .0 .read) (c .before .before .before .before .before .before .if2 .left) (λ r w. stops _ (c .before .before .before .before .statement .ensures .read) (c .if3 .taken)))); low = search needs }
+procedure-returns-3 t c = record {
+  read = along (procedure-parts _ _ _
+      (c .before .before .before .before .before .before .before .before .before .before .before .before .if1 .left))
+      (since (omega arith) (goes _ (c .before .before .before .before .before .before .before .before .before .before .procedure-head .ensures .0 .read)
+      (c .before .before .before .before .before .before .if2 .left) (λ r w.
+      stops _ (c .before .before .before .before .statement .ensures .read) (c .if3 .taken))));
+  low = search needs;
+}
 
 procedure-add-write : (t : ℕ) → procedure-lts.Need-add-write (procedure-calls t) (procedure-at t) procedure.Post
 procedure-add-write t c = search needs
@@ -568,7 +660,11 @@ procedure-same-length-3 : (t : ℕ) → procedure-lts.Need-same-length-3 (proced
 procedure-same-length-3 t c = search needs
 
 procedure-returns-4 : (t : ℕ) → procedure-lts.Need-returns-4 (procedure-calls t) (procedure-at t) procedure.Post
-procedure-returns-4 t c = record { read = along (procedure-parts _ _ _ (c .before .before .before .before .before .before .before .before .before .before .before .before .before .before .before .before .before .before .if1 .left)) (since (omega arith) (goes _ (c .before .before .before .before .before .before .before .before .before .before .before .before .before .before .before .before .procedure-head .ensures .0 .read) (c .before .before .before .before .before .before .before .before .before .before .before .before .if2 .left) (λ r w. goes _ (c .before .before .before .before .before .before .before .before .before .before .statement .ensures .read) (c .before .before .before .before .before .before .if3 .left) (λ s y. done (c .read .ensures) (omega arith) (omega arith) (λ k. c .before .before .before .before .write .ensures k ∙ (y _ ∙ w _)))))); low = search needs }
+procedure-returns-4 t c = record {
+  read = along (procedure-parts _ _ _
+      (c .before .before .before .before .before .before .before .before .before .before .before .before .before .before .before .before .before .before .if1 .left)) (since (omega arith) (goes _ (c .before .before .before .before .before .before .before .before .before .before .before .before .before .before .before .before .procedure-head .ensures .0 .read) (c .before .before .before .before .before .before .before .before .before .before .before .before .if2 .left) (λ r w. goes _ (c .before .before .before .before .before .before .before .before .before .before .statement .ensures .read) (c .before .before .before .before .before .before .if3 .left) (λ s y. done (c .read .ensures) (omega arith) (omega arith) (λ k. c .before .before .before .before .write .ensures k ∙ (y _ ∙ w _))))));
+  low = search needs;
+}
 
 statement-kind-at-requires : (t : ℕ) → statement-lts.Need-kind-at-requires (statement-calls t) (statement-at t) statement′.Post
 statement-kind-at-requires t c κs = search needs
@@ -580,7 +676,11 @@ statement-refused-requires : (t : ℕ) → statement-lts.Need-refused-requires (
 statement-refused-requires t c κs = search needs
 
 statement-returns : (t : ℕ) → statement-lts.Need-returns (statement-calls t) (statement-at t) statement′.Post
-statement-returns t c = record { read = along (too-deep _ (c .before .before .before .before .kind-at .ensures) (c .before .before .before .opens .ensures) (c .before .before .if1 .taken) (c .before .if2 .taken)) (no (c .refused .ensures) tt (search needs)); low = search needs }
+statement-returns t c = record {
+  read = along (too-deep _ (c .before .before .before .before .kind-at .ensures) (c .before .before .before .opens .ensures)
+      (c .before .before .if1 .taken) (c .before .if2 .taken)) (no (c .refused .ensures) tt (search needs));
+  low = search needs;
+}
 
 statement-write-requires : (t : ℕ) → statement-lts.Need-write-requires (statement-calls t) (statement-at t) statement′.Post
 statement-write-requires t c κs = search needs
@@ -602,7 +702,17 @@ statement-same-length t c = search needs
 
 statement-returns-2 : (t : ℕ) → statement-lts.Need-returns-2 (statement-calls t) (statement-at t) statement′.Post
 unfolding constructOf andThen look next tapeStatement
-statement-returns-2 t c = record { read = along (construct _ (c .before .before .before .before .before .before .before .before .before .before .before .before .kind-at .ensures) (c .before .before .before .before .before .before .before .before .before .before .before .opens .ensures) (c .before .before .before .before .before .before .before .before .before .before .if1 .taken) (c .before .before .before .before .before .before .before .before .before .if2 .left)) (rw (same (c .before .before .before .before .before .before .before .before .before .before .before .before .kind-at .ensures .is) (c .before .before .before .before .before .before .before .before .if3 .taken)) (since (omega arith) (gives (T.block (c .before .before .before .before .before .before .before .before .before .before .before .before .before .before .before .args .i)) (λ b l k. l k ∙ c .before .before .before .before .before .before .write .ensures _) (c .before .before .body .ensures .read)))); low = search needs }
+statement-returns-2 t c = record {
+  read = along (construct _
+      (c .before .before .before .before .before .before .before .before .before .before .before .before .kind-at .ensures)
+      (c .before .before .before .before .before .before .before .before .before .before .before .opens .ensures)
+      (c .before .before .before .before .before .before .before .before .before .before .if1 .taken)
+      (c .before .before .before .before .before .before .before .before .before .if2 .left))
+      (rw (same (c .before .before .before .before .before .before .before .before .before .before .before .before .kind-at .ensures .is)
+      (c .before .before .before .before .before .before .before .before .if3 .taken))
+      (since (omega arith) (gives (T.block (c .before .before .before .before .before .before .before .before .before .before .before .before .before .before .before .args .i)) (λ b l k. l k ∙ c .before .before .before .before .before .before .write .ensures _) (c .before .before .body .ensures .read))));
+  low = search needs;
+}
 
 statement-sub-if-then : (t : ℕ) → statement-lts.Need-sub-if-then (statement-calls t) (statement-at t) statement′.Post
 statement-sub-if-then t c = search needs
@@ -615,7 +725,14 @@ statement-same-length-2 t c = search needs
 
 statement-returns-3 : (t : ℕ) → statement-lts.Need-returns-3 (statement-calls t) (statement-at t) statement′.Post
 unfolding constructOf andThen look next
-statement-returns-3 t c = record { read = along (construct _ (c .before .before .before .before .before .before .before .before .before .kind-at .ensures) (c .before .before .before .before .before .before .before .before .opens .ensures) (c .before .before .before .before .before .before .before .if1 .taken) (c .before .before .before .before .before .before .if2 .left)) (rw (same (c .before .before .before .before .before .before .before .before .before .kind-at .ensures .is) (c .before .before .before .before .if4 .taken)) (c .before .before .if-then .ensures .read)); low = search needs }
+statement-returns-3 t c = record {
+  read = along (construct _ (c .before .before .before .before .before .before .before .before .before .kind-at .ensures)
+      (c .before .before .before .before .before .before .before .before .opens .ensures) (c .before .before .before .before .before .before .before .if1 .taken)
+      (c .before .before .before .before .before .before .if2 .left))
+      (rw (same (c .before .before .before .before .before .before .before .before .before .kind-at .ensures .is) (c .before .before .before .before .if4 .taken))
+      (c .before .before .if-then .ensures .read));
+  low = search needs;
+}
 
 statement-sub-while-do : (t : ℕ) → statement-lts.Need-sub-while-do (statement-calls t) (statement-at t) statement′.Post
 statement-sub-while-do t c = search needs
@@ -628,7 +745,15 @@ statement-same-length-3 t c = search needs
 
 statement-returns-4 : (t : ℕ) → statement-lts.Need-returns-4 (statement-calls t) (statement-at t) statement′.Post
 unfolding constructOf andThen look next
-statement-returns-4 t c = record { read = along (construct _ (c .before .before .before .before .before .before .before .before .before .before .kind-at .ensures) (c .before .before .before .before .before .before .before .before .before .opens .ensures) (c .before .before .before .before .before .before .before .before .if1 .taken) (c .before .before .before .before .before .before .before .if2 .left)) (rw (same (c .before .before .before .before .before .before .before .before .before .before .kind-at .ensures .is) (c .before .before .before .before .if5 .taken)) (c .before .before .while-do .ensures .read)); low = search needs }
+statement-returns-4 t c = record {
+  read = along (construct _
+      (c .before .before .before .before .before .before .before .before .before .before .kind-at .ensures)
+      (c .before .before .before .before .before .before .before .before .before .opens .ensures)
+      (c .before .before .before .before .before .before .before .before .if1 .taken) (c .before .before .before .before .before .before .before .if2 .left))
+      (rw (same (c .before .before .before .before .before .before .before .before .before .before .kind-at .ensures .is)
+      (c .before .before .before .before .if5 .taken)) (c .before .before .while-do .ensures .read));
+  low = search needs;
+}
 
 statement-sub-for-do : (t : ℕ) → statement-lts.Need-sub-for-do (statement-calls t) (statement-at t) statement′.Post
 statement-sub-for-do t c = search needs
@@ -641,7 +766,21 @@ statement-same-length-4 t c = search needs
 
 statement-returns-5 : (t : ℕ) → statement-lts.Need-returns-5 (statement-calls t) (statement-at t) statement′.Post
 unfolding constructOf andThen look next
-statement-returns-5 t c = record { read = along (construct _ (c .before .before .before .before .before .before .before .before .before .before .kind-at .ensures) (c .before .before .before .before .before .before .before .before .before .opens .ensures) (c .before .before .before .before .before .before .before .before .if1 .taken) (c .before .before .before .before .before .before .before .if2 .left)) (rw (ne-eqb _ _ (other (c .before .before .before .before .before .before .before .before .before .before .kind-at .ensures .is) (c .before .before .before .before .before .before .if3 .left)), ne-eqb _ _ (other (c .before .before .before .before .before .before .before .before .before .before .kind-at .ensures .is) (c .before .before .before .before .before .if4 .left)), ne-eqb _ _ (other (c .before .before .before .before .before .before .before .before .before .before .kind-at .ensures .is) (c .before .before .before .before .if5 .left))) (c .before .before .for-do .ensures .read)); low = search needs }
+statement-returns-5 t c = record {
+  read = along (construct _
+      (c .before .before .before .before .before .before .before .before .before .before .kind-at .ensures)
+      (c .before .before .before .before .before .before .before .before .before .opens .ensures)
+      (c .before .before .before .before .before .before .before .before .if1 .taken) (c .before .before .before .before .before .before .before .if2 .left))
+      (rw (
+        ne-eqb _ _ (other (c .before .before .before .before .before .before .before .before .before .before .kind-at .ensures .is)
+            (c .before .before .before .before .before .before .if3 .left)),
+        ne-eqb _ _ (other (c .before .before .before .before .before .before .before .before .before .before .kind-at .ensures .is)
+            (c .before .before .before .before .before .if4 .left)),
+        ne-eqb _ _ (other (c .before .before .before .before .before .before .before .before .before .before .kind-at .ensures .is)
+            (c .before .before .before .before .if5 .left)),
+      ) (c .before .before .for-do .ensures .read));
+  low = search needs;
+}
 
 statement-simple-requires : (t : ℕ) → statement-lts.Need-simple-requires (statement-calls t) (statement-at t) statement′.Post
 statement-simple-requires t c κs = search needs
@@ -650,7 +789,11 @@ statement-same-length-5 : (t : ℕ) → statement-lts.Need-same-length-5 (statem
 statement-same-length-5 t c = search needs
 
 statement-returns-6 : (t : ℕ) → statement-lts.Need-returns-6 (statement-calls t) (statement-at t) statement′.Post
-statement-returns-6 t c = record { read = along (no-construct _ (c .before .before .before .before .before .before .kind-at .ensures) (c .before .before .before .before .before .opens .ensures) (c .before .before .before .before .if1 .left)) (c .before .before .simple .ensures .read); low = search needs }
+statement-returns-6 t c = record {
+  read = along (no-construct _ (c .before .before .before .before .before .before .kind-at .ensures)
+      (c .before .before .before .before .before .opens .ensures) (c .before .before .before .before .if1 .left)) (c .before .before .simple .ensures .read);
+  low = search needs;
+}
 
 while-do-write-requires : (t : ℕ) → while-do-lts.Need-write-requires (while-do-calls t) (while-do-at t) while-do.Post
 while-do-write-requires t c κs = search needs
@@ -668,7 +811,13 @@ while-do-same-length : (t : ℕ) → while-do-lts.Need-same-length (while-do-cal
 while-do-same-length t c = search needs
 
 while-do-returns : (t : ℕ) → while-do-lts.Need-returns (while-do-calls t) (while-do-at t) while-do.Post
-while-do-returns t c = record { read = since (omega arith) (along (while-parts (G.statement (c .before .before .before .before .before .before .before .before .before .before .before .before .args .room)) (c .before .before .before .before .before .before .before .before .before .before .before .before .args .i) _ _) (stops _ (c .before .before .before .before .head .ensures .0 .read) (c .if1 .taken))); low = search needs }
+while-do-returns t c = record {
+  read = since (omega arith)
+      (along (while-parts (G.statement (c .before .before .before .before .before .before .before .before .before .before .before .before .args .room))
+      (c .before .before .before .before .before .before .before .before .before .before .before .before .args .i) _ _)
+      (stops _ (c .before .before .before .before .head .ensures .0 .read) (c .if1 .taken)));
+  low = search needs;
+}
 
 while-do-statement-requires : (t : ℕ) → while-do-lts.Need-statement-requires (while-do-calls t) (while-do-at t) while-do.Post
 while-do-statement-requires t c κs = search needs

@@ -1,3 +1,4 @@
+-- Why `is_array` meets its contract.
 use borrow.Author.Needs.{needs}
 use Rattle.tables.specs.Packed.{isArrayIn}
 use Rattle.tables.proofs.is_array.Statement.{statement}

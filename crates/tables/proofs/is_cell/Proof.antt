@@ -1,3 +1,4 @@
+-- Why `is_cell` meets its contract.
 use borrow.Author.Needs.{needs}
 use Rattle.tables.specs.Packed.{isCellIn}
 use Rattle.tables.proofs.is_cell.Statement.{statement}

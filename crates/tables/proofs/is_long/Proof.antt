@@ -1,3 +1,4 @@
+-- Why `is_long` meets its contract.
 use mathlib.Core.Path.{sym, _∙_}
 use native.Mathlib.Omega.{arith}
 use borrow.Author.Needs.{needs}
@@ -10,19 +11,15 @@ use Rattle.tables.proofs.is_cell.Reads as is-cell-reads
 use Rattle.tables.proofs.is_register.Reads as is-register-reads
 use Rattle.tables.proofs.is_short.Reads as is-short-reads
 
--- src/lib.rt:82:5
 is-register-requires : tie.Need-is-register-requires
 is-register-requires c κs = search needs
 
--- src/lib.rt:82:23
 is-cell-requires : tie.Need-is-cell-requires
 is-cell-requires c κs = search needs
 
--- src/lib.rt:82:37
 is-short-requires : tie.Need-is-short-requires
 is-short-requires c κs = search needs
 
--- src/lib.rt:79:1
 returns : tie.Need-returns
 unfolding longIn
 returns c = rw (c .before .before .is-register .ensures, c .before .is-cell .ensures, c .is-short .ensures)

@@ -1,3 +1,4 @@
+-- Why `is_register` meets its contract.
 use borrow.Author.Needs.{needs}
 use Rattle.tables.specs.Packed.{isRegisterIn}
 use Rattle.tables.proofs.is_register.Statement.{statement}

@@ -1,3 +1,4 @@
+-- Why `is_routine` meets its contract.
 use borrow.Author.Needs.{needs}
 use Rattle.tables.specs.Packed.{isRoutineIn}
 use Rattle.tables.proofs.is_routine.Statement.{statement}

@@ -1,3 +1,4 @@
+-- Why `is_short` meets its contract.
 use borrow.Author.Needs.{needs}
 use Rattle.tables.specs.Packed.{isShortIn}
 use Rattle.tables.proofs.is_short.Statement.{statement}

@@ -1,3 +1,4 @@
+-- Why `meaning` meets its contract.
 use borrow.Author.Needs.{needs}
 use Rattle.tables.proofs.meaning.Statement.{statement}
 use Rattle.tables.proofs.meaning.Tie as tie
@@ -6,15 +7,12 @@ use Rattle.tables.proofs.meaning.Lts as lts
 use Rattle.arrays.proofs.get.Reads as get-reads
 use Rattle.arrays.proofs.key.Reads as key-reads
 
--- src/lib.rt:49:16
 get-requires : tie.Need-get-requires
 get-requires c κs = search needs
 
--- src/lib.rt:49:5
 key-requires : tie.Need-key-requires
 key-requires c κs = search needs
 
--- src/lib.rt:46:1
 returns : tie.Need-returns
 returns c = rw (← (c .before .get .ensures .0)) (c .key .ensures)
 

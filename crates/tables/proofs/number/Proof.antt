@@ -1,3 +1,4 @@
+-- Why `number` meets its contract.
 use borrow.Author.Needs.{needs}
 use native.Mathlib.Omega.{arith}
 use Rattle.tables.specs.Packed.{low, numberIn}
@@ -6,7 +7,6 @@ use Rattle.tables.proofs.number.Tie as tie
 use Rattle.tables.proofs.number.Reads as reads
 use Rattle.tables.proofs.number.Lts as lts
 
--- src/lib.rt:29:1
 returns : tie.Need-returns
 unfolding low numberIn
 returns c = omega arith

@@ -1,3 +1,4 @@
+-- Why `packed` meets its contract.
 use mathlib.Core.Path.{sym, _∙_}
 use native.Mathlib.Omega.{arith}
 use borrow.Author.Needs.{needs}
@@ -7,23 +8,18 @@ use Rattle.tables.proofs.packed.Tie as tie
 use Rattle.tables.proofs.packed.Reads as reads
 use Rattle.tables.proofs.packed.Lts as lts
 
--- src/lib.rt:28:6
 mul-result : tie.Need-mul-result
 mul-result c = search needs
 
--- src/lib.rt:28:6
 add-result : tie.Need-add-result
 add-result c = search needs
 
--- src/lib.rt:28:5
 mul-result-2 : tie.Need-mul-result-2
 mul-result-2 c = search needs
 
--- src/lib.rt:28:5
 add-result-2 : tie.Need-add-result-2
 add-result-2 c = search needs
 
--- src/lib.rt:24:1
 returns : tie.Need-returns
 unfolding low packed
 returns c = omega arith

@@ -1,3 +1,4 @@
+-- Why `register` meets its contract.
 use mathlib.Core.Path.{sym, _∙_}
 use native.Mathlib.Omega.{arith}
 use borrow.Author.Needs.{needs}
@@ -9,20 +10,16 @@ use Rattle.tables.proofs.register.Lts as lts
 use Rattle.tables.proofs.is_register.Reads as is-register-reads
 use Rattle.tables.proofs.number.Reads as number-reads
 
--- src/lib.rt:72:8
 is-register-requires : tie.Need-is-register-requires
 is-register-requires c κs = search needs
 
--- src/lib.rt:73:9
 number-requires : tie.Need-number-requires
 number-requires c κs = search needs
 
--- src/lib.rt:73:9
 returns : tie.Need-returns
 unfolding registerIn
 returns c = (rw (sym (c .before .before .is-register .ensures) ∙ c .before .if1 .taken) (c .number .ensures .0), c .number .ensures .1)
 
--- src/lib.rt:69:1
 returns-2 : tie.Need-returns-2
 unfolding registerIn
 returns-2 c = (rw (sym (c .before .is-register .ensures) ∙ c .if1 .left), omega arith)

@@ -1,3 +1,4 @@
+-- Why `top` meets its contract.
 use Rattle.tables.proofs.Stacks.{top-none, top-some}
 use borrow.Author.Needs.{needs}
 use Rattle.tables.proofs.top.Statement.{statement}
@@ -6,19 +7,15 @@ use Rattle.tables.proofs.top.Reads as reads
 use Rattle.tables.proofs.top.Lts as lts
 use Rattle.arrays.proofs.key.Reads as key-reads
 
--- src/lib.rt:86:9
 returns : tie.Need-returns
 returns c = top-none _ _ (c .if1 .taken)
 
--- src/lib.rt:88:12
 sub-key : tie.Need-sub-key
 sub-key c = search needs
 
--- src/lib.rt:88:5
 key-requires : tie.Need-key-requires
 key-requires c κs = search needs
 
--- src/lib.rt:82:1
 returns-2 : tie.Need-returns-2
 returns-2 c = rw (c .key .ensures) (top-some _ _ (c .before .if1 .left))
 

@@ -1,3 +1,4 @@
+-- Why `write_text` meets its contract.
 use denote.Ref.{now}
 use Rattle.tables.proofs.Sets.{grown-text}
 use lib.Bits.{or-lt}
@@ -9,25 +10,23 @@ use Rattle.tables.proofs.write_text.Lts as lts
 use Rattle.arrays.proofs.get.Reads as get-reads
 use Rattle.arrays.proofs.put.Reads as put-reads
 
--- src/lib.rt:76:23
 get-requires : tie.Need-get-requires
 get-requires c κs = search needs
 
--- src/lib.rt:76:41
 get-requires-2 : tie.Need-get-requires-2
 get-requires-2 c κs = search needs
 
--- src/lib.rt:76:5
 put-requires : tie.Need-put-requires
 put-requires c κs = or-lt 32 _ _ (c .before .before .get .ensures .1) (c .get2 .ensures .1)
 
--- src/lib.rt:73:1
 same-length : tie.Need-same-length
 same-length c = search needs
 
--- src/lib.rt:73:1
 returns : tie.Need-returns
-returns c = grown-text (now (c .before .before .before .before .before .before .before .before .before .args .written)) _ (c .before .before .before .before .before .before .before .before .before .args .own) (c .before .before .before .before .before .before .before .before .before .args .p) _ _ (c .before .before .before .before .before .get .ensures .0) (c .before .before .before .get2 .ensures .0) (c .before .before .put .ensures)
+returns c = grown-text (now (c .before .before .before .before .before .before .before .before .before .args .written)) _
+    (c .before .before .before .before .before .before .before .before .before .args .own)
+    (c .before .before .before .before .before .before .before .before .before .args .p) _ _ (c .before .before .before .before .before .get .ensures .0)
+    (c .before .before .before .get2 .ensures .0) (c .before .before .put .ensures)
 
 pub write-text-spec : {M : Type 1} → statement M
 write-text-spec = tie.close (tie.spec get-requires get-requires-2 put-requires same-length returns)

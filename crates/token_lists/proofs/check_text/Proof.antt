@@ -19,7 +19,8 @@ Inv-loop src at₀ n₀ at n = Reads src at n
 abbrev μ-loop : tie.MeasureT-loop
 μ-loop src at₀ n₀ at n = length src - at
 
-answered : (c : tie.After-next-token Inv-loop μ-loop) → Answered (now (c .before .before .before .before .before .args .src)) (c .before .before .loop .at) (c .before .before .loop .n) (c .next-token .result)
+answered : (c : tie.After-next-token Inv-loop μ-loop) → Answered (now (c .before .before .before .before .before .args .src)) (c .before .before .loop .at)
+    (c .before .before .loop .n) (c .next-token .result)
 answered c = record { reads = c .before .before .loop .inv; next = c .next-token .ensures }
 
 returns : tie.Need-returns Inv-loop μ-loop
@@ -52,13 +53,20 @@ is-last-requires c κs = search needs
 
 returns-2 : tie.Need-returns-2 Inv-loop μ-loop
 unfolding tokensOf
-returns-2 c = rw (le-ltb _ _ (c .before .before .before .before .before .before .before .before .if1 .left)) (reads-last (answered (c .before .before .before .before .before)) (c .before .before .before .next .given .1) (sym (c .before .is-last .ensures) ∙ c .if2 .taken))
+returns-2 c = rw (le-ltb _ _ (c .before .before .before .before .before .before .before .before .if1 .left))
+    (reads-last (answered (c .before .before .before .before .before)) (c .before .before .before .next .given .1) (sym (c .before .is-last .ensures)
+    ∙ c .if2 .taken))
 
 add-at : tie.Need-add-at Inv-loop μ-loop
 add-at c = omega (arith, ends-inside (answered (c .before .before .before .before .before)) (c .before .before .before .next .given .1))
 
 loop-less : tie.Need-loop-less Inv-loop μ-loop
-loop-less c = omega (arith, ends-inside (answered (c .before .before .before .before .before)) (c .before .before .before .next .given .1), some-bytes (answered (c .before .before .before .before .before)) (c .before .before .before .next .given .1) (sym (c .before .is-last .ensures) ∙ c .if2 .left))
+loop-less c = omega (
+  arith,
+  ends-inside (answered (c .before .before .before .before .before)) (c .before .before .before .next .given .1),
+  some-bytes (answered (c .before .before .before .before .before)) (c .before .before .before .next .given .1) (sym (c .before .is-last .ensures)
+      ∙ c .if2 .left),
+)
 
 loop-again : tie.Need-loop-again Inv-loop μ-loop
 loop-again c = reads-on (answered (c .before .before .before .before .before)) (c .before .before .before .next .given .1) (sym (c .before .is-last .ensures) ∙ c .if2 .left)

@@ -19,7 +19,8 @@ Inv-loop src kinds₀ values₀ places₀ at₀ n₀ kinds values places at n =
 abbrev μ-loop : tie.MeasureT-loop
 μ-loop src kinds₀ values₀ places₀ at₀ n₀ kinds values places at n = length src - at
 
-answered : (c : tie.After-next-token Inv-loop μ-loop) → Answered (now (c .before .before .before .before .before .before .before .args .src)) (c .before .before .loop .at) (c .before .before .loop .n) (c .next-token .result)
+answered : (c : tie.After-next-token Inv-loop μ-loop) → Answered (now (c .before .before .before .before .before .before .before .args .src))
+    (c .before .before .loop .at) (c .before .before .loop .n) (c .next-token .result)
 answered c = record { reads = c .before .before .loop .inv .0; next = c .next-token .ensures }
 
 loop-holds : tie.Need-loop-holds Inv-loop μ-loop
@@ -41,25 +42,44 @@ enum-known-next : tie.Need-enum-known-next Inv-loop μ-loop
 enum-known-next c = search needs
 
 slice-write-kinds : tie.Need-slice-write-kinds Inv-loop μ-loop
-slice-write-kinds c = omega (arith, has-room (answered (c .before .before .before)) (c .before .next .given .1) _ (c .before .before .before .before .before .before .before .before .before .before .pre .1), c .before .before .before .before .before .loop .inv .4)
+slice-write-kinds c = omega (
+  arith,
+  has-room (answered (c .before .before .before)) (c .before .next .given .1) _
+      (c .before .before .before .before .before .before .before .before .before .before .pre .1),
+  c .before .before .before .before .before .loop .inv .4,
+)
 
 mul-values : tie.Need-mul-values Inv-loop μ-loop
 mul-values c = search needs
 
 slice-write-values : tie.Need-slice-write-values Inv-loop μ-loop
-slice-write-values c = omega (arith, has-room (answered (c .before .before .before)) (c .before .next .given .1) _ (c .before .before .before .before .before .before .before .before .before .before .pre .1), c .before .before .before .before .before .loop .inv .5)
+slice-write-values c = omega (
+  arith,
+  has-room (answered (c .before .before .before)) (c .before .next .given .1) _
+      (c .before .before .before .before .before .before .before .before .before .before .pre .1),
+  c .before .before .before .before .before .loop .inv .5,
+)
 
 add-places : tie.Need-add-places Inv-loop μ-loop
 add-places c = omega (arith, place-inside (answered (c .before .before .before)) (c .before .next .given .1))
 
 cast-places : tie.Need-cast-places Inv-loop μ-loop
-cast-places c = omega (arith, place-inside (answered (c .before .before .before)) (c .before .next .given .1), c .before .before .before .before .before .before .before .before .before .before .pre .0)
+cast-places c = omega (
+  arith,
+  place-inside (answered (c .before .before .before)) (c .before .next .given .1),
+  c .before .before .before .before .before .before .before .before .before .before .pre .0,
+)
 
 mul-places : tie.Need-mul-places Inv-loop μ-loop
 mul-places c = search needs
 
 slice-write-places : tie.Need-slice-write-places Inv-loop μ-loop
-slice-write-places c = omega (arith, has-room (answered (c .before .before .before)) (c .before .next .given .1) _ (c .before .before .before .before .before .before .before .before .before .before .pre .1), c .before .before .before .before .before .loop .inv .6)
+slice-write-places c = omega (
+  arith,
+  has-room (answered (c .before .before .before)) (c .before .next .given .1) _
+      (c .before .before .before .before .before .before .before .before .before .before .pre .1),
+  c .before .before .before .before .before .loop .inv .6,
+)
 
 add-n : tie.Need-add-n Inv-loop μ-loop
 add-n c = search needs
@@ -93,7 +113,12 @@ add-at : tie.Need-add-at Inv-loop μ-loop
 add-at c = omega (arith, ends-inside (answered (c .before .before .before .before .before)) (c .before .before .before .next .given .1))
 
 loop-less : tie.Need-loop-less Inv-loop μ-loop
-loop-less c = omega (arith, ends-inside (answered (c .before .before .before .before .before)) (c .before .before .before .next .given .1), some-bytes (answered (c .before .before .before .before .before)) (c .before .before .before .next .given .1) (sym (c .before .is-last .ensures) ∙ c .if1 .left))
+loop-less c = omega (
+  arith,
+  ends-inside (answered (c .before .before .before .before .before)) (c .before .before .before .next .given .1),
+  some-bytes (answered (c .before .before .before .before .before)) (c .before .before .before .next .given .1) (sym (c .before .is-last .ensures)
+      ∙ c .if1 .left),
+)
 
 loop-again : tie.Need-loop-again Inv-loop μ-loop
 loop-again c =

@@ -28,7 +28,15 @@ returns-2 : tie.Need-returns-2
 returns-2 c = no-room _ (c .before .room-in .ensures) (c .before .before .before .before .before .if1 .left) (c .if2 .taken)
 
 lay-tokens-requires : tie.Need-lay-tokens-requires
-lay-tokens-requires c κs = (c .before .before .before .before .before .before .before .before .if1 .left, omega (arith, few-tokens 0 0 (now (c .before .before .before .before .before .before .before .before .before .before .before .before .before .args .src)), c .before .before .before .before .room-in .ensures, c .before .before .before .if2 .left))
+lay-tokens-requires c κs = (
+  c .before .before .before .before .before .before .before .before .if1 .left,
+  omega (
+    arith,
+    few-tokens 0 0 (now (c .before .before .before .before .before .before .before .before .before .before .before .before .before .args .src)),
+    c .before .before .before .before .room-in .ensures,
+    c .before .before .before .if2 .left,
+  ),
+)
 
 same-length-4 : tie.Need-same-length-4
 same-length-4 c = search needs
@@ -40,7 +48,10 @@ same-length-6 : tie.Need-same-length-6
 same-length-6 c = search needs
 
 returns-3 : tie.Need-returns-3
-returns-3 c = in-room _ (c .before .before .before .before .before .before .before .before .before .before .before .room-in .ensures) (c .before .before .before .before .before .before .before .before .before .before .before .before .before .before .before .if1 .left) (c .before .before .before .before .before .before .before .before .before .before .if2 .left) (c .before .before .before .before .before .before .lay-tokens .ensures)
+returns-3 c = in-room _ (c .before .before .before .before .before .before .before .before .before .before .before .room-in .ensures)
+    (c .before .before .before .before .before .before .before .before .before .before .before .before .before .before .before .if1 .left)
+    (c .before .before .before .before .before .before .before .before .before .before .if2 .left)
+    (c .before .before .before .before .before .before .lay-tokens .ensures)
 
 pub read-tokens-spec : {M : Type 1} → statement M
 read-tokens-spec =

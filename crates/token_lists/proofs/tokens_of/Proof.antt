@@ -27,7 +27,9 @@ same-length-3 : tie.Need-same-length-3
 same-length-3 c = search needs
 
 returns : tie.Need-returns
-returns c = too-many (now (c .before .before .before .before .before .before .before .before .before .before .before .before .before .args .src)) _ (sym (ap summaryOf (c .before .before .before .before .before .before .checked .given .1)) ∙ c .before .before .before .before .before .before .before .before .check-text .ensures) _ (omega (arith, c .before .room-in .ensures, c .if1 .taken))
+returns c = too-many (now (c .before .before .before .before .before .before .before .before .before .before .before .before .before .args .src)) _
+    (sym (ap summaryOf (c .before .before .before .before .before .before .checked .given .1))
+    ∙ c .before .before .before .before .before .before .before .before .check-text .ensures) _ (omega (arith, c .before .room-in .ensures, c .if1 .taken))
 
 lay-tokens-requires : tie.Need-lay-tokens-requires
 lay-tokens-requires c κs = let s = now (c .before .before .before .before .before .before .before .before .before .before .before .before .before .before .before .before .args .src) in

@@ -5,7 +5,7 @@ use Prim.Native.Nat.{_+_, _-_, _*_, _≤_}
 use mathlib.Core.Path.{_≡_, refl}
 use lib.ListN.{length, drop}
 use lib.Seq.{sets}
-use Rattle.translator.specs.Image.{words}
+use Rattle.translation.specs.Image.{words}
 use Rattle.translate.proofs.Laying.{words-start, words-turn, words-end}
 use Rattle.translate.proofs.lay_literals.Statement.{statement}
 use Rattle.translate.proofs.lay_literals.Tie as tie

@@ -1,7 +1,7 @@
 -- `put_front` copies the names in front. The invariant: what is left of them, laid from the place reached, makes the whole. Assumes nothing.
 use Rattle.translate.proofs.Laying.{lay-turn, lay-end, values-turn, values-end, front-key}
-use Rattle.translator.specs.Translate.{kindsOf, valuesOf}
-use Rattle.names.specs.Search.{inFront}
+use Rattle.translation.specs.Translate.{kindsOf, valuesOf}
+use Rattle.scopes.specs.Search.{inFront}
 use Rattle.ledger.specs.Book.{wideOf, onWide}
 use lib.Seq.{sets}
 use lib.ListN.{length, drop}

@@ -7,7 +7,8 @@ use Rattle.translate_batch.proofs.answer_all.Statement.{statement}
 use Rattle.translate_batch.proofs.answer_all.Tie as tie
 
 abbrev Inv-loop : tie.InvT-loop
-Inv-loop input₀ buffer₀ out₀ at₀ to₀ turns₀ input buffer out at to turns = (at ≤ to) × (to ≤ length input) × (length input ≡ length input₀) × (length buffer ≡ length buffer₀) × (length out ≡ length out₀)
+Inv-loop input₀ buffer₀ out₀ at₀ to₀ turns₀ input buffer out at to turns = (at ≤ to) × (to ≤ length input) × (length input ≡ length input₀)
+    × (length buffer ≡ length buffer₀) × (length out ≡ length out₀)
 
 abbrev μ-loop : tie.MeasureT-loop
 μ-loop input₀ buffer₀ out₀ at₀ to₀ turns₀ input buffer out at to turns = turns

@@ -7,7 +7,8 @@ use Rattle.translate_vectors.proofs.compare_all.Statement.{statement}
 use Rattle.translate_vectors.proofs.compare_all.Tie as tie
 
 abbrev Inv-loop : tie.InvT-loop
-Inv-loop name input₀ buffer₀ expected₀ fd at₀ to₀ compared₀ equal₀ input buffer expected at to compared equal = (at ≤ to) × (to ≤ length input) × (length input ≡ length input₀) × (length buffer ≡ length buffer₀) × (length expected ≡ length expected₀) × (compared ≤ 1000000) × (equal ≤ compared)
+Inv-loop name input₀ buffer₀ expected₀ fd at₀ to₀ compared₀ equal₀ input buffer expected at to compared equal = (at ≤ to) × (to ≤ length input)
+    × (length input ≡ length input₀) × (length buffer ≡ length buffer₀) × (length expected ≡ length expected₀) × (compared ≤ 1000000) × (equal ≤ compared)
 
 abbrev μ-loop : tie.MeasureT-loop
 μ-loop name input₀ buffer₀ expected₀ fd at₀ to₀ compared₀ equal₀ input buffer expected at to compared equal = 1000000 - compared

@@ -29,7 +29,15 @@ same-requires-3 : tie.Need-same-requires-3
 same-requires-3 c κs = search needs
 
 returns-3 : tie.Need-returns-3
-returns-3 c = (rw (told (c .before .before .before .before .before .before .before .same .ensures) (c .before .before .before .before .before .before .if1 .left), told (c .before .before .before .before .same2 .ensures) (c .before .before .before .if2 .left), told (c .before .same3 .ensures) (c .if3 .taken)), search needs)
+returns-3 c = (
+  rw (
+    told (c .before .before .before .before .before .before .before .same .ensures)
+        (c .before .before .before .before .before .before .if1 .left),
+    told (c .before .before .before .before .same2 .ensures) (c .before .before .before .if2 .left),
+    told (c .before .same3 .ensures) (c .if3 .taken),
+  ),
+  search needs,
+)
 
 slice-aggregate-same-4 : tie.Need-slice-aggregate-same-4
 slice-aggregate-same-4 c = search needs
@@ -38,7 +46,16 @@ same-requires-4 : tie.Need-same-requires-4
 same-requires-4 c κs = search needs
 
 returns-4 : tie.Need-returns-4
-returns-4 c = (rw (told (c .before .before .before .before .before .before .before .before .before .before .same .ensures) (c .before .before .before .before .before .before .before .before .before .if1 .left), told (c .before .before .before .before .before .before .before .same2 .ensures) (c .before .before .before .before .before .before .if2 .left), told (c .before .before .before .before .same3 .ensures) (c .before .before .before .if3 .left), told (c .before .same4 .ensures) (c .if4 .taken)), search needs)
+returns-4 c = (
+  rw (
+    told (c .before .before .before .before .before .before .before .before .before .before .same .ensures)
+        (c .before .before .before .before .before .before .before .before .before .if1 .left),
+    told (c .before .before .before .before .before .before .before .same2 .ensures) (c .before .before .before .before .before .before .if2 .left),
+    told (c .before .before .before .before .same3 .ensures) (c .before .before .before .if3 .left),
+    told (c .before .same4 .ensures) (c .if4 .taken),
+  ),
+  search needs,
+)
 
 slice-aggregate-same-5 : tie.Need-slice-aggregate-same-5
 slice-aggregate-same-5 c = search needs
@@ -47,7 +64,18 @@ same-requires-5 : tie.Need-same-requires-5
 same-requires-5 c κs = search needs
 
 returns-5 : tie.Need-returns-5
-returns-5 c = (rw (told (c .before .before .before .before .before .before .before .before .before .before .before .before .before .same .ensures) (c .before .before .before .before .before .before .before .before .before .before .before .before .if1 .left), told (c .before .before .before .before .before .before .before .before .before .before .same2 .ensures) (c .before .before .before .before .before .before .before .before .before .if2 .left), told (c .before .before .before .before .before .before .before .same3 .ensures) (c .before .before .before .before .before .before .if3 .left), told (c .before .before .before .before .same4 .ensures) (c .before .before .before .if4 .left), told (c .before .same5 .ensures) (c .if5 .taken)), search needs)
+returns-5 c = (
+  rw (
+    told (c .before .before .before .before .before .before .before .before .before .before .before .before .before .same .ensures)
+        (c .before .before .before .before .before .before .before .before .before .before .before .before .if1 .left),
+    told (c .before .before .before .before .before .before .before .before .before .before .same2 .ensures)
+        (c .before .before .before .before .before .before .before .before .before .if2 .left),
+    told (c .before .before .before .before .before .before .before .same3 .ensures) (c .before .before .before .before .before .before .if3 .left),
+    told (c .before .before .before .before .same4 .ensures) (c .before .before .before .if4 .left),
+    told (c .before .same5 .ensures) (c .if5 .taken),
+  ),
+  search needs,
+)
 
 slice-aggregate-same-6 : tie.Need-slice-aggregate-same-6
 slice-aggregate-same-6 c = search needs

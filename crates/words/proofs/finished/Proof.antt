@@ -20,7 +20,13 @@ wrong-at-requires-2 : tie.Need-wrong-at-requires-2
 wrong-at-requires-2 c κs = search needs
 
 returns-3 : tie.Need-returns-3
-returns-3 c = rw (c .wrong-at2 .ensures, ← c .before .before .least-names .ensures, le-ltb _ _ (c .before .before .before .before .if1 .left), le-ltb _ _ (c .before .before .before .if2 .left), lt-ltb _ _ (c .before .if3 .taken))
+returns-3 c = rw (
+  c .wrong-at2 .ensures,
+  ← c .before .before .least-names .ensures,
+  le-ltb _ _ (c .before .before .before .before .if1 .left),
+  le-ltb _ _ (c .before .before .before .if2 .left),
+  lt-ltb _ _ (c .before .if3 .taken),
+)
 
 returns-4 : tie.Need-returns-4
 returns-4 c = rw (← c .before .least-names .ensures, le-ltb _ _ (c .before .before .before .if1 .left), le-ltb _ _ (c .before .before .if2 .left), le-ltb _ _ (c .if3 .left))

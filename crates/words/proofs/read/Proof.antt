@@ -20,7 +20,13 @@ wrong-at-requires : tie.Need-wrong-at-requires
 wrong-at-requires c κs = search needs
 
 returns : tie.Need-returns
-returns c = rw (c .wrong-at .ensures, c .before .start .ensures, ← c .before .before .before .before .part .ensures, ← c .before .before .before .command .ensures .0, eq-eqb _ _ (c .before .before .if1 .taken))
+returns c = rw (
+  c .wrong-at .ensures,
+  c .before .start .ensures,
+  ← c .before .before .before .before .part .ensures,
+  ← c .before .before .before .command .ensures .0,
+  eq-eqb _ _ (c .before .before .if1 .taken),
+)
 
 taken-all-requires : tie.Need-taken-all-requires
 taken-all-requires c κs = search needs
@@ -29,7 +35,14 @@ finished-requires : tie.Need-finished-requires
 finished-requires c κs = search needs
 
 returns-2 : tie.Need-returns-2
-returns-2 c = rw (c .finished .ensures, c .before .taken-all .ensures, ← c .before .before .before .before .part .ensures, ← c .before .before .before .command .ensures .0, ← c .before .before .before .before .before .part-count .ensures .0, ne-eqb _ _ (c .before .before .if1 .left))
+returns-2 c = rw (
+  c .finished .ensures,
+  c .before .taken-all .ensures,
+  ← c .before .before .before .before .part .ensures,
+  ← c .before .before .before .command .ensures .0,
+  ← c .before .before .before .before .before .part-count .ensures .0,
+  ne-eqb _ _ (c .before .before .if1 .left),
+)
 
 pub read-spec : {M : Type 1} → statement M
 read-spec =

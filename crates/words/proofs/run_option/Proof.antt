@@ -29,7 +29,12 @@ same-requires-3 : tie.Need-same-requires-3
 same-requires-3 c κs = search needs
 
 returns-3 : tie.Need-returns-3
-returns-3 c = rw (told (c .before .before .before .before .before .before .before .same .ensures) (c .before .before .before .before .before .before .if1 .left), told (c .before .before .before .before .same2 .ensures) (c .before .before .before .if2 .left), told (c .before .same3 .ensures) (c .if3 .taken))
+returns-3 c = rw (
+  told (c .before .before .before .before .before .before .before .same .ensures)
+      (c .before .before .before .before .before .before .if1 .left),
+  told (c .before .before .before .before .same2 .ensures) (c .before .before .before .if2 .left),
+  told (c .before .same3 .ensures) (c .if3 .taken),
+)
 
 slice-aggregate-same-4 : tie.Need-slice-aggregate-same-4
 slice-aggregate-same-4 c = search needs
@@ -38,10 +43,22 @@ same-requires-4 : tie.Need-same-requires-4
 same-requires-4 c κs = search needs
 
 returns-4 : tie.Need-returns-4
-returns-4 c = rw (told (c .before .before .before .before .before .before .before .before .before .before .same .ensures) (c .before .before .before .before .before .before .before .before .before .if1 .left), told (c .before .before .before .before .before .before .before .same2 .ensures) (c .before .before .before .before .before .before .if2 .left), told (c .before .before .before .before .same3 .ensures) (c .before .before .before .if3 .left), told (c .before .same4 .ensures) (c .if4 .taken))
+returns-4 c = rw (
+  told (c .before .before .before .before .before .before .before .before .before .before .same .ensures)
+      (c .before .before .before .before .before .before .before .before .before .if1 .left),
+  told (c .before .before .before .before .before .before .before .same2 .ensures) (c .before .before .before .before .before .before .if2 .left),
+  told (c .before .before .before .before .same3 .ensures) (c .before .before .before .if3 .left),
+  told (c .before .same4 .ensures) (c .if4 .taken),
+)
 
 returns-5 : tie.Need-returns-5
-returns-5 c = rw (told (c .before .before .before .before .before .before .before .before .before .before .same .ensures) (c .before .before .before .before .before .before .before .before .before .if1 .left), told (c .before .before .before .before .before .before .before .same2 .ensures) (c .before .before .before .before .before .before .if2 .left), told (c .before .before .before .before .same3 .ensures) (c .before .before .before .if3 .left), told (c .before .same4 .ensures) (c .if4 .left))
+returns-5 c = rw (
+  told (c .before .before .before .before .before .before .before .before .before .before .same .ensures)
+      (c .before .before .before .before .before .before .before .before .before .if1 .left),
+  told (c .before .before .before .before .before .before .before .same2 .ensures) (c .before .before .before .before .before .before .if2 .left),
+  told (c .before .before .before .before .same3 .ensures) (c .before .before .before .if3 .left),
+  told (c .before .same4 .ensures) (c .if4 .left),
+)
 
 pub run-option-spec : {M : Type 1} → statement M
 run-option-spec =

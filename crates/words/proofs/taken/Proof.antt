@@ -24,13 +24,24 @@ opened-requires : tie.Need-opened-requires
 opened-requires c κs = search needs
 
 returns-3 : tie.Need-returns-3
-returns-3 c = rw (c .opened .ensures, c .before .option .ensures, le-ltb _ _ (c .before .before .before .before .before .if1 .left), le-ltb _ _ (c .before .before .before .before .if2 .left), told (c .before .before .before .is-option .ensures) (c .before .before .if3 .taken))
+returns-3 c = rw (
+  c .opened .ensures,
+  c .before .option .ensures,
+  le-ltb _ _ (c .before .before .before .before .before .if1 .left),
+  le-ltb _ _ (c .before .before .before .before .if2 .left),
+  told (c .before .before .before .is-option .ensures) (c .before .before .if3 .taken),
+)
 
 named-by-requires : tie.Need-named-by-requires
 named-by-requires c κs = search needs
 
 returns-4 : tie.Need-returns-4
-returns-4 c = rw (c .named-by .ensures, le-ltb _ _ (c .before .before .before .before .if1 .left), le-ltb _ _ (c .before .before .before .if2 .left), told (c .before .before .is-option .ensures) (c .before .if3 .left))
+returns-4 c = rw (
+  c .named-by .ensures,
+  le-ltb _ _ (c .before .before .before .before .if1 .left),
+  le-ltb _ _ (c .before .before .before .if2 .left),
+  told (c .before .before .is-option .ensures) (c .before .if3 .left),
+)
 
 pub taken-spec : {M : Type 1} → statement M
 taken-spec =

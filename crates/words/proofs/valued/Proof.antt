@@ -24,7 +24,12 @@ waits-for-requires : tie.Need-waits-for-requires
 waits-for-requires c κs = search needs
 
 returns-3 : tie.Need-returns-3
-returns-3 c = rw (c .waits-for .ensures, told (c .before .before .before .before .is-option .ensures) (c .before .before .before .if1 .left), ne-eqb _ _ (c .before .before .if2 .left), lt-ltb _ _ (c .before .if3 .taken))
+returns-3 c = rw (
+  c .waits-for .ensures,
+  told (c .before .before .before .before .is-option .ensures) (c .before .before .before .if1 .left),
+  ne-eqb _ _ (c .before .before .if2 .left),
+  lt-ltb _ _ (c .before .if3 .taken),
+)
 
 count-requires : tie.Need-count-requires
 count-requires c κs = search needs
@@ -33,7 +38,13 @@ counted-requires : tie.Need-counted-requires
 counted-requires c κs = search needs
 
 returns-4 : tie.Need-returns-4
-returns-4 c = rw (c .counted .ensures, c .before .count .ensures, told (c .before .before .before .before .before .is-option .ensures) (c .before .before .before .before .if1 .left), ne-eqb _ _ (c .before .before .before .if2 .left), le-ltb _ _ (c .before .before .if3 .left))
+returns-4 c = rw (
+  c .counted .ensures,
+  c .before .count .ensures,
+  told (c .before .before .before .before .before .is-option .ensures) (c .before .before .before .before .if1 .left),
+  ne-eqb _ _ (c .before .before .before .if2 .left),
+  le-ltb _ _ (c .before .before .if3 .left),
+)
 
 pub valued-spec : {M : Type 1} → statement M
 valued-spec =

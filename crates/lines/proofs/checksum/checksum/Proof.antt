@@ -37,7 +37,12 @@ loop-less : tie.Need-loop-less Inv-loop μ-loop
 loop-less c = search needs
 
 loop-again : tie.Need-loop-again Inv-loop μ-loop
-loop-again c = (search needs, rw (c .times-prime .ensures) (fold-turn mixed (c .before .before .before .loop .h) (now (c .before .before .before .before .before .args .s)) (c .before .before .before .loop .i) 0 (search needs) (c .before .before .before .loop .inv .1)))
+loop-again c = (
+  search needs,
+  rw (c .times-prime .ensures)
+      (fold-turn mixed (c .before .before .before .loop .h) (now (c .before .before .before .before .before .args .s)) (c .before .before .before .loop .i) 0
+      (search needs) (c .before .before .before .loop .inv .1)),
+)
 
 returns : tie.Need-returns Inv-loop μ-loop
 returns c = fold-end mixed (c .before .loop .h) (now (c .before .before .before .args .s)) (c .before .loop .i) (search needs) (c .before .loop .inv .1)

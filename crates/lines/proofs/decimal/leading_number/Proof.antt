@@ -42,7 +42,13 @@ loop-less : tie.Need-loop-less Inv-loop μ-loop
 loop-less c = search needs
 
 loop-again : tie.Need-loop-again Inv-loop μ-loop
-loop-again c = (search needs, run-on _ _ _ (search needs) (told (c .before .before .before .is-digit .ensures) (c .before .before .if1 .taken)) (search needs), value-on _ (now (c .before .before .before .before .before .before .before .before .args .s)) (c .before .before .before .before .before .before .loop .i) (c .before .before .before .before .before .before .loop .v) (c .before .digit .result) _ (c .before .before .before .before .before .before .loop .inv .2) (search needs) (c .before .digit .ensures .0) (c .grown .ensures))
+loop-again c = (
+  search needs,
+  run-on _ _ _ (search needs) (told (c .before .before .before .is-digit .ensures) (c .before .before .if1 .taken)) (search needs),
+  value-on _ (now (c .before .before .before .before .before .before .before .before .args .s)) (c .before .before .before .before .before .before .loop .i)
+      (c .before .before .before .before .before .before .loop .v) (c .before .digit .result) _ (c .before .before .before .before .before .before .loop .inv .2)
+      (search needs) (c .before .digit .ensures .0) (c .grown .ensures),
+)
 
 returns : tie.Need-returns Inv-loop μ-loop
 returns c = record { size = run-stop _ _ _ (search needs) (told (c .before .is-digit .ensures) (c .if1 .left)) (search needs); value = search needs; fits = search needs }

@@ -25,7 +25,11 @@ same-length-2 c = search needs
 
 returns-2 : tie.Need-returns-2
 unfolding assignmentOf
-returns-2 c = record { read = goes _ (c .before .before .before .before .before .before .before .place .ensures .read) (c .before .before .before .if1 .left) (λ d w. stops _ (c .before .before .wanted .ensures .read) (c .if2 .taken)); low = search needs }
+returns-2 c = record {
+  read = goes _ (c .before .before .before .before .before .before .before .place .ensures .read) (c .before .before .before .if1 .left)
+      (λ d w. stops _ (c .before .before .wanted .ensures .read) (c .if2 .taken));
+  low = search needs;
+}
 
 sign-requires : tie.Need-sign-requires
 sign-requires c κs = search needs

@@ -45,7 +45,16 @@ refused-requires c κs = search needs
 
 returns-2 : tie.Need-returns-2
 unfolding condition andThen look
-returns-2 c = record { read = rw (one-yes (K.NAME ∷ K.OVERFLOW ∷ relations) (c .before .before .before .before .before .kind-at .ensures) (rw (c .before .before .before .before .if1 .taken)) refl, same (c .before .before .before .before .before .kind-at .ensures .is) (c .before .before .before .before .if1 .taken), one-no relations (c .before .before .before .kind-at2 .ensures) (c .before .before .is-relation .ensures) (c .before .if2 .left)) (since (omega arith) (no (c .refused .ensures) tt (omega arith))); low = search needs }
+returns-2 c = record {
+  read = rw (
+    one-yes (K.NAME ∷ K.OVERFLOW ∷ relations) (c .before .before .before .before .before .kind-at .ensures)
+        (rw (c .before .before .before .before .if1 .taken)) refl,
+    same (c .before .before .before .before .before .kind-at .ensures .is) (c .before .before .before .before .if1 .taken),
+    one-no relations (c .before .before .before .kind-at2 .ensures) (c .before .before .is-relation .ensures) (c .before .if2 .left),
+  )
+      (since (omega arith) (no (c .refused .ensures) tt (omega arith)));
+  low = search needs;
+}
 
 begins-condition-requires : tie.Need-begins-condition-requires
 begins-condition-requires c κs = search needs
@@ -74,7 +83,11 @@ refused-requires-2 c κs = search needs
 
 returns-4 : tie.Need-returns-4
 unfolding condition andThen look
-returns-4 c = record { read = rw (one-no (K.NAME ∷ K.OVERFLOW ∷ relations) (c .before .before .before .before .kind-at .ensures) (c .before .before .begins-condition .ensures) (c .before .if3 .left)) (no (c .refused2 .ensures) tt (omega arith)); low = search needs }
+returns-4 c = record {
+  read = rw (one-no (K.NAME ∷ K.OVERFLOW ∷ relations) (c .before .before .before .before .kind-at .ensures)
+      (c .before .before .begins-condition .ensures) (c .before .if3 .left)) (no (c .refused2 .ensures) tt (omega arith));
+  low = search needs;
+}
 
 pub condition-spec : {M : Type 1} → statement M
 condition-spec =

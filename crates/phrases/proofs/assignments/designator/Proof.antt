@@ -21,7 +21,11 @@ read-requires c κs = search needs
 
 returns : tie.Need-returns
 unfolding designatorOf andThen look next
-returns c = record { read = rw (ne-eqb _ _ (other (c .before .before .kind-at .ensures .is) (c .before .if1 .taken))) (done (c .read .ensures) (omega arith) (omega arith) (refl, refl)); small = search needs }
+returns c = record {
+  read = rw (ne-eqb _ _ (other (c .before .before .kind-at .ensures .is) (c .before .if1 .taken)))
+      (done (c .read .ensures) (omega arith) (omega arith) (refl, refl));
+  small = search needs;
+}
 
 add-first : tie.Need-add-first
 add-first c = search needs
@@ -34,21 +38,40 @@ number-or-name-requires c κs = search needs
 
 returns-2 : tie.Need-returns-2
 unfolding designatorOf andThen look next
-returns-2 c = record { read = rw (eq-eqb _ _ (same (c .before .before .before .before .before .kind-at .ensures .is) (c .before .before .before .before .if1 .left))) (since (omega arith) (stops _ (c .before .before .number-or-name .ensures .read) (c .if2 .taken))); small = search needs }
+returns-2 c = record {
+  read = rw (eq-eqb _ _ (same (c .before .before .before .before .before .kind-at .ensures .is)
+      (c .before .before .before .before .if1 .left))) (since (omega arith) (stops _ (c .before .before .number-or-name .ensures .read) (c .if2 .taken)));
+  small = search needs;
+}
 
 wanted-requires : tie.Need-wanted-requires
 wanted-requires c κs = search needs
 
 returns-3 : tie.Need-returns-3
 unfolding designatorOf andThen look next
-returns-3 c = record { read = rw (eq-eqb _ _ (same (c .before .before .before .before .before .before .before .before .kind-at .ensures .is) (c .before .before .before .before .before .before .before .if1 .left))) (since (omega arith) (goes _ (c .before .before .before .before .before .number-or-name .ensures .read) (c .before .before .before .if2 .left) (λ s e. stops _ (c .before .before .wanted .ensures .read) (c .if3 .taken)))); small = search needs }
+returns-3 c = record {
+  read = rw (eq-eqb _ _ (same (c .before .before .before .before .before .before .before .before .kind-at .ensures .is)
+      (c .before .before .before .before .before .before .before .if1 .left)))
+      (since (omega arith) (goes _ (c .before .before .before .before .before .number-or-name .ensures .read) (c .before .before .before .if2 .left) (λ s e.
+      stops _ (c .before .before .wanted .ensures .read) (c .if3 .taken))));
+  small = search needs;
+}
 
 read-requires-2 : tie.Need-read-requires-2
 read-requires-2 c κs = search needs
 
 returns-4 : tie.Need-returns-4
 unfolding designatorOf andThen look next
-returns-4 c = record { read = rw (eq-eqb _ _ (same (c .before .before .before .before .before .before .before .before .before .before .kind-at .ensures .is) (c .before .before .before .before .before .before .before .before .before .if1 .left))) (since (omega arith) (goes _ (c .before .before .before .before .before .before .before .number-or-name .ensures .read) (c .before .before .before .before .before .if2 .left) (λ s e. goes _ (c .before .before .before .before .wanted .ensures .read) (c .before .before .if3 .left) (λ t f. rw (eq-eqb _ _ (same (c .before .before .before .before .before .before .before .before .kind-at2 .ensures .is) (c .before .if4 .taken))) (done (c .read2 .ensures) (omega arith) (omega arith) (refl, refl)))))); small = search needs }
+returns-4 c = record {
+  read = rw (eq-eqb _ _ (same (c .before .before .before .before .before .before .before .before .before .before .kind-at .ensures .is)
+      (c .before .before .before .before .before .before .before .before .before .if1 .left)))
+      (since (omega arith) (goes _ (c .before .before .before .before .before .before .before .number-or-name .ensures .read)
+      (c .before .before .before .before .before .if2 .left) (λ s e.
+      goes _ (c .before .before .before .before .wanted .ensures .read) (c .before .before .if3 .left) (λ t f.
+      rw (eq-eqb _ _ (same (c .before .before .before .before .before .before .before .before .kind-at2 .ensures .is) (c .before .if4 .taken)))
+      (done (c .read2 .ensures) (omega arith) (omega arith) (refl, refl))))));
+  small = search needs;
+}
 
 kind-at-requires-3 : tie.Need-kind-at-requires-3
 kind-at-requires-3 c κs = search needs

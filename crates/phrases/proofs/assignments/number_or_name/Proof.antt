@@ -20,7 +20,12 @@ read-requires c κs = search needs
 
 returns : tie.Need-returns
 unfolding wantOne
-returns c = record { read = rw (same (c .before .before .kind-at .ensures .is) (c .before .if1 .taken)) (done (c .read .ensures) (omega arith) (omega arith) refl); moved = search needs; none = search needs }
+returns c = record {
+  read = rw (same (c .before .before .kind-at .ensures .is) (c .before .if1 .taken))
+      (done (c .read .ensures) (omega arith) (omega arith) refl);
+  moved = search needs;
+  none = search needs;
+}
 
 add-read-2 : tie.Need-add-read-2
 add-read-2 c = search needs
@@ -30,14 +35,26 @@ read-requires-2 c κs = search needs
 
 returns-2 : tie.Need-returns-2
 unfolding wantOne
-returns-2 c = record { read = rw (same (c .before .before .before .kind-at .ensures .is) (c .before .if2 .taken)) (done (c .read2 .ensures) (omega arith) (omega arith) refl); moved = search needs; none = search needs }
+returns-2 c = record {
+  read = rw (same (c .before .before .before .kind-at .ensures .is) (c .before .if2 .taken))
+      (done (c .read2 .ensures) (omega arith) (omega arith) refl);
+  moved = search needs;
+  none = search needs;
+}
 
 refused-requires : tie.Need-refused-requires
 refused-requires c κs = search needs
 
 returns-3 : tie.Need-returns-3
 unfolding wantOne
-returns-3 c = record { read = rw (ne-eqb _ _ (other (c .before .before .before .kind-at .ensures .is) (c .before .before .if1 .left)), ne-eqb _ _ (other (c .before .before .before .kind-at .ensures .is) (c .before .if2 .left))) (no (c .refused .ensures) tt (omega arith)); moved = search needs; none = search needs }
+returns-3 c = record {
+  read = rw (
+    ne-eqb _ _ (other (c .before .before .before .kind-at .ensures .is) (c .before .before .if1 .left)),
+    ne-eqb _ _ (other (c .before .before .before .kind-at .ensures .is) (c .before .if2 .left)),
+  ) (no (c .refused .ensures) tt (omega arith));
+  moved = search needs;
+  none = search needs;
+}
 
 pub number-or-name-spec : {M : Type 1} → statement M
 number-or-name-spec =

@@ -34,7 +34,11 @@ same-length c = search needs
 
 returns : tie.Need-returns
 unfolding operand andThen look next wantOne tapeOperand
-returns c = record { read = rw (same (c .before .before .before .before .before .before .kind-at .ensures .is) (c .before .before .before .before .before .if1 .taken)) (done (c .read .ensures) (omega arith) (omega arith) (c .before .before .before .write .ensures)); low = search needs }
+returns c = record {
+  read = rw (same (c .before .before .before .before .before .before .kind-at .ensures .is)
+      (c .before .before .before .before .before .if1 .taken)) (done (c .read .ensures) (omega arith) (omega arith) (c .before .before .before .write .ensures));
+  low = search needs;
+}
 
 place-requires : tie.Need-place-requires
 place-requires c κs = search needs
@@ -44,14 +48,24 @@ same-length-2 c = search needs
 
 returns-2 : tie.Need-returns-2
 unfolding operand andThen look next wantOne tapeOperand
-returns-2 c = record { read = rw (same (c .before .before .before .before .before .before .kind-at .ensures .is) (c .before .before .before .before .if2 .taken)) (gives place (λ d w. w) (c .before .before .place .ensures .read)); low = search needs }
+returns-2 c = record {
+  read = rw (same (c .before .before .before .before .before .before .kind-at .ensures .is)
+      (c .before .before .before .before .if2 .taken)) (gives place (λ d w. w) (c .before .before .place .ensures .read));
+  low = search needs;
+}
 
 refused-requires : tie.Need-refused-requires
 refused-requires c κs = search needs
 
 returns-3 : tie.Need-returns-3
 unfolding operand andThen look next wantOne tapeOperand
-returns-3 c = record { read = rw (ne-eqb _ _ (other (c .before .before .before .kind-at .ensures .is) (c .before .before .if1 .left)), ne-eqb _ _ (other (c .before .before .before .kind-at .ensures .is) (c .before .if2 .left))) (no (c .refused .ensures) tt (omega arith)); low = search needs }
+returns-3 c = record {
+  read = rw (
+    ne-eqb _ _ (other (c .before .before .before .kind-at .ensures .is) (c .before .before .if1 .left)),
+    ne-eqb _ _ (other (c .before .before .before .kind-at .ensures .is) (c .before .if2 .left)),
+  ) (no (c .refused .ensures) tt (omega arith));
+  low = search needs;
+}
 
 pub operand-spec : {M : Type 1} → statement M
 operand-spec =

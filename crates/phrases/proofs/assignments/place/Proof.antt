@@ -35,7 +35,11 @@ same-length c = search needs
 
 returns-2 : tie.Need-returns-2
 unfolding tapeDesignator
-returns-2 c = record { read = since (omega arith) (turns (c .before .before .before .before .before .before .before .before .designator .ensures .read) (c .before .before .before .before .before .before .if1 .left) (λ a (e, f) k. rw (e, ← f) (c .before .before .before .write .ensures k)) (c .read .ensures)); low = search needs }
+returns-2 c = record {
+  read = since (omega arith) (turns (c .before .before .before .before .before .before .before .before .designator .ensures .read)
+      (c .before .before .before .before .before .before .if1 .left) (λ a (e, f) k. rw (e, ← f) (c .before .before .before .write .ensures k)) (c .read .ensures));
+  low = search needs;
+}
 
 pub place-spec : {M : Type 1} → statement M
 place-spec =

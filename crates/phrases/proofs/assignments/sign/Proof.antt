@@ -31,14 +31,31 @@ same-length c = search needs
 
 returns : tie.Need-returns
 unfolding signOf andThen look next tapeSign
-returns c = (record { read = rw (same (c .before .before .before .before .before .before .kind-at .ensures .is) (c .before .before .before .before .before .if1 .taken)) (done (c .read .ensures) (omega arith) (omega arith) (c .before .before .before .write .ensures)); low = search needs }, search needs)
+returns c = (
+  record {
+    read = rw (same (c .before .before .before .before .before .before .kind-at .ensures .is)
+        (c .before .before .before .before .before .if1 .taken)) (done (c .read .ensures) (omega arith) (omega arith) (c .before .before .before .write .ensures));
+    low = search needs;
+  },
+  search needs,
+)
 
 read-requires-2 : tie.Need-read-requires-2
 read-requires-2 c κs = search needs
 
 returns-2 : tie.Need-returns-2
 unfolding signOf andThen look next tapeSign
-returns-2 c = (record { read = rw (ne-eqb _ _ (other (c .before .before .before .kind-at .ensures .is) (c .before .before .if1 .left)), ne-eqb _ _ (other (c .before .before .before .kind-at .ensures .is) (c .before .if2 .taken))) (done (c .read2 .ensures) (omega arith) (omega arith) (λ k. refl)); low = search needs }, search needs)
+returns-2 c = (
+  record {
+    read = rw (
+      ne-eqb _ _ (other (c .before .before .before .kind-at .ensures .is) (c .before .before .if1 .left)),
+      ne-eqb _ _ (other (c .before .before .before .kind-at .ensures .is) (c .before .if2 .taken)),
+    )
+        (done (c .read2 .ensures) (omega arith) (omega arith) (λ k. refl));
+    low = search needs;
+  },
+  search needs,
+)
 
 add-second : tie.Need-add-second
 add-second c = search needs
@@ -63,7 +80,18 @@ same-length-2 c = search needs
 
 returns-3 : tie.Need-returns-3
 unfolding signOf andThen look next tapeSign
-returns-3 c = (record { read = rw (same (c .before .before .before .before .before .before .before .before .before .kind-at .ensures .is) (c .before .before .before .before .before .before .before .if2 .left), same (c .before .before .before .before .before .before .kind-at2 .ensures .is) (c .before .before .before .before .before .if3 .taken)) (done (c .read3 .ensures) (omega arith) (omega arith) (c .before .before .before .write2 .ensures)); low = search needs }, search needs)
+returns-3 c = (
+  record {
+    read = rw (
+      same (c .before .before .before .before .before .before .before .before .before .kind-at .ensures .is)
+          (c .before .before .before .before .before .before .before .if2 .left),
+      same (c .before .before .before .before .before .before .kind-at2 .ensures .is) (c .before .before .before .before .before .if3 .taken),
+    )
+        (done (c .read3 .ensures) (omega arith) (omega arith) (c .before .before .before .write2 .ensures));
+    low = search needs;
+  },
+  search needs,
+)
 
 write-requires-3 : tie.Need-write-requires-3
 write-requires-3 c κs = search needs
@@ -79,7 +107,18 @@ same-length-3 c = search needs
 
 returns-4 : tie.Need-returns-4
 unfolding signOf andThen look next tapeSign
-returns-4 c = (record { read = rw (same (c .before .before .before .before .before .before .before .before .before .kind-at .ensures .is) (c .before .before .before .before .before .before .before .if2 .left), ne-eqb _ _ (other (c .before .before .before .before .before .before .kind-at2 .ensures .is) (c .before .before .before .before .before .if3 .left))) (done (c .read4 .ensures) (omega arith) (omega arith) (c .before .before .before .write3 .ensures)); low = search needs }, search needs)
+returns-4 c = (
+  record {
+    read = rw (
+      same (c .before .before .before .before .before .before .before .before .before .kind-at .ensures .is)
+          (c .before .before .before .before .before .before .before .if2 .left),
+      ne-eqb _ _ (other (c .before .before .before .before .before .before .kind-at2 .ensures .is) (c .before .before .before .before .before .if3 .left)),
+    )
+        (done (c .read4 .ensures) (omega arith) (omega arith) (c .before .before .before .write3 .ensures));
+    low = search needs;
+  },
+  search needs,
+)
 
 pub sign-spec : {M : Type 1} → statement M
 sign-spec =

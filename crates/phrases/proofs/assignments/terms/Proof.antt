@@ -47,7 +47,12 @@ loop-less c = let h = is-token operators (c .before .before .before .before .bef
 
 loop-again : tie.Need-loop-again Inv-loop μ-loop
 unfolding terms andThen look next tapeEach
-loop-again c = turn (c .before .before .before .before .before .before .before .before .before .loop .inv) (search needs) (search needs) (search needs) (search needs) (λ f s after d. rw (among operators (c .before .before .before .before .before .before .before .before .kind-at .ensures) (c .before .before .before .before .before .before .before .is-operator .ensures) (c .before .before .before .before .before .before .if1 .taken)) (since (omega arith) (goes _ (c .before .before .before .before .operand .ensures .read) (c .if2 .left) (λ a w. gives (λ ts. record { operator = c .before .before .before .before .before .before .before .before .before .loop .at; operand = a } ∷ ts) (λ ts l k. l k ∙ w _) d))))
+loop-again c = turn (c .before .before .before .before .before .before .before .before .before .loop .inv) (search needs) (search needs) (search needs)
+    (search needs) (λ f s after d. rw (among operators (c .before .before .before .before .before .before .before .before .kind-at .ensures)
+    (c .before .before .before .before .before .before .before .is-operator .ensures) (c .before .before .before .before .before .before .if1 .taken))
+    (since (omega arith) (goes _ (c .before .before .before .before .operand .ensures .read) (c .if2 .left) (λ a w.
+    gives (λ ts. record { operator = c .before .before .before .before .before .before .before .before .before .loop .at; operand = a } ∷ ts) (λ ts l k. l k
+    ∙ w _) d))))
 
 read-requires : tie.Need-read-requires Inv-loop μ-loop
 read-requires c κs = search needs
@@ -57,7 +62,12 @@ same-length-2 c = search needs
 
 returns-2 : tie.Need-returns-2 Inv-loop μ-loop
 unfolding terms andThen look next tapeEach
-returns-2 c = record { read = leaves (c .before .before .before .before .loop .inv) (λ f. rw (among operators (c .before .before .before .kind-at .ensures) (c .before .before .is-operator .ensures) (c .before .if1 .left)) (done (c .read .ensures) (omega arith) (omega arith) (λ k. refl))); low = search needs }
+returns-2 c = record {
+  read = leaves (c .before .before .before .before .loop .inv) (λ f.
+      rw (among operators (c .before .before .before .kind-at .ensures) (c .before .before .is-operator .ensures) (c .before .if1 .left))
+      (done (c .read .ensures) (omega arith) (omega arith) (λ k. refl)));
+  low = search needs;
+}
 
 pub terms-spec : {M : Type 1} → statement M
 terms-spec =

@@ -22,7 +22,12 @@ refused-requires : tie.Need-refused-requires
 refused-requires c κs = search needs
 
 returns-2 : tie.Need-returns-2
-returns-2 c = record { read = goes _ (c .before .before .before .before .before .before .in-parens .ensures .read) (c .before .before .before .before .if1 .left) (λ t e. halts _ (c .before .before .before .type-at .ensures .read) (c .before .if2 .taken) (c .refused .ensures)); low = search needs }
+returns-2 c = record {
+  read = goes _ (c .before .before .before .before .before .before .in-parens .ensures .read)
+      (c .before .before .before .before .if1 .left) (λ t e.
+      halts _ (c .before .before .before .type-at .ensures .read) (c .before .if2 .taken) (c .refused .ensures));
+  low = search needs;
+}
 
 cast-write : tie.Need-cast-write
 cast-write c = search needs

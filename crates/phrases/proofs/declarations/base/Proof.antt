@@ -16,7 +16,11 @@ wanted-requires-2 : tie.Need-wanted-requires-2
 wanted-requires-2 c κs = search needs
 
 returns-2 : tie.Need-returns-2
-returns-2 c = record { read = goes _ (c .before .before .before .before .before .wanted .ensures .read) (c .before .before .before .if1 .left) (λ t e. stops _ (c .before .before .wanted2 .ensures .read) (c .if2 .taken)); low = search needs }
+returns-2 c = record {
+  read = goes _ (c .before .before .before .before .before .wanted .ensures .read) (c .before .before .before .if1 .left) (λ t e.
+      stops _ (c .before .before .wanted2 .ensures .read) (c .if2 .taken));
+  low = search needs;
+}
 
 write-requires : tie.Need-write-requires
 write-requires c κs = search needs
@@ -32,7 +36,13 @@ same-length c = search needs
 
 returns-3 : tie.Need-returns-3
 unfolding tapeDeclaration
-returns-3 c = record { read = goes _ (c .before .before .before .before .before .before .before .before .before .before .wanted .ensures .read) (c .before .before .before .before .before .before .before .before .if1 .left) (λ t e. goes _ (c .before .before .before .before .before .before .before .wanted2 .ensures .read) (c .before .before .before .before .before .if2 .left) (λ n f. done (c .read .ensures) (omega arith) (omega arith) (λ k. rw f (c .before .before .before .write .ensures k)))); low = search needs }
+returns-3 c = record {
+  read = goes _ (c .before .before .before .before .before .before .before .before .before .before .wanted .ensures .read)
+      (c .before .before .before .before .before .before .before .before .if1 .left) (λ t e.
+      goes _ (c .before .before .before .before .before .before .before .wanted2 .ensures .read) (c .before .before .before .before .before .if2 .left) (λ n f.
+      done (c .read .ensures) (omega arith) (omega arith) (λ k. rw f (c .before .before .before .write .ensures k))));
+  low = search needs;
+}
 
 pub base-spec : {M : Type 1} → statement M
 base-spec =

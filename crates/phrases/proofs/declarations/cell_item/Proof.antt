@@ -28,7 +28,12 @@ same-length c = search needs
 
 returns-2 : tie.Need-returns-2
 unfolding cellItem tapeItem
-returns-2 c = record { read = goes _ (c .before .before .before .before .before .before .before .before .before .before .wanted .ensures .read) (c .before .before .before .before .before .before .before .before .if1 .left) (λ n e. gives (λ ts. record { name = n; numbers = ts }) (λ ts l k. l k ∙ rw e (c .before .before .before .before .before .before .write .ensures _)) (c .before .before .numbers .ensures .read)); low = search needs }
+returns-2 c = record {
+  read = goes _ (c .before .before .before .before .before .before .before .before .before .before .wanted .ensures .read)
+      (c .before .before .before .before .before .before .before .before .if1 .left) (λ n e. gives (λ ts. record { name = n; numbers = ts }) (λ ts l k. l k
+      ∙ rw e (c .before .before .before .before .before .before .write .ensures _)) (c .before .before .numbers .ensures .read));
+  low = search needs;
+}
 
 pub cell-item-spec : {M : Type 1} → statement M
 cell-item-spec =

@@ -32,7 +32,11 @@ same-length c = search needs
 
 returns : tie.Need-returns Inv-loop μ-loop
 unfolding listOf andThen look next
-returns c = record { read = leaves (c .before .before .before .before .before .before .loop .inv) (λ f. stops _ (c .before .before .before .before .cell-item .ensures .read) (c .if1 .taken)); low = search needs }
+returns c = record {
+  read = leaves (c .before .before .before .before .before .before .loop .inv) (λ f.
+      stops _ (c .before .before .before .before .cell-item .ensures .read) (c .if1 .taken));
+  low = search needs;
+}
 
 kind-at-requires : tie.Need-kind-at-requires Inv-loop μ-loop
 kind-at-requires c κs = search needs
@@ -42,7 +46,13 @@ same-length-2 c = search needs
 
 returns-2 : tie.Need-returns-2 Inv-loop μ-loop
 unfolding listOf andThen look next tapeEach
-returns-2 c = record { read = leaves (c .before .before .before .before .before .before .before .before .loop .inv) (λ f. goes _ (c .before .before .before .before .before .before .cell-item .ensures .read) (c .before .before .if1 .left) (λ a w. rw (ne-eqb _ _ (other (c .before .kind-at .ensures .is) (c .if2 .taken))) (done (record { number-is = c .before .before .if1 .left; at-is = refl; value-is = refl }) (omega arith) (omega arith) (λ k. w k)))); low = search needs }
+returns-2 c = record {
+  read = leaves (c .before .before .before .before .before .before .before .before .loop .inv) (λ f.
+      goes _ (c .before .before .before .before .before .before .cell-item .ensures .read) (c .before .before .if1 .left) (λ a w.
+      rw (ne-eqb _ _ (other (c .before .kind-at .ensures .is) (c .if2 .taken)))
+      (done (record { number-is = c .before .before .if1 .left; at-is = refl; value-is = refl }) (omega arith) (omega arith) (λ k. w k))));
+  low = search needs;
+}
 
 add-at : tie.Need-add-at Inv-loop μ-loop
 add-at c = search needs
@@ -52,7 +62,10 @@ loop-less c = search needs
 
 loop-again : tie.Need-loop-again Inv-loop μ-loop
 unfolding listOf andThen look next tapeEach
-loop-again c = turn (c .before .before .before .before .before .before .before .before .before .loop .inv) (search needs) (search needs) (search needs) (search needs) (λ f s after d. goes _ (c .before .before .before .before .before .before .before .cell-item .ensures .read) (c .before .before .before .if1 .left) (λ a w. rw (eq-eqb _ _ (same (c .before .before .kind-at .ensures .is) (c .before .if2 .left))) (since (omega arith) (gives (λ more. a ∷ more) (λ ts l k. l k ∙ w _) d))))
+loop-again c = turn (c .before .before .before .before .before .before .before .before .before .loop .inv) (search needs) (search needs) (search needs)
+    (search needs) (λ f s after d. goes _ (c .before .before .before .before .before .before .before .cell-item .ensures .read)
+    (c .before .before .before .if1 .left) (λ a w. rw (eq-eqb _ _ (same (c .before .before .kind-at .ensures .is) (c .before .if2 .left)))
+    (since (omega arith) (gives (λ more. a ∷ more) (λ ts l k. l k ∙ w _) d))))
 
 pub cells-spec : {M : Type 1} → statement M
 cells-spec =

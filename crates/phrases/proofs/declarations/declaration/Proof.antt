@@ -23,7 +23,11 @@ same-length c = search needs
 
 returns : tie.Need-returns
 unfolding declaration andThen look next
-returns c = record { read = rw (same (c .before .before .before .before .before .kind-at .ensures .is) (c .before .before .before .before .if1 .taken)) (since (omega arith) (c .before .before .base .ensures .read)); low = search needs }
+returns c = record {
+  read = rw (same (c .before .before .before .before .before .kind-at .ensures .is) (c .before .before .before .before .if1 .taken))
+      (since (omega arith) (c .before .before .base .ensures .read));
+  low = search needs;
+}
 
 add-array : tie.Need-add-array
 add-array c = search needs
@@ -36,7 +40,11 @@ same-length-2 c = search needs
 
 returns-2 : tie.Need-returns-2
 unfolding declaration andThen look next
-returns-2 c = record { read = rw (same (c .before .before .before .before .before .before .kind-at .ensures .is) (c .before .before .before .before .if2 .taken)) (since (omega arith) (c .before .before .array .ensures .read)); low = search needs }
+returns-2 c = record {
+  read = rw (same (c .before .before .before .before .before .before .kind-at .ensures .is)
+      (c .before .before .before .before .if2 .taken)) (since (omega arith) (c .before .before .array .ensures .read));
+  low = search needs;
+}
 
 typed-requires : tie.Need-typed-requires
 typed-requires c κs = search needs
@@ -46,7 +54,15 @@ same-length-3 c = search needs
 
 returns-3 : tie.Need-returns-3
 unfolding declaration andThen look next
-returns-3 c = record { read = rw (ne-eqb _ _ (other (c .before .before .before .before .before .before .kind-at .ensures .is) (c .before .before .before .before .before .if1 .left)), ne-eqb _ _ (other (c .before .before .before .before .before .before .kind-at .ensures .is) (c .before .before .before .before .if2 .left))) (c .before .before .typed .ensures .read); low = search needs }
+returns-3 c = record {
+  read = rw (
+    ne-eqb _ _ (other (c .before .before .before .before .before .before .kind-at .ensures .is)
+        (c .before .before .before .before .before .if1 .left)),
+    ne-eqb _ _ (other (c .before .before .before .before .before .before .kind-at .ensures .is) (c .before .before .before .before .if2 .left)),
+  )
+      (c .before .before .typed .ensures .read);
+  low = search needs;
+}
 
 pub declaration-spec : {M : Type 1} → statement M
 declaration-spec =

@@ -35,7 +35,12 @@ same-length c = search needs
 
 returns : tie.Need-returns Inv-loop μ-loop
 unfolding numbers andThen look
-returns c = record { read = leaves (c .before .before .before .before .before .loop .inv) (λ f. rw (eq-eqb _ _ (same (c .before .before .before .before .kind-at .ensures .is) (c .before .before .before .if1 .taken))) (stops _ (c .before .before .in-parens .ensures .read) (c .if2 .taken))); low = search needs }
+returns c = record {
+  read = leaves (c .before .before .before .before .before .loop .inv) (λ f.
+      rw (eq-eqb _ _ (same (c .before .before .before .before .kind-at .ensures .is) (c .before .before .before .if1 .taken)))
+      (stops _ (c .before .before .in-parens .ensures .read) (c .if2 .taken)));
+  low = search needs;
+}
 
 add-write : tie.Need-add-write Inv-loop μ-loop
 add-write c = search needs
@@ -51,7 +56,11 @@ loop-less c = search needs
 
 loop-again : tie.Need-loop-again Inv-loop μ-loop
 unfolding numbers andThen look tapeEach
-loop-again c = turn (c .before .before .before .before .before .before .before .before .before .loop .inv) (search needs) (search needs) (search needs) (search needs) (λ f s after d. rw (eq-eqb _ _ (same (c .before .before .before .before .before .before .before .before .kind-at .ensures .is) (c .before .before .before .before .before .before .before .if1 .taken))) (goes _ (c .before .before .before .before .before .before .in-parens .ensures .read) (c .before .before .before .before .if2 .left) (λ t e. gives (λ ts. t ∷ ts) (λ ts l k. l k ∙ rw e (c .before .before .write .ensures _)) d)))
+loop-again c = turn (c .before .before .before .before .before .before .before .before .before .loop .inv) (search needs) (search needs) (search needs)
+    (search needs) (λ f s after d. rw (eq-eqb _ _ (same (c .before .before .before .before .before .before .before .before .kind-at .ensures .is)
+    (c .before .before .before .before .before .before .before .if1 .taken)))
+    (goes _ (c .before .before .before .before .before .before .in-parens .ensures .read) (c .before .before .before .before .if2 .left) (λ t e.
+    gives (λ ts. t ∷ ts) (λ ts l k. l k ∙ rw e (c .before .before .write .ensures _)) d)))
 
 read-requires : tie.Need-read-requires Inv-loop μ-loop
 read-requires c κs = search needs
@@ -61,7 +70,11 @@ same-length-2 c = search needs
 
 returns-2 : tie.Need-returns-2 Inv-loop μ-loop
 unfolding numbers andThen look tapeEach
-returns-2 c = record { read = leaves (c .before .before .before .loop .inv) (λ f. rw (ne-eqb _ _ (other (c .before .before .kind-at .ensures .is) (c .before .if1 .left))) (done (c .read .ensures) (omega arith) (omega arith) (λ k. refl))); low = search needs }
+returns-2 c = record {
+  read = leaves (c .before .before .before .loop .inv) (λ f.
+      rw (ne-eqb _ _ (other (c .before .before .kind-at .ensures .is) (c .before .if1 .left))) (done (c .read .ensures) (omega arith) (omega arith) (λ k. refl)));
+  low = search needs;
+}
 
 pub numbers-spec : {M : Type 1} → statement M
 numbers-spec =

@@ -18,7 +18,11 @@ in-parens-requires c κs = search needs
 
 returns-2 : tie.Need-returns-2
 unfolding registerItem
-returns-2 c = record { read = goes _ (c .before .before .before .before .before .wanted .ensures .read) (c .before .before .before .if1 .left) (λ n e. stops _ (c .before .before .in-parens .ensures .read) (c .if2 .taken)); low = search needs }
+returns-2 c = record {
+  read = goes _ (c .before .before .before .before .before .wanted .ensures .read) (c .before .before .before .if1 .left) (λ n e.
+      stops _ (c .before .before .in-parens .ensures .read) (c .if2 .taken));
+  low = search needs;
+}
 
 write-requires : tie.Need-write-requires
 write-requires c κs = search needs
@@ -34,7 +38,13 @@ same-length c = search needs
 
 returns-3 : tie.Need-returns-3
 unfolding registerItem
-returns-3 c = record { read = goes _ (c .before .before .before .before .before .before .before .before .before .before .wanted .ensures .read) (c .before .before .before .before .before .before .before .before .if1 .left) (λ n e. goes _ (c .before .before .before .before .before .before .before .in-parens .ensures .read) (c .before .before .before .before .before .if2 .left) (λ t f. done (c .read .ensures) (omega arith) (omega arith) (λ k. rw e (c .before .before .before .write .ensures k)))); low = search needs }
+returns-3 c = record {
+  read = goes _ (c .before .before .before .before .before .before .before .before .before .before .wanted .ensures .read)
+      (c .before .before .before .before .before .before .before .before .if1 .left) (λ n e.
+      goes _ (c .before .before .before .before .before .before .before .in-parens .ensures .read) (c .before .before .before .before .before .if2 .left) (λ t f.
+      done (c .read .ensures) (omega arith) (omega arith) (λ k. rw e (c .before .before .before .write .ensures k))));
+  low = search needs;
+}
 
 pub register-item-spec : {M : Type 1} → statement M
 register-item-spec =

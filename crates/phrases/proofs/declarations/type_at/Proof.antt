@@ -21,7 +21,12 @@ read-requires c κs = search needs
 
 returns : tie.Need-returns
 unfolding typeOf andThen look wantOne
-returns c = record { read = rw (same (c .before .before .kind-at .ensures .is) (c .before .if1 .taken)) (done (c .read .ensures) (omega arith) (omega arith) refl); moved = search needs; small = search needs }
+returns c = record {
+  read = rw (same (c .before .before .kind-at .ensures .is) (c .before .if1 .taken))
+      (done (c .read .ensures) (omega arith) (omega arith) refl);
+  moved = search needs;
+  small = search needs;
+}
 
 add-read-2 : tie.Need-add-read-2
 add-read-2 c = search needs
@@ -31,14 +36,27 @@ read-requires-2 c κs = search needs
 
 returns-2 : tie.Need-returns-2
 unfolding typeOf andThen look wantOne
-returns-2 c = record { read = rw (same (c .before .before .before .kind-at .ensures .is) (c .before .if2 .taken)) (done (c .read2 .ensures) (omega arith) (omega arith) refl); moved = search needs; small = search needs }
+returns-2 c = record {
+  read = rw (same (c .before .before .before .kind-at .ensures .is) (c .before .if2 .taken))
+      (done (c .read2 .ensures) (omega arith) (omega arith) refl);
+  moved = search needs;
+  small = search needs;
+}
 
 refused-requires : tie.Need-refused-requires
 refused-requires c κs = search needs
 
 returns-3 : tie.Need-returns-3
 unfolding typeOf andThen look wantOne
-returns-3 c = record { read = rw (ne-eqb _ _ (other (c .before .before .before .before .kind-at .ensures .is) (c .before .before .before .if1 .left)), ne-eqb _ _ (other (c .before .before .before .before .kind-at .ensures .is) (c .before .before .if2 .left)), ne-eqb _ _ (other (c .before .before .before .before .kind-at .ensures .is) (c .before .if3 .taken))) (no (c .refused .ensures) tt (omega arith)); moved = search needs; small = search needs }
+returns-3 c = record {
+  read = rw (
+    ne-eqb _ _ (other (c .before .before .before .before .kind-at .ensures .is) (c .before .before .before .if1 .left)),
+    ne-eqb _ _ (other (c .before .before .before .before .kind-at .ensures .is) (c .before .before .if2 .left)),
+    ne-eqb _ _ (other (c .before .before .before .before .kind-at .ensures .is) (c .before .if3 .taken)),
+  ) (no (c .refused .ensures) tt (omega arith));
+  moved = search needs;
+  small = search needs;
+}
 
 add-wanted : tie.Need-add-wanted
 add-wanted c = search needs
@@ -48,14 +66,25 @@ wanted-requires c κs = search needs
 
 returns-4 : tie.Need-returns-4
 unfolding typeOf andThen look wantOne
-returns-4 c = record { read = rw (same (c .before .before .before .before .before .before .kind-at .ensures .is) (c .before .before .before .if3 .left)) (since (omega arith) (stops _ (c .before .before .wanted .ensures .read) (c .if4 .taken))); moved = search needs; small = search needs }
+returns-4 c = record {
+  read = rw (same (c .before .before .before .before .before .before .kind-at .ensures .is) (c .before .before .before .if3 .left))
+      (since (omega arith) (stops _ (c .before .before .wanted .ensures .read) (c .if4 .taken)));
+  moved = search needs;
+  small = search needs;
+}
 
 read-requires-3 : tie.Need-read-requires-3
 read-requires-3 c κs = search needs
 
 returns-5 : tie.Need-returns-5
 unfolding typeOf andThen look wantOne
-returns-5 c = record { read = rw (same (c .before .before .before .before .before .before .before .kind-at .ensures .is) (c .before .before .before .before .if3 .left)) (since (omega arith) (goes _ (c .before .before .before .wanted .ensures .read) (c .before .if4 .left) (λ t e. done (c .read3 .ensures) (omega arith) (omega arith) refl))); moved = search needs; small = search needs }
+returns-5 c = record {
+  read = rw (same (c .before .before .before .before .before .before .before .kind-at .ensures .is)
+      (c .before .before .before .before .if3 .left)) (since (omega arith)
+      (goes _ (c .before .before .before .wanted .ensures .read) (c .before .if4 .left) (λ t e. done (c .read3 .ensures) (omega arith) (omega arith) refl)));
+  moved = search needs;
+  small = search needs;
+}
 
 pub type-at-spec : {M : Type 1} → statement M
 type-at-spec =

@@ -23,7 +23,13 @@ same-length c = search needs
 
 returns : tie.Need-returns
 unfolding afterName andThen look tapeStatement
-returns c = record { read = rw (← (c .before .before .before .before .before .kind-at .ensures .is), c .before .before .before .before .if1 .taken) (gives assign (λ a w. w) (c .before .before .assignment .ensures .read)); low = search needs }
+returns c = record {
+  read = rw (
+    ← (c .before .before .before .before .before .kind-at .ensures .is),
+    c .before .before .before .before .if1 .taken,
+  ) (gives assign (λ a w. w) (c .before .before .assignment .ensures .read));
+  low = search needs;
+}
 
 write-requires : tie.Need-write-requires
 write-requires c κs = search needs
@@ -39,7 +45,13 @@ same-length-2 c = search needs
 
 returns-2 : tie.Need-returns-2
 unfolding afterName andThen look tapeStatement
-returns-2 c = record { read = rw (← (c .before .before .before .before .before .before .kind-at .ensures .is), c .before .before .before .before .before .if1 .left) (done (c .read .ensures) (omega arith) (omega arith) (c .before .before .before .write .ensures)); low = search needs }
+returns-2 c = record {
+  read = rw (
+    ← (c .before .before .before .before .before .before .kind-at .ensures .is),
+    c .before .before .before .before .before .if1 .left,
+  ) (done (c .read .ensures) (omega arith) (omega arith) (c .before .before .before .write .ensures));
+  low = search needs;
+}
 
 pub after-name-spec : {M : Type 1} → statement M
 after-name-spec =

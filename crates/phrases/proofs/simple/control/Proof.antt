@@ -18,7 +18,14 @@ same-length : tie.Need-same-length
 same-length c = search needs
 
 returns-2 : tie.Need-returns-2
-returns-2 c = (record { read = takes _ _ (c .before .before .before .before .before .before .before .before .wanted .ensures) (c .before .before .before .before .before .before .if1 .left) (stops _ (c .before .before .before .before .assignment .ensures .read) (c .if2 .taken)); low = search needs }, search needs)
+returns-2 c = (
+  record {
+    read = takes _ _ (c .before .before .before .before .before .before .before .before .wanted .ensures)
+        (c .before .before .before .before .before .before .if1 .left) (stops _ (c .before .before .before .before .assignment .ensures .read) (c .if2 .taken));
+    low = search needs;
+  },
+  search needs,
+)
 
 wanted-requires-2 : tie.Need-wanted-requires-2
 wanted-requires-2 c κs = search needs
@@ -27,7 +34,16 @@ same-length-2 : tie.Need-same-length-2
 same-length-2 c = search needs
 
 returns-3 : tie.Need-returns-3
-returns-3 c = (record { read = takes _ _ (c .before .before .before .before .before .before .before .before .before .before .before .wanted .ensures) (c .before .before .before .before .before .before .before .before .before .if1 .left) (goes _ (c .before .before .before .before .before .before .before .assignment .ensures .read) (c .before .before .before .if2 .left) (λ a w. stops _ (c .before .before .wanted2 .ensures .read) (c .if3 .taken))); low = search needs }, search needs)
+returns-3 c = (
+  record {
+    read = takes _ _ (c .before .before .before .before .before .before .before .before .before .before .before .wanted .ensures)
+        (c .before .before .before .before .before .before .before .before .before .if1 .left)
+        (goes _ (c .before .before .before .before .before .before .before .assignment .ensures .read) (c .before .before .before .if2 .left) (λ a w.
+        stops _ (c .before .before .wanted2 .ensures .read) (c .if3 .taken)));
+    low = search needs;
+  },
+  search needs,
+)
 
 read-requires : tie.Need-read-requires
 read-requires c κs = search needs
@@ -36,7 +52,16 @@ same-length-3 : tie.Need-same-length-3
 same-length-3 c = search needs
 
 returns-4 : tie.Need-returns-4
-returns-4 c = (record { read = takes _ _ (c .before .before .before .before .before .before .before .before .before .before .before .before .wanted .ensures) (c .before .before .before .before .before .before .before .before .before .before .if1 .left) (goes _ (c .before .before .before .before .before .before .before .before .assignment .ensures .read) (c .before .before .before .before .if2 .left) (λ a w. goes _ (c .before .before .before .wanted2 .ensures .read) (c .before .if3 .left) (λ t e. done (c .read .ensures) (omega arith) (omega arith) w))); low = search needs }, search needs)
+returns-4 c = (
+  record {
+    read = takes _ _ (c .before .before .before .before .before .before .before .before .before .before .before .before .wanted .ensures)
+        (c .before .before .before .before .before .before .before .before .before .before .if1 .left)
+        (goes _ (c .before .before .before .before .before .before .before .before .assignment .ensures .read) (c .before .before .before .before .if2 .left) (λ a w.
+        goes _ (c .before .before .before .wanted2 .ensures .read) (c .before .if3 .left) (λ t e. done (c .read .ensures) (omega arith) (omega arith) w)));
+    low = search needs;
+  },
+  search needs,
+)
 
 pub control-spec : {M : Type 1} → statement M
 control-spec =

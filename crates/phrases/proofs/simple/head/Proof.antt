@@ -21,7 +21,14 @@ same-length-2 : tie.Need-same-length-2
 same-length-2 c = search needs
 
 returns-2 : tie.Need-returns-2
-returns-2 c = (record { read = goes _ (c .before .before .before .before .before .before .before .condition .ensures .read) (c .before .before .before .if1 .left) (λ x w. stops _ (c .before .before .wanted .ensures .read) (c .if2 .taken)); low = search needs }, search needs)
+returns-2 c = (
+  record {
+    read = goes _ (c .before .before .before .before .before .before .before .condition .ensures .read)
+        (c .before .before .before .if1 .left) (λ x w. stops _ (c .before .before .wanted .ensures .read) (c .if2 .taken));
+    low = search needs;
+  },
+  search needs,
+)
 
 read-requires : tie.Need-read-requires
 read-requires c κs = search needs
@@ -30,7 +37,15 @@ same-length-3 : tie.Need-same-length-3
 same-length-3 c = search needs
 
 returns-3 : tie.Need-returns-3
-returns-3 c = (record { read = goes _ (c .before .before .before .before .before .before .before .before .condition .ensures .read) (c .before .before .before .before .if1 .left) (λ x w. goes _ (c .before .before .before .wanted .ensures .read) (c .before .if2 .left) (λ t e. done (c .read .ensures) (omega arith) (omega arith) w)); low = search needs }, search needs)
+returns-3 c = (
+  record {
+    read = goes _ (c .before .before .before .before .before .before .before .before .condition .ensures .read)
+        (c .before .before .before .before .if1 .left) (λ x w.
+        goes _ (c .before .before .before .wanted .ensures .read) (c .before .if2 .left) (λ t e. done (c .read .ensures) (omega arith) (omega arith) w));
+    low = search needs;
+  },
+  search needs,
+)
 
 pub head-spec : {M : Type 1} → statement M
 head-spec =

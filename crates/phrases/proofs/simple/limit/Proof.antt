@@ -15,7 +15,14 @@ wanted-requires-2 : tie.Need-wanted-requires-2
 wanted-requires-2 c κs = search needs
 
 returns-2 : tie.Need-returns-2
-returns-2 c = (record { read = goes _ (c .before .before .before .before .before .wanted .ensures .read) (c .before .before .before .if1 .left) (λ t e. stops _ (c .before .before .wanted2 .ensures .read) (c .if2 .taken)); low = search needs }, search needs)
+returns-2 c = (
+  record {
+    read = goes _ (c .before .before .before .before .before .wanted .ensures .read) (c .before .before .before .if1 .left) (λ t e.
+        stops _ (c .before .before .wanted2 .ensures .read) (c .if2 .taken));
+    low = search needs;
+  },
+  search needs,
+)
 
 operand-requires : tie.Need-operand-requires
 operand-requires c κs = search needs
@@ -24,7 +31,16 @@ same-length : tie.Need-same-length
 same-length c = search needs
 
 returns-3 : tie.Need-returns-3
-returns-3 c = (record { read = goes _ (c .before .before .before .before .before .before .before .before .before .before .before .wanted .ensures .read) (c .before .before .before .before .before .before .before .before .before .if1 .left) (λ t e. goes _ (c .before .before .before .before .before .before .before .before .wanted2 .ensures .read) (c .before .before .before .before .before .before .if2 .left) (λ u f. stops _ (c .before .before .before .before .operand .ensures .read) (c .if3 .taken))); low = search needs }, search needs)
+returns-3 c = (
+  record {
+    read = goes _ (c .before .before .before .before .before .before .before .before .before .before .before .wanted .ensures .read)
+        (c .before .before .before .before .before .before .before .before .before .if1 .left) (λ t e.
+        goes _ (c .before .before .before .before .before .before .before .before .wanted2 .ensures .read)
+        (c .before .before .before .before .before .before .if2 .left) (λ u f. stops _ (c .before .before .before .before .operand .ensures .read) (c .if3 .taken)));
+    low = search needs;
+  },
+  search needs,
+)
 
 wanted-requires-3 : tie.Need-wanted-requires-3
 wanted-requires-3 c κs = search needs

@@ -15,13 +15,29 @@ in-parens-requires : tie.Need-in-parens-requires
 in-parens-requires c κs = search needs
 
 returns-2 : tie.Need-returns-2
-returns-2 c = (record { read = goes _ (c .before .before .before .before .before .wanted .ensures .read) (c .before .before .before .if1 .left) (λ t e. stops _ (c .before .before .in-parens .ensures .read) (c .if2 .taken)); low = search needs }, search needs)
+returns-2 c = (
+  record {
+    read = goes _ (c .before .before .before .before .before .wanted .ensures .read) (c .before .before .before .if1 .left) (λ t e.
+        stops _ (c .before .before .in-parens .ensures .read) (c .if2 .taken));
+    low = search needs;
+  },
+  search needs,
+)
 
 wanted-requires-2 : tie.Need-wanted-requires-2
 wanted-requires-2 c κs = search needs
 
 returns-3 : tie.Need-returns-3
-returns-3 c = (record { read = goes _ (c .before .before .before .before .before .before .before .before .wanted .ensures .read) (c .before .before .before .before .before .before .if1 .left) (λ t e. goes _ (c .before .before .before .before .before .in-parens .ensures .read) (c .before .before .before .if2 .left) (λ u f. stops _ (c .before .before .wanted2 .ensures .read) (c .if3 .taken))); low = search needs }, search needs)
+returns-3 c = (
+  record {
+    read = goes _ (c .before .before .before .before .before .before .before .before .wanted .ensures .read)
+        (c .before .before .before .before .before .before .if1 .left) (λ t e.
+        goes _ (c .before .before .before .before .before .in-parens .ensures .read) (c .before .before .before .if2 .left) (λ u f.
+        stops _ (c .before .before .wanted2 .ensures .read) (c .if3 .taken)));
+    low = search needs;
+  },
+  search needs,
+)
 
 write-requires : tie.Need-write-requires
 write-requires c κs = search needs

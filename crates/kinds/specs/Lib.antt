@@ -1,6 +1,0 @@
-pub mod Registers
-pub mod Meaning
-pub mod Meanings
-pub mod Tables
-pub mod Rules
-pub mod Kinds

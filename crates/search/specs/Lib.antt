@@ -1,3 +1,0 @@
--- Naming along the tape, and the open blocks as flat arrays.
-pub mod Naming
-pub mod Flat
