@@ -54,7 +54,7 @@ same-length c =
     let at-clear-offsets = at-layout .before .before .before .before .before in
     let at-judge = at-clear-offsets .before .before .before .before .before in
     let at-meanings = at-judge .before .before .before .before .before .before .before .before .before .before in
-    at-layout .layout .kept .1 .0 ∙ (at-clear-offsets .clear-offsets .kept .0 ∙ (at-judge .onRules .kept .1 .1 .0 ∙ at-meanings .meanings .kept .1 .1 .0))
+    at-layout .layout .kept .1 .0 ∙ (at-clear-offsets .clear-offsets .kept .0 ∙ (at-judge .judge .kept .1 .1 .0 ∙ at-meanings .meanings .kept .1 .1 .0))
 
 same-length-2 : tie.Need-same-length-2
 same-length-2 c =
@@ -73,7 +73,7 @@ returns c =
     let at-judge = at-clear-offsets .before .before .before .before .before in
     let at-meanings = at-judge .before .before .before .before .before .before .before .before .before .before in
     let start = at-meanings .before .before .before .before .before .before .before .before .before in
-    let cleared = at-clear-offsets .clear-offsets .ensures ∙ ap (onWide 3 zeros) (at-judge .onRules .ensures .1) in let same = at-judge .onRules .kept .1 .1 .0 ∙
+    let cleared = at-clear-offsets .clear-offsets .ensures ∙ ap (onWide 3 zeros) (at-judge .judge .ensures .1) in let same = at-judge .judge .kept .1 .1 .0 ∙
     at-meanings .meanings .kept .1 .1 .0 in (
       record {
         cells-is = at-end-of .end-of .ensures .0;
@@ -84,14 +84,14 @@ returns c =
       stays (start .args .kinds .now) (start .args .tape .now) (wideOf (start .args .wide .now)) (wideOf (at-meanings .meanings .last .1 .1 .0))
           (wideOf (at-clear-offsets .clear-offsets .last .0)) (wideOf (at-layout .layout .last .1 .0)) (thinOf (start .args .thin .now)) (thinOf (at-meanings
           .meanings .last .1 .1 .1 .0)) (thinOf (at-layout .layout .last .1 .1 .0)) (at-meanings .meanings .result) (length (at-meanings .meanings .last .1 .1 .1 .0)
-          / 4) (zeros (wideOf (at-judge .onRules .last .1 .1 .0) .offsets)) (at-layout .layout .result) (at-meanings .meanings .ensures) cleared (at-layout .layout
+          / 4) (zeros (wideOf (at-judge .judge .last .1 .1 .0) .offsets)) (at-layout .layout .result) (at-meanings .meanings .ensures) cleared (at-layout .layout
           .ensures),
       λ ts x t ek ef bm bo bw rows. settled ts x (start .args .kinds .now) (start .args .tape .now) (wideOf (start .args .wide .now)) (thinOf (start
           .args .thin .now)) t ek ef (wideOf (at-meanings .meanings .last .1 .1 .0)) (thinOf (at-meanings .meanings .last .1 .1 .1 .0)) (at-meanings .meanings
           .result) bm bo bw (at-meanings .meanings .ensures) (wideOf (at-clear-offsets .clear-offsets .last .0)) (wideOf (at-layout .layout .last .1 .0)) (thinOf
-          (at-layout .layout .last .1 .1 .0)) (zeros (wideOf (at-judge .onRules .last .1 .1 .0) .offsets)) (length (at-meanings .meanings .last .1 .1 .1 .0) / 4) (start
-          .args .others) (at-judge .onRules .result) (at-layout .layout .result) _ (omega (arith, start .pre .3, at-meanings .meanings .kept .1 .1 .1 .0)) (at-judge
-          .onRules .ensures .0) cleared (ap (λ (n : ℕ). replicate {A = ℕ} n 0) (wide-length 3 (at-judge .onRules .last .1 .1 .0) ∙ (ap (λ (n : ℕ). n / 4) same ∙ rows)))
+          (at-layout .layout .last .1 .1 .0)) (zeros (wideOf (at-judge .judge .last .1 .1 .0) .offsets)) (length (at-meanings .meanings .last .1 .1 .1 .0) / 4) (start
+          .args .others) (at-judge .judge .result) (at-layout .layout .result) _ (omega (arith, start .pre .3, at-meanings .meanings .kept .1 .1 .1 .0)) (at-judge
+          .judge .ensures .0) cleared (ap (λ (n : ℕ). replicate {A = ℕ} n 0) (wide-length 3 (at-judge .judge .last .1 .1 .0) ∙ (ap (λ (n : ℕ). n / 4) same ∙ rows)))
           (at-layout .layout .ensures) refl (at-join .join .ensures),
     )
 
