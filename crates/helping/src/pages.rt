@@ -332,7 +332,7 @@ This, with storage 20480, runs and gets stop 1: this is enough for every program
     BEGIN END @
 ~";
 
-pub const COMMANDS: [u8; 2982] = *b"Tautgaff: PL360, translated and run, with proof.
+pub const COMMANDS: [u8; 2825] = *b"Tautgaff: PL360, translated and run, with proof.
 
     tautgaff translate FILE [-o OBJECT]   the object text, to OBJECT or standard output
     tautgaff check FILE...                each file's answer
@@ -346,7 +346,7 @@ Status: 0 accepted, ended, same; 1 refused or different; 2 wrong use, or a file 
 ~    tautgaff translate FILE [-o OBJECT]
 
 Translates the source in FILE and writes the object text to OBJECT, or to standard output. OBJECT appears whole or not at all; one that is there
-already is replaced and keeps its mode; what is no file, as /dev/stdout, is written directly. A source that is refused leaves OBJECT as it was.
+already is replaced; what is no file, as /dev/stdout, is written directly. A source that is refused leaves OBJECT as it was.
 Of a source no more than 32,769 bytes are read: one of more than 32,768 is refused.
 Status: 0 accepted, 1 refused, 2 wrong use, or a file that cannot be read or written.
 ~    tautgaff check FILE...
@@ -357,12 +357,12 @@ Status: 0 all accepted, 1 some refused, 2 wrong use, or a file that cannot be re
 
 Runs an object text, or a source, which is translated first, and reports why it stopped, how many instructions were completed, the registers and the
 condition code.
-    --set NAME=VALUE   what a register has when the run begins, or, of a source, a declared cell or an element; 0 where nothing is said
-    --show NAME        a register, cell or element to report beside the registers
+    --set NAME=VALUE   what a register has when the run begins; 0 where nothing is said
+    --show NAME        a register to report once more, behind all of them
     --budget N         how many instructions may be completed; 1000000 where nothing is said
     --cc N             the condition code when the run begins, 0 to 3; 0 where nothing is said
-NAME is R0 to R9 or RA to RF, or a name of the source; an element is written with its byte offset, as TABLE(8). VALUE is decimal, with `_` or `-`
-in front if negative, or `#` and hexadecimal digits. Registers 14 and 15 are set by loading.
+NAME is R0 to R9 or RA to RF. VALUE is decimal, with `_` or `-` in front if negative, or `#` and hexadecimal digits. Registers 14 and 15 are set by
+loading.
 Status: 0 ended, 1 refused, 2 wrong use, or a file that cannot be read, 3 budget used up, 4 stopped by 2, 3 or 4.
 ~    tautgaff same FILE OBJECT
 
