@@ -15,8 +15,8 @@ use tally::{numbers, Tally};
 /// Texts up to so many bytes, and the stack of a thread that translates them, in bytes.
 const STACKS: [(usize, usize); 3] = [(1024, SHORT_STACK), (8192, MIDDLING_STACK), (TEXT_LIMIT, LONG_STACK)];
 const SHORT_STACK: usize = 128 << 10;
-const MIDDLING_STACK: usize = 640 << 10;
-const LONG_STACK: usize = 2400 << 10;
+const MIDDLING_STACK: usize = 448 << 10;
+const LONG_STACK: usize = 1600 << 10;
 
 /// The front before as many copies of the middle as leave room for the back.
 fn filled(front: &str, middle: &str, back: &str, length: usize) -> Vec<u8> {
