@@ -9,9 +9,9 @@ use borrow.Author.Tests.{ltb-false}
 use Rattle.base.proofs.Tests.{by-test}
 use Rattle.translation.specs.Translate as T
 use Rattle.translation.specs.Translate.{accepted, refused, lengthOf, translated, inRoom, translate}
-use Rattle.translate.specs.Answers.{outcome, defined}
+use Rattle.made.specs.Answers.{outcome, defined}
 use Rattle.translate.proofs.Theorems.{in-parts}
-use Rattle.translate.specs.declared.Answer.{Answer}
+use Rattle.made.specs.declared.Answer.{Answer}
 use Rattle.c_translate.specs.Answered.{Answered, Told}
 
 fits-room : (a : T.Answer) (room : ℕ) → lengthOf (inRoom room a) ≤ room

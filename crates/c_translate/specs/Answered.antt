@@ -4,8 +4,8 @@ use mathlib.Core.List.{List}
 use Prim.Native.Nat.{ℕ, _≤_}
 use lib.ListN.{length}
 use Rattle.translation.specs.Translate as T
-use Rattle.translate.specs.Answers.{numberOf, placeOf, lengthOf}
-use Rattle.translate.specs.declared.Answer.{Answer}
+use Rattle.made.specs.Answers.{numberOf, placeOf, lengthOf}
+use Rattle.made.specs.declared.Answer.{Answer}
 
 -- the three numbers of an answer
 pub record Told (r : Answer) (number place size : ℕ) : Type 0 where

@@ -10,9 +10,9 @@ use borrow.Author.Tests.{eq-eqb, ne-eqb}
 use Rattle.base.specs.Choose.{choose}
 use Rattle.translation.specs.Translate as T
 use Rattle.translation.specs.Translate.{accepted, refused, lengthOf, leaves, translate}
-use Rattle.translate.specs.Answers as A
+use Rattle.made.specs.Answers as A
 use Rattle.translate.proofs.Theorems.{in-parts}
-use Rattle.translate.specs.declared.Answer as D
+use Rattle.made.specs.declared.Answer as D
 use Rattle.runner.specs.declared.Verdict.{Verdict}
 use Rattle.runner.specs.declared.Verdict.the-variants.{Ran, NoObject, BadCode, SmallStorage}
 use Rattle.runner.specs.declared.Answer as E

@@ -8,8 +8,8 @@ use Rattle.base.specs.Choose.{choose}
 use Rattle.machine.specs.Space.{needed}
 use Rattle.translation.specs.Translate as T
 use Rattle.translation.specs.Translate.{translate, leaves}
-use Rattle.translate.specs.Answers.{numberOf, placeOf, lengthOf}
-use Rattle.translate.specs.declared.Answer as A
+use Rattle.made.specs.Answers.{numberOf, placeOf, lengthOf}
+use Rattle.made.specs.declared.Answer as A
 use Rattle.runner.specs.declared.Stop.the-variants.{BudgetUsed}
 use Rattle.runner.specs.Numbers.{stopOf}
 use Rattle.runner.specs.Runner as R

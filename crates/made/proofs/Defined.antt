@@ -55,7 +55,8 @@ use Rattle.code.proofs.Addresses.{Held}
 use Rattle.code.proofs.Kept.{places-kept, length-same}
 use Rattle.code.proofs.Program.{places-program, code-program}
 use Rattle.frames.specs.Frames.{objectOf}
-use Rattle.made.specs.Making.{zeros, endOf, endOfFirst, imageAlong, objectCut, objectAlong, startOf, codedAlong, madeAlong}
+use Rattle.settled.specs.Texts.{endOf}
+use Rattle.made.specs.Making.{zeros, endOfFirst, imageAlong, objectCut, objectAlong, startOf, codedAlong, madeAlong}
 use Rattle.made.proofs.Segments.{program-cut, firstBytes, laterBytes, first-cut, later-cut, segments-are}
 
 -- a text of tokens ts that is the program x, with no rule broken, and its tables in arrays

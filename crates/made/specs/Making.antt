@@ -1,8 +1,8 @@
 -- The object that the passes make of a text along its tape, by what the ledger has of its tokens.
 use mathlib.Core.List.{List}
-use Prim.Native.Nat.{ℕ, _+_, _*_, min}
+use Prim.Native.Nat.{ℕ, _+_, _*_}
 use lib.Dec.{eqb, ltb}
-use lib.ListN.{length, take, getD, replicate}
+use lib.ListN.{length, take, replicate}
 use lib.Seq.{sets}
 use Rattle.base.specs.Choose.{if_then_else_}
 use Rattle.tape.specs.Pass.{pass}
@@ -10,8 +10,9 @@ use Rattle.objtext.specs.Object.{Segment, objectText}
 use Rattle.translation.specs.Layout.{segmentLimit, roundUp}
 use Rattle.translation.specs.Image.{words}
 use Rattle.translation.specs.Translate.{Answer, accepted, refused, inRoom}
-use Rattle.layout.specs.Along.{imagingOf, nowhere, imageEvent}
+use Rattle.layout.specs.Along.{Imaging, imagingOf, nowhere, imageEvent}
 use Rattle.ledger.specs.Book.{Wide, Thin}
+use Rattle.settled.specs.Texts.{endOf}
 use Rattle.code.specs.Places.{onMarks, placesIn}
 use Rattle.code.specs.Coding.{Laid, codeIn}
 use Rattle.frames.specs.Frames.{objectOf}
@@ -19,10 +20,6 @@ use Rattle.frames.specs.Frames.{objectOf}
 -- "Each segment's image is built in an array of 4,096 zero bytes"
 abbrev pub zeros : List ℕ
 zeros = replicate segmentLimit 0
-
--- of cells, or of the segment's room
-abbrev pub endOf : (ends : List ℕ) → ℕ → ℕ
-endOf ends k = min (getD ends k 0) segmentLimit
 
 -- "Segment 1 ends with its last literal; with none, with its last cell, or at 16."
 unfoldable pub endOfFirst : (cells start literals : ℕ) → ℕ

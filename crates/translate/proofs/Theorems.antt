@@ -6,9 +6,9 @@ use lib.ListN.{length}
 use Rattle.translation.specs.Translate as T
 use Rattle.translation.specs.Translate.{translate}
 use Rattle.translation.proofs.Theorems.{not-both}
-use Rattle.translate.specs.declared.Answer.{Answer}
-use Rattle.translate.specs.declared.Answer.the-variants.{Accepted, Refused}
-use Rattle.translate.specs.Answers.{Outcome, outcome, defined, numberOf, placeOf, lengthOf, Gives}
+use Rattle.made.specs.declared.Answer.{Answer}
+use Rattle.made.specs.declared.Answer.the-variants.{Accepted, Refused}
+use Rattle.made.specs.Answers.{Outcome, outcome, defined, numberOf, placeOf, lengthOf, Gives}
 
 -- ── an outcome part by part ──
 

@@ -1,5 +1,5 @@
 -- `short` lends lists for 1,024 bytes. Assumes nothing.
-use Rattle.translate.proofs.Groups.{rooms}
+use Rattle.settled.proofs.Rooms.{rooms}
 use lib.ListN.{length}
 use native.Mathlib.Omega.{arith}
 use borrow.Author.Needs.{needs}

@@ -1,10 +1,10 @@
 -- `translate_in` reads the text, refusals 1 to 3, and then goes on with the lists cut to its tokens. Assumes nothing.
-use Rattle.translate.proofs.Groups.{text-refused, some-room, cut-blanks, text-read, cut-lent}
-use Rattle.translate.proofs.Reading.{all-read, few-read}
-use Rattle.translate.proofs.Delivering.{cut-long}
+use Rattle.translate.proofs.Groups.{text-refused, some-room, text-read}
+use Rattle.settled.proofs.Rooms.{cut-blanks, cut-lent}
+use Rattle.settled.proofs.Reading.{all-read, few-read}
 use Rattle.ledger.proofs.Cutting.{wide-take}
 use Rattle.ledger.specs.Book.{wideOf, thinOf}
-use lib.Seq.{length-front}
+use lib.Seq.{length-front, length-take-le}
 use mathlib.Core.Path.{refl, sym, _∙_}
 use Prim.Native.Nat.{_+_, _*_}
 use native.Mathlib.Omega.{arith}
@@ -52,12 +52,12 @@ slice-aggregate-translate-tokens c =
     let at-tokens = c .before .before in
     let at-read = at-tokens .before .before .before .before .before .before in
     let start = at-read .before .before .before .before .before .before .before .before .before in
-    cut-long _ _ _ (omega (
+    sym (length-take-le _ _ (omega (
       arith,
       few-read (start .args .src .now) _ (at-read .read .ensures .0 .is) _ (at-tokens .tokens .given .1),
       start .pre .for-kinds,
       at-read .read .kept .1 .0,
-    )) refl
+    )))
 
 slice-relend-prefix-translate-tokens : tie.Need-slice-relend-prefix-translate-tokens
 slice-relend-prefix-translate-tokens c =
@@ -71,8 +71,7 @@ slice-aggregate-translate-tokens-2 c =
     let at-tokens = c .before .before .before in
     let at-read = at-tokens .before .before .before .before .before .before in
     let start = at-read .before .before .before .before .before .before .before .before .before in
-    cut-long _ _ _ (omega (arith, few-read (start .args .src .now) _ (at-read .read .ensures .0 .is) _ (at-tokens .tokens .given .1), start .pre .for-tape))
-    refl
+    sym (length-take-le _ _ (omega (arith, few-read (start .args .src .now) _ (at-read .read .ensures .0 .is) _ (at-tokens .tokens .given .1), start .pre .for-tape)))
 
 slice-relend-prefix-translate-tokens-2 : tie.Need-slice-relend-prefix-translate-tokens-2
 slice-relend-prefix-translate-tokens-2 c =
@@ -92,12 +91,12 @@ slice-aggregate-translate-tokens-3 c =
     let at-tokens = c .before .before .before .before in
     let at-read = at-tokens .before .before .before .before .before .before in
     let start = at-read .before .before .before .before .before .before .before .before .before in
-    cut-long _ _ _ (omega (
+    sym (length-take-le _ _ (omega (
       arith,
       few-read (start .args .src .now) _ (at-read .read .ensures .0 .is) _ (at-tokens .tokens .given .1),
       start .pre .for-wide,
       at-read .read .kept .1 .1 .0,
-    )) refl
+    )))
 
 slice-relend-prefix-translate-tokens-3 : tie.Need-slice-relend-prefix-translate-tokens-3
 slice-relend-prefix-translate-tokens-3 c =
@@ -111,8 +110,7 @@ slice-aggregate-translate-tokens-4 c =
     let at-tokens = c .before .before .before .before .before in
     let at-read = at-tokens .before .before .before .before .before .before in
     let start = at-read .before .before .before .before .before .before .before .before .before in
-    cut-long _ _ _ (omega (arith, few-read (start .args .src .now) _ (at-read .read .ensures .0 .is) _ (at-tokens .tokens .given .1), start .pre .for-thin))
-    refl
+    sym (length-take-le _ _ (omega (arith, few-read (start .args .src .now) _ (at-read .read .ensures .0 .is) _ (at-tokens .tokens .given .1), start .pre .for-thin)))
 
 translate-tokens-requires : tie.Need-translate-tokens-requires
 translate-tokens-requires c κs =

@@ -1,6 +1,7 @@
 -- `translate_tape` finds, settles, and makes where no rule is broken: groups 6 to 16 of a program on the tape. Assumes nothing.
-use Rattle.translate.proofs.Groups.{rule-broken, none-broken, rows-are}
-use Rattle.translate.specs.Texts.{allTokens}
+use Rattle.translate.proofs.Groups.{rule-broken, none-broken}
+use Rattle.settled.proofs.Rooms.{rows-are}
+use Rattle.settled.specs.Texts.{allTokens}
 use Rattle.ledger.proofs.Columns.{thin-length}
 use lib.ListN.{replicate}
 use mathlib.Core.Path.{ap, _∙_}

@@ -1,10 +1,11 @@
 -- `translate_tokens` reads the program, refusals 4 and 5, and then its tape. Assumes nothing.
-use Rattle.translate.proofs.Groups.{no-program, tape-fits, some-program}
-use Rattle.translate.proofs.Delivering.{cut-long}
-use Rattle.translate.specs.Texts.{allTokens}
+use Rattle.translate.proofs.Groups.{no-program, some-program}
+use Rattle.settled.proofs.Programs.{tape-fits}
+use Rattle.settled.specs.Texts.{allTokens}
 use Rattle.ledger.specs.Book.{wideOf}
 use lib.ListN.{length-take}
-use mathlib.Core.Path.{refl}
+use lib.Seq.{length-take-le}
+use mathlib.Core.Path.{sym}
 use native.Mathlib.Omega.{arith}
 use borrow.Author.Needs.{needs}
 use Rattle.translate.proofs.translate_tokens.Statement.{statement}
@@ -33,14 +34,14 @@ slice-reshare-prefix-translate-tape : tie.Need-slice-reshare-prefix-translate-ta
 slice-reshare-prefix-translate-tape c = search needs
 
 slice-aggregate-translate-tape : tie.Need-slice-aggregate-translate-tape
-slice-aggregate-translate-tape c = cut-long _ _ _ (c .before .before .before .before .program .ensures .fits) refl
+slice-aggregate-translate-tape c = sym (length-take-le _ _ (c .before .before .before .before .program .ensures .fits))
 
 translate-tape-requires : tie.Need-translate-tape-requires
 translate-tape-requires c κs =
     let at-if1 = c .before .before .before .before in
     let at-program = at-if1 .before .before .before in
     let start = at-program .before .before .before .before .before .before .before .before in
-    let f = tape-fits (allTokens (start .args .src .now)) _ _ _ (at-program .program .ensures) (at-if1 .if1 .left) (omega (arith, start .pre .3 .few)) in (
+    let f = tape-fits _ _ _ (at-program .program .ensures) (at-if1 .if1 .left) (omega (arith, start .pre .3 .few)) in (
       start
           .pre .0,
       omega (

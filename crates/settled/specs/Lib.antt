@@ -1,0 +1,2 @@
+-- A text with its tables as arrays.
+pub mod Texts

@@ -1,0 +1,206 @@
+// Document 01, "Numbers answered": what is known of a text before code is made of it. Its tokens behind the register names; which declaration each name and which
+// label each GOTO means; what names mean, which rules are broken, where cells stand. And where a token stands in the text.
+ghost use mathlib.Core.Path.{_≡_};
+ghost use mathlib.Core.List.{List};
+ghost use Prim.Native.Nat.{_+_, _*_, _/_, _≤_, _<_};
+ghost use lib.ListN.{length, getD};
+ghost use lib.Seq.{sets};
+ghost use Rattle.token.specs.declared.Token.{Token};
+ghost use Rattle.token.specs.Text.{tokensOf};
+ghost use Rattle.grammar.specs.Tree.{Statement};
+ghost use Rattle.scopes.specs.Search.{inFront};
+ghost use Rattle.ledger.specs.Book.{wideOf, thinOf, onWide};
+ghost use Rattle.ledger.specs.Bounds.{Narrow, Nested};
+ghost use Rattle.translation.specs.Translate.{kindsOf, valuesOf, named};
+ghost use Rattle.settled.specs.Texts.{allTokens, placesOf, Behind, Fronted, ButValues, Text, Blank, Bound, Cleared, endOf, Settled, Ended, Stays};
+use ledger::clear_offsets;
+use ledger::clear_opens;
+use ledger::clear_written;
+use ledger::put_value;
+use ledger::written;
+use scopes::Broken;
+use scopes::join;
+use token::Next;
+use token::Tokens;
+use token_lists::is_last;
+
+// ── the tokens ──
+
+// The register names stand in front of the text's own tokens.
+pub const FIRST_TOKEN: usize = 17;
+
+const FRONT_KINDS: [u8; 17] = [0, 1, 1, 1, 1, 1, 1, 1, 1, 1, 1, 1, 1, 1, 1, 1, 1];
+
+const FRONT_KEYS: [u64; 17] = [
+    0,
+    972,
+    973,
+    974,
+    975,
+    976,
+    977,
+    978,
+    979,
+    980,
+    981,
+    982,
+    983,
+    984,
+    985,
+    986,
+    987,
+];
+
+fn put_front(kinds: &mut [u8], wide: &mut [u64])
+    requires { ⌜ 17 ≤ length (now kinds) ⌝ }
+    ensures { λ _. ⌜ (now (kinds .exit) ≡ sets (now (kinds .entry)) 0 (kindsOf inFront)) × (wideOf (now (wide .exit)) ≡ onWide 0 (λ values. sets values 0 (valuesOf inFront)) (wideOf (now (wide .entry)))) ⌝ }
+{
+    let mut t: usize = 0;
+    while t < FIRST_TOKEN {
+        kinds[t] = FRONT_KINDS[t];
+        put_value(wide, t, FRONT_KEYS[t]);
+        t += 1;
+    }
+}
+
+// The text's own tokens, one after the other as far as a refusal.
+fn lay_tokens(src: &[u8], kinds: &mut [u8], wide: &mut [u64]) -> Tokens
+    requires { ⌜ (length (now src) ≤ 32768) × (length (now src) + 18 ≤ length (now kinds)) ⌝ }
+    ensures { λ r. ⌜ Behind (now (src .entry)) (now (kinds .entry)) (now (kinds .exit)) (wideOf (now (wide .entry))) (wideOf (now (wide .exit))) r ⌝ }
+{
+    let mut at: usize = 0;
+    let mut n: usize = 0;
+    loop {
+        let next = scanner::next_token(&src[at..]);
+        match next {
+            Next::Token(t, end) => {
+                let kind = t.kind;
+                kinds[FIRST_TOKEN + n] = kind;
+                put_value(wide, FIRST_TOKEN + n, t.value);
+                n += 1;
+                if is_last(kind) {
+                    return Tokens::Read(n);
+                }
+                at += end;
+            }
+            Next::NoToken(place) => return Tokens::NoToken(at + place),
+            Next::OutOfRange(place) => return Tokens::OutOfRange(at + place),
+        }
+    }
+}
+
+pub fn read(src: &[u8], kinds: &mut [u8], wide: &mut [u64]) -> Tokens
+    requires { ⌜ (length (now src) ≤ 32768) × (length (now src) + 18 ≤ length (now kinds)) × (4 * (length (now src) + 18) ≤ length (now wide)) ⌝ }
+    ensures { λ r. ⌜ Fronted (now (src .entry)) (now (kinds .exit)) (wideOf (now (wide .exit)) .values) r × ButValues (wideOf (now (wide .entry))) (wideOf (now (wide .exit))) ⌝ }
+{
+    put_front(kinds, wide);
+    lay_tokens(src, kinds, wide)
+}
+
+// ── a token's place ──
+
+// The place of a token of a text that was read, which is read again as far as that.
+fn place_in(src: &[u8], wanted: usize) -> usize
+    requires { ⌜ tokensOf (now src) .number ≡ 0 ⌝ }
+    ensures { λ r. ⌜ r ≡ getD (placesOf (tokensOf (now (src .entry)) .tokens)) wanted 0 ⌝ }
+{
+    let mut at: usize = 0;
+    let mut n: usize = 0;
+    loop {
+        let next = scanner::next_token(&src[at..]);
+        match next {
+            Next::Token(t, end) => {
+                let kind = t.kind;
+                let place = t.place;
+                if n == wanted {
+                    return at + place;
+                }
+                if is_last(kind) {
+                    return 0;
+                }
+                n += 1;
+                at += end;
+            }
+            Next::NoToken(place) => return 0,
+            Next::OutOfRange(place) => return 0,
+        }
+    }
+}
+
+// The names in front have no place.
+pub fn place_of(src: &[u8], t: usize) -> usize
+    requires { ⌜ tokensOf (now src) .number ≡ 0 ⌝ }
+    ensures { λ r. ⌜ r ≡ getD (placesOf (allTokens (now (src .entry)))) t 0 ⌝ }
+{
+    if t < FIRST_TOKEN {
+        return 0;
+    }
+    place_in(src, t - FIRST_TOKEN)
+}
+
+// ── the rules ──
+
+// Which declaration each name and which label each GOTO means; the broken rules. Two columns are worked in, and left as zeros.
+pub fn bind(tape: &[u32], wide: &[u64], thin: &mut [u16]) -> Broken
+    requires { ⌜ Narrow (now tape) × (4 * (17 + length (now tape)) ≤ length (now thin)) × (length (now thin) ≤ 262144) × (length (now wide) ≤ length (now thin)) ⌝ }
+    ensures { λ r. ⌜ Cleared (now (thin .entry)) (thinOf (now (thin .exit))) × ((ts : List Token) (x : Statement) → Text ts x (wideOf (now (wide .entry)) .values) (now (tape .entry)) → Blank ts (thinOf (now (thin .entry)) .found) → Blank ts (thinOf (now (thin .entry)) .goes) → Bound ts x (thinOf (now (thin .exit))) r) ⌝ }
+{
+    let n = names::names(tape, wide, thin);
+    let l = labels::labels(tape, wide, thin);
+    clear_opens(thin);
+    clear_written(thin);
+    join(n.broken, l.broken)
+}
+
+// "A segment is at most 4,096 bytes".
+const SEGMENT_LIMIT: usize = 4096;
+
+// The broken rule that is answered, how many base declarations there are, and where the cells of segments 1 to 3 end.
+pub struct Judged {
+    pub broken: Broken,
+    pub bases: usize,
+    pub cells: usize,
+    pub two: usize,
+    pub three: usize,
+}
+
+// Layout leaves the ends of segments in the column of what procedures write.
+pub fn end_of(thin: &[u16], k: usize) -> usize
+    ensures { λ r. ⌜ (r ≡ endOf (thinOf (now (thin .entry)) .written) k) × (r ≤ 4096) ⌝ }
+{
+    let end = written(thin, k);
+    if end < SEGMENT_LIMIT {
+        return end;
+    }
+    SEGMENT_LIMIT
+}
+
+// "BEGIN, IF, WHILE, FOR or PROCEDURE inside 64 such constructs": so many blocks, or procedures, are open at most.
+const NESTING: usize = 64;
+
+// What is settled along the tape.
+pub fn settle(
+    tape: &[u32],
+    kinds: &[u8],
+    wide: &mut [u64],
+    thin: &mut [u16],
+    others: Broken,
+) -> Judged
+    requires { ⌜ Nested 64 0 0 (now tape) × (length (now tape) < 65534) × (4 * (length (now tape) + 2) ≤ length (now wide)) × (4 * (length (now tape) + 2) ≤ length (now thin)) ⌝ }
+    ensures { λ r. ⌜ Ended (thinOf (now (thin .exit)) .written) r × Stays (wideOf (now (wide .entry))) (wideOf (now (wide .exit))) (thinOf (now (thin .entry))) (thinOf (now (thin .exit))) × ((ts : List Token) (x : Statement) → Text ts x (wideOf (now (wide .entry)) .values) (now (tape .entry)) → now (kinds .entry) ≡ kindsOf ts → thinOf (now (thin .entry)) .found ≡ named ts x .found → Blank ts (wideOf (now (wide .entry)) .means) → Blank ts (thinOf (now (thin .entry)) .opens) → Blank ts (thinOf (now (thin .entry)) .written) → length (now (wide .entry)) / 4 ≡ length ts → Settled ts x (wideOf (now (wide .exit))) (thinOf (now (thin .exit))) others r) ⌝ }
+{
+    let mut owners = [0u64; NESTING + 1];
+    let mut outer = [0u64; NESTING + 1];
+    let mut counts = [0u64; NESTING];
+    let bases = meanings::meanings(tape, kinds, wide, thin, &mut owners, &mut outer);
+    let ruled = judge::judge(tape, kinds, wide, thin, &mut counts, others);
+    clear_offsets(wide);
+    let placed = layout::layout(tape, wide, thin);
+    Judged {
+        broken: join(ruled, placed),
+        bases,
+        cells: end_of(thin, 1),
+        two: end_of(thin, 2),
+        three: end_of(thin, 3),
+    }
+}

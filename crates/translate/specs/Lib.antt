@@ -1,3 +1,0 @@
--- The answer by the paper's numbers, and a text with its tables as arrays.
-pub mod Answers
-pub mod Texts
