@@ -10,7 +10,7 @@ use Rattle.objtext.specs.Object.{Segment, objectText}
 use Rattle.translation.specs.Layout.{segmentLimit, roundUp}
 use Rattle.translation.specs.Image.{words}
 use Rattle.translation.specs.Translate.{Answer, accepted, refused, inRoom}
-use Rattle.layout.specs.Along.{Imaging, imagingOf, nowhere, imageEvent}
+use Rattle.layout.specs.Along.{imagingOf, nowhere, imageEvent}
 use Rattle.ledger.specs.Book.{Wide, Thin}
 use Rattle.settled.specs.Texts.{endOf}
 use Rattle.code.specs.Places.{onMarks, placesIn}

@@ -4,7 +4,7 @@ use mathlib.Core.List.{List, [], _++_, map}
 use Prim.Native.Nat.{ℕ, _+_, _*_, _/_, _≤_, _<_, min}
 use lib.ListN.{length, take, drop, getD, replicate}
 use Rattle.token.specs.Kinds as K
-use Rattle.token.specs.Text.{Reading, tokensOf}
+use Rattle.token.specs.Text.{tokensOf}
 use Rattle.token.specs.Answers.{summaryOf, summed, laid, kindOf, valueOf}
 use Rattle.token.specs.declared.Token.{Token}
 use Rattle.token.specs.declared.Tokens.{Tokens}
@@ -16,8 +16,6 @@ use Rattle.ledger.specs.Book.{Wide, Thin, onWide}
 use Rattle.scopes.specs.declared.Broken.{Broken}
 use Rattle.scopes.specs.Broken.{_⊕_}
 use Rattle.scopes.specs.Search.{inFront, firstToken}
-use Rattle.scopes.specs.Names.{Named}
-use Rattle.scopes.specs.Labels.{Labelled}
 use Rattle.static_rules.specs.Meanings.{Meant}
 use Rattle.static_rules.specs.Tables.{Tables}
 use Rattle.static_rules.specs.Kinds.{rulesOf}

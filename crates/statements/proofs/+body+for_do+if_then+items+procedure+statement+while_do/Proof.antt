@@ -443,12 +443,10 @@ for-do-returns-3 t c =
     }
 
 for-do-write-requires : (t : ℕ) → for-do-lts.Need-write-requires (for-do-calls t) (for-do-at t) for-do.Post
-for-do-write-requires t c κs =
-    let at-statement = c .before .before .before .before .before in
-    let at-limit = at-statement .before .before .before .before .before .before in
-    let at-control = at-limit .before .before .before .before .before .before in
-    let start = at-control .before .before .before .before in
-    let o = start .pre in let a = at-control .control in let l = at-limit .limit in let s = at-statement .statement in omega arith
+for-do-write-requires t c κs = let o = c .before .before .before .before .before .before .before .before .before .before .before .before .before .before .before
+    .before .before .before .before .before .before .pre in let a = c .before .before .before .before .before .before .before .before .before .before .before
+    .before .before .before .before .before .before .control in let l = c .before .before .before .before .before .before .before .before .before .before
+    .before .limit in let s = c .before .before .before .before .before .statement in omega arith
 
 for-do-add-read : (t : ℕ) → for-do-lts.Need-add-read (for-do-calls t) (for-do-at t) for-do.Post
 for-do-add-read t c =
@@ -462,13 +460,11 @@ for-do-read-requires : (t : ℕ) → for-do-lts.Need-read-requires (for-do-calls
 for-do-read-requires t c κs = search needs
 
 for-do-same-length-4 : (t : ℕ) → for-do-lts.Need-same-length-4 (for-do-calls t) (for-do-at t) for-do.Post
-for-do-same-length-4 t c =
-    let at-write = c .before .before .before .before in
-    let at-statement = at-write .before .before .before .before .before .before in
-    let at-limit = at-statement .before .before .before .before .before .before in
-    let at-control = at-limit .before .before .before .before .before .before in
-    let start = at-control .before .before .before .before in
-    let x = at-write .write in let o = start .pre in let a = at-control .control in let l = at-limit .limit in let s = at-statement .statement in omega arith
+for-do-same-length-4 t c = let x = c .before .before .before .before .write in let o = c .before .before .before .before .before .before .before .before .before
+    .before .before .before .before .before .before .before .before .before .before .before .before .before .before .before .before .before .pre in let a = c
+    .before .before .before .before .before .before .before .before .before .before .before .before .before .before .before .before .before .before .before
+    .before .before .before .control in let l = c .before .before .before .before .before .before .before .before .before .before .before .before .before
+    .before .before .before .limit in let s = c .before .before .before .before .before .before .before .before .before .before .statement in omega arith
 
 for-do-returns-4 : (t : ℕ) → for-do-lts.Need-returns-4 (for-do-calls t) (for-do-at t) for-do.Post
 unfolding tapeStatement
@@ -556,25 +552,25 @@ if-then-add-statement-2 t c =
     let o = start .pre in let h = at-head .head in let s = at-statement .statement in omega arith
 
 if-then-statement-requires-2 : (t : ℕ) → if-then-lts.Need-statement-requires-2 (if-then-calls t) (if-then-at t) if-then.Post
-if-then-statement-requires-2 t c κs =
-    let at-write = c .before .before .before .before .before in
-    let at-if3 = at-write .before .before in
-    let at-has-else = at-if3 .before in
-    let at-statement = at-has-else .before .before .before .before .before in
-    let at-kind-at = at-statement .before .before in
-    let at-head = at-kind-at .before .before .before .before .before in
-    let start = at-head .before .before .before .before in
-    let x = else-inside (now (start .args .kinds)) (at-statement .statement .result .at) (at-kind-at .kind-at .result) (at-has-else .has-else .ensures)
-    (at-if3 .if3 .taken) in let o = start .pre in let h = at-head .head in let s = at-statement .statement in let w = at-write .write in omega arith
+if-then-statement-requires-2 t c κs = let x = else-inside
+    (now (c .before .before .before .before .before .before .before .before .before .before .before .before .before .before .before .before .before .before
+    .before .before .before .before .before .before .args .kinds))
+    (c .before .before .before .before .before .before .before .before .before .before .before .before .before .statement .result .at)
+    (c .before .before .before .before .before .before .before .before .before .before .before .before .before .before .before .kind-at .result)
+    (c .before .before .before .before .before .before .before .before .has-else .ensures)
+    (c .before .before .before .before .before .before .before .if3 .taken) in let o = c .before .before .before .before .before .before .before .before .before
+    .before .before .before .before .before .before .before .before .before .before .before .before .before .before .before .pre in let h = c .before .before
+    .before .before .before .before .before .before .before .before .before .before .before .before .before .before .before .before .before .before .head in let
+    s = c .before .before .before .before .before .before .before .before .before .before .before .before .before .statement in let w = c .before .before
+    .before .before .before .write in omega arith
 
 if-then-same-length-3 : (t : ℕ) → if-then-lts.Need-same-length-3 (if-then-calls t) (if-then-at t) if-then.Post
-if-then-same-length-3 t c =
-    let at-statement2 = c .before .before .before .before in
-    let at-write = at-statement2 .before .before .before .before .before .before in
-    let at-statement = at-write .before .before .before .before .before .before .before .before in
-    let at-head = at-statement .before .before .before .before .before .before .before in
-    let start = at-head .before .before .before .before in
-    let o = start .pre in let h = at-head .head in let s = at-statement .statement in let w = at-write .write in let u = at-statement2 .statement2 in omega arith
+if-then-same-length-3 t c = let o = c .before .before .before .before .before .before .before .before .before .before .before .before .before .before .before
+    .before .before .before .before .before .before .before .before .before .before .before .before .before .before .pre in let h = c .before .before .before
+    .before .before .before .before .before .before .before .before .before .before .before .before .before .before .before .before .before .before .before
+    .before .before .before .head in let s = c .before .before .before .before .before .before .before .before .before .before .before .before .before .before
+    .before .before .before .before .statement in let w = c .before .before .before .before .before .before .before .before .before .before .write in let u = c
+    .before .before .before .before .statement2 in omega arith
 
 if-then-returns-3 : (t : ℕ) → if-then-lts.Need-returns-3 (if-then-calls t) (if-then-at t) if-then.Post
 unfolding ifOf andThen look next
@@ -600,13 +596,12 @@ if-then-returns-3 t c =
     }
 
 if-then-write-requires-2 : (t : ℕ) → if-then-lts.Need-write-requires-2 (if-then-calls t) (if-then-at t) if-then.Post
-if-then-write-requires-2 t c κs =
-    let at-statement2 = c .before .before .before .before .before in
-    let at-write = at-statement2 .before .before .before .before .before .before in
-    let at-statement = at-write .before .before .before .before .before .before .before .before in
-    let at-head = at-statement .before .before .before .before .before .before .before in
-    let start = at-head .before .before .before .before in
-    let o = start .pre in let h = at-head .head in let s = at-statement .statement in let w = at-write .write in let u = at-statement2 .statement2 in omega arith
+if-then-write-requires-2 t c κs = let o = c .before .before .before .before .before .before .before .before .before .before .before .before .before .before
+    .before .before .before .before .before .before .before .before .before .before .before .before .before .before .before .before .pre in let h = c .before
+    .before .before .before .before .before .before .before .before .before .before .before .before .before .before .before .before .before .before .before
+    .before .before .before .before .before .before .head in let s = c .before .before .before .before .before .before .before .before .before .before .before
+    .before .before .before .before .before .before .before .before .statement in let w = c .before .before .before .before .before .before .before .before
+    .before .before .before .write in let u = c .before .before .before .before .before .statement2 in omega arith
 
 if-then-add-read : (t : ℕ) → if-then-lts.Need-add-read (if-then-calls t) (if-then-at t) if-then.Post
 if-then-add-read t c =
@@ -621,41 +616,52 @@ if-then-read-requires : (t : ℕ) → if-then-lts.Need-read-requires (if-then-ca
 if-then-read-requires t c κs = search needs
 
 if-then-same-length-4 : (t : ℕ) → if-then-lts.Need-same-length-4 (if-then-calls t) (if-then-at t) if-then.Post
-if-then-same-length-4 t c =
-    let at-write2 = c .before .before .before .before in
-    let at-statement2 = at-write2 .before .before .before .before .before .before in
-    let at-write = at-statement2 .before .before .before .before .before .before in
-    let at-statement = at-write .before .before .before .before .before .before .before .before in
-    let at-head = at-statement .before .before .before .before .before .before .before in
-    let start = at-head .before .before .before .before in
-    let x = at-write2 .write2 in let o = start .pre in let h = at-head .head in let s = at-statement .statement in let w = at-write .write in let u = at-statement2 .statement2 in omega arith
+if-then-same-length-4 t c = let x = c .before .before .before .before .write2 in let o = c .before .before .before .before .before .before .before .before
+    .before .before .before .before .before .before .before .before .before .before .before .before .before .before .before .before .before .before .before
+    .before .before .before .before .before .before .before .before .pre in let h = c .before .before .before .before .before .before .before .before .before
+    .before .before .before .before .before .before .before .before .before .before .before .before .before .before .before .before .before .before .before
+    .before .before .before .head in let s = c .before .before .before .before .before .before .before .before .before .before .before .before .before .before
+    .before .before .before .before .before .before .before .before .before .before .statement in let w = c .before .before .before .before .before .before
+    .before .before .before .before .before .before .before .before .before .before .write in let u = c .before .before .before .before .before .before .before
+    .before .before .before .statement2 in omega arith
 
 if-then-returns-4 : (t : ℕ) → if-then-lts.Need-returns-4 (if-then-calls t) (if-then-at t) if-then.Post
 unfolding ifOf andThen look next tapeStatement
-if-then-returns-4 t c =
-    let at-write2 = c .before .before .before .before in
-    let at-if4 = at-write2 .before .before in
-    let at-statement2 = at-if4 .before .before .before .before in
-    let at-write = at-statement2 .before .before .before .before .before .before in
-    let at-if3 = at-write .before .before in
-    let at-has-else = at-if3 .before in
-    let at-if2 = at-has-else .before in
-    let at-statement = at-if2 .before .before .before .before in
-    let at-kind-at = at-statement .before .before in
-    let at-if1 = at-kind-at .before in
-    let at-head = at-if1 .before .before .before .before in
-    let start = at-head .before .before .before .before in
-    record {
-      read = since (omega arith) (along (if-parts (G.statement (start .args .room)) (start .args .i) _ _)
-          (goes _ (at-head .head .ensures .0 .read) (at-if1 .if1 .left)
-          (λ h w. goes _ (at-statement .statement .ensures .read) (at-if2 .if2 .left)
-          (λ s y. rw (← (at-kind-at .kind-at .ensures .is), ← (at-has-else .has-else .ensures), at-if3 .if3 .taken)
-          (since (omega arith) (goes _ (at-statement2 .statement2 .ensures .read) (at-if4 .if4 .left)
-          (λ u z. done (c .read .ensures) (omega arith) (omega arith)
-          (λ k. at-write2 .write2 .ensures k ∙ (z _ ∙ (at-write .write .ensures _ ∙ (y _ ∙ w _)))))))))));
-      low = let x = c .read .ensures in let o = start .pre in let h = at-head .head in let s = at-statement .statement in let w = at-write .write in let u =
-          at-statement2 .statement2 in omega arith;
-    }
+if-then-returns-4 t c = record {
+  read = since (omega arith)
+      (along (if-parts (G.statement (c .before .before .before .before .before .before .before .before .before .before .before .before .before .before .before
+      .before .before .before .before .before .before .before .before .before .before .before .before .before .before .before .before .before .before .before
+      .before .args .room)) (c .before .before .before .before .before .before .before .before .before .before .before .before .before .before .before .before
+      .before .before .before .before .before .before .before .before .before .before .before .before .before .before .before .before .before .before .before
+      .args .i) _ _) (goes _ (c .before .before .before .before .before .before .before .before .before .before .before .before .before .before .before .before
+      .before .before .before .before .before .before .before .before .before .before .before .before .before .before .before .head .ensures .0 .read)
+      (c .before .before .before .before .before .before .before .before .before .before .before .before .before .before .before .before .before .before .before
+      .before .before .before .before .before .before .before .before .if1 .left)
+      (λ h w. goes _ (c .before .before .before .before .before .before .before .before .before .before .before .before .before .before .before .before .before
+      .before .before .before .before .before .before .before .statement .ensures .read)
+      (c .before .before .before .before .before .before .before .before .before .before .before .before .before .before .before .before .before .before .before
+      .before .if2 .left) (λ s y. rw (
+        ← (c .before .before .before .before .before .before .before .before .before .before .before .before .before .before .before
+            .before .before .before .before .before .before .before .before .before .before .before .kind-at .ensures .is),
+        ← (c .before .before .before .before .before .before .before .before .before .before .before .before .before .before .before .before .before .before .before
+            .has-else .ensures),
+        c .before .before .before .before .before .before .before .before .before .before .before .before .before .before .before .before
+            .before .before .if3 .taken,
+      ) (since (omega arith)
+      (goes _ (c .before .before .before .before .before .before .before .before .before .before .statement2 .ensures .read)
+      (c .before .before .before .before .before .before .if4 .left)
+      (λ u z. done (c .read .ensures) (omega arith) (omega arith) (λ k. c .before .before .before .before .write2 .ensures k
+      ∙ (z _ ∙ (c .before .before .before .before .before .before .before .before .before .before .before .before .before .before .before .before .write .ensures
+      _ ∙ (y _ ∙ w _)))))))))));
+  low = let x = c .read .ensures in let o = c .before .before .before .before .before .before .before .before .before .before
+      .before .before .before .before .before .before .before .before .before .before .before .before .before .before .before .before .before .before .before
+      .before .before .before .before .before .before .pre in let h = c .before .before .before .before .before .before .before .before .before .before .before
+      .before .before .before .before .before .before .before .before .before .before .before .before .before .before .before .before .before .before .before
+      .before .head in let s = c .before .before .before .before .before .before .before .before .before .before .before .before .before .before .before .before
+      .before .before .before .before .before .before .before .before .statement in let w = c .before .before .before .before .before .before .before .before
+      .before .before .before .before .before .before .before .before .write in let u = c .before .before .before .before .before .before .before .before .before
+      .before .statement2 in omega arith;
+}
 
 if-then-write-requires-3 : (t : ℕ) → if-then-lts.Need-write-requires-3 (if-then-calls t) (if-then-at t) if-then.Post
 if-then-write-requires-3 t c κs =
@@ -811,21 +817,16 @@ items-loop-less-2 t c = search needs
 
 items-loop-again-2 : (t : ℕ) → items-lts.Need-loop-again-2 (items-calls t) (items-at t) items.Post items-Inv-loop items-μ-loop
 unfolding tapeItems
-items-loop-again-2 t c =
-    let at-wanted = c .before .before in
-    let at-if3 = at-wanted .before in
-    let at-statement = at-if3 .before .before .before .before in
-    let at-if2 = at-statement .before .before in
-    let at-has-label = at-if2 .before in
-    let at-if1 = at-has-label .before in
-    let at-kind-at = at-if1 .before in
-    let at-loop = at-kind-at .before in
-    let start = at-loop .before .before .before in
-    turn (at-loop .loop .inv) (search needs) (search needs) (search needs) (search needs)
-    (λ f s after r. along (item-is (now (start .args .kinds)) (at-loop .loop .at) (at-has-label .has-label .ensures) _ f (at-if2 .if2 .left)
-    (other (at-kind-at .kind-at .ensures .is) (at-if1 .if1 .taken)))
-    (goes _ (at-statement .statement .ensures .read) (at-if3 .if3 .left)
-    (λ x w. goes _ (at-wanted .wanted .ensures .read) (c .if4 .left) (λ u e. gives (T.item x) (λ b l k. l k ∙ w _) r))))
+items-loop-again-2 t c = turn (c .before .before .before .before .before .before .before .before .before .before .before .before .before .loop .inv)
+    (search needs) (search needs) (search needs) (search needs) (λ f s after r.
+    along (item-is (now (c .before .before .before .before .before .before .before .before .before .before .before .before .before .before .before .before .args
+    .kinds)) (c .before .before .before .before .before .before .before .before .before .before .before .before .before .loop .at)
+    (c .before .before .before .before .before .before .before .before .before .before .has-label .ensures) _ f
+    (c .before .before .before .before .before .before .before .before .before .if2 .left)
+    (other (c .before .before .before .before .before .before .before .before .before .before .before .before .kind-at .ensures .is)
+    (c .before .before .before .before .before .before .before .before .before .before .before .if1 .taken)))
+    (goes _ (c .before .before .before .before .before .before .before .statement .ensures .read) (c .before .before .before .if3 .left)
+    (λ x w. goes _ (c .before .before .wanted .ensures .read) (c .if4 .left) (λ u e. gives (T.item x) (λ b l k. l k ∙ w _) r))))
 
 items-write-requires-2 : (t : ℕ) → items-lts.Need-write-requires-2 (items-calls t) (items-at t) items.Post items-Inv-loop items-μ-loop
 items-write-requires-2 t c κs = search needs
@@ -1121,13 +1122,10 @@ while-do-returns-2 t c =
     }
 
 while-do-write-requires-2 : (t : ℕ) → while-do-lts.Need-write-requires-2 (while-do-calls t) (while-do-at t) while-do.Post
-while-do-write-requires-2 t c κs =
-    let at-statement = c .before .before .before .before .before in
-    let at-if1 = at-statement .before .before in
-    let at-head = at-if1 .before .before .before .before in
-    let at-write = at-head .before .before .before .before in
-    let start = at-write .before .before .before .before in
-    let z = at-if1 .if1 .left in let o = start .pre in let w = at-write .write in let h = at-head .head in let s = at-statement .statement in omega arith
+while-do-write-requires-2 t c κs = let z = c .before .before .before .before .before .before .before .if1 .left in let o = c .before .before .before .before
+    .before .before .before .before .before .before .before .before .before .before .before .before .before .before .before .pre in let w = c .before .before
+    .before .before .before .before .before .before .before .before .before .before .before .before .before .write in let h = c .before .before .before .before
+    .before .before .before .before .before .before .before .head in let s = c .before .before .before .before .before .statement in omega arith
 
 while-do-add-read : (t : ℕ) → while-do-lts.Need-add-read (while-do-calls t) (while-do-at t) while-do.Post
 while-do-add-read t c =
