@@ -57,7 +57,10 @@ fn tell_run(words: &[u8], a: runner::Answer) -> u8 {
         &regs,
     );
     let end = put_all_asked(&mut out, n, words, regs);
-    saying::said(files::print(figures::front(&out, end)), saying::status(stop))
+    saying::said(
+        files::print(figures::front(&out, end)),
+        saying::status(stop),
+    )
 }
 
 fn run_object(words: &[u8], w: words::Wish, name: &[u8], object: &[u8]) -> u8 {
@@ -68,12 +71,18 @@ fn run_object(words: &[u8], w: words::Wish, name: &[u8], object: &[u8]) -> u8 {
     }
     let regs = begun.values;
     let mut storage = [0u8; STORAGE];
-    let a = runner::run_object(object, regs, w.code as u64, w.budget, &mut storage);
+    let a = runner::run_object(
+        object,
+        regs,
+        w.options.code as u64,
+        w.options.budget,
+        &mut storage,
+    );
     let verdict = a.verdict;
     match verdict {
         Verdict::Ran => tell_run(words, a),
         Verdict::NoObject => saying::refuse(name, 17, 0, object),
-        Verdict::BadCode => saying::refuse(name, 18, w.code as usize, object),
+        Verdict::BadCode => saying::refuse(name, 18, w.options.code as usize, object),
         Verdict::SmallStorage => saying::refuse(name, 19, 0, object),
     }
 }
@@ -89,7 +98,7 @@ fn run_source(words: &[u8], w: words::Wish, name: &[u8], text: &[u8]) -> u8 {
 
 // An object text begins with a digit, as no program does.
 pub fn run_file(words: &[u8], w: words::Wish) -> u8 {
-    let name = figures::part(words, 0, w.file);
+    let name = figures::part(words, 0, w.names.file);
     let mut room = [0u8; files::OBJECT_ROOM];
     let got = files::load(name, &mut room);
     if got.failed {

@@ -7,7 +7,10 @@ fn translate_text(name: &[u8], text: &[u8], object: &[u8]) -> u8 {
     let mut out = [0u8; files::OBJECT_ROOM];
     let answer = translate::translate(text, &mut out);
     match answer {
-        Answer::Accepted(n) => saying::said(files::store(object, figures::front(&out, n)), saying::DONE),
+        Answer::Accepted(n) => saying::said(
+            files::store(object, figures::front(&out, n)),
+            saying::DONE,
+        ),
         Answer::Refused(number, place) => saying::refuse(name, number, place, text),
     }
 }
@@ -67,13 +70,13 @@ fn help_page(page: usize) -> u8 {
 }
 
 fn help(words: &[u8], w: words::Wish) -> u8 {
-    let names = w.names;
+    let names = w.names.count;
     if names == 0 {
         return help_page(helping::USAGE);
     }
-    let page = helping::page_of(figures::part(words, 0, w.file));
+    let page = helping::page_of(figures::part(words, 0, w.names.file));
     if page == helping::NONE {
-        return saying::complain(words, w.file, 9);
+        return saying::complain(words, w.names.file, 9);
     }
     help_page(page)
 }
@@ -81,8 +84,8 @@ fn help(words: &[u8], w: words::Wish) -> u8 {
 // ── the command ──
 
 fn translate_named(words: &[u8], w: words::Wish) -> u8 {
-    let other = w.other;
-    let name = figures::part(words, 0, w.file);
+    let other = w.names.other;
+    let name = figures::part(words, 0, w.names.file);
     if other == 0 {
         return translate_file(name, b"-");
     }
@@ -102,8 +105,8 @@ fn obey(words: &[u8], w: words::Wish) -> u8 {
     }
     if command == words::SAME {
         return comparing::compare_files(
-            figures::part(words, 0, w.file),
-            figures::part(words, 0, w.other),
+            figures::part(words, 0, w.names.file),
+            figures::part(words, 0, w.names.other),
         );
     }
     help(words, w)
@@ -111,9 +114,9 @@ fn obey(words: &[u8], w: words::Wish) -> u8 {
 
 fn status(words: &[u8]) -> u8 {
     let w = words::read(words);
-    let why = w.why;
+    let why = w.fault.why;
     if 0 < why {
-        return saying::complain(words, w.word, why as usize);
+        return saying::complain(words, w.fault.word, why as usize);
     }
     obey(words, w)
 }
