@@ -207,14 +207,14 @@ fn is_last(t: &[u8], i: usize) -> bool
 // The place behind the data segment whose head stands at a place.
 pub fn after_data(t: &[u8], i: usize) -> usize
     requires { ⌜ (i < 500000) × (headLength (drop i (now t)) ≤ dataLimit) ⌝ }
-    ensures { λ r. ⌜ (r ≡ i + (dataLine + contentLength (headLength (drop i (now (t .entry)))))) × (r ≤ i + (dataLine + contentLength dataLimit)) ⌝ }
+    ensures { λ r. ⌜ (r ≡ i + (dataLine + contentLength (headLength (drop i (now (t .entry)))))) × (r ≤ i + (dataLine + contentLength contentLimit)) ⌝ }
 {
     i + (DATA_HEAD + content_length(two_at(t, i + LENGTH_PLACE)))
 }
 
 pub fn after_program(t: &[u8]) -> usize
     requires { ⌜ headLength (now t) ≤ programLimit ⌝ }
-    ensures { λ r. ⌜ (r ≡ programLine + contentLength (headLength (now (t .entry)))) × (r ≤ programLine + contentLength programLimit) ⌝ }
+    ensures { λ r. ⌜ (r ≡ programLine + contentLength (headLength (now (t .entry)))) × (r ≤ programLine + contentLength contentLimit) ⌝ }
 {
     PROGRAM_HEAD + content_length(two_at(t, LENGTH_PLACE))
 }
