@@ -10,7 +10,7 @@ use Rattle.base.proofs.Tests.{by-test}
 use Rattle.tape.specs.Events as E
 use Rattle.tape.specs.Pass.{pass}
 use Rattle.tape.proofs.Pass.{pass-turn, pass-end}
-use Rattle.ledger.specs.Book.{Thin, thinOf, onThin, putGoes}
+use Rattle.ledger.specs.Book.{Thin, thinOf, onThin, putGoes, thinLimit}
 use Rattle.scopes.specs.declared.Broken.{Broken}
 use Rattle.scopes.specs.declared.Noted.{Noted}
 use Rattle.scopes.specs.Broken.{rule, _⊕_, unbroken}
@@ -57,7 +57,7 @@ label-count keys links outer op t block s = by-test P (eqb op 12) _ _ (λ _. up)
 pub record Linked (tape thin₀ thin : List ℕ) (block i : ℕ) : Type 0 where
   pub is : pass linkOp (record { links = thinOf thin .opens; outer = thinOf thin .written; block = block }) (drop i tape) ≡ linked tape (thinOf thin₀ .opens) (thinOf thin₀ .written)
   pub inside : i ≤ length tape
-  pub small : block < 65536
+  pub small : block < thinLimit
   pub found-is : thinOf thin .found ≡ thinOf thin₀ .found
   pub goes-is : thinOf thin .goes ≡ thinOf thin₀ .goes
   pub same : length thin ≡ length thin₀
@@ -70,7 +70,7 @@ module _ {tape thin₀ thin : List ℕ} {block i : ℕ} (g : Linked tape thin₀
   pub linking-on :
       (thin₁ : List ℕ) {thin₂ : List ℕ} {block′ : ℕ} (op t : ℕ) → i < length tape → op ≡ getD tape i 0 % E.EVENTS → t ≡ getD tape i 0 / E.EVENTS
       → block′ ≡ blockAfter op t (thinOf thin .written) block → thinOf thin₁ ≡ onThin 2 (linksAfter op t block) (thinOf thin) → thinOf thin₂ ≡ onThin 3 (outerAfter op t block) (thinOf thin₁)
-      → block′ < 65536 → length thin₁ ≡ length thin → length thin₂ ≡ length thin₁ → Linked tape thin₀ thin₂ block′ (i + 1)
+      → block′ < thinLimit → length thin₁ ≡ length thin → length thin₂ ≡ length thin₁ → Linked tape thin₀ thin₂ block′ (i + 1)
   unfolding linkOp
   linking-on thin₁ {thin₂} op t h eo et b l o s p q =
       let e : thinOf thin₂ ≡ onThin 3 (outerAfter op t block) (onThin 2 (linksAfter op t block) (thinOf thin)) = o ∙ ap (λ (x : Thin). onThin 3 (outerAfter op t block) x) l in
@@ -99,7 +99,7 @@ pub record Binding (tape keys thin₀ thin : List ℕ) (block : ℕ) (n : Noted)
       pass (labelOp keys (thinOf thin₀ .opens) (thinOf thin₀ .written)) (record { block = block; labelled = labelledIn (thinOf thin .goes) n }) (drop i tape)
       ≡ pass (labelOp keys (thinOf thin₀ .opens) (thinOf thin₀ .written)) (start (thinOf thin₀ .goes)) tape
   pub inside : i ≤ length tape
-  pub small : block < 65536
+  pub small : block < thinLimit
   pub few : n .count ≤ i
   pub links-are : thinOf thin .opens ≡ thinOf thin₀ .opens
   pub outer-is : thinOf thin .written ≡ thinOf thin₀ .written
@@ -113,7 +113,7 @@ module _ {tape keys thin₀ thin : List ℕ} {block : ℕ} {n : Noted} {i : ℕ}
   pub binding-on :
       {thin′ : List ℕ} {block′ : ℕ} {n′ : Noted} (op t : ℕ) → i < length tape → op ≡ getD tape i 0 % E.EVENTS → t ≡ getD tape i 0 / E.EVENTS
       → markIn (thinOf thin′) n′ ≡ marking (λ links outer. labelAt keys links outer op t block) (markIn (thinOf thin) n) → block′ ≡ blockAfter op t (thinOf thin′ .written) block
-      → block′ < 65536 → length thin′ ≡ length thin → Binding tape keys thin₀ thin′ block′ n′ (i + 1)
+      → block′ < thinLimit → length thin′ ≡ length thin → Binding tape keys thin₀ thin′ block′ n′ (i + 1)
   unfolding labelOp
   binding-on {thin′} {block′} {n′} op t h eo et l b s p =
       let few = g .few in

@@ -6,7 +6,7 @@ ghost use mathlib.Core.Bool.{true};
 ghost use mathlib.Core.List.{List};
 ghost use Prim.Native.Nat.{ℕ, _≤_, _<_};
 ghost use lib.ListN.{length, getD};
-ghost use Rattle.ledger.specs.Book.{wideOf, thinOf, onThin};
+ghost use Rattle.ledger.specs.Book.{wideOf, thinOf, onThin, thinLimit};
 ghost use Rattle.ledger.specs.Bounds.{noted, Narrow};
 ghost use Rattle.scopes.specs.Search.{inBlock, find};
 ghost use Rattle.scopes.specs.Labels.{noteLabel, setLabel};
@@ -31,8 +31,8 @@ const MOST_LABELS: usize = 256;
 
 // What comes after t in a chain, which falls and ends at 0.
 fn after(next: usize, t: usize) -> usize
-    requires { ⌜ next < 65536 ⌝ }
-    ensures { λ r. ⌜ ((a : List ℕ) → next ≡ getD a t 0 → r ≡ afterOf a t) × (r < 65536) ⌝ }
+    requires { ⌜ next < thinLimit ⌝ }
+    ensures { λ r. ⌜ ((a : List ℕ) → next ≡ getD a t 0 → r ≡ afterOf a t) × (r < thinLimit) ⌝ }
 {
     if next < t { next } else { 0 }
 }
@@ -53,7 +53,7 @@ fn in_chain(wide: &[u64], thin: &[u16], wanted: u64, newest: usize) -> usize
 
 // The search goes outward from a block, as far as the edge of the procedure body, and ends at the first match.
 fn lookup(wide: &[u64], thin: &[u16], wanted: u64, block: usize) -> usize
-    ensures { λ r. ⌜ (r ≡ find (wideOf (now (wide .entry)) .values) wanted (blocksIn (thinOf (now (thin .entry)) .opens) (thinOf (now (thin .entry)) .written) block)) × (r < 65536) ⌝ }
+    ensures { λ r. ⌜ (r ≡ find (wideOf (now (wide .entry)) .values) wanted (blocksIn (thinOf (now (thin .entry)) .opens) (thinOf (now (thin .entry)) .written) block)) × (r < thinLimit) ⌝ }
 {
     let mut b = block;
     let mut found: usize = 0;
@@ -74,8 +74,8 @@ fn lookup(wide: &[u64], thin: &[u16], wanted: u64, block: usize) -> usize
 // ── the first loop: chains ──
 
 fn block_after(op: u32, t: usize, thin: &[u16], block: usize) -> usize
-    requires { ⌜ (noted op ≡ true → t < 65536) × (block < 65536) ⌝ }
-    ensures { λ r. ⌜ (r ≡ blockAfter op t (thinOf (now (thin .entry)) .written) block) × (r < 65536) ⌝ }
+    requires { ⌜ (noted op ≡ true → t < thinLimit) × (block < thinLimit) ⌝ }
+    ensures { λ r. ⌜ (r ≡ blockAfter op t (thinOf (now (thin .entry)) .written) block) × (r < thinLimit) ⌝ }
 {
     if op == tape::BLOCK {
         return t;
@@ -90,7 +90,7 @@ fn block_after(op: u32, t: usize, thin: &[u16], block: usize) -> usize
 }
 
 fn enclose(op: u32, t: usize, block: usize, thin: &mut [u16])
-    requires { ⌜ block < 65536 ⌝ }
+    requires { ⌜ block < thinLimit ⌝ }
     ensures { λ _. ⌜ thinOf (now (thin .exit)) ≡ onThin 3 (outerAfter op t block) (thinOf (now (thin .entry))) ⌝ }
 {
     if (op == tape::BLOCK) | (op == tape::PROCEDURE) {
@@ -99,7 +99,7 @@ fn enclose(op: u32, t: usize, block: usize, thin: &mut [u16])
 }
 
 fn link(op: u32, t: usize, block: usize, thin: &mut [u16])
-    requires { ⌜ (noted op ≡ true → t < 65536) ⌝ }
+    requires { ⌜ (noted op ≡ true → t < thinLimit) ⌝ }
     ensures { λ _. ⌜ thinOf (now (thin .exit)) ≡ onThin 2 (linksAfter op t block) (thinOf (now (thin .entry))) ⌝ }
 {
     if op == tape::BLOCK {

@@ -1,7 +1,7 @@
 -- What a declaration, a use and a whole event leave, and the loop along the tape.
 use mathlib.Core.Path.{_≡_, refl, sym, ap, subst, _∙_}
 use mathlib.Core.List.{List}
-use Prim.Native.Nat.{ℕ, suc, _+_, _-_, _/_, _%_, _≤_, _<_}
+use Prim.Native.Nat.{ℕ, suc, _+_, _-_, _*_, _/_, _%_, _≤_, _<_}
 use native.Mathlib.Omega.{arith}
 use native.Mathlib.Numerals.{add-one}
 use lib.Dec.{eqb, ltb}
@@ -12,7 +12,7 @@ use Rattle.tape.specs.Events as E
 use Rattle.tape.specs.Numbers.{familyAt}
 use Rattle.tape.specs.Names.{declaring, shapeAt, indexAfter}
 use Rattle.tape.proofs.Pass.{pass-turn, pass-end}
-use Rattle.ledger.specs.Book.{Thin, thinOf, putFound}
+use Rattle.ledger.specs.Book.{Thin, thinOf, putFound, thinLimit}
 use Rattle.ledger.proofs.Columns.{thin-length}
 use Rattle.scopes.specs.declared.Broken.{Broken}
 use Rattle.scopes.specs.Broken.{rule, _⊕_, unbroken}
@@ -108,7 +108,7 @@ going tape keys thin b g =
     }
 
 -- there is room for one more block and one more name
-pub roomy : (tape keys thin₀ thin : List ℕ) (b : Blocks) (n : Noted) (i : ℕ) → Going tape keys thin₀ thin b n i → i < length tape → 17 + length tape ≤ length thin₀ / 4 → length thin₀ ≤ 262144
+pub roomy : (tape keys thin₀ thin : List ℕ) (b : Blocks) (n : Noted) (i : ℕ) → Going tape keys thin₀ thin b n i → i < length tape → 17 + length tape ≤ length thin₀ / 4 → length thin₀ ≤ 4 * thinLimit
     → Roomy (thinOf thin) b
 roomy tape keys thin₀ thin b n i g h r w =
     let deep = g .deep in

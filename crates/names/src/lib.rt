@@ -3,10 +3,10 @@
 ghost use mathlib.Core.Path.{_≡_};
 ghost use mathlib.Core.Bool.{true};
 ghost use mathlib.Core.List.{List, [], _∷_};
-ghost use Prim.Native.Nat.{ℕ, _+_, _-_, _/_, _≤_, _<_};
+ghost use Prim.Native.Nat.{ℕ, _+_, _-_, _*_, _/_, _≤_, _<_};
 ghost use lib.ListN.{length};
 ghost use Rattle.tape.specs.Pass.{pass};
-ghost use Rattle.ledger.specs.Book.{wideOf, thinOf};
+ghost use Rattle.ledger.specs.Book.{wideOf, thinOf, thinLimit};
 ghost use Rattle.ledger.specs.Bounds.{noted, Narrow};
 ghost use Rattle.scopes.specs.Search.{inBlock, find, innermost, enter};
 ghost use Rattle.scopes.specs.Names.{useName, declareName};
@@ -51,7 +51,7 @@ fn in_block(wide: &[u64], thin: &[u16], wanted: u64, lo: usize, hi: usize) -> us
 
 // "the search goes outward from the innermost block and ends at the first match"
 fn lookup(wide: &[u64], thin: &[u16], wanted: u64, depth: usize, count: usize) -> usize
-    ensures { λ r. ⌜ (r ≡ find (wideOf (now (wide .entry)) .values) wanted (blocksOf (thinOf (now (thin .entry)) .opens) (thinOf (now (thin .entry)) .written) depth count)) × (r < 65536) ⌝ }
+    ensures { λ r. ⌜ (r ≡ find (wideOf (now (wide .entry)) .values) wanted (blocksOf (thinOf (now (thin .entry)) .opens) (thinOf (now (thin .entry)) .written) depth count)) × (r < thinLimit) ⌝ }
 {
     let mut end = count;
     let mut left = depth;
@@ -76,7 +76,7 @@ fn lookup(wide: &[u64], thin: &[u16], wanted: u64, depth: usize, count: usize) -
 // ── the open blocks ──
 
 fn open_block(thin: &mut [u16], b: Blocks) -> Blocks
-    requires { ⌜ Rising (thinOf (now thin) .written) (b .depth) (b .count) × ((b .depth < length (thinOf (now thin) .written)) × ((b .depth < 65536) × (b .count < 65536))) ⌝ }
+    requires { ⌜ Rising (thinOf (now thin) .written) (b .depth) (b .count) × ((b .depth < length (thinOf (now thin) .written)) × ((b .depth < thinLimit) × (b .count < thinLimit))) ⌝ }
     ensures { λ r. ⌜ Changed ([] ∷ blocksIn (thinOf (now (thin .entry))) b) (thinOf (now (thin .exit))) b r × Stays (thinOf (now (thin .entry))) (thinOf (now (thin .exit))) × ((r .depth ≡ b .depth + 1) × (r .count ≡ b .count)) ⌝ }
 {
     let depth = b.depth;
@@ -104,7 +104,7 @@ fn close_block(thin: &[u16], b: Blocks) -> Blocks
 }
 
 fn enter_name(thin: &mut [u16], t: usize, b: Blocks) -> Blocks
-    requires { ⌜ Rising (thinOf (now thin) .written) (b .depth) (b .count) × ((b .count < length (thinOf (now thin) .opens)) × ((b .count < 65536) × (t < 65536))) ⌝ }
+    requires { ⌜ Rising (thinOf (now thin) .written) (b .depth) (b .count) × ((b .count < length (thinOf (now thin) .opens)) × ((b .count < thinLimit) × (t < thinLimit))) ⌝ }
     ensures { λ r. ⌜ Changed (enter t (blocksIn (thinOf (now (thin .entry))) b)) (thinOf (now (thin .exit))) b r × Stays (thinOf (now (thin .entry))) (thinOf (now (thin .exit))) × ((r .depth ≡ b .depth) × (r .count ≡ b .count + 1)) ⌝ }
 {
     let depth = b.depth;
@@ -117,7 +117,7 @@ fn enter_name(thin: &mut [u16], t: usize, b: Blocks) -> Blocks
 }
 
 fn blocks_after(op: u32, t: usize, thin: &mut [u16], b: Blocks) -> Blocks
-    requires { ⌜ Roomy (thinOf (now thin)) b × (noted op ≡ true → t < 65536) ⌝ }
+    requires { ⌜ Roomy (thinOf (now thin)) b × (noted op ≡ true → t < thinLimit) ⌝ }
     ensures { λ r. ⌜ Changed (blocksAfter op t (blocksIn (thinOf (now (thin .entry))) b)) (thinOf (now (thin .exit))) b r × Stays (thinOf (now (thin .entry))) (thinOf (now (thin .exit))) ⌝ }
 {
     if op == tape::BLOCK {
@@ -251,7 +251,7 @@ fn open_around(thin: &mut [u16]) -> Blocks
 }
 
 pub fn names(tape: &[u32], wide: &[u64], thin: &mut [u16]) -> Noted
-    requires { ⌜ Narrow (now tape) × ((17 + length (now tape) ≤ length (now thin) / 4) × (length (now thin) ≤ 262144)) ⌝ }
+    requires { ⌜ Narrow (now tape) × ((17 + length (now tape) ≤ length (now thin) / 4) × (length (now thin) ≤ 4 * thinLimit)) ⌝ }
     ensures { λ r. ⌜ (namedIn (thinOf (now (thin .exit)) .found) r ≡ pass (nameOp (wideOf (now (wide .entry)) .values)) (beginning (thinOf (now (thin .entry)) .found)) (now (tape .entry)) .named) × (thinOf (now (thin .exit)) .goes ≡ thinOf (now (thin .entry)) .goes) ⌝ }
 {
     let mut b = open_around(thin);

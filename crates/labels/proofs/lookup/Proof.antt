@@ -3,7 +3,7 @@ use Rattle.labels.specs.Chains.{after, chain, blocksIn}
 use Rattle.labels.proofs.Chains.{after-less, hit, miss, out, find-in, find-end}
 use Rattle.scopes.specs.Search.{inBlock, find}
 use borrow.Author.Needs.{needs}
-use Rattle.ledger.specs.Book.{wideOf, thinOf}
+use Rattle.ledger.specs.Book.{wideOf, thinOf, thinLimit}
 use native.Mathlib.Omega.{arith}
 use mathlib.Core.Path.{_≡_, refl, sym, _∙_}
 use Prim.Native.Nat.{_<_}
@@ -11,7 +11,7 @@ use Rattle.labels.proofs.lookup.Statement.{statement}
 use Rattle.labels.proofs.lookup.Tie as tie
 
 abbrev Inv-loop : tie.InvT-loop
-Inv-loop wide thin wanted block b found₀ l₀ found l = (found ≡ 0) × (l < 65536)
+Inv-loop wide thin wanted block b found₀ l₀ found l = (found ≡ 0) × (l < thinLimit)
     × (find (wideOf wide .values) wanted (blocksIn (thinOf thin .opens) (thinOf thin .written) block)
     ≡ inBlock (wideOf wide .values) wanted (chain (thinOf thin .opens) l)
     (find (wideOf wide .values) wanted (blocksIn (thinOf thin .opens) (thinOf thin .written) (after (thinOf thin .written) b))))
