@@ -1,5 +1,7 @@
 // Document 01, "Names, cells, protected registers": which declaration each name means, refusals 6, 7 and 13 of names, in one loop along the tape. Two columns of
-// the ledger are worked in: `opens` has the tokens that declare names, oldest first, and `written` for each open block where it begins there.
+// the ledger are worked in: `opens` has the tokens that declare names, oldest first, and `written` for each open block where it begins there. Labels have a module of their own.
+pub mod labels;
+
 ghost use mathlib.Core.Path.{_≡_};
 ghost use mathlib.Core.Bool.{true};
 ghost use mathlib.Core.List.{List, [], _∷_};
@@ -10,6 +12,7 @@ ghost use Rattle.ledger.specs.Book.{wideOf, thinOf, thinLimit};
 ghost use Rattle.ledger.specs.Bounds.{noted, Narrow};
 ghost use Rattle.scopes.specs.Search.{inBlock, find, innermost, enter};
 ghost use Rattle.scopes.specs.Names.{useName, declareName};
+ghost use Rattle.names.specs.Judged.{entered as enteredBy, sought as soughtBy};
 ghost use Rattle.names.specs.Naming.{outer, blocksAfter, declareAt, useRegister, usePlace, useAt, nameOp, beginning};
 ghost use Rattle.names.specs.Flat.{span, blocksOf, blocksIn, namedIn, Rising, Roomy, Changed, Stays, searchIn, naming, Begun};
 use ledger::opens;
@@ -132,6 +135,35 @@ fn blocks_after(op: u32, t: usize, thin: &mut [u16], b: Blocks) -> Blocks
     b
 }
 
+// ── the rules of names and of labels ──
+
+// One more, with what stands earlier in its block under the same key, or 0.
+fn entered(earlier: usize, most: usize, t: usize, n: Noted) -> Noted
+    requires { ⌜ n .count < 4294967296 ⌝ }
+    ensures { λ r. ⌜ r ≡ enteredBy earlier most t n ⌝ }
+{
+    let count = n.count;
+    let broken = n.broken;
+    let once = rule(earlier == 0, 7, t);
+    let few = rule(count < most, 13, t);
+    Noted {
+        count: count + 1,
+        broken: join(broken, join(once, few)),
+    }
+}
+
+// What was looked for, with what was found, or 0.
+fn sought(d: usize, t: usize, n: Noted) -> Noted
+    ensures { λ r. ⌜ r ≡ soughtBy d t n ⌝ }
+{
+    let count = n.count;
+    let broken = n.broken;
+    Noted {
+        count,
+        broken: join(broken, rule(0 < d, 6, t)),
+    }
+}
+
 // ── declarations and uses ──
 
 // Where the innermost block begins.
@@ -150,31 +182,19 @@ fn declare_name(wide: &[u64], thin: &[u16], b: Blocks, t: usize, n: Noted) -> No
     requires { ⌜ n .count < 4294967296 ⌝ }
     ensures { λ r. ⌜ ((found : List ℕ) → namedIn found r ≡ declareName (wideOf (now (wide .entry)) .values) t (blocksIn (thinOf (now (thin .entry))) b) (namedIn found n)) ⌝ }
 {
-    let count = n.count;
-    let broken = n.broken;
     let hi = b.count;
     let earlier = in_block(wide, thin, value(wide, t), innermost_start(thin, b), hi);
-    let once = rule(earlier == 0, 7, t);
-    let few = rule(count < MOST_NAMES, 13, t);
-    Noted {
-        count: count + 1,
-        broken: join(broken, join(once, few)),
-    }
+    entered(earlier, MOST_NAMES, t, n)
 }
 
 fn use_name(wide: &[u64], thin: &mut [u16], b: Blocks, t: usize, n: Noted) -> Noted
     ensures { λ r. ⌜ searchIn (thinOf (now (thin .exit))) r ≡ naming b (useName (wideOf (now (wide .entry)) .values) t) (searchIn (thinOf (now (thin .entry))) n) ⌝ }
 {
-    let count = n.count;
-    let broken = n.broken;
     let depth = b.depth;
     let hi = b.count;
     let d = lookup(wide, thin, value(wide, t), depth, hi);
     put_found(thin, t, d);
-    Noted {
-        count,
-        broken: join(broken, rule(0 < d, 6, t)),
-    }
+    sought(d, t, n)
 }
 
 // ── an event ──
