@@ -134,7 +134,12 @@ fn set_label(wide: &[u64], thin: &[u16], t: usize, n: Noted) -> Noted
     ensures { λ r. ⌜ ((goes : List ℕ) → labelledIn goes r ≡ setLabel (wideOf (now (wide .entry)) .values) t (chain (thinOf (now (thin .entry)) .opens) (afterOf (thinOf (now (thin .entry)) .opens) t)) (labelledIn goes n)) ⌝ }
 {
     let earlier = after(opens(thin, t), t);
-    entered(in_chain(wide, thin, value(wide, t), earlier), MOST_LABELS, t, n)
+    entered(
+        in_chain(wide, thin, value(wide, t), earlier),
+        MOST_LABELS,
+        t,
+        n,
+    )
 }
 
 fn bind(wide: &[u64], thin: &mut [u16], block: usize, t: usize, n: Noted) -> Noted
