@@ -146,7 +146,7 @@ pub fn bind(tape: &[u32], wide: &[u64], thin: &mut [u16]) -> Broken
     ensures { λ r. ⌜ Cleared (now (thin .entry)) (thinOf (now (thin .exit))) × ((ts : List Token) (x : Statement) → Text ts x (wideOf (now (wide .entry)) .values) (now (tape .entry)) → Blank ts (thinOf (now (thin .entry)) .found) → Blank ts (thinOf (now (thin .entry)) .goes) → Bound ts x (thinOf (now (thin .exit))) r) ⌝ }
 {
     let n = names::names(tape, wide, thin);
-    let l = labels::labels(tape, wide, thin);
+    let l = names::labels::labels(tape, wide, thin);
     clear_opens(thin);
     clear_written(thin);
     join(n.broken, l.broken)
