@@ -11,7 +11,7 @@ ghost use Rattle.static_rules.specs.Rules.{shifts};
 ghost use Rattle.translation.specs.Instructions.{opcode as opcodeOf, rowOf, shiftCode, falseMask};
 ghost use Rattle.translation.specs.Core.{exitMask};
 ghost use Rattle.emit.specs.Codes.{listOf, blank as blankCode, codeSize, codeSizes, columnOf, applyCode, isAbsent, applyCodes, applyThen, signCode, signedCodes, loadCodes, heldIn, amountIn, isLongUse, productRegister, termCodes, firstCodes, nextCodes, branchCode, linkCode, baseCode, returnCode, stopCode};
-ghost use Rattle.emit.specs.Events.{subscriptIn, indexIn, elementIn, placeBy, placeIn, useIn, returnIn, registerAt, goalAt, signing as signingOf, writtenAfter, comparedCodes, bareCodes, limitCodes, stepCodes, otherCodes, codesOf};
+ghost use Rattle.emit.specs.Events.{subscriptIn, indexIn, elementIn, placeBy, placeIn, useIn, returnIn, registerAt, goalAt, signing as signingOf, writtenAfter, comparedCodes, bareCodes, limitCodes, stepCodes, otherCodes, codesOf, emittedIn};
 use arrays::kind;
 use ledger::found;
 use ledger::goes;
@@ -61,6 +61,12 @@ pub struct Named {
 pub struct Writing {
     pub aim: Use,
     pub sign: u32,
+}
+
+// What an event makes: its instructions, and the assignment that is written after it.
+pub struct Emitted {
+    pub codes: Codes,
+    pub writing: Writing,
 }
 
 // ── the tables ──
@@ -557,7 +563,7 @@ fn place(wide: &[u64], thin: &[u16], shape: u32, t: usize) -> Use
 }
 
 // The operand or designator at token t, by its shape.
-pub fn operand(wide: &[u64], thin: &[u16], shape: u32, t: usize) -> Use
+fn operand(wide: &[u64], thin: &[u16], shape: u32, t: usize) -> Use
     requires { ⌜ t < TOKEN-LIMIT ⌝ }
     ensures { λ r. ⌜ r ≡ useIn (wideOf (now (wide .entry)) .values) (thinOf (now (thin .entry)) .found) (wideOf (now (wide .entry)) .means) (wideOf (now (wide .entry)) .under) (wideOf (now (wide .entry)) .offsets) shape t ⌝ }
 {
@@ -584,7 +590,7 @@ pub fn before(t: usize, n: usize) -> usize
     if t < n { 0 } else { t - n }
 }
 
-pub fn register_at(wide: &[u64], thin: &[u16], family: u32, t: usize) -> u64
+fn register_at(wide: &[u64], thin: &[u16], family: u32, t: usize) -> u64
     requires { ⌜ t < TOKEN-LIMIT ⌝ }
     ensures { λ r. ⌜ r ≡ registerAt (thinOf (now (thin .entry)) .found) (wideOf (now (wide .entry)) .means) family t ⌝ }
 {
@@ -600,7 +606,7 @@ pub fn register_at(wide: &[u64], thin: &[u16], family: u32, t: usize) -> u64
     register(meaning(wide, thin, t))
 }
 
-pub fn goal_at(thin: &[u16], family: u32, t: usize) -> usize
+fn goal_at(thin: &[u16], family: u32, t: usize) -> usize
     ensures { λ r. ⌜ (r ≡ goalAt (thinOf (now (thin .entry)) .found) (thinOf (now (thin .entry)) .goes) (thinOf (now (thin .entry)) .opens) family t) × (r < thinLimit) ⌝ }
 {
     if family == tape::BASE {
@@ -622,7 +628,7 @@ fn signing(sign: u32, w: Writing) -> Writing
 }
 
 // Its target and its sign, after an event with the operand u and the register r.
-pub fn written_after(family: u32, w: Writing, u: Use, r: u64) -> Writing
+fn written_after(family: u32, w: Writing, u: Use, r: u64) -> Writing
     ensures { λ v. ⌜ v ≡ writtenAfter family w u r ⌝ }
 {
     if family == tape::TARGET {
@@ -634,13 +640,7 @@ pub fn written_after(family: u32, w: Writing, u: Use, r: u64) -> Writing
             sign: 0,
         };
     }
-    if family == tape::ABS {
-        return signing(family, w);
-    }
-    if family == tape::NEG {
-        return signing(family, w);
-    }
-    if family == tape::NEG_ABS {
+    if (family == tape::ABS) | ((family == tape::NEG) | (family == tape::NEG_ABS)) {
         return signing(family, w);
     }
     w
@@ -733,17 +733,8 @@ fn others(thin: &[u16], family: u32, t: usize, n: Named) -> Codes
     if family == tape::BASE {
         return Codes::One(base(r, goal));
     }
-    if family == tape::PROCEDURE {
-        return Codes::One(branch(ALWAYS, mark(thin, t + 1)));
-    }
     if family == tape::END_PROCEDURE {
         return Codes::One(Code::Two(RETURN, ALWAYS, r));
-    }
-    if family == tape::ELSE {
-        return Codes::One(branch(ALWAYS, mark(thin, t + 1)));
-    }
-    if family == tape::END_WHILE {
-        return Codes::One(branch(ALWAYS, mark(thin, t + 1)));
     }
     if family == tape::CALL {
         return Codes::One(link(r, mark(thin, goal)));
@@ -751,11 +742,14 @@ fn others(thin: &[u16], family: u32, t: usize, n: Named) -> Codes
     if family == tape::GOTO {
         return Codes::One(branch(ALWAYS, mark(thin, goal)));
     }
+    if (family == tape::PROCEDURE) | ((family == tape::ELSE) | (family == tape::END_WHILE)) {
+        return Codes::One(branch(ALWAYS, mark(thin, t + 1)));
+    }
     Codes::None
 }
 
 // The instructions of an event, by its operand u and what it names.
-pub fn codes_of(
+fn codes_of(
     kinds: &[u8],
     wide: &[u64],
     thin: &[u16],
@@ -788,4 +782,18 @@ pub fn codes_of(
         return step(wide, thin, t);
     }
     others(thin, family, t, n)
+}
+
+// What an event makes, by its number and its token.
+pub fn event(kinds: &[u8], wide: &[u64], thin: &[u16], op: u32, t: usize, w: Writing) -> Emitted
+    requires { ⌜ t < TOKEN-LIMIT ⌝ }
+    ensures { λ r. ⌜ r ≡ emittedIn (now (kinds .entry)) (wideOf (now (wide .entry))) (thinOf (now (thin .entry))) op t w ⌝ }
+{
+    let family = tape::family(op);
+    let u = operand(wide, thin, tape::form(op), t);
+    let register = register_at(wide, thin, family, t);
+    let goal = goal_at(thin, family, t);
+    let codes = codes_of(kinds, wide, thin, family, t, w, u, Named { register, goal });
+    let writing = written_after(family, w, u, register);
+    Emitted { codes, writing }
 }
