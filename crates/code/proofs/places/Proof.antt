@@ -1,7 +1,7 @@
 -- `places` is the pass. The invariant: the pass over what is left makes the whole, the other columns are as they were, and an event takes eight bytes at most. Assumes nothing.
 use Rattle.code.proofs.Placing.{Same, places-turn}
 use Rattle.code.specs.Places.{kept, Placing, placingOf, placesAlong, onMarks, placeStep, placesIn}
-use Rattle.emit.proofs.Knowing.{codes-known, written-known}
+use Rattle.emit.specs.declared.Emitted.{Emitted}
 use Rattle.ledger.specs.Book.{wideOf, thinOf}
 use Rattle.tape.proofs.Pass.{pass-end}
 use Rattle.tape.specs.Pass.{pass}
@@ -44,13 +44,17 @@ size-requires : tie.Need-size-requires Inv-loop μ-loop
 size-requires c κs = search needs
 
 add-q : tie.Need-add-q Inv-loop μ-loop
-add-q c = ?
+add-q c =
+    let at-loop-test = c .before .before .before .before .before .before in
+    let at-loop = at-loop-test .before in
+    let start = at-loop .before .before .before .before .before in
+    let b = at-loop .loop .inv .1 in let h = at-loop-test .loop-test .taken in let n = start .pre in omega (arith, c .size .ensures .1)
 
 family-requires : tie.Need-family-requires Inv-loop μ-loop
 family-requires c κs = search needs
 
 mark-after-requires : tie.Need-mark-after-requires Inv-loop μ-loop
-mark-after-requires c κs = ?
+mark-after-requires c κs = (c .before .before .before .before .before .token .ensures .1, omega arith, omega arith)
 
 add-i : tie.Need-add-i Inv-loop μ-loop
 add-i c = search needs
@@ -60,7 +64,31 @@ loop-less c = search needs
 
 loop-again : tie.Need-loop-again Inv-loop μ-loop
 unfolding kept
-loop-again c = ?
+loop-again c =
+    let at-mark-after = c .before .before .before in
+    let at-family = at-mark-after .before .before in
+    let at-size = at-family .before in
+    let at-event = at-size .before in
+    let at-token = at-event .before .before in
+    let at-op = at-token .before in
+    let at-loop-test = at-op .before .before in
+    let at-loop = at-loop-test .before in
+    let start = at-loop .before .before .before .before .before in
+    let a = start .args in
+    let l = at-loop .loop in
+    let op = at-op .op in
+    let t = at-token .token in
+    let codes = ap (λ (e : Emitted). e .codes) (at-event .event .ensures) in
+    let written = ap (λ (e : Emitted). e .writing) (at-event .event .ensures) in
+    let marked = rw (at-family .family .ensures) at (at-mark-after .mark-after .ensures) in
+    let turn = places-turn (a .kinds .now) (a .tape .now) (wideOf (a .wide .now)) (thinOf (a .thin .now)) (thinOf (l .thin)) _ (l .i) (op .result) (t .result) (l .p) _ (l .w) _ _ (l .inv .3)
+    (at-loop-test .loop-test .taken) (op .ensures .0) (t .ensures .0) codes (at-size .size .ensures .0) marked written (l .inv .4) in (
+      omega arith,
+      omega (arith, l .inv .1, at-size .size .ensures .1),
+      at-mark-after .mark-after .kept .1 .1 .1 .1 .1 .0 ∙ l .inv .2,
+      turn .0,
+      turn .1,
+    )
 
 same-length : tie.Need-same-length Inv-loop μ-loop
 same-length c = search needs

@@ -4,11 +4,11 @@ use Rattle.code.proofs.Holding.{Coded, holds-first, tape-turn, tape-end
 use Rattle.code.specs.Places.{noWriting}
 use Rattle.code.specs.Coding.{laidOf, codingOf, codeStep}
 use Rattle.ledger.specs.Book.{wideOf, thinOf}
-use Rattle.emit.proofs.Knowing.{codes-known, written-known}
+use Rattle.emit.specs.declared.Emitted.{Emitted}
 use Rattle.tape.specs.Pass.{pass}
 use lib.ListN.{length, drop}
 use native.Mathlib.Omega.{arith}
-use mathlib.Core.Path.{_≡_, refl, sym, _∙_}
+use mathlib.Core.Path.{_≡_, refl, sym, ap, _∙_}
 use mathlib.Core.List.{[]}
 use Prim.Native.Nat.{_+_, _-_, _*_, _≤_}
 use borrow.Author.Needs.{needs}
@@ -58,7 +58,16 @@ event-requires : tie.Need-event-requires Inv-loop μ-loop
 event-requires c κs = search needs
 
 lay-codes-requires : tie.Need-lay-codes-requires Inv-loop μ-loop
-lay-codes-requires c κs = ?
+lay-codes-requires c κs =
+    let at-loop-test = c .before .before .before .before .before .before in
+    let at-loop = at-loop-test .before in
+    let start = at-loop .before .before .before .before .before .before .before in
+    let l = at-loop .loop .inv in let h = at-loop-test .loop-test .taken in let n = start .pre in (
+      omega (arith, l .3, l .5),
+      omega (arith, n .1, l .5),
+      n .2,
+      omega (arith, l .1, n .0),
+    )
 
 add-i : tie.Need-add-i Inv-loop μ-loop
 add-i c = search needs
@@ -67,7 +76,32 @@ loop-less : tie.Need-loop-less Inv-loop μ-loop
 loop-less c = search needs
 
 loop-again : tie.Need-loop-again Inv-loop μ-loop
-loop-again c = ?
+loop-again c =
+    let at-lay-codes = c .before .before .before .before .before in
+    let at-event = at-lay-codes .before .before .before in
+    let at-token = at-event .before in
+    let at-op = at-token .before in
+    let at-loop-test = at-op .before .before in
+    let at-loop = at-loop-test .before in
+    let start = at-loop .before .before .before .before .before .before .before in
+    let a = start .args in
+    let l = at-loop .loop in
+    let h = at-loop-test .loop-test .taken in
+    let op = at-op .op in
+    let t = at-token .token in
+    let codes = ap (λ (e : Emitted). e .codes) (at-event .event .ensures) in
+    let written = ap (λ (e : Emitted). e .writing) (at-event .event .ensures) in
+    let laid = at-lay-codes .lay-codes in
+    let len : length (l .literals) ≡ length (a .literals .now) = l .inv .5 in (
+      omega arith,
+      omega (arith, l .inv .1, laid .ensures .3),
+      omega (arith, l .inv .2, laid .ensures .1),
+      omega (arith, len, laid .ensures .2),
+      laid .kept .0 ∙ l .inv .4,
+      laid .kept .1 .0 ∙ len,
+      tape-turn (a .start) (length (a .literals .now)) (a .kinds .now) (wideOf (a .wide .now)) (thinOf (a .thin .now)) (a .tape .now) (l .i) (op .result) (t .result) _ _ _ _ _ _ _ _
+          (at-event .event .result .codes) (l .w) _ _ h (op .ensures .0) (t .ensures .0) codes written len (laid .ensures .0) (l .inv .6),
+    )
 
 stop-requires : tie.Need-stop-requires Inv-loop μ-loop
 stop-requires c κs = search needs
