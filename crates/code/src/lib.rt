@@ -13,12 +13,12 @@ ghost use Rattle.ledger.specs.Book.{wideOf, thinOf, putIn, thinLimit};
 ghost use Rattle.code.specs.Places.{markLimit, markClosing, markAfter, onMarks, placesIn};
 ghost use Rattle.code.specs.Coding.{bytesIn, Laid, laidBy, layCode, layAll, codeIn, Holds};
 use arrays::put_wide;
+use base::less;
 use emit::Code;
 use emit::Codes;
 use emit::DATA_BASE;
 use emit::Use;
 use emit::Writing;
-use emit::before;
 use emit::code_size;
 use emit::count;
 use emit::held;
@@ -41,8 +41,8 @@ fn mark_limit(t: usize, from: usize, aim: Use, thin: &mut [u16])
     requires { ⌜ from < thinLimit ⌝ }
     ensures { λ _. ⌜ thinOf (now (thin .exit)) ≡ onMarks (markLimit t from aim) (thinOf (now (thin .entry))) ⌝ }
 {
-    put_mark(thin, before(t, 2), from);
-    put_mark(thin, before(t, 1), held(aim) as usize % THIN_LIMIT);
+    put_mark(thin, less(t, 2), from);
+    put_mark(thin, less(t, 1), held(aim) as usize % THIN_LIMIT);
 }
 
 fn mark_closing(family: u32, t: usize, to: usize, thin: &mut [u16])
@@ -50,7 +50,7 @@ fn mark_closing(family: u32, t: usize, to: usize, thin: &mut [u16])
     ensures { λ _. ⌜ thinOf (now (thin .exit)) ≡ onMarks (markClosing family t to) (thinOf (now (thin .entry))) ⌝ }
 {
     if family == tape::END_FOR {
-        put_mark(thin, before(t, 1), to);
+        put_mark(thin, less(t, 1), to);
         return;
     }
     if (family == tape::END_PROCEDURE) | (family == tape::END_ELSE) {

@@ -13,6 +13,7 @@ ghost use Rattle.translation.specs.Core.{exitMask};
 ghost use Rattle.emit.specs.Codes.{listOf, blank as blankCode, codeSize, codeSizes, columnOf, applyCode, isAbsent, applyCodes, applyThen, signCode, signedCodes, loadCodes, heldIn, amountIn, isLongUse, productRegister, termCodes, firstCodes, nextCodes, branchCode, linkCode, baseCode, returnCode, stopCode};
 ghost use Rattle.emit.specs.Events.{subscriptIn, indexIn, elementIn, placeBy, placeIn, useIn, returnIn, registerAt, goalAt, signing as signingOf, writtenAfter, comparedCodes, bareCodes, limitCodes, stepCodes, otherCodes, codesOf, emittedIn};
 use arrays::kind;
+use base::less;
 use ledger::found;
 use ledger::goes;
 use ledger::meaning;
@@ -428,7 +429,7 @@ fn is_long(u: Use) -> bool
     }
 }
 
-fn less(r: u64) -> u64
+fn lower(r: u64) -> u64
     ensures { λ n. ⌜ n ≡ r - 1 ⌝ }
 {
     if r == 0 { 0 } else { r - 1 }
@@ -438,7 +439,7 @@ fn product_register(r: u64, u: Use) -> u64
     ensures { λ n. ⌜ n ≡ productRegister r u ⌝ }
 {
     if is_long(u) {
-        return less(r);
+        return lower(r);
     }
     r
 }
@@ -584,12 +585,6 @@ fn return_register(m: u64) -> u64
     0
 }
 
-pub fn before(t: usize, n: usize) -> usize
-    ensures { λ r. ⌜ r ≡ t - n ⌝ }
-{
-    if t < n { 0 } else { t - n }
-}
-
 fn register_at(wide: &[u64], thin: &[u16], family: u32, t: usize) -> u64
     requires { ⌜ t < TOKEN-LIMIT ⌝ }
     ensures { λ r. ⌜ r ≡ registerAt (thinOf (now (thin .entry)) .found) (wideOf (now (wide .entry)) .means) family t ⌝ }
@@ -598,7 +593,7 @@ fn register_at(wide: &[u64], thin: &[u16], family: u32, t: usize) -> u64
         return register(meaning(wide, thin, t + 2));
     }
     if family == tape::COMPARED {
-        return register(meaning(wide, thin, before(t, 2)));
+        return register(meaning(wide, thin, less(t, 2)));
     }
     if family == tape::CALL {
         return return_register(meaning(wide, thin, t));
@@ -685,28 +680,23 @@ fn mark(thin: &[u16], t: usize) -> usize
 fn compared(kinds: &[u8], thin: &[u16], r: u64, t: usize, u: Use) -> Codes
     ensures { λ m. ⌜ m ≡ comparedCodes (now (kinds .entry)) (thinOf (now (thin .entry)) .written) r t u ⌝ }
 {
-    let mask = false_mask(kind(kinds, before(t, 1)));
-    apply_then(COMPARE, r, u, branch(mask, mark(thin, before(t, 3))))
+    let mask = false_mask(kind(kinds, less(t, 1)));
+    apply_then(COMPARE, r, u, branch(mask, mark(thin, less(t, 3))))
 }
 
 fn bare(kinds: &[u8], thin: &[u16], t: usize) -> Codes
     ensures { λ m. ⌜ m ≡ bareCodes (now (kinds .entry)) (thinOf (now (thin .entry)) .written) t ⌝ }
 {
     let mask = false_mask(kind(kinds, t));
-    Codes::One(branch(mask, mark(thin, before(t, 1))))
+    Codes::One(branch(mask, mark(thin, less(t, 1))))
 }
 
 // "compare with limit; exit branch": the control register and the operand u.
 fn limit(wide: &[u64], thin: &[u16], aim: Use, t: usize, u: Use) -> Codes
     ensures { λ m. ⌜ m ≡ limitCodes (wideOf (now (wide .entry)) .values) (thinOf (now (thin .entry)) .written) aim t u ⌝ }
 {
-    let mask = exit_mask(value(wide, before(t, 2)));
-    apply_then(
-        COMPARE,
-        held(aim),
-        u,
-        branch(mask, mark(thin, before(t, 3))),
-    )
+    let mask = exit_mask(value(wide, less(t, 2)));
+    apply_then(COMPARE, held(aim), u, branch(mask, mark(thin, less(t, 3))))
 }
 
 // "5A of the step; branch to the compare".
@@ -767,7 +757,7 @@ fn codes_of(
         return first(aim, w.sign, u);
     }
     if family == tape::TERM {
-        return next(aim, kind(kinds, before(t, 1)), u);
+        return next(aim, kind(kinds, less(t, 1)), u);
     }
     if family == tape::COMPARED {
         return compared(kinds, thin, n.register, t, u);

@@ -5,8 +5,8 @@ use Rattle.code.specs.Places.{markClosing}
 use Rattle.code.proofs.mark_closing.Statement.{statement}
 use Rattle.code.proofs.mark_closing.Tie as tie
 
-before-requires : tie.Need-before-requires
-before-requires c κs = search needs
+less-requires : tie.Need-less-requires
+less-requires c κs = search needs
 
 put-mark-requires : tie.Need-put-mark-requires
 put-mark-requires c κs = search needs
@@ -16,7 +16,7 @@ same-length c = search needs
 
 returns : tie.Need-returns
 unfolding markClosing
-returns c = rw (eq-eqb _ _ (c .before .before .before .before .before .if1 .taken), ← (c .before .before .before .before2 .ensures)) (c .before .before .put-mark .ensures)
+returns c = rw (eq-eqb _ _ (c .before .before .before .before .before .if1 .taken), ← (c .before .before .before .less .ensures)) (c .before .before .put-mark .ensures)
 
 add-put-mark : tie.Need-add-put-mark
 add-put-mark c = search needs
@@ -49,5 +49,5 @@ returns-4 c = rw (ne-eqb _ _ (c .before .before .if1 .left), c .before .if2 .lef
 
 pub mark-closing-spec : {M : Type 1} → statement M
 mark-closing-spec = tie.close
-    (tie.spec before-requires put-mark-requires same-length returns add-put-mark put-mark-requires-2 same-length-2 returns-2 put-mark-requires-3 same-length-3 returns-3
+    (tie.spec less-requires put-mark-requires same-length returns add-put-mark put-mark-requires-2 same-length-2 returns-2 put-mark-requires-3 same-length-3 returns-3
     returns-4)
