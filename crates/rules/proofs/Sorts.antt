@@ -12,6 +12,7 @@ use borrow.Author.Tests.{eqb-true, eq-eqb, ne-eqb, le-leb, lt-leb, leb-true, leb
 use Rattle.base.specs.Choose.{choose, if_then_else_}
 use Rattle.base.specs.Lists.{member}
 use Rattle.base.proofs.Tests.{cases}
+use Rattle.base.proofs.Numbers.{one-less}
 use Rattle.grammar.specs.Tree.{Width, full, short}
 use Rattle.ledger.specs.Book.{Wide, Thin}
 use Rattle.static_rules.specs.Registers.{Registers, has, spares}
@@ -96,9 +97,6 @@ inside-is m e v k q h r n b = rw (← q, ← r, within-is e v k (omega arith), b
         (λ x. let y = leb-false 2147483648 v x in rw (x, lt-ltb v 2147483648 (omega arith)))
 
 -- ── protected registers ──
-
-one-less : (n : ℕ) → suc n - 1 ≡ n
-one-less n = omega arith
 
 module _ (a : List ℕ) (r : ℕ) where
   kept-turn : (i : ℕ) → 0 < i → member r (stackOf a i) ≡ (eqb r (getD a (i - 1) 0) || member r (stackOf a (i - 1)))
