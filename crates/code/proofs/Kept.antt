@@ -20,8 +20,9 @@ use Rattle.emit.specs.Codes.{listOf, codeSize, codeSizes, applyCode, isAbsent, 
 use Rattle.emit.specs.Events.{useIn, registerAt, goalAt, comparedCodes, bareCodes, limitCodes, stepCodes, otherCodes, codesOf, writingAfter, codesBy}
 use Rattle.code.specs.Places.{whole, kept, Placing, noWriting, placeEvent, placesAlong}
 use Rattle.code.specs.Coding.{Laid, laidOf, layCode, layAll, Coding, codingOf, codeEvent, codeAlong}
+use Rattle.ledger.specs.Book.{thinLimit}
 
-pub kept-is : (n : ℕ) → n < 65536 → kept n ≡ n
+pub kept-is : (n : ℕ) → n < thinLimit → kept n ≡ n
 unfolding kept
 kept-is n h = omega arith
 
@@ -43,18 +44,18 @@ module _ (kinds values found goes means under opens offsets : List ℕ) where
   pass-grows [] s = omega arith
   pass-grows (e ∷ es) s = omega (arith, event-grows (e % E.EVENTS) (e / E.EVENTS) s, pass-grows es (exact (e % E.EVENTS) (e / E.EVENTS) s))
 
-  event-kept : (op t : ℕ) (s : Placing) → exact op t s .at < 65536 → cut op t s ≡ exact op t s
+  event-kept : (op t : ℕ) (s : Placing) → exact op t s .at < thinLimit → cut op t s ≡ exact op t s
   unfolding placeEvent
   event-kept op t s h = rw (kept-is (s .at) (omega arith), kept-is _ h)
 
-  pass-kept : (tape : List ℕ) (s : Placing) → pass exact s tape .at < 65536 → pass cut s tape ≡ pass exact s tape
+  pass-kept : (tape : List ℕ) (s : Placing) → pass exact s tape .at < thinLimit → pass cut s tape ≡ pass exact s tape
   unfolding pass fold onEvent
   pass-kept [] s h = refl
   pass-kept (e ∷ es) s h =
       let after = exact (e % E.EVENTS) (e / E.EVENTS) s in
       ap (λ (x : Placing). pass cut x es) (event-kept (e % E.EVENTS) (e / E.EVENTS) s (omega (arith, pass-grows es after, h))) ∙ pass-kept es after h
 
-  pub places-kept : (marks tape : List ℕ) → placesAlong whole kinds values found goes means under opens offsets marks tape .at < 65536
+  pub places-kept : (marks tape : List ℕ) → placesAlong whole kinds values found goes means under opens offsets marks tape .at < thinLimit
       → placesAlong kept kinds values found goes means under opens offsets marks tape ≡ placesAlong whole kinds values found goes means under opens offsets marks tape
   unfolding placesAlong
   places-kept marks tape h = pass-kept tape _ h

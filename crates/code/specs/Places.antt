@@ -8,7 +8,7 @@ use Rattle.base.specs.Choose.{if_then_else_}
 use Rattle.tape.specs.Events as E
 use Rattle.tape.specs.Numbers.{familyAt}
 use Rattle.tape.specs.Pass.{pass}
-use Rattle.ledger.specs.Book.{Wide, Thin, onThin}
+use Rattle.ledger.specs.Book.{Wide, Thin, onThin, thinLimit}
 use Rattle.emit.specs.declared.Use.{Use}
 use Rattle.emit.specs.declared.Use.the-variants.{Absent}
 use Rattle.emit.specs.declared.Writing.{Writing}
@@ -20,7 +20,7 @@ abbrev pub whole : ℕ → ℕ
 whole n = n
 
 unfoldable pub kept : ℕ → ℕ
-kept n = n % 65536
+kept n = n % thinLimit
 
 -- a FOR's compare, and its control register
 unfoldable pub markLimit : (t from : ℕ) → Use → List ℕ → List ℕ

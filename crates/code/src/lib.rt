@@ -9,7 +9,7 @@ ghost use Rattle.translation.specs.Instructions.{literal};
 ghost use Rattle.translation.specs.Layout.{needs};
 ghost use Rattle.translation.specs.Bytes.{twoBytes, fourBytes};
 ghost use Rattle.emit.specs.Codes.{listOf, codeSize};
-ghost use Rattle.ledger.specs.Book.{wideOf, thinOf, putIn};
+ghost use Rattle.ledger.specs.Book.{wideOf, thinOf, putIn, thinLimit};
 ghost use Rattle.code.specs.Places.{markLimit, markClosing, markAfter, onMarks, placesIn};
 ghost use Rattle.code.specs.Coding.{bytesIn, Laid, laidBy, layCode, layAll, codeIn, Holds};
 use arrays::put_wide;
@@ -31,27 +31,28 @@ use emit::register_at;
 use emit::size;
 use emit::stop;
 use emit::written_after;
+use ledger::THIN_LIMIT;
 use ledger::put_written;
 
 // ── addresses ──
 
 fn put_mark(thin: &mut [u16], t: usize, v: usize)
-    requires { ⌜ v < 65536 ⌝ }
+    requires { ⌜ v < thinLimit ⌝ }
     ensures { λ _. ⌜ thinOf (now (thin .exit)) ≡ onMarks (putIn t v) (thinOf (now (thin .entry))) ⌝ }
 {
     put_written(thin, t, v);
 }
 
 fn mark_limit(t: usize, from: usize, aim: Use, thin: &mut [u16])
-    requires { ⌜ from < 65536 ⌝ }
+    requires { ⌜ from < thinLimit ⌝ }
     ensures { λ _. ⌜ thinOf (now (thin .exit)) ≡ onMarks (markLimit t from aim) (thinOf (now (thin .entry))) ⌝ }
 {
     put_mark(thin, before(t, 2), from);
-    put_mark(thin, before(t, 1), (held(aim) % 65536) as usize);
+    put_mark(thin, before(t, 1), held(aim) as usize % THIN_LIMIT);
 }
 
 fn mark_closing(family: u32, t: usize, to: usize, thin: &mut [u16])
-    requires { ⌜ (t < TOKEN-LIMIT) × (to < 65536) ⌝ }
+    requires { ⌜ (t < TOKEN-LIMIT) × (to < thinLimit) ⌝ }
     ensures { λ _. ⌜ thinOf (now (thin .exit)) ≡ onMarks (markClosing family t to) (thinOf (now (thin .entry))) ⌝ }
 {
     if family == tape::END_FOR {
@@ -76,7 +77,7 @@ fn mark_closing(family: u32, t: usize, to: usize, thin: &mut [u16])
 }
 
 fn mark_after(family: u32, t: usize, from: usize, to: usize, aim: Use, thin: &mut [u16])
-    requires { ⌜ (t < TOKEN-LIMIT) × (from < 65536) × (to < 65536) ⌝ }
+    requires { ⌜ (t < TOKEN-LIMIT) × (from < thinLimit) × (to < thinLimit) ⌝ }
     ensures { λ _. ⌜ thinOf (now (thin .exit)) ≡ onMarks (markAfter family t from to aim) (thinOf (now (thin .entry))) ⌝ }
 {
     if family == tape::LABEL {
@@ -104,7 +105,7 @@ fn mark_after(family: u32, t: usize, from: usize, to: usize, aim: Use, thin: &mu
 
 // Where branches go, by token; the length of the program but for its last instruction.
 pub fn places(tape: &[u32], kinds: &[u8], wide: &[u64], thin: &mut [u16]) -> usize
-    requires { ⌜ length (now tape) ≤ 67108864 ⌝ }
+    requires { ⌜ length (now tape) ≤ 2 * TOKEN-LIMIT ⌝ }
     ensures { λ r. ⌜ (r ≡ placesIn (now (kinds .entry)) (wideOf (now (wide .entry))) (thinOf (now (thin .entry))) (now (tape .entry)) .at) × (thinOf (now (thin .exit)) ≡ onMarks (λ marks. placesIn (now (kinds .entry)) (wideOf (now (wide .entry))) (thinOf (now (thin .entry))) (now (tape .entry)) .marks) (thinOf (now (thin .entry)))) ⌝ }
 {
     let mut p: usize = 0;
@@ -124,7 +125,7 @@ pub fn places(tape: &[u32], kinds: &[u8], wide: &[u64], thin: &mut [u16]) -> usi
         let m = codes_of(kinds, wide, thin, family, t, w, u, Named { register, goal });
         let q = p + size(m);
         let aim = w.aim;
-        mark_after(family, t, p % 65536, q % 65536, aim, thin);
+        mark_after(family, t, p % THIN_LIMIT, q % THIN_LIMIT, aim, thin);
         w = written_after(family, w, u, register);
         p = q;
         i += 1;
@@ -268,7 +269,7 @@ pub fn write_code(
     image: &mut [u8],
     literals: &mut [u64],
 ) -> Reached
-    requires { ⌜ (length (now tape) ≤ 67108864) × (length (now literals) ≤ 4294967296) × (start < 1099511627776) ⌝ }
+    requires { ⌜ (length (now tape) ≤ 2 * TOKEN-LIMIT) × (length (now literals) ≤ 4294967296) × (start < 1099511627776) ⌝ }
     ensures { λ r. ⌜ Holds (length (now (literals .entry))) (r .length) (r .literals) (now (image .exit)) (now (literals .exit)) (codeIn start (now (kinds .entry)) (wideOf (now (wide .entry))) (thinOf (now (thin .entry))) (now (image .entry)) (now (tape .entry))) × (r .literals ≤ 2 * length (now (tape .entry)) + 1) ⌝ }
 {
     let mut at = Reached {

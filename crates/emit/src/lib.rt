@@ -6,7 +6,7 @@ ghost use Rattle.tape.specs.Events.{TOKEN-LIMIT};
 ghost use lib.ListN.{length, getD};
 ghost use Rattle.base.specs.Lists.{member};
 ghost use Rattle.base.specs.Runs.{indexOf};
-ghost use Rattle.ledger.specs.Book.{wideOf, thinOf};
+ghost use Rattle.ledger.specs.Book.{wideOf, thinOf, thinLimit};
 ghost use Rattle.static_rules.specs.Rules.{shifts};
 ghost use Rattle.translation.specs.Instructions.{opcode as opcodeOf, rowOf, shiftCode, falseMask};
 ghost use Rattle.translation.specs.Core.{exitMask};
@@ -601,7 +601,7 @@ pub fn register_at(wide: &[u64], thin: &[u16], family: u32, t: usize) -> u64
 }
 
 pub fn goal_at(thin: &[u16], family: u32, t: usize) -> usize
-    ensures { λ r. ⌜ (r ≡ goalAt (thinOf (now (thin .entry)) .found) (thinOf (now (thin .entry)) .goes) (thinOf (now (thin .entry)) .opens) family t) × (r < 65536) ⌝ }
+    ensures { λ r. ⌜ (r ≡ goalAt (thinOf (now (thin .entry)) .found) (thinOf (now (thin .entry)) .goes) (thinOf (now (thin .entry)) .opens) family t) × (r < thinLimit) ⌝ }
 {
     if family == tape::BASE {
         return opens(thin, t);
@@ -661,7 +661,7 @@ fn link(r: u64, to: usize) -> Code
 }
 
 fn base(r: u64, k: usize) -> Code
-    requires { ⌜ k < 65536 ⌝ }
+    requires { ⌜ k < thinLimit ⌝ }
     ensures { λ c. ⌜ c ≡ baseCode r k ⌝ }
 {
     Code::Four(opcode(LOAD, 1), r, 0, DATA_BASE, 4 * k as u64)
@@ -676,7 +676,7 @@ pub fn stop() -> Code
 
 // Where a branch goes, by token: the column of what procedures write is done, and lent again.
 fn mark(thin: &[u16], t: usize) -> usize
-    ensures { λ r. ⌜ (r ≡ getD (thinOf (now (thin .entry)) .written) t 0) × (r < 65536) ⌝ }
+    ensures { λ r. ⌜ (r ≡ getD (thinOf (now (thin .entry)) .written) t 0) × (r < thinLimit) ⌝ }
 {
     written(thin, t)
 }
@@ -725,7 +725,7 @@ fn step(wide: &[u64], thin: &[u16], t: usize) -> Codes
 
 // Declarations, ends of statements, calls and GOTOs.
 fn others(thin: &[u16], family: u32, t: usize, n: Named) -> Codes
-    requires { ⌜ (t < TOKEN-LIMIT) × (n .goal < 65536) ⌝ }
+    requires { ⌜ (t < TOKEN-LIMIT) × (n .goal < thinLimit) ⌝ }
     ensures { λ m. ⌜ m ≡ otherCodes (thinOf (now (thin .entry)) .written) family t n ⌝ }
 {
     let r = n.register;
@@ -765,7 +765,7 @@ pub fn codes_of(
     u: Use,
     n: Named,
 ) -> Codes
-    requires { ⌜ (t < TOKEN-LIMIT) × (n .goal < 65536) ⌝ }
+    requires { ⌜ (t < TOKEN-LIMIT) × (n .goal < thinLimit) ⌝ }
     ensures { λ m. ⌜ m ≡ codesOf (now (kinds .entry)) (wideOf (now (wide .entry)) .values) (thinOf (now (thin .entry)) .written) family t w u n ⌝ }
 {
     let aim = w.aim;

@@ -6,7 +6,7 @@ ghost use lib.ListN.{length, set};
 ghost use Rattle.base.specs.Numbers.{stored};
 ghost use Rattle.scopes.specs.Broken.{unbroken};
 ghost use Rattle.tape.specs.Pass.{pass};
-ghost use Rattle.ledger.specs.Book.{wideOf};
+ghost use Rattle.ledger.specs.Book.{wideOf, thinLimit};
 ghost use Rattle.translation.specs.Layout.{roundUp};
 ghost use Rattle.layout.specs.Along.{segmentAt, capped, bookIn, placeIn, eventIn, layoutIn, imagingOf, nowhere, startIn, layValue, imageIn};
 use ledger::clear_written;
@@ -49,7 +49,7 @@ pub fn round_up(z: u64, n: u64) -> u64
 
 // What is kept of an end in 16 bits.
 fn cap(end: u64) -> usize
-    ensures { λ r. ⌜ (r ≡ capped end) × (r < 65536) ⌝ }
+    ensures { λ r. ⌜ (r ≡ capped end) × (r < thinLimit) ⌝ }
 {
     if end <= SEGMENT_LIMIT as u64 {
         return end as usize;

@@ -1,6 +1,5 @@
 -- The object that the passes make of a text along its tape, by what the ledger has of its tokens.
 use mathlib.Core.List.{List}
-use mathlib.Core.Bool.{Bool}
 use Prim.Native.Nat.{ℕ, _+_, _*_, _/_}
 use lib.Dec.{eqb, ltb}
 use lib.ListN.{length, take, replicate}
@@ -11,10 +10,10 @@ use Rattle.objtext.specs.Object.{Segment, objectText}
 use Rattle.translation.specs.Layout.{segmentLimit, roundUp}
 use Rattle.translation.specs.Image.{words}
 use Rattle.translation.specs.Translate.{Answer, accepted, refused, inRoom}
-use Rattle.layout.specs.Along.{Imaging, imagingOf, nowhere, imageEvent}
+use Rattle.layout.specs.Along.{imagingOf, nowhere, imageEvent}
 use Rattle.ledger.specs.Book.{Wide, Thin}
 use Rattle.settled.specs.Texts.{endOf}
-use Rattle.code.specs.Places.{Placing, onMarks, placesIn}
+use Rattle.code.specs.Places.{onMarks, placesIn}
 use Rattle.code.specs.Coding.{Laid, codeIn}
 use Rattle.frames.specs.Frames.{objectOf}
 

@@ -5,7 +5,7 @@ ghost use mathlib.Core.List.{List};
 ghost use Prim.Native.Nat.{ℕ, _+_, _*_, _≤_};
 ghost use lib.ListN.{length};
 ghost use lib.Seq.{sets};
-ghost use Rattle.ledger.specs.Book.{wideOf, thinOf};
+ghost use Rattle.ledger.specs.Book.{wideOf, thinOf, thinLimit};
 ghost use Rattle.objtext.specs.Object.{objectText};
 ghost use Rattle.translation.specs.Layout.{segmentLimit};
 ghost use Rattle.translation.specs.Image.{words};
@@ -117,7 +117,7 @@ pub fn make(
     s: Judged,
     out: &mut [u8],
 ) -> Answer
-    requires { ⌜ (length (now tape) ≤ 65536) × (s .cells ≤ segmentLimit) × (s .two ≤ segmentLimit) × (s .three ≤ segmentLimit) ⌝ }
+    requires { ⌜ (length (now tape) ≤ thinLimit) × (s .cells ≤ segmentLimit) × (s .two ≤ segmentLimit) × (s .three ≤ segmentLimit) ⌝ }
     ensures { λ r. ⌜ ((ends : List ℕ) → Ended ends s → Gives (madeAlong (now (kinds .entry)) (wideOf (now (wide .entry))) (thinOf (now (thin .entry))) ends (now (tape .entry)) (s .bases) (length (now (out .entry)))) (now (out .entry)) (now (out .exit)) r) ⌝ }
 {
     let mut image = [0u8; SEGMENT_LIMIT];

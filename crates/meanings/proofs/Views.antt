@@ -17,10 +17,10 @@ use Rattle.tables.proofs.Meanings.{as-routine}
 use Rattle.meanings.specs.Along.{writeTarget, writeLower}
 use Rattle.meanings.proofs.Moves.{register-at}
 use Rattle.meanings.proofs.Changes as changes
-use Rattle.ledger.specs.Book.{Wide, Thin, putMean, putUnder, putOpens, putWritten}
+use Rattle.ledger.specs.Book.{Wide, Thin, putMean, putUnder, putOpens, putWritten, thinLimit}
 use Rattle.meanings.specs.Flat.{View, viewOf, changed, namedTo}
 
-pub more-small : (x m : ℕ) → x < 16 → m < 65536 → bitOr m (2 ^ x) < 65536
+pub more-small : (x m : ℕ) → x < 16 → m < thinLimit → bitOr m (2 ^ x) < thinLimit
 more-small x m h k = or-lt 16 m (2 ^ x) k (pow-lt {i = x} {j = 16} h)
 
 abbrev with-meant : View → Meant → View

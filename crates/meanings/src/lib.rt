@@ -8,7 +8,7 @@ ghost use Rattle.static_rules.specs.Registers.{addRegister};
 ghost use Rattle.static_rules.specs.Meaning.{meaningOf, registerOf, routine};
 ghost use Rattle.static_rules.specs.Meanings.{callWrites, openBase, mean as meanAt, write as writeOne, writeText};
 ghost use Rattle.tables.specs.Packed.{meaningsOf, basedIn, setOf};
-ghost use Rattle.ledger.specs.Book.{Wide, wideOf, thinOf};
+ghost use Rattle.ledger.specs.Book.{Wide, wideOf, thinOf, thinLimit};
 ghost use Rattle.ledger.specs.Bounds.{blocksOpen, proceduresOpen};
 ghost use Rattle.meanings.specs.Along.{enterBlock, leaveBlock, enterProcedure, leaveProcedure, changeBase, writeTarget, writeLower, withinAfter, formAfter, targetAfter, declaredAfter, isProductAt, writeProduct, writtenAfter, meanEvent, beginning};
 ghost use Rattle.meanings.specs.Flat.{withinOf, Moved, targetIn, viewOf, changed, namedTo, Roomy};
@@ -181,8 +181,8 @@ fn target_after(op: u32, t: usize, wide: &[u64], thin: &[u16], target: usize) ->
 
 // A set with one register more; only 0 to 15 are in sets.
 fn with_register(m: usize, r: u64) -> usize
-    requires { ⌜ m < 65536 ⌝ }
-    ensures { λ x. ⌜ (setOf x ≡ addRegister r (setOf m)) × (x < 65536) ⌝ }
+    requires { ⌜ m < thinLimit ⌝ }
+    ensures { λ x. ⌜ (setOf x ≡ addRegister r (setOf m)) × (x < thinLimit) ⌝ }
 {
     if r < 16 {
         return m | (1usize << r);

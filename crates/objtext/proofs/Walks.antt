@@ -9,8 +9,8 @@ use lib.Dec.{T, leb, eqb}
 use lib.ListN.{length, drop}
 use borrow.Author.Tests.{leb-true}
 use Rattle.base.proofs.Tests.{cases, and-right, is-true}
-use Rattle.objtext.specs.Object.{Segment, framesFor}
-use Rattle.objtext.specs.Reader.{byteOf, headLength, headFrom, headTo, isLine, isContent, isProgramHead, isDataHead, also, isProgram, programAt, afterProgram, isData, dataAt, afterData, isLast, Read, push, onSegment, atLast, readData, readObject, dataList, segmentList, readAs}
+use Rattle.objtext.specs.Object.{Segment, framesFor, programLimit, dataLimit}
+use Rattle.objtext.specs.Reader.{byteOf, headLength, headFrom, headTo, isLine, isContent, isProgramHead, isDataHead, also, isProgram, programAt, afterProgram, isData, dataAt, afterData, isLast, Read, push, onSegment, atLast, readData, readObject, dataList, segmentList, readAs, dataLine, programLine, programHeadBytes, dataHeadBytes}
 
 -- n data segments, numbered from k on, stand at the front
 abbrev pub Walked : ℕ → ℕ → List ℕ → Type 0
@@ -112,16 +112,16 @@ short-head b n l next e = cases (leb n l) (λ h. leb-true n l h) (λ h. absurd (
     no true c h q = subst T (ap (λ (x : Bool). also x next) h) (subst T (sym q) tt)
     no false c h q = subst T (sym q) tt
 
-pub program-short : (k : ℕ) (s : List ℕ) → isProgram k s ≡ true → headLength s ≤ 4096
+pub program-short : (k : ℕ) (s : List ℕ) → isProgram k s ≡ true → headLength s ≤ programLimit
 unfolding isProgram
 program-short k s e =
-    short-head (isLine 4 s && eqb (byteOf s) 1 && eqb (byteOf (drop 2 s)) k) (headLength s) 4096 (λ u. isContent (framesFor (headLength s)) k 0 (headLength s) (drop 9 s)) e
+    short-head (isLine programHeadBytes s && eqb (byteOf s) 1 && eqb (byteOf (drop 2 s)) k) (headLength s) programLimit (λ u. isContent (framesFor (headLength s)) k 0 (headLength s) (drop programLine s)) e
 
-pub data-short : (k : ℕ) (s : List ℕ) → isData k s ≡ true → headLength s ≤ 4096
+pub data-short : (k : ℕ) (s : List ℕ) → isData k s ≡ true → headLength s ≤ dataLimit
 unfolding isData
 data-short k s e =
-    short-head (isLine 8 s && eqb (byteOf s) 2 && eqb (byteOf (drop 2 s)) k && leb (headFrom s) (headTo s) && leb (headTo s) (headLength s)) (headLength s) 4096
-    (λ u. isContent (framesFor (headLength s)) k 0 (headLength s) (drop 17 s)) e
+    short-head (isLine dataHeadBytes s && eqb (byteOf s) 2 && eqb (byteOf (drop 2 s)) k && leb (headFrom s) (headTo s) && leb (headTo s) (headLength s)) (headLength s) dataLimit
+    (λ u. isContent (framesFor (headLength s)) k 0 (headLength s) (drop dataLine s)) e
 
 -- one segment on
 pub walked-on : (n k : ℕ) (s : List ℕ) → 0 < n → Walked n k s → (isData k s ≡ true) × Walked (n - 1) (k + 1) (afterData s)

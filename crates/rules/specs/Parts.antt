@@ -1,7 +1,7 @@
 -- Designators, operands and terms by their shape and first token: a subscript stands two tokens behind its name, an index two or five, an operator before its
 -- operand.
 use mathlib.Core.Option.{Option, none, some}
-use mathlib.Core.Bool.{Bool, _||_}
+use mathlib.Core.Bool.{_||_}
 use Prim.Native.Nat.{ℕ, _+_, _-_}
 use lib.Dec.{eqb}
 use Rattle.base.specs.Choose.{if_then_else_}

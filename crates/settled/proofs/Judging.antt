@@ -35,9 +35,9 @@ use Rattle.tables.specs.Packed.{meaningsOf}
 use Rattle.names.specs.Naming.{nameOp, beginning}
 use Rattle.names.specs.Flat.{namedIn}
 use Rattle.names.proofs.Trees.{named-program}
-use Rattle.labels.specs.Chains.{labelledIn}
-use Rattle.labels.specs.Labelling.{labelledAlong}
-use Rattle.labels.proofs.Trees.{labelled-program}
+use Rattle.names.specs.Chains.{labelledIn}
+use Rattle.names.specs.Labelling.{labelledAlong}
+use Rattle.names.proofs.labels.Trees.{labelled-program}
 use Rattle.meanings.specs.Along.{meanEvent}
 use Rattle.meanings.specs.Along as M
 use Rattle.meanings.specs.Flat.{meantOf, View, viewOf, changed, namedTo}

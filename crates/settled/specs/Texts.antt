@@ -12,18 +12,16 @@ use Rattle.token.specs.declared.Tokens.the-variants.{Read}
 use Rattle.grammar.specs.Tree.{Statement}
 use Rattle.grammar.specs.Derives.{isProgram}
 use Rattle.tape.specs.Tape.{tapeStatement}
-use Rattle.ledger.specs.Book.{Wide, Thin, onWide}
+use Rattle.ledger.specs.Book.{Wide, Thin, onWide, thinLimit}
 use Rattle.scopes.specs.declared.Broken.{Broken}
 use Rattle.scopes.specs.Broken.{_⊕_}
 use Rattle.scopes.specs.Search.{inFront, firstToken}
-use Rattle.scopes.specs.Names.{Named}
-use Rattle.scopes.specs.Labels.{Labelled}
 use Rattle.static_rules.specs.Meanings.{Meant}
 use Rattle.static_rules.specs.Tables.{Tables}
 use Rattle.static_rules.specs.Kinds.{rulesOf}
 use Rattle.tables.specs.Packed.{meaningsOf}
 use Rattle.translation.specs.Layout.{segmentLimit, placeCells, offsetOf}
-use Rattle.translation.specs.Translate.{kindsOf, valuesOf, placeAt, named, labelled, meant, tablesOf}
+use Rattle.translation.specs.Translate.{kindsOf, valuesOf, named, labelled, meant, tablesOf}
 use Rattle.settled.specs.declared.Judged.{Judged}
 
 -- ── the tokens ──
@@ -128,13 +126,13 @@ Zeros l = l ≡ replicate (length l) 0
 
 -- the rows of n tokens
 pub record Lent (n : ℕ) (wide thin : List ℕ) : Type 0 where
-  pub few : n ≤ 65536
+  pub few : n ≤ thinLimit
   pub wide-long : length wide ≡ 4 * n
   pub thin-long : length thin ≡ 4 * n
 
 -- lists with room for the rows of m tokens
 pub record Fits (m : ℕ) (kinds tape wide thin : List ℕ) : Type 0 where
-  pub few : m ≤ 65536
+  pub few : m ≤ thinLimit
   pub for-kinds : m ≤ length kinds
   pub for-tape : m ≤ length tape
   pub for-wide : 4 * m ≤ length wide

@@ -10,7 +10,7 @@ ghost use Rattle.token.specs.Text.{tokensOf, TEXT-LIMIT};
 ghost use Rattle.grammar.specs.Tree.{Statement};
 ghost use Rattle.grammar.specs.Grammar.{nesting};
 ghost use Rattle.scopes.specs.Search.{inFront, firstToken};
-ghost use Rattle.ledger.specs.Book.{wideOf, thinOf, onWide};
+ghost use Rattle.ledger.specs.Book.{wideOf, thinOf, onWide, thinLimit};
 ghost use Rattle.ledger.specs.Bounds.{Narrow, Nested};
 ghost use Rattle.translation.specs.Layout.{segmentLimit};
 ghost use Rattle.translation.specs.Translate.{kindsOf, valuesOf, named};
@@ -151,11 +151,11 @@ pub fn place_of(src: &[u8], t: usize) -> usize
 
 // Which declaration each name and which label each GOTO means; the broken rules. Two columns are worked in, and left as zeros.
 pub fn bind(tape: &[u32], wide: &[u64], thin: &mut [u16]) -> Broken
-    requires { ⌜ Narrow (now tape) × (4 * (firstToken + length (now tape)) ≤ length (now thin)) × (length (now thin) ≤ 262144) × (length (now wide) ≤ length (now thin)) ⌝ }
+    requires { ⌜ Narrow (now tape) × (4 * (firstToken + length (now tape)) ≤ length (now thin)) × (length (now thin) ≤ 4 * thinLimit) × (length (now wide) ≤ length (now thin)) ⌝ }
     ensures { λ r. ⌜ Cleared (now (thin .entry)) (thinOf (now (thin .exit))) × ((ts : List Token) (x : Statement) → Text ts x (wideOf (now (wide .entry)) .values) (now (tape .entry)) → Blank ts (thinOf (now (thin .entry)) .found) → Blank ts (thinOf (now (thin .entry)) .goes) → Bound ts x (thinOf (now (thin .exit))) r) ⌝ }
 {
     let n = names::names(tape, wide, thin);
-    let l = labels::labels(tape, wide, thin);
+    let l = names::labels::labels(tape, wide, thin);
     clear_opens(thin);
     clear_written(thin);
     join(n.broken, l.broken)
@@ -192,7 +192,7 @@ pub fn settle(
     thin: &mut [u16],
     others: Broken,
 ) -> Judged
-    requires { ⌜ Nested nesting 0 0 (now tape) × (length (now tape) < 65534) × (4 * (length (now tape) + 2) ≤ length (now wide)) × (4 * (length (now tape) + 2) ≤ length (now thin)) ⌝ }
+    requires { ⌜ Nested nesting 0 0 (now tape) × (length (now tape) + 2 < thinLimit) × (4 * (length (now tape) + 2) ≤ length (now wide)) × (4 * (length (now tape) + 2) ≤ length (now thin)) ⌝ }
     ensures { λ r. ⌜ Ended (thinOf (now (thin .exit)) .written) r × Stays (wideOf (now (wide .entry))) (wideOf (now (wide .exit))) (thinOf (now (thin .entry))) (thinOf (now (thin .exit))) × ((ts : List Token) (x : Statement) → Text ts x (wideOf (now (wide .entry)) .values) (now (tape .entry)) → now (kinds .entry) ≡ kindsOf ts → thinOf (now (thin .entry)) .found ≡ named ts x .found → Blank ts (wideOf (now (wide .entry)) .means) → Blank ts (thinOf (now (thin .entry)) .opens) → Blank ts (thinOf (now (thin .entry)) .written) → length (now (wide .entry)) / 4 ≡ length ts → Settled ts x (wideOf (now (wide .exit))) (thinOf (now (thin .exit))) others r) ⌝ }
 {
     let mut owners = [0u64; NESTING + 1];

@@ -1,6 +1,6 @@
 -- What the number of an event says: the layer of events that it is of, its family, and its form. Who reads a tape asks these and never compares numbers by order, so
 -- that a new event may have any number that is free.
-use Prim.Native.Nat.{ℕ, _+_, _-_, _%_}
+use Prim.Native.Nat.{ℕ, _-_, _%_}
 use lib.Dec.{eqb, ltb}
 use Rattle.base.specs.Choose.{if_then_else_}
 use Rattle.tape.specs.Events as E

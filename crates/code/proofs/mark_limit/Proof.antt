@@ -1,6 +1,6 @@
 -- Two addresses are set. Assumes nothing.
 use Rattle.code.specs.Places.{kept, markLimit, onMarks}
-use Rattle.ledger.specs.Book.{putIn}
+use Rattle.ledger.specs.Book.{putIn, thinLimit}
 use Prim.Native.Nat.{_%_}
 use mathlib.Core.Path.{ap, _∙_}
 use borrow.Author.Needs.{needs}
@@ -34,7 +34,7 @@ returns c =
     let at-put-mark = at-before3 .before .before .before .before in
     let at-before2 = at-put-mark .before in
     rw (← (at-before2 .before2 .ensures), ← (at-before3 .before3 .ensures), ← (at-held .held .ensures)) (at-put-mark2 .put-mark2 .ensures ∙ ap (onMarks (putIn
-    (at-before3 .before3 .result) (at-held .held .result % 65536))) (at-put-mark .put-mark .ensures))
+    (at-before3 .before3 .result) (at-held .held .result % thinLimit))) (at-put-mark .put-mark .ensures))
 
 pub mark-limit-spec : {M : Type 1} → statement M
 mark-limit-spec =

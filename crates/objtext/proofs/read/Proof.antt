@@ -1,14 +1,16 @@
 -- `read` counts the segments. The invariant, `Reading`: those read, in front of what is read next, are the whole. Assumes nothing.
-use Prim.Native.Nat.{_-_, _*_, _≤_}
+use Prim.Native.Nat.{_+_, _-_, _*_, _≤_}
 use borrow.Author.Needs.{needs}
 use Rattle.base.proofs.Tests.{told, not-true, not-false}
 use Rattle.objtext.proofs.Places.{after-program-place}
 use Rattle.objtext.proofs.Segments.{Reading, no-program, no-data, first-data, at-last, not-last, no-more, one-more}
 use Rattle.objtext.proofs.read.Statement.{statement}
 use Rattle.objtext.proofs.read.Tie as tie
+use Rattle.objtext.specs.Reader.{dataLine, contentLength}
+use Rattle.objtext.specs.Object.{contentLimit}
 
 abbrev Inv-loop : tie.InvT-loop
-Inv-loop t at₀ k₀ at k = (2 ≤ k) × (k ≤ 4) × (at ≤ 11025 * k) × Reading t k at
+Inv-loop t at₀ k₀ at k = (2 ≤ k) × (k ≤ 4) × (at ≤ (dataLine + contentLength contentLimit) * k) × Reading t k at
 
 abbrev μ-loop : tie.MeasureT-loop
 μ-loop t at₀ k₀ at k = 4 - k
