@@ -13,7 +13,7 @@ use Rattle.base.specs.Choose.{choose, if_then_else_}
 use Rattle.base.specs.Lists.{member}
 use Rattle.base.proofs.Tests.{cases}
 use Rattle.base.proofs.Numbers.{one-less}
-use Rattle.grammar.specs.Tree.{Width, full, short}
+use Rattle.grammar.specs.Tree.{full, short}
 use Rattle.ledger.specs.Book.{Wide, Thin}
 use Rattle.static_rules.specs.Registers.{Registers, has, spares}
 use Rattle.static_rules.specs.Meaning.{Meaning, nothing, register, cell, routine, Based, Cell, elementSize, isFull}
@@ -67,13 +67,6 @@ bare-is shape t = go (eqb shape 1) (eqb shape 2) (eqb shape 3)
     go false true false = refl
     go false false true = refl
     go false false false = refl
-
-pub size-is : (m : ℕ) (x : Bool) (e : ℕ) → x ≡ isShortIn m → e ≡ (if x then 2 else 4) → (e ≡ elementSize (widthIn m)) × ((2 ≤ e) × (e ≤ 4))
-size-is m x e q h = rw (← q) (go x h)
-  where
-    go : (x : Bool) → e ≡ (if x then 2 else 4) → (e ≡ elementSize (if x then short else full)) × ((2 ≤ e) × (e ≤ 4))
-    go true h = (h, (omega arith, omega arith))
-    go false h = (h, (omega arith, omega arith))
 
 -- a multiple of the size lies inside where so many elements stand before it
 within-is : (e v n : ℕ) → 0 < e → (eqb (v % e) 0 && ltb (v / e) n) ≡ (eqb (v % e) 0 && leb (v + e) (e * n))

@@ -1,8 +1,8 @@
--- The width of a packed meaning tells the size. Assumes nothing.
+-- `element_size`: the width of a packed meaning tells the size. Assumes nothing.
 use mathlib.Core.Path.{sym, _∙_}
 use borrow.Author.Needs.{needs}
-use Rattle.layout.proofs.element_size.Statement.{statement}
-use Rattle.layout.proofs.element_size.Tie as tie
+use Rattle.tables.proofs.element_size.Statement.{statement}
+use Rattle.tables.proofs.element_size.Tie as tie
 
 is-short-requires : tie.Need-is-short-requires
 is-short-requires c κs = search needs
