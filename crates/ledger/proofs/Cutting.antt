@@ -5,8 +5,7 @@ use Prim.Native.Nat.{ℕ, zero, suc, _+_, _*_, _/_, _≤_, _<_}
 use native.Mathlib.Omega.{arith}
 use lib.ListN.{getD, take, length, replicate, length-take, length-replicate}
 use lib.Seq.{length-take-le, getD-take, ext-getD}
-use Rattle.base.specs.Lists.{All}
-use Rattle.base.proofs.Lists.{all-getD, all-replicate, zeros-at}
+use Rattle.base.proofs.Lists.{zeros-at}
 use Rattle.ledger.specs.Book.{wideOf, thinOf, wideColumn, thinColumn}
 use Rattle.ledger.proofs.Columns.{wide-read, thin-read, wide-length, thin-length}
 

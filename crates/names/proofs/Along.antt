@@ -3,7 +3,6 @@ use mathlib.Core.Path.{_≡_, refl, sym, ap, subst, _∙_}
 use mathlib.Core.List.{List}
 use Prim.Native.Nat.{ℕ, suc, _+_, _-_, _*_, _/_, _%_, _≤_, _<_}
 use native.Mathlib.Omega.{arith}
-use native.Mathlib.Numerals.{add-one}
 use lib.Dec.{eqb, ltb}
 use lib.ListN.{getD, length, drop}
 use Rattle.base.proofs.Tests.{by-test}
@@ -14,8 +13,7 @@ use Rattle.tape.specs.Names.{declaring, shapeAt, indexAfter}
 use Rattle.tape.proofs.Pass.{pass-turn, pass-end}
 use Rattle.ledger.specs.Book.{Thin, thinOf, putFound, thinLimit}
 use Rattle.ledger.proofs.Columns.{thin-length}
-use Rattle.scopes.specs.declared.Broken.{Broken}
-use Rattle.scopes.specs.Broken.{rule, _⊕_, unbroken}
+use Rattle.scopes.specs.Broken.{unbroken}
 use Rattle.scopes.specs.Search.{inBlock, find, innermost}
 use Rattle.scopes.specs.Names.{Named, noteFound, useName, declareName, mostNames}
 use Rattle.names.specs.declared.Blocks.{Blocks}

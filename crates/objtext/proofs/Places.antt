@@ -207,7 +207,9 @@ module _ (t : List ℕ) (i k : ℕ) where
 
   data-by : {b : Bool} → dataHead ≡ b → isDataHead k s ≡ (b && leb (headLength s) dataLimit)
   data-by e =
-      ap (λ (l : List ℕ). isLine dataHeadBytes s && eqb (byteOf s) 2 && eqb (byteOf l) k && leb (headFrom s) (headTo s) && leb (headTo s) (headLength s) && leb (headLength s) dataLimit) (drop-drop 2 i t)
+      ap (λ (l : List ℕ).
+      isLine dataHeadBytes s && eqb (byteOf s) 2 && eqb (byteOf l) k && leb (headFrom s) (headTo s) && leb (headTo s) (headLength s) && leb (headLength s) dataLimit)
+      (drop-drop 2 i t)
       ∙ (λ j.
       isLine dataHeadBytes s && eqb (byteOf s) 2 && eqb (byteOf (drop (i + 2) t)) k && leb (sym (from-place t i) j) (sym (to-place t i) j) && leb (sym (to-place t i) j) (sym (length-place t i) j)
       && leb (headLength s) dataLimit)

@@ -113,7 +113,8 @@ short-head b n l next e = cases (leb n l) (λ h. leb-true n l h) (λ h. absurd (
 pub program-short : (k : ℕ) (s : List ℕ) → isProgram k s ≡ true → headLength s ≤ programLimit
 unfolding isProgram
 program-short k s e =
-    short-head (isLine programHeadBytes s && eqb (byteOf s) 1 && eqb (byteOf (drop 2 s)) k) (headLength s) programLimit (λ u. isContent (framesFor (headLength s)) k 0 (headLength s) (drop programLine s)) e
+    short-head (isLine programHeadBytes s && eqb (byteOf s) 1 && eqb (byteOf (drop 2 s)) k) (headLength s) programLimit
+    (λ u. isContent (framesFor (headLength s)) k 0 (headLength s) (drop programLine s)) e
 
 pub data-short : (k : ℕ) (s : List ℕ) → isData k s ≡ true → headLength s ≤ dataLimit
 unfolding isData

@@ -7,7 +7,7 @@ use native.Mathlib.Omega.{arith}
 use lib.Dec.{eqb, leb, leb·zero}
 use borrow.Author.Tests.{eqb-true, leb-true, leb-false, lt-leb}
 use Rattle.base.specs.Choose.{if_then_else_}
-use Rattle.base.proofs.Tests.{never-true, cases, both}
+use Rattle.base.proofs.Tests.{cases, both}
 use Rattle.grammar.specs.Tree.{Width, full, short}
 use Rattle.static_rules.specs.Meaning.{Cell, elementSize}
 use Rattle.static_rules.specs.Rules.{negative, inRange, inside, fitsWidth}

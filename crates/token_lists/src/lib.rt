@@ -10,7 +10,8 @@ use token::Next;
 use token::Tokens;
 use token::kinds;
 
-const TEXT_LIMIT: usize = 32768;
+// "source over 32,768 bytes".
+pub const TEXT_LIMIT: usize = 32768;
 
 pub fn is_last(kind: u8) -> bool
     ensures { λ r. ⌜ r ≡ T.isLast kind ⌝ }

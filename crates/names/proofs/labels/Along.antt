@@ -3,17 +3,15 @@ use mathlib.Core.Path.{_≡_, refl, ap, _∙_}
 use mathlib.Core.List.{List}
 use Prim.Native.Nat.{ℕ, suc, _+_, _/_, _%_, _≤_, _<_}
 use native.Mathlib.Omega.{arith}
-use native.Mathlib.Numerals.{add-one}
-use lib.Dec.{eqb, ltb}
+use lib.Dec.{eqb}
 use lib.ListN.{getD, length, drop}
 use Rattle.base.proofs.Tests.{by-test}
 use Rattle.tape.specs.Events as E
 use Rattle.tape.specs.Pass.{pass}
 use Rattle.tape.proofs.Pass.{pass-turn, pass-end}
 use Rattle.ledger.specs.Book.{Thin, thinOf, onThin, putGoes, thinLimit}
-use Rattle.scopes.specs.declared.Broken.{Broken}
 use Rattle.scopes.specs.declared.Noted.{Noted}
-use Rattle.scopes.specs.Broken.{rule, _⊕_, unbroken}
+use Rattle.scopes.specs.Broken.{unbroken}
 use Rattle.scopes.specs.Search.{inBlock, find}
 use Rattle.scopes.specs.Labels.{Labelled, noteLabel, setLabel, mostLabels}
 use Rattle.names.specs.Judged.{entered, sought}

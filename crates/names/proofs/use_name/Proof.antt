@@ -24,7 +24,8 @@ returns : tie.Need-returns
 returns c = used _ (thinOf (c .before .before .before .before .before .before .before .before .before .before .args .thin .now))
     (c .before .before .before .before .before .before .before .before .before .before .args .b) _
     (c .before .before .before .before .before .before .before .before .before .before .args .n) _ _ _ _
-    (c .before .before .before .before .before .before .value .ensures) (c .before .before .before .before .before .lookup .ensures .0) (c .before .before .before .put-found .ensures) (c .sought .ensures)
+    (c .before .before .before .before .before .before .value .ensures) (c .before .before .before .before .before .lookup .ensures .0)
+    (c .before .before .before .put-found .ensures) (c .sought .ensures)
 
 pub use-name-spec : {M : Type 1} → statement M
 use-name-spec = tie.close (tie.spec value-requires lookup-requires put-found-requires sought-requires same-length returns)

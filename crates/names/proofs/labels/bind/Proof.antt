@@ -1,6 +1,6 @@
 -- `bind` notes what the search finds. Assumes nothing.
 use Rattle.names.proofs.labels.Along.{bound}
-use Rattle.ledger.specs.Book.{wideOf, thinOf}
+use Rattle.ledger.specs.Book.{thinOf}
 use mathlib.Core.Path.{refl}
 use borrow.Author.Needs.{needs}
 use Rattle.names.proofs.labels.bind.Statement.{statement}
@@ -24,7 +24,8 @@ same-length c = search needs
 returns : tie.Need-returns
 returns c = bound _ _ _ _ (c .before .before .before .before .before .before .before .before .before .before .args .n) _ _ _ _
     (thinOf (c .before .before .before .before .before .before .before .before .before .before .args .thin .now)) _ refl refl
-    (c .before .before .before .before .before .before .value .ensures) (c .before .before .before .before .before .lookup .ensures .0) (c .before .before .before .put-goes .ensures) (c .sought .ensures)
+    (c .before .before .before .before .before .before .value .ensures) (c .before .before .before .before .before .lookup .ensures .0)
+    (c .before .before .before .put-goes .ensures) (c .sought .ensures)
 
 pub bind-spec : {M : Type 1} → statement M
 bind-spec = tie.close (tie.spec value-requires lookup-requires put-goes-requires sought-requires same-length returns)
