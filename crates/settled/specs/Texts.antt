@@ -145,6 +145,9 @@ rowsFor n = n + (firstToken + 1)
 -- what is lent for a text of n bytes
 pub record Rooms (n : ℕ) (kinds tape wide thin : List ℕ) : Type 0 where
   pub short : n ≤ TEXT-LIMIT
-  pub fits : Fits (rowsFor n) kinds tape wide thin
+  pub for-kinds : rowsFor n ≤ length kinds
+  pub for-tape : rowsFor n ≤ length tape
+  pub for-wide : 4 * rowsFor n ≤ length wide
+  pub for-thin : 4 * rowsFor n ≤ length thin
   pub no-wide : Zeros wide
   pub no-thin : Zeros thin

@@ -63,7 +63,7 @@ returns c =
     text-read _ _ _ _ (at-read .read .ensures .0) _ (at-tokens .tokens .given .1) _ _ _ _ _
     (wide-take 0 (firstToken + at-tokens .tokens .given .0 .0) (at-read .read .last .1 .1 .0) (omega arith) (f .for-wide))
     (cut-blanks (start .args .src .now) _ (at-read .read .ensures .0 .is) _ (at-tokens .tokens .given .1) (start .args .wide .now) (at-read .read .last .1 .1 .0) (start .args .thin .now)
-    (start .pre .no-wide) (start .pre .no-thin) (at-read .read .ensures .1) (at-read .read .kept .1 .1 .0) (f .for-wide) (f .for-thin))
+    (start .pre .no-wide) (start .pre .no-thin) (at-read .read .ensures .1) (at-read .read .kept .1 .1 .0) (omega (arith, f .for-wide, at-read .read .kept .1 .1 .0)) (f .for-thin))
     (at-translate-read .translate-read .ensures)
 
 same-length-6 : tie.Need-same-length-6

@@ -37,7 +37,9 @@ slice-aggregate-translate-tokens-4 c = sym (length-take-le _ _ (c .before .befor
 translate-tokens-requires : tie.Need-translate-tokens-requires
 translate-tokens-requires c κs =
     let start = c .before .before .before .before .before .before .before .before .before .before .before in
-    let l = cut-lent _ (start .args .kinds .now) (start .args .tape .now) (start .args .wide .now) (start .args .thin .now) (omega arith) (start .pre .1) in
+    let f = start .pre .1 in
+    let l = cut-lent _ (start .args .kinds .now) (start .args .tape .now) (start .args .wide .now) (start .args .thin .now) (omega arith) (f .few) (f .for-kinds)
+    (f .for-tape) (f .for-wide) (f .for-thin) in
     (start .pre .0, l .0, l .1, l .2)
 
 same-length : tie.Need-same-length
