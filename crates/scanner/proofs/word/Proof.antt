@@ -1,10 +1,18 @@
 -- `word` finds a reserved word at the place of its key: two tests over the whole table, which antt computes. Assumes nothing.
+use Prim.Native.Nat.{ℕ}
+use mathlib.Core.List.{List, [], _∷_}
 use borrow.Author.Needs.{needs}
 use Rattle.base.specs.Numbers.{numberFrom}
 use Rattle.scanner.proofs.Words.{hit, miss}
 use Rattle.scanner.specs.Inner.{keyKind}
 use Rattle.scanner.proofs.word.Statement.{statement}
 use Rattle.scanner.proofs.word.Tie as tie
+
+-- `WORDS` of the code, as `build/words` makes it
+slots : List ℕ
+slots = 2599819994320 ∷ 1225623491 ∷ 883288 ∷ 43611015 ∷ 49834765 ∷ 85081182 ∷ 1 ∷ 85067357 ∷ 42437 ∷ 3295988556 ∷ 33740694 ∷ 31497 ∷ 3492157576 ∷ 1 ∷ 1 ∷ 1 ∷
+    4652580649483927 ∷ 57049 ∷ 3020246200145 ∷ 1 ∷ 1 ∷ 1 ∷ 856603 ∷ 1941020 ∷ 124743218865185 ∷ 1 ∷ 1301194 ∷ 1157840531 ∷ 86046795 ∷ 1 ∷ 3062688338 ∷ 71215694 ∷
+    3956758474325 ∷ 1215044 ∷ 1 ∷ 1 ∷ 2794202 ∷ 85080480 ∷ 1 ∷ 88037318 ∷ 85066655 ∷ 137427610859732 ∷ 1 ∷ 1767076687439 ∷ []
 
 mul-w : tie.Need-mul-w
 mul-w c = search needs
@@ -16,12 +24,12 @@ cast-result : tie.Need-cast-result
 cast-result c = search needs
 
 returns : tie.Need-returns
-unfolding keyKind numberFrom
-returns c = hit _ _ _ (c .before .args .key) tt (search needs) (c .if1 .taken)
+unfolding slots keyKind numberFrom
+returns c = hit slots 131 44 (c .before .args .key) (c .if1 .taken) tt (search needs)
 
 returns-2 : tie.Need-returns-2
-unfolding keyKind numberFrom
-returns-2 c = miss _ _ _ (c .before .args .key) tt (c .if1 .left)
+unfolding slots keyKind numberFrom
+returns-2 c = miss slots 131 44 (c .before .args .key) (c .if1 .left) tt
 
 pub word-spec : {M : Type 1} → statement M
 word-spec = tie.close (tie.spec mul-w array-read-w cast-result returns returns-2)
