@@ -1,7 +1,7 @@
 -- The ledger keeps 16 bits of an address. Of a program that ends below 65,536 that is all of it (`places-kept`); and how long a program is does not hang on where
 -- its branches go (`length-same`). Assumes nothing.
 use mathlib.Core.Path.{_≡_, refl, sym, ap, ap₂, _∙_}
-use mathlib.Core.Bool.{Bool, true, false}
+use mathlib.Core.Bool.{Bool, true, false, _||_}
 use mathlib.Core.List.{List, [], _∷_}
 use Prim.Native.Nat.{ℕ, _+_, _/_, _%_, _<_, _≤_}
 use native.Mathlib.Omega.{arith}
@@ -78,12 +78,10 @@ module _ (kinds values marks marks′ : List ℕ) where
   unfolding otherCodes listOf codeSize
   others-same family t n =
       either-same (eqb family E.BASE) _ _ _ _ refl
-      (either-same (eqb family E.PROCEDURE) _ _ _ _ refl
       (either-same (eqb family E.END-PROCEDURE) _ _ _ _ refl
-      (either-same (eqb family E.ELSE) _ _ _ _ refl
-      (either-same (eqb family E.END-WHILE) _ _ _ _ refl
       (either-same (eqb family E.CALL) _ _ _ _ refl
-      (either-same (eqb family E.GOTO) _ _ _ _ refl refl))))))
+      (either-same (eqb family E.GOTO) _ _ _ _ refl
+      (either-same (eqb family E.PROCEDURE || (eqb family E.ELSE || eqb family E.END-WHILE)) _ _ _ _ refl refl))))
 
   step-same : (t : ℕ) → bytes (stepCodes values marks t) ≡ bytes (stepCodes values marks′ t)
   unfolding stepCodes applyThen isAbsent applyCode listOf codeSize

@@ -13,24 +13,18 @@ ghost use Rattle.ledger.specs.Book.{wideOf, thinOf, putIn, thinLimit};
 ghost use Rattle.code.specs.Places.{markLimit, markClosing, markAfter, onMarks, placesIn};
 ghost use Rattle.code.specs.Coding.{bytesIn, Laid, laidBy, layCode, layAll, codeIn, Holds};
 use arrays::put_wide;
+use base::less;
 use emit::Code;
 use emit::Codes;
 use emit::DATA_BASE;
-use emit::Named;
 use emit::Use;
 use emit::Writing;
-use emit::before;
 use emit::code_size;
-use emit::codes_of;
 use emit::count;
-use emit::goal_at;
 use emit::held;
 use emit::nth;
-use emit::operand;
-use emit::register_at;
 use emit::size;
 use emit::stop;
-use emit::written_after;
 use ledger::THIN_LIMIT;
 use ledger::put_written;
 
@@ -47,8 +41,8 @@ fn mark_limit(t: usize, from: usize, aim: Use, thin: &mut [u16])
     requires { ⌜ from < thinLimit ⌝ }
     ensures { λ _. ⌜ thinOf (now (thin .exit)) ≡ onMarks (markLimit t from aim) (thinOf (now (thin .entry))) ⌝ }
 {
-    put_mark(thin, before(t, 2), from);
-    put_mark(thin, before(t, 1), held(aim) as usize % THIN_LIMIT);
+    put_mark(thin, less(t, 2), from);
+    put_mark(thin, less(t, 1), held(aim) as usize % THIN_LIMIT);
 }
 
 fn mark_closing(family: u32, t: usize, to: usize, thin: &mut [u16])
@@ -56,22 +50,15 @@ fn mark_closing(family: u32, t: usize, to: usize, thin: &mut [u16])
     ensures { λ _. ⌜ thinOf (now (thin .exit)) ≡ onMarks (markClosing family t to) (thinOf (now (thin .entry))) ⌝ }
 {
     if family == tape::END_FOR {
-        put_mark(thin, before(t, 1), to);
+        put_mark(thin, less(t, 1), to);
         return;
     }
-    if family == tape::END_ELSE {
+    if (family == tape::END_PROCEDURE) | (family == tape::END_ELSE) {
         put_mark(thin, t + 1, to);
         return;
     }
-    if family == tape::ELSE {
-        put_mark(thin, t, to);
-        return;
-    }
-    if family == tape::END_IF {
-        put_mark(thin, t, to);
-        return;
-    }
-    if family == tape::END_WHILE {
+    let opens = (family == tape::PROCEDURE) | (family == tape::ELSE);
+    if opens | ((family == tape::END_IF) | (family == tape::END_WHILE)) {
         put_mark(thin, t, to);
     }
 }
@@ -82,14 +69,6 @@ fn mark_after(family: u32, t: usize, from: usize, to: usize, aim: Use, thin: &mu
 {
     if family == tape::LABEL {
         put_mark(thin, t, from);
-        return;
-    }
-    if family == tape::PROCEDURE {
-        put_mark(thin, t, to);
-        return;
-    }
-    if family == tape::END_PROCEDURE {
-        put_mark(thin, t + 1, to);
         return;
     }
     if family == tape::LIMIT {
@@ -118,15 +97,20 @@ pub fn places(tape: &[u32], kinds: &[u8], wide: &[u64], thin: &mut [u16]) -> usi
         let e = tape[i];
         let op = tape::op(e);
         let t = tape::token(e);
-        let family = tape::family(op);
-        let u = operand(wide, thin, tape::form(op), t);
-        let register = register_at(wide, thin, family, t);
-        let goal = goal_at(thin, family, t);
-        let m = codes_of(kinds, wide, thin, family, t, w, u, Named { register, goal });
-        let q = p + size(m);
+        let made = emit::event(kinds, wide, thin, op, t, w);
+        let codes = made.codes;
+        let q = p + size(codes);
         let aim = w.aim;
-        mark_after(family, t, p % THIN_LIMIT, q % THIN_LIMIT, aim, thin);
-        w = written_after(family, w, u, register);
+        mark_after(
+            tape::family(op),
+            t,
+            p % THIN_LIMIT,
+            q % THIN_LIMIT,
+            aim,
+            thin,
+        );
+        let next = made.writing;
+        w = next;
         p = q;
         i += 1;
     }
@@ -285,13 +269,11 @@ pub fn write_code(
         let e = tape[i];
         let op = tape::op(e);
         let t = tape::token(e);
-        let family = tape::family(op);
-        let u = operand(wide, thin, tape::form(op), t);
-        let register = register_at(wide, thin, family, t);
-        let goal = goal_at(thin, family, t);
-        let m = codes_of(kinds, wide, thin, family, t, w, u, Named { register, goal });
-        at = lay_codes(image, literals, start, at, m);
-        w = written_after(family, w, u, register);
+        let made = emit::event(kinds, wide, thin, op, t, w);
+        let codes = made.codes;
+        at = lay_codes(image, literals, start, at, codes);
+        let next = made.writing;
+        w = next;
         i += 1;
     }
     let p = at.length;

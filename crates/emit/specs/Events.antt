@@ -2,6 +2,7 @@
 -- next token; IF and WHILE, where a false condition goes, and at the next token behind an ELSE part, or the condition of the loop; a STEP's number, the compare,
 -- and at the token before it behind the loop, at the token after it the control register.
 use mathlib.Core.List.{List}
+use mathlib.Core.Bool.{_||_}
 use Prim.Native.Nat.{ℕ, _+_, _-_, _/_, _%_}
 use lib.Dec.{eqb}
 use lib.ListN.{getD}
@@ -18,6 +19,7 @@ use Rattle.emit.specs.declared.Codes.{Codes}
 use Rattle.emit.specs.declared.Codes.the-variants.{None, One}
 use Rattle.emit.specs.declared.Named.{Named}
 use Rattle.emit.specs.declared.Writing.{Writing}
+use Rattle.emit.specs.declared.Emitted.{Emitted}
 use Rattle.emit.specs.Codes.{applyThen, heldIn, firstCodes, nextCodes, branchCode, linkCode, baseCode, returnCode}
 
 -- ── operands ──
@@ -81,9 +83,7 @@ unfoldable pub writtenAfter : (family : ℕ) → Writing → Use → (register :
 writtenAfter family w u r =
     if eqb family E.TARGET then record { aim = u; sign = 0 } else
     if eqb family E.CONTROL then record { aim = Held r; sign = 0 } else
-    if eqb family E.ABS then signing family w else
-    if eqb family E.NEG then signing family w else
-    if eqb family E.NEG-ABS then signing family w else
+    if eqb family E.ABS || (eqb family E.NEG || eqb family E.NEG-ABS) then signing family w else
     w
 
 -- ── the instructions ──
@@ -107,12 +107,10 @@ stepCodes values marks t = applyThen addRow (getD marks (t + 1) 0) (Number (getD
 unfoldable pub otherCodes : (marks : List ℕ) (family t : ℕ) → Named → Codes
 otherCodes marks family t n =
     if eqb family E.BASE then One (baseCode (n .register) (n .goal)) else
-    if eqb family E.PROCEDURE then One (branchCode always (getD marks (t + 1) 0)) else
     if eqb family E.END-PROCEDURE then One (returnCode (n .register)) else
-    if eqb family E.ELSE then One (branchCode always (getD marks (t + 1) 0)) else
-    if eqb family E.END-WHILE then One (branchCode always (getD marks (t + 1) 0)) else
     if eqb family E.CALL then One (linkCode (n .register) (getD marks (n .goal) 0)) else
     if eqb family E.GOTO then One (branchCode always (getD marks (n .goal) 0)) else
+    if eqb family E.PROCEDURE || (eqb family E.ELSE || eqb family E.END-WHILE) then One (branchCode always (getD marks (t + 1) 0)) else
     None
 
 unfoldable pub codesOf : (kinds values marks : List ℕ) (family t : ℕ) → Writing → Use → Named → Codes
@@ -142,3 +140,6 @@ writingIn w b op t v = writingAfter (w .values) (b .found) (w .means) (w .under)
 
 abbrev pub codesIn : (kinds : List ℕ) → Wide → Thin → (op t : ℕ) → Writing → Codes
 codesIn kinds w b op t v = codesBy kinds (w .values) (b .found) (b .goes) (w .means) (w .under) (b .opens) (w .offsets) (b .written) op t v
+
+abbrev pub emittedIn : (kinds : List ℕ) → Wide → Thin → (op t : ℕ) → Writing → Emitted
+emittedIn kinds w b op t v = record { codes = codesIn kinds w b op t v; writing = writingIn w b op t v }

@@ -11,8 +11,9 @@ ghost use Rattle.static_rules.specs.Rules.{shifts};
 ghost use Rattle.translation.specs.Instructions.{opcode as opcodeOf, rowOf, shiftCode, falseMask};
 ghost use Rattle.translation.specs.Core.{exitMask};
 ghost use Rattle.emit.specs.Codes.{listOf, blank as blankCode, codeSize, codeSizes, columnOf, applyCode, isAbsent, applyCodes, applyThen, signCode, signedCodes, loadCodes, heldIn, amountIn, isLongUse, productRegister, termCodes, firstCodes, nextCodes, branchCode, linkCode, baseCode, returnCode, stopCode};
-ghost use Rattle.emit.specs.Events.{subscriptIn, indexIn, elementIn, placeBy, placeIn, useIn, returnIn, registerAt, goalAt, signing as signingOf, writtenAfter, comparedCodes, bareCodes, limitCodes, stepCodes, otherCodes, codesOf};
+ghost use Rattle.emit.specs.Events.{subscriptIn, indexIn, elementIn, placeBy, placeIn, useIn, returnIn, registerAt, goalAt, signing as signingOf, writtenAfter, comparedCodes, bareCodes, limitCodes, stepCodes, otherCodes, codesOf, emittedIn};
 use arrays::kind;
+use base::less;
 use ledger::found;
 use ledger::goes;
 use ledger::meaning;
@@ -61,6 +62,12 @@ pub struct Named {
 pub struct Writing {
     pub aim: Use,
     pub sign: u32,
+}
+
+// What an event makes: its instructions, and the assignment that is written after it.
+pub struct Emitted {
+    pub codes: Codes,
+    pub writing: Writing,
 }
 
 // ── the tables ──
@@ -422,7 +429,7 @@ fn is_long(u: Use) -> bool
     }
 }
 
-fn less(r: u64) -> u64
+fn lower(r: u64) -> u64
     ensures { λ n. ⌜ n ≡ r - 1 ⌝ }
 {
     if r == 0 { 0 } else { r - 1 }
@@ -432,7 +439,7 @@ fn product_register(r: u64, u: Use) -> u64
     ensures { λ n. ⌜ n ≡ productRegister r u ⌝ }
 {
     if is_long(u) {
-        return less(r);
+        return lower(r);
     }
     r
 }
@@ -557,7 +564,7 @@ fn place(wide: &[u64], thin: &[u16], shape: u32, t: usize) -> Use
 }
 
 // The operand or designator at token t, by its shape.
-pub fn operand(wide: &[u64], thin: &[u16], shape: u32, t: usize) -> Use
+fn operand(wide: &[u64], thin: &[u16], shape: u32, t: usize) -> Use
     requires { ⌜ t < TOKEN-LIMIT ⌝ }
     ensures { λ r. ⌜ r ≡ useIn (wideOf (now (wide .entry)) .values) (thinOf (now (thin .entry)) .found) (wideOf (now (wide .entry)) .means) (wideOf (now (wide .entry)) .under) (wideOf (now (wide .entry)) .offsets) shape t ⌝ }
 {
@@ -578,13 +585,7 @@ fn return_register(m: u64) -> u64
     0
 }
 
-pub fn before(t: usize, n: usize) -> usize
-    ensures { λ r. ⌜ r ≡ t - n ⌝ }
-{
-    if t < n { 0 } else { t - n }
-}
-
-pub fn register_at(wide: &[u64], thin: &[u16], family: u32, t: usize) -> u64
+fn register_at(wide: &[u64], thin: &[u16], family: u32, t: usize) -> u64
     requires { ⌜ t < TOKEN-LIMIT ⌝ }
     ensures { λ r. ⌜ r ≡ registerAt (thinOf (now (thin .entry)) .found) (wideOf (now (wide .entry)) .means) family t ⌝ }
 {
@@ -592,7 +593,7 @@ pub fn register_at(wide: &[u64], thin: &[u16], family: u32, t: usize) -> u64
         return register(meaning(wide, thin, t + 2));
     }
     if family == tape::COMPARED {
-        return register(meaning(wide, thin, before(t, 2)));
+        return register(meaning(wide, thin, less(t, 2)));
     }
     if family == tape::CALL {
         return return_register(meaning(wide, thin, t));
@@ -600,7 +601,7 @@ pub fn register_at(wide: &[u64], thin: &[u16], family: u32, t: usize) -> u64
     register(meaning(wide, thin, t))
 }
 
-pub fn goal_at(thin: &[u16], family: u32, t: usize) -> usize
+fn goal_at(thin: &[u16], family: u32, t: usize) -> usize
     ensures { λ r. ⌜ (r ≡ goalAt (thinOf (now (thin .entry)) .found) (thinOf (now (thin .entry)) .goes) (thinOf (now (thin .entry)) .opens) family t) × (r < thinLimit) ⌝ }
 {
     if family == tape::BASE {
@@ -622,7 +623,7 @@ fn signing(sign: u32, w: Writing) -> Writing
 }
 
 // Its target and its sign, after an event with the operand u and the register r.
-pub fn written_after(family: u32, w: Writing, u: Use, r: u64) -> Writing
+fn written_after(family: u32, w: Writing, u: Use, r: u64) -> Writing
     ensures { λ v. ⌜ v ≡ writtenAfter family w u r ⌝ }
 {
     if family == tape::TARGET {
@@ -634,13 +635,7 @@ pub fn written_after(family: u32, w: Writing, u: Use, r: u64) -> Writing
             sign: 0,
         };
     }
-    if family == tape::ABS {
-        return signing(family, w);
-    }
-    if family == tape::NEG {
-        return signing(family, w);
-    }
-    if family == tape::NEG_ABS {
+    if (family == tape::ABS) | ((family == tape::NEG) | (family == tape::NEG_ABS)) {
         return signing(family, w);
     }
     w
@@ -685,28 +680,23 @@ fn mark(thin: &[u16], t: usize) -> usize
 fn compared(kinds: &[u8], thin: &[u16], r: u64, t: usize, u: Use) -> Codes
     ensures { λ m. ⌜ m ≡ comparedCodes (now (kinds .entry)) (thinOf (now (thin .entry)) .written) r t u ⌝ }
 {
-    let mask = false_mask(kind(kinds, before(t, 1)));
-    apply_then(COMPARE, r, u, branch(mask, mark(thin, before(t, 3))))
+    let mask = false_mask(kind(kinds, less(t, 1)));
+    apply_then(COMPARE, r, u, branch(mask, mark(thin, less(t, 3))))
 }
 
 fn bare(kinds: &[u8], thin: &[u16], t: usize) -> Codes
     ensures { λ m. ⌜ m ≡ bareCodes (now (kinds .entry)) (thinOf (now (thin .entry)) .written) t ⌝ }
 {
     let mask = false_mask(kind(kinds, t));
-    Codes::One(branch(mask, mark(thin, before(t, 1))))
+    Codes::One(branch(mask, mark(thin, less(t, 1))))
 }
 
 // "compare with limit; exit branch": the control register and the operand u.
 fn limit(wide: &[u64], thin: &[u16], aim: Use, t: usize, u: Use) -> Codes
     ensures { λ m. ⌜ m ≡ limitCodes (wideOf (now (wide .entry)) .values) (thinOf (now (thin .entry)) .written) aim t u ⌝ }
 {
-    let mask = exit_mask(value(wide, before(t, 2)));
-    apply_then(
-        COMPARE,
-        held(aim),
-        u,
-        branch(mask, mark(thin, before(t, 3))),
-    )
+    let mask = exit_mask(value(wide, less(t, 2)));
+    apply_then(COMPARE, held(aim), u, branch(mask, mark(thin, less(t, 3))))
 }
 
 // "5A of the step; branch to the compare".
@@ -733,17 +723,8 @@ fn others(thin: &[u16], family: u32, t: usize, n: Named) -> Codes
     if family == tape::BASE {
         return Codes::One(base(r, goal));
     }
-    if family == tape::PROCEDURE {
-        return Codes::One(branch(ALWAYS, mark(thin, t + 1)));
-    }
     if family == tape::END_PROCEDURE {
         return Codes::One(Code::Two(RETURN, ALWAYS, r));
-    }
-    if family == tape::ELSE {
-        return Codes::One(branch(ALWAYS, mark(thin, t + 1)));
-    }
-    if family == tape::END_WHILE {
-        return Codes::One(branch(ALWAYS, mark(thin, t + 1)));
     }
     if family == tape::CALL {
         return Codes::One(link(r, mark(thin, goal)));
@@ -751,11 +732,14 @@ fn others(thin: &[u16], family: u32, t: usize, n: Named) -> Codes
     if family == tape::GOTO {
         return Codes::One(branch(ALWAYS, mark(thin, goal)));
     }
+    if (family == tape::PROCEDURE) | ((family == tape::ELSE) | (family == tape::END_WHILE)) {
+        return Codes::One(branch(ALWAYS, mark(thin, t + 1)));
+    }
     Codes::None
 }
 
 // The instructions of an event, by its operand u and what it names.
-pub fn codes_of(
+fn codes_of(
     kinds: &[u8],
     wide: &[u64],
     thin: &[u16],
@@ -773,7 +757,7 @@ pub fn codes_of(
         return first(aim, w.sign, u);
     }
     if family == tape::TERM {
-        return next(aim, kind(kinds, before(t, 1)), u);
+        return next(aim, kind(kinds, less(t, 1)), u);
     }
     if family == tape::COMPARED {
         return compared(kinds, thin, n.register, t, u);
@@ -788,4 +772,18 @@ pub fn codes_of(
         return step(wide, thin, t);
     }
     others(thin, family, t, n)
+}
+
+// What an event makes, by its number and its token.
+pub fn event(kinds: &[u8], wide: &[u64], thin: &[u16], op: u32, t: usize, w: Writing) -> Emitted
+    requires { ⌜ t < TOKEN-LIMIT ⌝ }
+    ensures { λ r. ⌜ r ≡ emittedIn (now (kinds .entry)) (wideOf (now (wide .entry))) (thinOf (now (thin .entry))) op t w ⌝ }
+{
+    let family = tape::family(op);
+    let u = operand(wide, thin, tape::form(op), t);
+    let register = register_at(wide, thin, family, t);
+    let goal = goal_at(thin, family, t);
+    let codes = codes_of(kinds, wide, thin, family, t, w, u, Named { register, goal });
+    let writing = written_after(family, w, u, register);
+    Emitted { codes, writing }
 }

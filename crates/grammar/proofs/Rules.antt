@@ -11,14 +11,14 @@ use lib.Dec.{eqb}
 use lib.ListN.{getD, length}
 use borrow.Author.Tests.{eqb-true, eq-eqb}
 use Rattle.base.specs.Lists.{member}
-use Rattle.base.proofs.Tests.{cases, never-true, not-true}
+use Rattle.base.proofs.Tests.{cases, never-true, not-true, both}
 use Rattle.base.proofs.Lists.{each}
 use Rattle.token.specs.Kinds as K
 use Rattle.grammar.specs.Tree.{Designator, Operand, number, place, Sign, plain, abs, neg, negAbs, Term, Assignment, Condition, compared, bare, Width, full, short, Register, Item, Declaration, registers, cells, base, Statement, assign, call, block, goto, null, ifThen, ifElse, while, for, Body, declare, procedure, items, Items, ended, label, item}
 use Rattle.grammar.specs.Reader.{Result, ok, bad, Reader, andThen, look, next, want}
 use Rattle.grammar.specs.Grammar.{compounds, designatorOf, operand, relations, condition, operators, terms, signOf, assignmentOf, numbers, cellItem, registerItem, listOf, typeOf, cellsOf, afterType, declaration, afterName, openers, statementOf, itemsOf, Procedure, declarators, bodyOf, ifOf, constructOf, statement, procedureOf, nesting, program}
 use Rattle.grammar.specs.Derives.{Part, Begins, only, within, constructs, nestingOf, bodyNesting, itemsNesting, isDesignator, isOperand, isCondition, isSign, areTerms, isAssignment, areNumbers, isItem, isRegister, areMore, areSome, integerOrLogical, isType, isDeclaration, simple, isProcedure, isStatement, isBody, isItems, isBlock, isProgram, isProgramWithin}
-use Rattle.grammar.proofs.Tests.{has, real, later, the-one, second, first, both}
+use Rattle.grammar.proofs.Tests.{has, real, later, the-one, second, first}
 use Rattle.grammar.proofs.Kept.{keep-designator, keep-operand, keep-condition, keep-sign, keep-terms, keep-assignment, keep-numbers, keep-item, keep-register, keep-some, keep-type, keep-declaration, keep-procedure, keep-statement, keep-body, keep-items, keep-only, keep-within, keep-block}
 use Rattle.grammar.proofs.Sequences.{Rule, Plain, always, plainly, Sequence, reach, right-onward, made, token, oneOf, part, parens, Each, Leads, Right, leads-token, leads-one, leads-part, leads-begins, part-begins, starts, gives, refuses, needs, wants, wants-one, wants-parens, reads, either}
 

@@ -12,6 +12,7 @@ use lib.Seq.{drop-cons}
 use Rattle.base.specs.Lists.{All}
 use Rattle.base.proofs.Lists.{all-getD}
 use Rattle.base.proofs.Tests.{never-true}
+use Rattle.base.proofs.Numbers.{one-less}
 use Rattle.grammar.specs.Tree.{Designator, Sign, plain, abs, neg, negAbs, Term, Assignment, Width, full, short, Register, Item, Declaration, registers, cells, base, Statement, assign, call, block, goto, null, ifThen, ifElse, while, for, Body, declare, procedure, items, Items, ended, label, item}
 use Rattle.grammar.specs.Derives.{isProgram, isRegister, nestingOf, bodyNesting, itemsNesting}
 use Rattle.grammar.specs.Events.{Edge, opened, closed, entered, left, Route, labelled, sent, Entry, named, celled, itemed, valued, based, Event, edge, route, entry, phrase, mark, aimed, driven, signed, given, joined, tested, limited, called, looped, endedIf, otherwise, endedElse, endedWhile, endedFor, each, eventsValue, eventsItem, eventsRegister, eventsDeclaration, eventsSign, eventsTerm, eventsChain, eventsStatement, eventsBody, eventsItems, eventsOf}
@@ -66,9 +67,6 @@ nested-on most b p op i tape h eo n = rw (add-one i, eo) ((rw (drop-cons tape i 
 
 op-of : (e : Event) → event (opOf e) (tokenOf e) % E.EVENTS ≡ opOf e
 op-of e = event-op (opOf e) (tokenOf e) ∙ omega (arith, op-fits e)
-
-one-less : (n : ℕ) → suc n - 1 ≡ n
-one-less n = omega arith
 
 module _ (most : ℕ) where
   record Deep (b p : ℕ) (es : List Event) : Type 0 where

@@ -1,6 +1,6 @@
 -- The object that the passes make of a text along its tape, by what the ledger has of its tokens.
 use mathlib.Core.List.{List}
-use Prim.Native.Nat.{ℕ, _+_, _*_}
+use Prim.Native.Nat.{ℕ, _+_, _*_, _/_}
 use lib.Dec.{eqb, ltb}
 use lib.ListN.{length, take, replicate}
 use lib.Seq.{sets}
@@ -20,6 +20,10 @@ use Rattle.frames.specs.Frames.{objectOf}
 -- "Each segment's image is built in an array of 4,096 zero bytes"
 abbrev pub zeros : List ℕ
 zeros = replicate segmentLimit 0
+
+-- "15: literals end past 4,096": where a room for so many is full, they do
+abbrev pub literalRoom : ℕ
+literalRoom = segmentLimit / 4 + 1
 
 -- "Segment 1 ends with its last literal; with none, with its last cell, or at 16."
 unfoldable pub endOfFirst : (cells start literals : ℕ) → ℕ

@@ -8,6 +8,7 @@ use native.Mathlib.Numerals.{add-one}
 use lib.ListN.{getD, set, length}
 use lib.Seq.{getD-set-same, getD-set-other}
 use borrow.Author.Tests.{le-leb, ne-eqb}
+use Rattle.base.proofs.Numbers.{one-less}
 use Rattle.tape.specs.Events as E
 use Rattle.ledger.specs.Book.{Thin, putOpens, putWritten}
 use Rattle.scopes.specs.Search.{innermost, enter}
@@ -15,7 +16,7 @@ use Rattle.names.specs.declared.Blocks.{Blocks}
 use Rattle.tape.specs.Names.{declaring}
 use Rattle.names.specs.Naming.{outer, blocksAfter}
 use Rattle.names.specs.Flat.{span, blocksOf, blocksIn, Rising, Changed, Stays, Begun}
-use Rattle.names.proofs.Search.{one-less, span-none}
+use Rattle.names.proofs.Search.{span-none}
 
 abbrev blocks : ℕ → ℕ → Blocks
 blocks depth count = record { depth = depth; count = count }

@@ -15,6 +15,7 @@ ghost use Rattle.scopes.specs.Names.{useName, declareName};
 ghost use Rattle.names.specs.Judged.{entered as enteredBy, sought as soughtBy};
 ghost use Rattle.names.specs.Naming.{outer, blocksAfter, declareAt, useRegister, usePlace, useAt, nameOp, beginning};
 ghost use Rattle.names.specs.Flat.{span, blocksOf, blocksIn, namedIn, Rising, Roomy, Changed, Stays, searchIn, naming, Begun};
+use base::less;
 use ledger::opens;
 use ledger::put_found;
 use ledger::put_opens;
@@ -217,16 +218,9 @@ fn use_register(op: u32, t: usize, wide: &[u64], thin: &mut [u16], b: Blocks, n:
         return use_name(wide, thin, b, t + 2, n);
     }
     if tape::family(op) == tape::COMPARED {
-        return use_name(wide, thin, b, two_before(t), n);
+        return use_name(wide, thin, b, less(t, 2), n);
     }
     n
-}
-
-// The place of a condition's register, two tokens before its operand.
-fn two_before(t: usize) -> usize
-    ensures { λ r. ⌜ r ≡ t - 2 ⌝ }
-{
-    if t < 2 { 0 } else { t - 2 }
 }
 
 fn use_place(shape: u32, t: usize, wide: &[u64], thin: &mut [u16], b: Blocks, n: Noted) -> Noted

@@ -14,19 +14,14 @@ use lib.Seq.{drop-at, take-at, take-all, drop-drop}
 use borrow.Author.Tests.{lt-ltb, le-ltb, lt-leb, ltb-true, leb-true, eqb-true}
 use Rattle.base.specs.Lists.{All}
 use Rattle.base.specs.Numbers.{bytesOf}
-use Rattle.base.proofs.Lists.{all-both}
+use Rattle.base.proofs.Lists.{all-both, none-some}
 use Rattle.base.proofs.Tables.{all-below}
-use Rattle.base.proofs.Tests.{cases, implied, never-true}
+use Rattle.base.proofs.Tests.{cases, implied, never-true, both}
 use Rattle.objtext.specs.Object.{Segment, program, cells, Bytes, contentFrame, contentFrames, framesFor, segmentFrames, objectFrames, hexDigit, hex, line, textOf, newline, objectText, Data, IsData, Object, Form, of-object, of-none, programLimit, dataLimit}
 use Rattle.objtext.specs.Reader.{digitOf, joinOf, byteOf, twoOf, isLine, isContentFrame, isContent, headLength, headFrom, headTo, isProgramHead, isDataHead, also, isProgram, programAt, afterProgram, isData, dataAt, afterData, isLast, Read, onSegment, readData, readObject, frameLine, dataLine, programLine}
 use Rattle.objtext.proofs.Lines.{before, line-before, length-line}
 use Rattle.objtext.proofs.Written.{text-append, only-frames, segmentText, segment-before, the-program, past-program, the-data, past-data, read-written}
-use Rattle.objtext.proofs.Walks.{no-some, Behind, behind, at-end}
-
--- both of two tests are passed
-both : (a b : Bool) → (a && b) ≡ true → (a ≡ true) × (b ≡ true)
-both true b e = (refl, e)
-both false b e = never-true e
+use Rattle.objtext.proofs.Walks.{Behind, behind, at-end}
 
 -- ── digits and bytes ──
 
@@ -327,7 +322,7 @@ data-exactly : (n k : ℕ) (s : List ℕ) (gs : List Segment) → k + n ≤ 256 
 unfolding readData
 data-exactly zero k s gs h e =
     let a = at-end (isLast s) (λ u. none) gs e in
-    cases (isLast s) (λ l. rest-none zero k s gs l (a .0 l)) (λ l. no-some gs (a .1 l))
+    cases (isLast s) (λ l. rest-none zero k s gs l (a .0 l)) (λ l. absurd (none-some gs (a .1 l)))
 data-exactly (suc n) k s gs h e =
     let next : Unit {0} → Read = λ v. readData n (suc k) (afterData s) in
     let a = at-end (isLast s) (λ u. onSegment (isData k s) (dataAt s) next) gs e in
@@ -365,5 +360,5 @@ unfoldable pub form : (t : List ℕ) → Form t
 form t = go (readObject t) refl
   where
     go : (r : Read) → readObject t ≡ r → Form t
-    go none e = of-none (λ gs o q. no-some gs (sym e ∙ exactly t gs .1 (o, q)))
+    go none e = of-none (λ gs o q. none-some gs (sym e ∙ exactly t gs .1 (o, q)))
     go (some gs) e = of-object gs (read-exact t gs e .0) (read-exact t gs e .1)

@@ -1,16 +1,16 @@
 // Document 01, "Names, cells, protected registers": the rules on kinds, registers and values, refusals 8 to 12, one function each.
 ghost use mathlib.Core.Path.{_≡_};
 ghost use mathlib.Core.Bool.{Bool, not};
-ghost use Prim.Native.Nat.{ℕ, _+_, _-_, _≤_, _<_};
+ghost use Prim.Native.Nat.{ℕ, _+_, _-_, _<_};
 ghost use lib.ListN.{getD};
 ghost use Rattle.base.specs.Lists.{member};
 ghost use Rattle.ledger.specs.Book.{wideOf, thinOf};
 ghost use Rattle.scopes.specs.Broken.{unbroken, rule as ruleOf, broken as brokenOf, _⊕_};
 ghost use Rattle.static_rules.specs.Registers.{spares as sparesOf};
-ghost use Rattle.static_rules.specs.Meaning.{Based, cell, elementSize};
+ghost use Rattle.static_rules.specs.Meaning.{Based, cell};
 ghost use Rattle.static_rules.specs.Tables.{Tables, valueAt, meaningAt};
 ghost use Rattle.static_rules.specs.Rules.{isRegister, isZero, isShort, inside, isBare, shifts, fullOnly, writeRule, registerRule, zeroRule, indexRules, subscriptRules, placeBy, placeRules, operandRules, onlyRegister, shiftRules, noShort, productRules, termRules, callRules, baseRules};
-ghost use Rattle.tables.specs.Packed.{widthIn, cellIn, unpacked, setOf};
+ghost use Rattle.tables.specs.Packed.{cellIn, unpacked, setOf};
 ghost use Rattle.tables.specs.Stacks.{stackOf};
 ghost use Rattle.rules.specs.Parts.{subscriptAt, indexAt, designatorAt, operandAt, termAt};
 ghost use Rattle.rules.specs.Shows.{Listed};
@@ -25,6 +25,7 @@ use ledger::written;
 use scopes::Broken;
 use scopes::join;
 use scopes::rule;
+use tables::element_size;
 use tables::is_array;
 use tables::is_cell;
 use tables::is_long;
@@ -105,18 +106,11 @@ fn index_rules(shape: u32, wide: &[u64], thin: &[u16], t: usize) -> Broken
     none()
 }
 
-// The size of a cell's elements.
-fn size(m: u64) -> u64
-    ensures { λ r. ⌜ (r ≡ elementSize (widthIn m)) × ((2 ≤ r) × (r ≤ 4)) ⌝ }
-{
-    if is_short(m) { 2 } else { 4 }
-}
-
 // "A subscript … is a multiple of the element size, and its element lies inside the array."; its 32 bits are read as signed.
 fn is_inside(m: u64, v: u64) -> bool
     ensures { λ r. ⌜ ((n : ℕ) (b : Based) → r ≡ inside (cellIn n m b) v) ⌝ }
 {
-    let e = size(m);
+    let e = element_size(m);
     let n = number(m);
     (v < 2147483648) & ((v % e == 0) & (v / e < n))
 }

@@ -9,7 +9,7 @@ use lib.Dec.{eqb}
 use lib.ListN.{getD, length}
 use Rattle.base.specs.Choose.{if_then_else_}
 use Rattle.base.specs.Lists.{member}
-use Rattle.base.proofs.Tests.{cases}
+use Rattle.base.proofs.Tests.{cases, both}
 use Rattle.token.specs.Kinds as K
 use Rattle.grammar.specs.Tree.{Statement, while, for, item}
 use Rattle.grammar.specs.Reader.{Result, ok, bad, Reader, andThen, look, next, want, refuse}
@@ -17,7 +17,7 @@ use Rattle.grammar.specs.Grammar.{openers, afterName, statementOf, itemsOf, ifO
 use Rattle.grammar.proofs.Tests.{real}
 use Rattle.readers.specs.Reads.{Kind}
 use Rattle.phrases.specs.Parts.{headOf, controlOf, limitOf, procedureHead}
-use Rattle.readers.proofs.Choices.{among, both}
+use Rattle.readers.proofs.Choices.{among}
 use Rattle.statements.specs.Parts.{ifPart, whilePart, forPart}
 
 -- ── readers regrouped ──

@@ -23,8 +23,8 @@ returns c = rw (c .before .before .before .before .if1 .taken) (c .before .befor
 family-requires : tie.Need-family-requires
 family-requires c κs = search needs
 
-two-before-requires : tie.Need-two-before-requires
-two-before-requires c κs = search needs
+less-requires : tie.Need-less-requires
+less-requires c κs = search needs
 
 use-name-requires-2 : tie.Need-use-name-requires-2
 use-name-requires-2 c κs = search needs
@@ -37,7 +37,7 @@ unfolding useRegister
 returns-2 c = rw (
   ne-eqb _ E.PROCEDURE (c .before .before .before .before .before .before .before .if1 .left),
   eq-eqb _ E.COMPARED (same (c .before .before .before .before .before .before .family .ensures) (c .before .before .before .before .before .if2 .taken)),
-  ← (c .before .before .before .two-before .ensures),
+  ← (c .before .before .before .less .ensures),
 ) (c .before .before .use-name2 .ensures)
 
 returns-3 : tie.Need-returns-3
@@ -53,7 +53,7 @@ use-register-spec =
     same-length
     returns
     family-requires
-    two-before-requires
+    less-requires
     use-name-requires-2
     same-length-2
     returns-2
