@@ -24,15 +24,15 @@ use Rattle.emit.specs.Codes.{applyThen, heldIn, firstCodes, nextCodes, b
 
 -- ── operands ──
 
--- a subscript follows the name in shapes 1 and 3
+-- a subscript follows the name where the shape is odd: name(number), name(number)(name)
 unfoldable pub subscriptIn : (values : List ℕ) (shape t : ℕ) → ℕ
 subscriptIn values shape t = if eqb (shape % 2) 1 then getD values (t + 2) 0 else 0
 
--- an index in shapes 2 and 3
+-- an index, two or five tokens behind it: name(name), name(number)(name)
 unfoldable pub indexIn : (found means : List ℕ) (shape t : ℕ) → ℕ
 indexIn found means shape t =
-    if eqb shape 2 then registerIn (packedAt found means (t + 2)) else
-    if eqb shape 3 then registerIn (packedAt found means (t + 5)) else
+    if eqb shape E.INDEXED then registerIn (packedAt found means (t + 2)) else
+    if eqb shape E.SUBSCRIPTED-INDEXED then registerIn (packedAt found means (t + 5)) else
     0
 
 -- an element of the cell that is declared at token d, with the packed meaning m
@@ -50,9 +50,8 @@ module _ (values found means under offsets : List ℕ) where
   unfoldable pub placeIn : (shape t : ℕ) → Use
   placeIn shape t = placeBy under offsets (getD found t 0) (packedAt found means t) (subscriptIn values shape t) (indexIn found means shape t)
 
-  -- a number has shape 4
   unfoldable pub useIn : (shape t : ℕ) → Use
-  useIn shape t = if eqb shape 4 then Number (getD values t 0) else placeIn shape t
+  useIn shape t = if eqb shape E.NUMBER then Number (getD values t 0) else placeIn shape t
 
 -- ── what an event names ──
 

@@ -520,10 +520,10 @@ fn index(wide: &[u64], thin: &[u16], shape: u32, t: usize) -> u64
     requires { ⌜ t < TOKEN-LIMIT ⌝ }
     ensures { λ r. ⌜ r ≡ indexIn (thinOf (now (thin .entry)) .found) (wideOf (now (wide .entry)) .means) shape t ⌝ }
 {
-    if shape == 2 {
+    if shape == tape::INDEXED {
         return register(meaning(wide, thin, t + 2));
     }
-    if shape == 3 {
+    if shape == tape::SUBSCRIPTED_INDEXED {
         return register(meaning(wide, thin, t + 5));
     }
     0
@@ -568,7 +568,7 @@ fn operand(wide: &[u64], thin: &[u16], shape: u32, t: usize) -> Use
     requires { ⌜ t < TOKEN-LIMIT ⌝ }
     ensures { λ r. ⌜ r ≡ useIn (wideOf (now (wide .entry)) .values) (thinOf (now (thin .entry)) .found) (wideOf (now (wide .entry)) .means) (wideOf (now (wide .entry)) .under) (wideOf (now (wide .entry)) .offsets) shape t ⌝ }
 {
-    if shape == 4 {
+    if shape == tape::NUMBER {
         return Use::Number(value(wide, t));
     }
     place(wide, thin, shape, t)

@@ -62,8 +62,8 @@ cellsOf s n room = record { short = s; elements = n; room = room }
 
 unfoldable pub cellsAfter : Tables → (op t : ℕ) → Cells → Cells
 cellsAfter f op t c =
-    if eqb (familyAt op) E.SINGLE-FULL then cellsOf (eqb (formAt op) 1) 1 (c .room) else
-    if eqb (familyAt op) E.ARRAY-FULL then cellsOf (eqb (formAt op) 1) (valueAt f t) (c .room) else
+    if eqb (familyAt op) E.SINGLE-FULL then cellsOf (eqb (formAt op) E.SHORT) 1 (c .room) else
+    if eqb (familyAt op) E.ARRAY-FULL then cellsOf (eqb (formAt op) E.SHORT) (valueAt f t) (c .room) else
     if eqb op E.ITEM then cellsOf (c .short) (c .elements) (c .elements) else
     if eqb op E.VALUE then cellsOf (c .short) (c .elements) (c .room - 1) else
     c

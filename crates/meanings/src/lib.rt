@@ -286,7 +286,7 @@ fn is_product(op: u32, t: usize, kinds: &[u8], wide: &[u64], thin: &[u16]) -> bo
     ensures { λ r. ⌜ ((under : List ℕ) → r ≡ isProductAt (now (kinds .entry)) (thinOf (now (thin .entry)) .found) op t (meaningsOf (wideOf (now (wide .entry)) .means) under)) ⌝ }
 {
     let times = kind(kinds, less(t, 1)) == token::kinds::TIMES;
-    let number = tape::form(op) == 4;
+    let number = tape::form(op) == tape::NUMBER;
     times & (number | is_long(meaning(wide, thin, t)))
 }
 

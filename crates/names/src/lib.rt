@@ -227,14 +227,14 @@ fn use_place(shape: u32, t: usize, wide: &[u64], thin: &mut [u16], b: Blocks, n:
     requires { ⌜ t < 4294967296 ⌝ }
     ensures { λ r. ⌜ searchIn (thinOf (now (thin .exit))) r ≡ naming b (usePlace (wideOf (now (wide .entry)) .values) shape t) (searchIn (thinOf (now (thin .entry))) n) ⌝ }
 {
-    if 3 < shape {
+    if tape::SUBSCRIPTED_INDEXED < shape {
         return n;
     }
     let m = use_name(wide, thin, b, t, n);
-    if shape < 2 {
+    if shape < tape::INDEXED {
         return m;
     }
-    if shape == 2 {
+    if shape == tape::INDEXED {
         return use_name(wide, thin, b, t + 2, m);
     }
     use_name(wide, thin, b, t + 5, m)

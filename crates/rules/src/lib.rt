@@ -97,10 +97,10 @@ fn index_rules(shape: u32, wide: &[u64], thin: &[u16], t: usize) -> Broken
     requires { ⌜ t < 4294967296 ⌝ }
     ensures { λ x. ⌜ ((f : Tables) → Listed f (wideOf (now (wide .entry))) (thinOf (now (thin .entry))) → x ≡ indexRules f (indexAt shape t)) ⌝ }
 {
-    if shape == 2 {
+    if shape == tape::INDEXED {
         return used_register(wide, thin, t + 2);
     }
-    if shape == 3 {
+    if shape == tape::SUBSCRIPTED_INDEXED {
         return used_register(wide, thin, t + 5);
     }
     none()
@@ -121,7 +121,7 @@ fn subscript_rules(shape: u32, m: u64, wide: &[u64], t: usize) -> Broken
         ⌜ ((f : Tables) → f .values ≡ wideOf (now (wide .entry)) .values → (n : ℕ) (b : Based)
         → x ≡ subscriptRules f (cellIn n m b) (subscriptAt shape t)) ⌝ }
 {
-    if (shape == 1) | (shape == 3) {
+    if (shape == tape::SUBSCRIPTED) | (shape == tape::SUBSCRIPTED_INDEXED) {
         return rule(is_inside(m, value(wide, t + 2)), 11, t + 2);
     }
     none()
@@ -130,7 +130,8 @@ fn subscript_rules(shape: u32, m: u64, wide: &[u64], t: usize) -> Broken
 pub fn is_bare(shape: u32) -> bool
     ensures { λ r. ⌜ ((t : ℕ) → r ≡ isBare (subscriptAt shape t) (indexAt shape t)) ⌝ }
 {
-    !((shape == 1) | ((shape == 2) | (shape == 3)))
+    !((shape == tape::SUBSCRIPTED)
+        | ((shape == tape::INDEXED) | (shape == tape::SUBSCRIPTED_INDEXED)))
 }
 
 // "A subscript … belongs only to arrays (else 8 at the name before it)", and so does an index.
@@ -163,7 +164,7 @@ pub fn operand_rules(shape: u32, wide: &[u64], thin: &[u16], t: usize) -> Broken
     requires { ⌜ t < 4294967296 ⌝ }
     ensures { λ x. ⌜ ((f : Tables) → Listed f (wideOf (now (wide .entry))) (thinOf (now (thin .entry))) → x ≡ operandRules f (operandAt shape t)) ⌝ }
 {
-    if shape == 4 {
+    if shape == tape::NUMBER {
         return none();
     }
     place_rules(shape, wide, thin, t)
@@ -173,7 +174,7 @@ pub fn operand_rules(shape: u32, wide: &[u64], thin: &[u16], t: usize) -> Broken
 pub fn only_register(shape: u32, wide: &[u64], thin: &[u16], t: usize) -> Broken
     ensures { λ x. ⌜ ((f : Tables) → Listed f (wideOf (now (wide .entry))) (thinOf (now (thin .entry))) → x ≡ onlyRegister f (operandAt shape t)) ⌝ }
 {
-    if shape == 4 {
+    if shape == tape::NUMBER {
         return broken(8, t);
     }
     let m = meaning(wide, thin, t);
@@ -186,7 +187,7 @@ pub fn only_register(shape: u32, wide: &[u64], thin: &[u16], t: usize) -> Broken
 fn shift_rules(shape: u32, wide: &[u64], thin: &[u16], t: usize) -> Broken
     ensures { λ x. ⌜ ((f : Tables) → Listed f (wideOf (now (wide .entry))) (thinOf (now (thin .entry))) → x ≡ shiftRules f (operandAt shape t)) ⌝ }
 {
-    if shape == 4 {
+    if shape == tape::NUMBER {
         return rule(value(wide, t) <= 63, 11, t);
     }
     let only = only_register(shape, wide, thin, t);
@@ -196,7 +197,7 @@ fn shift_rules(shape: u32, wide: &[u64], thin: &[u16], t: usize) -> Broken
 fn no_short(shape: u32, wide: &[u64], thin: &[u16], t: usize) -> Broken
     ensures { λ x. ⌜ ((f : Tables) → Listed f (wideOf (now (wide .entry))) (thinOf (now (thin .entry))) → x ≡ noShort f (operandAt shape t)) ⌝ }
 {
-    if shape == 4 {
+    if shape == tape::NUMBER {
         return none();
     }
     let m = meaning(wide, thin, t);
@@ -209,7 +210,7 @@ fn product_rules(shape: u32, wide: &[u64], thin: &[u16], depth: usize, r: usize,
         ⌜ ((f : Tables) → Listed f (wideOf (now (wide .entry))) (thinOf (now (thin .entry)))
         → x ≡ productRules f (stackOf (wideOf (now (wide .entry)) .offsets) depth) r (termAt shape t)) ⌝ }
 {
-    if (shape == 4) | is_long(meaning(wide, thin, t)) {
+    if (shape == tape::NUMBER) | is_long(meaning(wide, thin, t)) {
         let operator = less(t, 1);
         let odd = rule(r % 2 == 1, 9, operator);
         return join(odd, write_rule(wide, depth, less(r, 1) as u64, operator));

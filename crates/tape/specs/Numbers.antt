@@ -29,9 +29,9 @@ layerAt op =
     if ltb op E.LABEL then EDGE else
     if eqb op E.LABEL then ROUTE else
     if ltb op E.WHILE then PHRASE else
-    if ltb op E.CALL then MARK else
     if eqb op E.CALL then PHRASE else
-    ROUTE
+    if eqb op E.GOTO then ROUTE else
+    MARK
 
 -- ── families: numbers that differ in their form alone ──
 

@@ -42,7 +42,7 @@ entryCode (based n) = alone E.BASE n
 
 -- a number's shape is 4
 abbrev pub operandShape : Operand → ℕ
-operandShape (number t) = 4
+operandShape (number t) = E.NUMBER
 operandShape (place d) = shape d
 
 abbrev pub designatorCode : ℕ → Designator → Code

@@ -1,6 +1,7 @@
 -- What a declaration makes its name mean: one law for each return. Assumes nothing.
 use native.Mathlib.Omega.{arith}
 use denote.Ref.{now}
+use Rattle.tape.specs.Events as E
 use Rattle.meanings.proofs.Views as views
 use Rattle.ledger.specs.Book.{wideOf, thinOf}
 use Rattle.meanings.specs.Along.{declaredAfter}
@@ -116,11 +117,11 @@ returns-6 : tie.Need-returns-6
 unfolding declaredAfter
 returns-6 c = (
   rw (
-    ne-eqb _ 2 (c .before .before .before .before .if1 .left),
-    ne-eqb _ 7 (c .before .before .before .if2 .left),
-    ne-eqb _ 9 (c .before .before .if3 .left),
-    ne-eqb _ 10 (c .before .if4 .left),
-    ne-eqb _ 11 (c .if5 .left),
+    ne-eqb _ E.REGISTER (c .before .before .before .before .if1 .left),
+    ne-eqb _ E.ITEM (c .before .before .before .if2 .left),
+    ne-eqb _ E.BASE (c .before .before .if3 .left),
+    ne-eqb _ E.PROCEDURE (c .before .if4 .left),
+    ne-eqb _ E.END-PROCEDURE (c .if5 .left),
   ),
   omega arith,
 )

@@ -2,6 +2,7 @@
 use native.Mathlib.Omega.{arith}
 use denote.Ref.{now}
 use mathlib.Core.Path.{refl}
+use Rattle.tape.specs.Events as E
 use Rattle.meanings.specs.Along.{withinAfter}
 use borrow.Author.Tests.{ne-eqb}
 use borrow.Author.Needs.{needs}
@@ -62,11 +63,11 @@ returns-5 c = λ under. rw (c .before .before .if5 .taken) (c .leave-procedure .
 returns-6 : tie.Need-returns-6
 unfolding withinAfter
 returns-6 c = λ under. rw (
-  ne-eqb _ 0 (c .before .before .before .before .if1 .left),
-  ne-eqb _ 1 (c .before .before .before .if2 .left),
-  ne-eqb _ 9 (c .before .before .if3 .left),
-  ne-eqb _ 10 (c .before .if4 .left),
-  ne-eqb _ 11 (c .if5 .left),
+  ne-eqb _ E.BLOCK (c .before .before .before .before .if1 .left),
+  ne-eqb _ E.END-BLOCK (c .before .before .before .if2 .left),
+  ne-eqb _ E.BASE (c .before .before .if3 .left),
+  ne-eqb _ E.PROCEDURE (c .before .if4 .left),
+  ne-eqb _ E.END-PROCEDURE (c .if5 .left),
 ) (record { is = refl; blocks-are = refl; procedures-are = refl })
 
 pub within-after-spec : {M : Type 1} → statement M

@@ -1,4 +1,5 @@
 -- `use_register` uses the register that stands before or behind the event's token. Assumes nothing.
+use Rattle.tape.specs.Events as E
 use Rattle.names.specs.Naming.{useRegister}
 use Rattle.base.proofs.Tests.{same, other}
 use borrow.Author.Tests.{eq-eqb, ne-eqb}
@@ -34,14 +35,14 @@ same-length-2 c = search needs
 returns-2 : tie.Need-returns-2
 unfolding useRegister
 returns-2 c = rw (
-  ne-eqb _ 10 (c .before .before .before .before .before .before .before .if1 .left),
-  eq-eqb _ 34 (same (c .before .before .before .before .before .before .family .ensures) (c .before .before .before .before .before .if2 .taken)),
+  ne-eqb _ E.PROCEDURE (c .before .before .before .before .before .before .before .if1 .left),
+  eq-eqb _ E.COMPARED (same (c .before .before .before .before .before .before .family .ensures) (c .before .before .before .before .before .if2 .taken)),
   ← (c .before .before .before .less .ensures),
 ) (c .before .before .use-name2 .ensures)
 
 returns-3 : tie.Need-returns-3
 unfolding useRegister
-returns-3 c = rw (ne-eqb _ 10 (c .before .before .if1 .left), ne-eqb _ 34 (other (c .before .family .ensures) (c .if2 .left)))
+returns-3 c = rw (ne-eqb _ E.PROCEDURE (c .before .before .if1 .left), ne-eqb _ E.COMPARED (other (c .before .family .ensures) (c .if2 .left)))
 
 pub use-register-spec : {M : Type 1} → statement M
 use-register-spec =

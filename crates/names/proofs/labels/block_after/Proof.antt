@@ -1,4 +1,5 @@
 -- `block_after` is the definition's, test by test. Assumes nothing.
+use Rattle.tape.specs.Events as E
 use Rattle.names.specs.Linking.{blockAfter}
 use Rattle.ledger.proofs.Bounds.{block-noted}
 use borrow.Author.Tests.{eq-eqb, ne-eqb}
@@ -9,22 +10,22 @@ use Rattle.names.proofs.labels.block_after.Tie as tie
 
 returns : tie.Need-returns
 unfolding blockAfter
-returns c = (rw (eq-eqb _ 0 (c .if1 .taken)), c .before .before .pre .0 (block-noted (c .before .before .args .op) (c .if1 .taken)))
+returns c = (rw (eq-eqb _ E.BLOCK (c .if1 .taken)), c .before .before .pre .0 (block-noted (c .before .before .args .op) (c .if1 .taken)))
 
 returns-2 : tie.Need-returns-2
 unfolding blockAfter
-returns-2 c = (rw (ne-eqb _ 0 (c .before .if1 .left), eq-eqb _ 10 (c .if2 .taken)), omega arith)
+returns-2 c = (rw (ne-eqb _ E.BLOCK (c .before .if1 .left), eq-eqb _ E.PROCEDURE (c .if2 .taken)), omega arith)
 
 written-requires : tie.Need-written-requires
 written-requires c κs = search needs
 
 returns-3 : tie.Need-returns-3
 unfolding blockAfter
-returns-3 c = (rw (ne-eqb _ 0 (c .before .before .before .if1 .left), ne-eqb _ 10 (c .before .before .if2 .left), c .before .if3 .taken) (c .written .ensures .0), c .written .ensures .1)
+returns-3 c = (rw (ne-eqb _ E.BLOCK (c .before .before .before .if1 .left), ne-eqb _ E.PROCEDURE (c .before .before .if2 .left), c .before .if3 .taken) (c .written .ensures .0), c .written .ensures .1)
 
 returns-4 : tie.Need-returns-4
 unfolding blockAfter
-returns-4 c = (rw (ne-eqb _ 0 (c .before .before .if1 .left), ne-eqb _ 10 (c .before .if2 .left), c .if3 .left), c .before .before .before .before .pre .1)
+returns-4 c = (rw (ne-eqb _ E.BLOCK (c .before .before .if1 .left), ne-eqb _ E.PROCEDURE (c .before .if2 .left), c .if3 .left), c .before .before .before .before .pre .1)
 
 pub block-after-spec : {M : Type 1} → statement M
 block-after-spec = tie.close (tie.spec returns returns-2 written-requires returns-3 returns-4)

@@ -1,4 +1,5 @@
 -- `label_at` does what the event asks: one law for each return. Assumes nothing.
+use Rattle.tape.specs.Events as E
 use Rattle.names.specs.Labelling.{labelAt}
 use Rattle.names.specs.Chains.{markIn, marking}
 use Rattle.scopes.specs.Labels.{Labelled}
@@ -17,7 +18,7 @@ same-length c = search needs
 
 returns : tie.Need-returns
 unfolding labelAt
-returns c = rw (eq-eqb _ 12 (c .before .before .if1 .taken))
+returns c = rw (eq-eqb _ E.LABEL (c .before .before .if1 .taken))
     (ap (λ (x : Labelled). marking (λ _ _ _. x) (markIn (thinOf (c .before .before .before .before .before .args .thin .now))
     (c .before .before .before .before .before .args .n))) (c .set-label .ensures _))
 
@@ -29,11 +30,11 @@ same-length-2 c = search needs
 
 returns-2 : tie.Need-returns-2
 unfolding labelAt
-returns-2 c = rw (ne-eqb _ 12 (c .before .before .before .before .before .if1 .left), eq-eqb _ 52 (c .before .before .before .before .if2 .taken)) (c .before .before .bind .ensures)
+returns-2 c = rw (ne-eqb _ E.LABEL (c .before .before .before .before .before .if1 .left), eq-eqb _ E.GOTO (c .before .before .before .before .if2 .taken)) (c .before .before .bind .ensures)
 
 returns-3 : tie.Need-returns-3
 unfolding labelAt
-returns-3 c = rw (ne-eqb _ 12 (c .before .if1 .left), ne-eqb _ 52 (c .if2 .left))
+returns-3 c = rw (ne-eqb _ E.LABEL (c .before .if1 .left), ne-eqb _ E.GOTO (c .if2 .left))
 
 pub label-at-spec : {M : Type 1} → statement M
 label-at-spec =

@@ -1,4 +1,5 @@
 -- `link` is the definition's, test by test. Assumes nothing.
+use Rattle.tape.specs.Events as E
 use Rattle.names.specs.Linking.{linksAfter}
 use Rattle.ledger.proofs.Bounds.{label-noted}
 use mathlib.Core.Path.{_∙_}
@@ -15,7 +16,7 @@ same-length c = search needs
 
 returns : tie.Need-returns
 unfolding linksAfter
-returns c = rw (eq-eqb _ 0 (c .before .before .before .before .if1 .taken)) (c .before .before .put-opens .ensures)
+returns c = rw (eq-eqb _ E.BLOCK (c .before .before .before .before .if1 .taken)) (c .before .before .put-opens .ensures)
 
 opens-requires : tie.Need-opens-requires
 opens-requires c κs = search needs
@@ -34,8 +35,8 @@ same-length-2 c = search needs
 returns-2 : tie.Need-returns-2
 unfolding linksAfter
 returns-2 c = rw (
-  ne-eqb _ 0 (c .before .before .before .before .before .before .before .before .before .before .before .if1 .left),
-  eq-eqb _ 12 (c .before .before .before .before .before .before .before .before .before .before .if2 .taken),
+  ne-eqb _ E.BLOCK (c .before .before .before .before .before .before .before .before .before .before .before .if1 .left),
+  eq-eqb _ E.LABEL (c .before .before .before .before .before .before .before .before .before .before .if2 .taken),
 ) (c .before .before .put-opens3 .ensures
     ∙ rw (
       c .before .before .before .before .before .before .put-opens2 .ensures,
@@ -44,7 +45,7 @@ returns-2 c = rw (
 
 returns-3 : tie.Need-returns-3
 unfolding linksAfter
-returns-3 c = rw (ne-eqb _ 0 (c .before .if1 .left), ne-eqb _ 12 (c .if2 .left))
+returns-3 c = rw (ne-eqb _ E.BLOCK (c .before .if1 .left), ne-eqb _ E.LABEL (c .if2 .left))
 
 pub link-spec : {M : Type 1} → statement M
 link-spec =
