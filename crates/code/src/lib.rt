@@ -85,7 +85,9 @@ fn mark_after(family: u32, t: usize, from: usize, to: usize, aim: Use, thin: &mu
 // Where branches go, by token; the length of the program but for its last instruction.
 pub fn places(tape: &[u32], kinds: &[u8], wide: &[u64], thin: &mut [u16]) -> usize
     requires { ⌜ length (now tape) ≤ 2 * TOKEN-LIMIT ⌝ }
-    ensures { λ r. ⌜ (r ≡ placesIn (now (kinds .entry)) (wideOf (now (wide .entry))) (thinOf (now (thin .entry))) (now (tape .entry)) .at) × (thinOf (now (thin .exit)) ≡ onMarks (λ marks. placesIn (now (kinds .entry)) (wideOf (now (wide .entry))) (thinOf (now (thin .entry))) (now (tape .entry)) .marks) (thinOf (now (thin .entry)))) ⌝ }
+    ensures { λ r. ⌜ (r ≡ placesIn (now (kinds .entry)) (wideOf (now (wide .entry))) (thinOf (now (thin .entry))) (now (tape .entry)) .at)
+        × (thinOf (now (thin .exit)) ≡ onMarks (λ marks. placesIn (now (kinds .entry)) (wideOf (now (wide .entry))) (thinOf (now (thin .entry)))
+        (now (tape .entry)) .marks) (thinOf (now (thin .entry)))) ⌝ }
 {
     let mut p: usize = 0;
     let mut w = Writing {
@@ -179,7 +181,8 @@ fn enter(literals: &mut [u64], count: usize, place: usize, v: u64) -> usize
 // The same, as long as there is room.
 fn enter_in_room(literals: &mut [u64], count: usize, place: usize, v: u64) -> usize
     requires { ⌜ (count ≤ length (now literals)) × (place ≡ indexOf v (take count (now literals))) × (place ≤ count) ⌝ }
-    ensures { λ r. ⌜ (count < length (now (literals .entry)) → (take r (now (literals .exit)) ≡ needs (literal v) (take count (now (literals .entry)))) × (place ≡ indexOf v (take r (now (literals .exit))))) × (count ≡ length (now (literals .entry)) → r ≡ count) × (r ≤ count + 1) ⌝ }
+    ensures { λ r. ⌜ (count < length (now (literals .entry)) → (take r (now (literals .exit)) ≡ needs (literal v) (take count (now (literals .entry))))
+        × (place ≡ indexOf v (take r (now (literals .exit))))) × (count ≡ length (now (literals .entry)) → r ≡ count) × (r ≤ count + 1) ⌝ }
 {
     if count < literals.len() {
         return enter(literals, count, place, v);
@@ -197,7 +200,8 @@ fn lay_code(
     c: Code,
 ) -> usize
     requires { ⌜ (n ≤ length (now literals)) × (length (now literals) ≤ 4294967296) × (start < 1099511627776) × (p < 4294967296) ⌝ }
-    ensures { λ r. ⌜ (n < length (now (literals .entry)) → laidBy (p + codeSize c) r (now (image .exit)) (now (literals .exit)) ≡ layCode start c (laidBy p n (now (image .entry)) (now (literals .entry)))) × (n ≡ length (now (literals .entry)) → r ≡ n) × (r ≤ n + 1) ⌝ }
+    ensures { λ r. ⌜ (n < length (now (literals .entry)) → laidBy (p + codeSize c) r (now (image .exit)) (now (literals .exit)) ≡ layCode start c
+        (laidBy p n (now (image .entry)) (now (literals .entry)))) × (n ≡ length (now (literals .entry)) → r ≡ n) × (r ≤ n + 1) ⌝ }
 {
     match c {
         Code::Two(op, r, s) => {
@@ -225,7 +229,9 @@ pub struct Reached {
 // Lays the instructions of an event, one behind the other.
 fn lay_codes(image: &mut [u8], literals: &mut [u64], start: u64, from: Reached, m: Codes) -> Reached
     requires { ⌜ (from .literals ≤ length (now literals)) × (length (now literals) ≤ 4294967296) × (start < 1099511627776) × (from .length + 8 < 4294967296) ⌝ }
-    ensures { λ r. ⌜ ((s : Laid) → Holds (length (now (literals .entry))) (from .length) (from .literals) (now (image .entry)) (now (literals .entry)) s → Holds (length (now (literals .entry))) (r .length) (r .literals) (now (image .exit)) (now (literals .exit)) (layAll start (listOf m) s)) × (r .literals ≤ from .literals + 2) × (r .literals ≤ length (now (literals .entry))) × (r .length ≤ from .length + 8) ⌝ }
+    ensures { λ r. ⌜ ((s : Laid) → Holds (length (now (literals .entry))) (from .length) (from .literals) (now (image .entry)) (now (literals .entry)) s
+        → Holds (length (now (literals .entry))) (r .length) (r .literals) (now (image .exit)) (now (literals .exit)) (layAll start (listOf m) s))
+        × (r .literals ≤ from .literals + 2) × (r .literals ≤ length (now (literals .entry))) × (r .length ≤ from .length + 8) ⌝ }
 {
     let last = count(m);
     let mut p: usize = from.length;
@@ -254,7 +260,9 @@ pub fn write_code(
     literals: &mut [u64],
 ) -> Reached
     requires { ⌜ (length (now tape) ≤ 2 * TOKEN-LIMIT) × (length (now literals) ≤ 4294967296) × (start < 1099511627776) ⌝ }
-    ensures { λ r. ⌜ Holds (length (now (literals .entry))) (r .length) (r .literals) (now (image .exit)) (now (literals .exit)) (codeIn start (now (kinds .entry)) (wideOf (now (wide .entry))) (thinOf (now (thin .entry))) (now (image .entry)) (now (tape .entry))) × (r .literals ≤ 2 * length (now (tape .entry)) + 1) ⌝ }
+    ensures { λ r. ⌜ Holds (length (now (literals .entry))) (r .length) (r .literals) (now (image .exit)) (now (literals .exit))
+        (codeIn start (now (kinds .entry)) (wideOf (now (wide .entry))) (thinOf (now (thin .entry))) (now (image .entry)) (now (tape .entry)))
+        × (r .literals ≤ 2 * length (now (tape .entry)) + 1) ⌝ }
 {
     let mut at = Reached {
         length: 0,

@@ -556,7 +556,8 @@ fn place_by(wide: &[u64], d: usize, m: u64, subscript: u64, index: u64) -> Use
 
 fn place(wide: &[u64], thin: &[u16], shape: u32, t: usize) -> Use
     requires { ⌜ t < TOKEN-LIMIT ⌝ }
-    ensures { λ r. ⌜ r ≡ placeIn (wideOf (now (wide .entry)) .values) (thinOf (now (thin .entry)) .found) (wideOf (now (wide .entry)) .means) (wideOf (now (wide .entry)) .under) (wideOf (now (wide .entry)) .offsets) shape t ⌝ }
+    ensures { λ r. ⌜ r ≡ placeIn (wideOf (now (wide .entry)) .values) (thinOf (now (thin .entry)) .found) (wideOf (now (wide .entry)) .means)
+        (wideOf (now (wide .entry)) .under) (wideOf (now (wide .entry)) .offsets) shape t ⌝ }
 {
     let s = subscript(wide, shape, t);
     let x = index(wide, thin, shape, t);
@@ -566,7 +567,8 @@ fn place(wide: &[u64], thin: &[u16], shape: u32, t: usize) -> Use
 // The operand or designator at token t, by its shape.
 fn operand(wide: &[u64], thin: &[u16], shape: u32, t: usize) -> Use
     requires { ⌜ t < TOKEN-LIMIT ⌝ }
-    ensures { λ r. ⌜ r ≡ useIn (wideOf (now (wide .entry)) .values) (thinOf (now (thin .entry)) .found) (wideOf (now (wide .entry)) .means) (wideOf (now (wide .entry)) .under) (wideOf (now (wide .entry)) .offsets) shape t ⌝ }
+    ensures { λ r. ⌜ r ≡ useIn (wideOf (now (wide .entry)) .values) (thinOf (now (thin .entry)) .found) (wideOf (now (wide .entry)) .means)
+        (wideOf (now (wide .entry)) .under) (wideOf (now (wide .entry)) .offsets) shape t ⌝ }
 {
     if shape == tape::NUMBER {
         return Use::Number(value(wide, t));

@@ -98,7 +98,8 @@ fn put_frame(out: &mut [u8], at: usize, k: u8, o: usize, content: &[u8])
 // The frames of a segment's bytes; the place behind them.
 fn put_content(out: &mut [u8], at: usize, k: u8, content: &[u8]) -> usize
     requires { ⌜ (length (now content) ≤ contentLimit) × (at + contentLength (length (now content)) ≤ length (now out)) ⌝ }
-    ensures { λ r. ⌜ (r ≡ at + contentLength (length (now (content .entry)))) × (now (out .exit) ≡ sets (now (out .entry)) at (textOf (contentFrames (framesFor (length (now (content .entry)))) k 0 (now (content .entry))))) ⌝ }
+    ensures { λ r. ⌜ (r ≡ at + contentLength (length (now (content .entry))))
+        × (now (out .exit) ≡ sets (now (out .entry)) at (textOf (contentFrames (framesFor (length (now (content .entry)))) k 0 (now (content .entry))))) ⌝ }
 {
     let mut o: usize = 0;
     let mut p = at;
@@ -145,7 +146,8 @@ fn put_data(out: &mut [u8], at: usize, k: u8, content: &[u8], from: usize, to: u
 // The segments of the base declarations.
 fn put_later(out: &mut [u8], at: usize, bases: usize, second: &[u8], third: &[u8]) -> usize
     requires { ⌜ (length (now second) ≤ dataLimit) × (length (now third) ≤ dataLimit) × (at + laterLength bases (length (now second)) (length (now third)) ≤ length (now out)) ⌝ }
-    ensures { λ r. ⌜ (r ≡ at + laterLength bases (length (now (second .entry))) (length (now (third .entry)))) × (now (out .exit) ≡ sets (now (out .entry)) at (textOf (framesFrom 2 (laterData bases (now (second .entry)) (now (third .entry)))))) ⌝ }
+    ensures { λ r. ⌜ (r ≡ at + laterLength bases (length (now (second .entry))) (length (now (third .entry))))
+        × (now (out .exit) ≡ sets (now (out .entry)) at (textOf (framesFrom 2 (laterData bases (now (second .entry)) (now (third .entry)))))) ⌝ }
 {
     if bases == 0 {
         return at;
@@ -183,7 +185,8 @@ pub fn write_object(
     second: &[u8],
     third: &[u8],
 )
-    requires { ⌜ (length (now code) ≤ programLimit) × (length (now first) ≤ dataLimit) × (length (now second) ≤ dataLimit) × (length (now third) ≤ dataLimit) × (lengthFor (length (now code)) (length (now first)) bases (length (now second)) (length (now third)) ≤ length (now out)) ⌝ }
+    requires { ⌜ (length (now code) ≤ programLimit) × (length (now first) ≤ dataLimit) × (length (now second) ≤ dataLimit) × (length (now third) ≤ dataLimit)
+        × (lengthFor (length (now code)) (length (now first)) bases (length (now second)) (length (now third)) ≤ length (now out)) ⌝ }
     ensures { λ _. ⌜ now (out .exit) ≡ sets (now (out .entry)) 0 (objectText (objectOf (now (code .entry)) (now (first .entry)) to bases (now (second .entry)) (now (third .entry)))) ⌝ }
 {
     let data = put_program(out, 0, code);

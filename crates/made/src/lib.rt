@@ -59,8 +59,11 @@ fn write(
     s: Judged,
     out: &mut [u8],
 )
-    requires { ⌜ (length (now code) ≤ segmentLimit) × (start + 4 * length (now literals) ≤ segmentLimit) × (last ≤ segmentLimit) × (s .two ≤ segmentLimit) × (s .three ≤ segmentLimit) × (lengthFor (length (now code)) last (s .bases) (s .two) (s .three) ≤ length (now out)) ⌝ }
-    ensures { λ _. ⌜ now (out .exit) ≡ sets (now (out .entry)) 0 (objectText (objectCut (wideOf (now (wide .entry))) (now (tape .entry)) (s .bases) start (now (code .entry)) (now (literals .entry)) (s .cells) last (s .two) (s .three))) ⌝ }
+    requires { ⌜ (length (now code) ≤ segmentLimit) × (start + 4 * length (now literals) ≤ segmentLimit) × (last ≤ segmentLimit) × (s .two ≤ segmentLimit)
+        × (s .three ≤ segmentLimit) × (lengthFor (length (now code)) last (s .bases) (s .two) (s .three) ≤ length (now out)) ⌝ }
+    ensures { λ _. ⌜ now (out .exit) ≡ sets (now (out .entry)) 0
+        (objectText (objectCut (wideOf (now (wide .entry))) (now (tape .entry)) (s .bases) start (now (code .entry)) (now (literals .entry)) (s .cells) last
+        (s .two) (s .three))) ⌝ }
 {
     let mut first = [0u8; SEGMENT_LIMIT];
     let mut second = [0u8; SEGMENT_LIMIT];
@@ -95,7 +98,10 @@ fn deliver(
     out: &mut [u8],
 ) -> Answer
     requires { ⌜ (length (now code) ≤ segmentLimit) × (start + 4 * length (now literals) ≤ segmentLimit) × (s .cells ≤ segmentLimit) × (s .two ≤ segmentLimit) × (s .three ≤ segmentLimit) ⌝ }
-    ensures { λ r. ⌜ ((ends : List ℕ) → Ended ends s → Gives (inRoom (length (now (out .entry))) (accepted (objectText (objectAlong (wideOf (now (wide .entry))) (now (tape .entry)) (s .bases) ends start (now (code .entry)) (now (literals .entry)))))) (now (out .entry)) (now (out .exit)) r) ⌝ }
+    ensures { λ r. ⌜ ((ends : List ℕ) → Ended ends s
+        → Gives (inRoom (length (now (out .entry)))
+        (accepted (objectText (objectAlong (wideOf (now (wide .entry))) (now (tape .entry)) (s .bases) ends start (now (code .entry))
+        (now (literals .entry)))))) (now (out .entry)) (now (out .exit)) r) ⌝ }
 {
     let last = end_of_first(s.cells, start, literals.len());
     let needed = frames::text_length(code.len(), last, s.bases, s.two, s.three);
@@ -118,7 +124,9 @@ pub fn make(
     out: &mut [u8],
 ) -> Answer
     requires { ⌜ (length (now tape) ≤ thinLimit) × (s .cells ≤ segmentLimit) × (s .two ≤ segmentLimit) × (s .three ≤ segmentLimit) ⌝ }
-    ensures { λ r. ⌜ ((ends : List ℕ) → Ended ends s → Gives (madeAlong (now (kinds .entry)) (wideOf (now (wide .entry))) (thinOf (now (thin .entry))) ends (now (tape .entry)) (s .bases) (length (now (out .entry)))) (now (out .entry)) (now (out .exit)) r) ⌝ }
+    ensures { λ r. ⌜ ((ends : List ℕ) → Ended ends s
+        → Gives (madeAlong (now (kinds .entry)) (wideOf (now (wide .entry))) (thinOf (now (thin .entry))) ends (now (tape .entry)) (s .bases)
+        (length (now (out .entry)))) (now (out .entry)) (now (out .exit)) r) ⌝ }
 {
     let mut image = [0u8; SEGMENT_LIMIT];
     let mut literals = [0u64; LITERALS];

@@ -131,7 +131,8 @@ fn link_all(tape: &[u32], thin: &mut [u16])
 
 fn set_label(wide: &[u64], thin: &[u16], t: usize, n: Noted) -> Noted
     requires { ⌜ n .count < 4294967296 ⌝ }
-    ensures { λ r. ⌜ ((goes : List ℕ) → labelledIn goes r ≡ setLabel (wideOf (now (wide .entry)) .values) t (chain (thinOf (now (thin .entry)) .opens) (afterOf (thinOf (now (thin .entry)) .opens) t)) (labelledIn goes n)) ⌝ }
+    ensures { λ r. ⌜ ((goes : List ℕ) → labelledIn goes r ≡ setLabel (wideOf (now (wide .entry)) .values) t
+        (chain (thinOf (now (thin .entry)) .opens) (afterOf (thinOf (now (thin .entry)) .opens) t)) (labelledIn goes n)) ⌝ }
 {
     let earlier = after(opens(thin, t), t);
     entered(
@@ -143,7 +144,9 @@ fn set_label(wide: &[u64], thin: &[u16], t: usize, n: Noted) -> Noted
 }
 
 fn bind(wide: &[u64], thin: &mut [u16], block: usize, t: usize, n: Noted) -> Noted
-    ensures { λ r. ⌜ markIn (thinOf (now (thin .exit))) r ≡ marking (λ links outer. noteLabel t (find (wideOf (now (wide .entry)) .values) (getD (wideOf (now (wide .entry)) .values) t 0) (blocksIn links outer block))) (markIn (thinOf (now (thin .entry))) n) ⌝ }
+    ensures { λ r. ⌜ markIn (thinOf (now (thin .exit))) r ≡ marking
+        (λ links outer. noteLabel t (find (wideOf (now (wide .entry)) .values) (getD (wideOf (now (wide .entry)) .values) t 0) (blocksIn links outer block)))
+        (markIn (thinOf (now (thin .entry))) n) ⌝ }
 {
     let l = lookup(wide, thin, value(wide, t), block);
     put_goes(thin, t, l);
@@ -165,7 +168,9 @@ fn label_at(op: u32, t: usize, wide: &[u64], thin: &mut [u16], block: usize, n: 
 
 fn label_all(tape: &[u32], wide: &[u64], thin: &mut [u16]) -> Noted
     requires { ⌜ Narrow (now tape) × (length (now tape) ≤ 4294967296) ⌝ }
-    ensures { λ r. ⌜ (labelledIn (thinOf (now (thin .exit)) .goes) r ≡ labelledBy (now (tape .entry)) (wideOf (now (wide .entry)) .values) (thinOf (now (thin .entry)) .opens) (thinOf (now (thin .entry)) .written) (thinOf (now (thin .entry)) .goes)) × (thinOf (now (thin .exit)) .found ≡ thinOf (now (thin .entry)) .found) ⌝ }
+    ensures { λ r. ⌜ (labelledIn (thinOf (now (thin .exit)) .goes) r ≡ labelledBy (now (tape .entry)) (wideOf (now (wide .entry)) .values)
+        (thinOf (now (thin .entry)) .opens) (thinOf (now (thin .entry)) .written) (thinOf (now (thin .entry)) .goes))
+        × (thinOf (now (thin .exit)) .found ≡ thinOf (now (thin .entry)) .found) ⌝ }
 {
     let mut block: usize = 0;
     let mut n = Noted {
@@ -186,7 +191,9 @@ fn label_all(tape: &[u32], wide: &[u64], thin: &mut [u16]) -> Noted
 
 pub fn labels(tape: &[u32], wide: &[u64], thin: &mut [u16]) -> Noted
     requires { ⌜ Narrow (now tape) × (length (now tape) ≤ 4294967296) ⌝ }
-    ensures { λ r. ⌜ (labelledIn (thinOf (now (thin .exit)) .goes) r ≡ labelledAlong (now (tape .entry)) (wideOf (now (wide .entry)) .values) (thinOf (now (thin .entry)) .opens) (thinOf (now (thin .entry)) .written) (thinOf (now (thin .entry)) .goes)) × (thinOf (now (thin .exit)) .found ≡ thinOf (now (thin .entry)) .found) ⌝ }
+    ensures { λ r. ⌜ (labelledIn (thinOf (now (thin .exit)) .goes) r ≡ labelledAlong (now (tape .entry)) (wideOf (now (wide .entry)) .values)
+        (thinOf (now (thin .entry)) .opens) (thinOf (now (thin .entry)) .written) (thinOf (now (thin .entry)) .goes))
+        × (thinOf (now (thin .exit)) .found ≡ thinOf (now (thin .entry)) .found) ⌝ }
 {
     link_all(tape, thin);
     label_all(tape, wide, thin)

@@ -81,7 +81,8 @@ fn lookup(wide: &[u64], thin: &[u16], wanted: u64, depth: usize, count: usize) -
 
 fn open_block(thin: &mut [u16], b: Blocks) -> Blocks
     requires { ⌜ Rising (thinOf (now thin) .written) (b .depth) (b .count) × ((b .depth < length (thinOf (now thin) .written)) × ((b .depth < thinLimit) × (b .count < thinLimit))) ⌝ }
-    ensures { λ r. ⌜ Changed ([] ∷ blocksIn (thinOf (now (thin .entry))) b) (thinOf (now (thin .exit))) b r × Stays (thinOf (now (thin .entry))) (thinOf (now (thin .exit))) × ((r .depth ≡ b .depth + 1) × (r .count ≡ b .count)) ⌝ }
+    ensures { λ r. ⌜ Changed ([] ∷ blocksIn (thinOf (now (thin .entry))) b) (thinOf (now (thin .exit))) b r
+        × Stays (thinOf (now (thin .entry))) (thinOf (now (thin .exit))) × ((r .depth ≡ b .depth + 1) × (r .count ≡ b .count)) ⌝ }
 {
     let depth = b.depth;
     let count = b.count;
@@ -109,7 +110,8 @@ fn close_block(thin: &[u16], b: Blocks) -> Blocks
 
 fn enter_name(thin: &mut [u16], t: usize, b: Blocks) -> Blocks
     requires { ⌜ Rising (thinOf (now thin) .written) (b .depth) (b .count) × ((b .count < length (thinOf (now thin) .opens)) × ((b .count < thinLimit) × (t < thinLimit))) ⌝ }
-    ensures { λ r. ⌜ Changed (enter t (blocksIn (thinOf (now (thin .entry))) b)) (thinOf (now (thin .exit))) b r × Stays (thinOf (now (thin .entry))) (thinOf (now (thin .exit))) × ((r .depth ≡ b .depth) × (r .count ≡ b .count + 1)) ⌝ }
+    ensures { λ r. ⌜ Changed (enter t (blocksIn (thinOf (now (thin .entry))) b)) (thinOf (now (thin .exit))) b r
+        × Stays (thinOf (now (thin .entry))) (thinOf (now (thin .exit))) × ((r .depth ≡ b .depth) × (r .count ≡ b .count + 1)) ⌝ }
 {
     let depth = b.depth;
     let count = b.count;
@@ -266,7 +268,8 @@ fn open_around(thin: &mut [u16]) -> Blocks
 
 pub fn names(tape: &[u32], wide: &[u64], thin: &mut [u16]) -> Noted
     requires { ⌜ Narrow (now tape) × ((17 + length (now tape) ≤ length (now thin) / 4) × (length (now thin) ≤ 4 * thinLimit)) ⌝ }
-    ensures { λ r. ⌜ (namedIn (thinOf (now (thin .exit)) .found) r ≡ pass (nameOp (wideOf (now (wide .entry)) .values)) (beginning (thinOf (now (thin .entry)) .found)) (now (tape .entry)) .named) × (thinOf (now (thin .exit)) .goes ≡ thinOf (now (thin .entry)) .goes) ⌝ }
+    ensures { λ r. ⌜ (namedIn (thinOf (now (thin .exit)) .found) r ≡ pass (nameOp (wideOf (now (wide .entry)) .values))
+        (beginning (thinOf (now (thin .entry)) .found)) (now (tape .entry)) .named) × (thinOf (now (thin .exit)) .goes ≡ thinOf (now (thin .entry)) .goes) ⌝ }
 {
     let mut b = open_around(thin);
     let mut n = Noted {

@@ -31,7 +31,8 @@ module _ (k o : ℕ) (bs s : List ℕ) (hk : k < 256) (ho : o < 65536) (hn : len
   frame-back : isContentFrame k o (length bs) (before (contentFrame k o bs) s) ≡ true
   unfolding isContentFrame bytesOf
   frame-back =
-      let b1 : isLine (5 + length bs) (before (contentFrame k o bs) s) ≡ true = line-of (5 + length bs) (contentFrame k o bs) s (omega arith) (omega arith, (hk, (omega arith, (omega arith, (hn, a))))) in
+      let b1 : isLine (5 + length bs) (before (contentFrame k o bs) s) ≡ true = line-of (5 + length bs) (contentFrame k o bs) s (omega arith)
+      (omega arith, (hk, (omega arith, (omega arith, (hn, a))))) in
       let b2 : twoOf (drop 4 (before (contentFrame k o bs) s)) ≡ o = two-back o (length bs ∷ bs) (newline ∷ s) ho in
       rw (
         b1,

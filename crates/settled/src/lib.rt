@@ -62,7 +62,8 @@ const FRONT_KEYS: [u64; FIRST_TOKEN] = [
 
 fn put_front(kinds: &mut [u8], wide: &mut [u64])
     requires { ⌜ firstToken ≤ length (now kinds) ⌝ }
-    ensures { λ _. ⌜ (now (kinds .exit) ≡ sets (now (kinds .entry)) 0 (kindsOf inFront)) × (wideOf (now (wide .exit)) ≡ onWide 0 (λ values. sets values 0 (valuesOf inFront)) (wideOf (now (wide .entry)))) ⌝ }
+    ensures { λ _. ⌜ (now (kinds .exit) ≡ sets (now (kinds .entry)) 0 (kindsOf inFront))
+        × (wideOf (now (wide .exit)) ≡ onWide 0 (λ values. sets values 0 (valuesOf inFront)) (wideOf (now (wide .entry)))) ⌝ }
 {
     let mut t: usize = 0;
     while t < FIRST_TOKEN {
@@ -152,7 +153,9 @@ pub fn place_of(src: &[u8], t: usize) -> usize
 // Which declaration each name and which label each GOTO means; the broken rules. Two columns are worked in, and left as zeros.
 pub fn bind(tape: &[u32], wide: &[u64], thin: &mut [u16]) -> Broken
     requires { ⌜ Narrow (now tape) × (4 * (firstToken + length (now tape)) ≤ length (now thin)) × (length (now thin) ≤ 4 * thinLimit) × (length (now wide) ≤ length (now thin)) ⌝ }
-    ensures { λ r. ⌜ Cleared (now (thin .entry)) (thinOf (now (thin .exit))) × ((ts : List Token) (x : Statement) → Text ts x (wideOf (now (wide .entry)) .values) (now (tape .entry)) → Blank ts (thinOf (now (thin .entry)) .found) → Blank ts (thinOf (now (thin .entry)) .goes) → Bound ts x (thinOf (now (thin .exit))) r) ⌝ }
+    ensures { λ r. ⌜ Cleared (now (thin .entry)) (thinOf (now (thin .exit)))
+        × ((ts : List Token) (x : Statement) → Text ts x (wideOf (now (wide .entry)) .values) (now (tape .entry)) → Blank ts (thinOf (now (thin .entry)) .found)
+        → Blank ts (thinOf (now (thin .entry)) .goes) → Bound ts x (thinOf (now (thin .exit))) r) ⌝ }
 {
     let n = names::names(tape, wide, thin);
     let l = names::labels::labels(tape, wide, thin);
@@ -193,7 +196,11 @@ pub fn settle(
     others: Broken,
 ) -> Judged
     requires { ⌜ Nested nesting 0 0 (now tape) × (length (now tape) + 2 < thinLimit) × (4 * (length (now tape) + 2) ≤ length (now wide)) × (4 * (length (now tape) + 2) ≤ length (now thin)) ⌝ }
-    ensures { λ r. ⌜ Ended (thinOf (now (thin .exit)) .written) r × Stays (wideOf (now (wide .entry))) (wideOf (now (wide .exit))) (thinOf (now (thin .entry))) (thinOf (now (thin .exit))) × ((ts : List Token) (x : Statement) → Text ts x (wideOf (now (wide .entry)) .values) (now (tape .entry)) → now (kinds .entry) ≡ kindsOf ts → thinOf (now (thin .entry)) .found ≡ named ts x .found → Blank ts (wideOf (now (wide .entry)) .means) → Blank ts (thinOf (now (thin .entry)) .opens) → Blank ts (thinOf (now (thin .entry)) .written) → length (now (wide .entry)) / 4 ≡ length ts → Settled ts x (wideOf (now (wide .exit))) (thinOf (now (thin .exit))) others r) ⌝ }
+    ensures { λ r. ⌜ Ended (thinOf (now (thin .exit)) .written) r × Stays (wideOf (now (wide .entry))) (wideOf (now (wide .exit))) (thinOf (now (thin .entry)))
+        (thinOf (now (thin .exit))) × ((ts : List Token) (x : Statement) → Text ts x (wideOf (now (wide .entry)) .values) (now (tape .entry))
+        → now (kinds .entry) ≡ kindsOf ts → thinOf (now (thin .entry)) .found ≡ named ts x .found → Blank ts (wideOf (now (wide .entry)) .means)
+        → Blank ts (thinOf (now (thin .entry)) .opens) → Blank ts (thinOf (now (thin .entry)) .written) → length (now (wide .entry)) / 4 ≡ length ts
+        → Settled ts x (wideOf (now (wide .exit))) (thinOf (now (thin .exit))) others r) ⌝ }
 {
     let mut owners = [0u64; NESTING + 1];
     let mut outer = [0u64; NESTING + 1];

@@ -32,7 +32,8 @@ fn translate_tape(
     thin: &mut [u16],
     out: &mut [u8],
 ) -> Answer
-    requires { ⌜ (tokensOf (now src) .number ≡ 0) × (firstToken + length (now tape) ≤ length (now kinds)) × Narrow (now tape) × Nested nesting 0 0 (now tape) × Lent (length (now kinds)) (now wide) (now thin) ⌝ }
+    requires { ⌜ (tokensOf (now src) .number ≡ 0) × (firstToken + length (now tape) ≤ length (now kinds)) × Narrow (now tape) × Nested nesting 0 0 (now tape)
+        × Lent (length (now kinds)) (now wide) (now thin) ⌝ }
     ensures { λ r. ⌜ OnTape (now (src .entry)) (now (kinds .entry)) (wideOf (now (wide .entry))) (thinOf (now (thin .entry))) (now (out .entry)) (now (out .exit)) r (now (tape .entry)) ⌝ }
 {
     let others = settled::bind(tape, wide, thin);
@@ -80,7 +81,8 @@ fn translate_read(
     out: &mut [u8],
 ) -> Answer
     requires { ⌜ (tokensOf (now src) .number ≡ 0) × Fits (firstToken + n) (now kinds) (now tape) (now wide) (now thin) ⌝ }
-    ensures { λ r. ⌜ (let m = firstToken + n in OnTokens (now (src .entry)) (take m (now (kinds .entry))) (wideOf (take (4 * m) (now (wide .entry)))) (thinOf (take (4 * m) (now (thin .entry)))) (now (out .entry)) (now (out .exit)) r) ⌝ }
+    ensures { λ r. ⌜ (let m = firstToken + n in OnTokens (now (src .entry)) (take m (now (kinds .entry))) (wideOf (take (4 * m) (now (wide .entry))))
+        (thinOf (take (4 * m) (now (thin .entry)))) (now (out .entry)) (now (out .exit)) r) ⌝ }
 {
     let m = FIRST_TOKEN + n;
     let rows = 4 * m;

@@ -80,7 +80,10 @@ same-length-4 c = search needs
 
 returns-3 : tie.Need-returns-3
 unfolding declaredAfter
-returns-3 c = (rw (c .before .before .before .before .before .if3 .taken) (c .before .before .open-base .ensures .0), omega (arith, c .before .before .open-base .ensures .1))
+returns-3 c =
+    let at-open-base = c .before .before in
+    let at-if3 = at-open-base .before .before .before in
+    (rw (at-if3 .if3 .taken) (at-open-base .open-base .ensures .0), omega (arith, at-open-base .open-base .ensures .1))
 
 declare-routine-requires : tie.Need-declare-routine-requires
 declare-routine-requires c κs = search needs
@@ -107,11 +110,13 @@ same-length-7 c = search needs
 
 returns-5 : tie.Need-returns-5
 unfolding declaredAfter
-returns-5 c = (
-  rw (c .before .before .before .before .if5 .taken)
-      (c .before .before .write-text .ensures (wideOf (now (c .before .before .before .before .before .before .before .before .before .before .before .args .wide))) (c .before .before .before .before .before .before .before .before .before .before .before .args .bases)),
-  omega arith,
-)
+returns-5 c =
+    let at-write-text = c .before .before in
+    let at-if5 = at-write-text .before .before in
+    let start = at-if5 .before .before .before .before .before .before .before in (
+      rw (at-if5 .if5 .taken) (at-write-text .write-text .ensures (wideOf (now (start .args .wide))) (start .args .bases)),
+      omega arith,
+    )
 
 returns-6 : tie.Need-returns-6
 unfolding declaredAfter

@@ -20,7 +20,10 @@ packed-requires c κs = search needs
 
 returns : tie.Need-returns
 unfolding formAfter
-returns c = rw (← (c .before .before .before .family .ensures), eq-eqb _ E.SINGLE-FULL (c .before .if1 .taken), ← (c .before .before .form .ensures .0)) (c .packed .ensures)
+returns c =
+    let at-form = c .before .before in
+    let at-family = at-form .before in
+    rw (← (at-family .family .ensures), eq-eqb _ E.SINGLE-FULL (c .before .if1 .taken), ← (at-form .form .ensures .0)) (c .packed .ensures)
 
 value-requires : tie.Need-value-requires
 value-requires c κs = search needs

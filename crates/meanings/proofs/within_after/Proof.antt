@@ -28,7 +28,10 @@ same-length-2 c = search needs
 
 returns-2 : tie.Need-returns-2
 unfolding withinAfter
-returns-2 c = λ under. rw (c .before .before .if2 .taken) (c .leave-block .ensures (now (c .before .before .before .before .before .before .before .before .args .owners)))
+returns-2 c =
+    let at-if2 = c .before .before in
+    let start = at-if2 .before .before .before .before .before .before in
+    λ under. rw (at-if2 .if2 .taken) (c .leave-block .ensures (now (start .args .owners)))
 
 change-base-requires : tie.Need-change-base-requires
 change-base-requires c κs = search needs
@@ -47,8 +50,11 @@ same-length-3 c = search needs
 
 returns-4 : tie.Need-returns-4
 unfolding withinAfter
-returns-4 c = λ under. rw (c .before .before .before .before .if4 .taken)
-    (c .before .before .enter-procedure .ensures (now (c .before .before .before .before .before .before .before .before .before .before .before .before .args .outer)))
+returns-4 c =
+    let at-enter-procedure = c .before .before in
+    let at-if4 = at-enter-procedure .before .before in
+    let start = at-if4 .before .before .before .before .before .before .before .before in
+    λ under. rw (at-if4 .if4 .taken) (at-enter-procedure .enter-procedure .ensures (now (start .args .outer)))
 
 leave-procedure-requires : tie.Need-leave-procedure-requires
 leave-procedure-requires c κs = search needs
@@ -58,7 +64,10 @@ same-length-4 c = search needs
 
 returns-5 : tie.Need-returns-5
 unfolding withinAfter
-returns-5 c = λ under. rw (c .before .before .if5 .taken) (c .leave-procedure .ensures (now (c .before .before .before .before .before .before .before .before .before .before .before .args .outer)))
+returns-5 c =
+    let at-if5 = c .before .before in
+    let start = at-if5 .before .before .before .before .before .before .before .before .before in
+    λ under. rw (at-if5 .if5 .taken) (c .leave-procedure .ensures (now (start .args .outer)))
 
 returns-6 : tie.Need-returns-6
 unfolding withinAfter

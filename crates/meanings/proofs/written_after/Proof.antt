@@ -52,7 +52,10 @@ returns-3 c = λ n. rw (c .before .before .before .before .if3 .taken) (c .befor
 
 returns-4 : tie.Need-returns-4
 unfolding writtenAfter
-returns-4 c = λ n. rw (← (c .before .before .before .family .ensures), c .before .before .if1 .left, ne-eqb _ E.TERM (c .before .if2 .left), ne-eqb _ E.CALL (c .if3 .left))
+returns-4 c =
+    let at-if1 = c .before .before in
+    let at-family = at-if1 .before in
+    λ n. rw (← (at-family .family .ensures), at-if1 .if1 .left, ne-eqb _ E.TERM (c .before .if2 .left), ne-eqb _ E.CALL (c .if3 .left))
 
 pub written-after-spec : {M : Type 1} → statement M
 written-after-spec =

@@ -18,9 +18,12 @@ entered-requires : tie.Need-entered-requires
 entered-requires c κs = search needs
 
 returns : tie.Need-returns
-returns c = declared _ (thinOf (c .before .before .before .before .before .before .args .thin .now)) (c .before .before .before .before .before .before .args .b) _
-    (c .before .before .before .before .before .before .args .n) _ _ _ _ (c .before .before .before .value .ensures) (c .before .before .innermost-start .ensures)
-    (c .before .in-block .ensures) (c .entered .ensures)
+returns c =
+    let at-innermost-start = c .before .before in
+    let at-value = at-innermost-start .before in
+    let start = at-value .before .before .before in
+    declared _ (thinOf (start .args .thin .now)) (start .args .b) _ (start .args .n) _ _ _ _ (at-value .value .ensures)
+    (at-innermost-start .innermost-start .ensures) (c .before .in-block .ensures) (c .entered .ensures)
 
 pub declare-name-spec : {M : Type 1} → statement M
 declare-name-spec = tie.close (tie.spec value-requires innermost-start-requires in-block-requires entered-requires returns)

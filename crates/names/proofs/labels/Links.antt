@@ -160,7 +160,13 @@ module _ (kinds : List ℕ) (j : ℕ) where
     pub wide-outer : j ≤ length (m .outer)
 
   on : {p : Place} {lo : ℕ} {m : Linking} (to : ℕ) → lo ≤ to → Going p lo m → Going p to m
-  on {p} {lo} {m} to l g = (let r = g .real in record { block = g .block; held = held-more (m .links) (m .outer) p lo to l (g .held); real = omega arith; wide-links = g .wide-links; wide-outer = g .wide-outer })
+  on {p} {lo} {m} to l g = (let r = g .real in record {
+    block = g .block;
+    held = held-more (m .links) (m .outer) p lo to l (g .held);
+    real = omega arith;
+    wide-links = g .wide-links;
+    wide-outer = g .wide-outer;
+  })
 
   step-edge : (x : Edge) (p : Place) (lo : ℕ) (m : Linking) (s : Stands kinds (edge x) p lo) → EdgeFits x p → s .to ≤ j → Going p lo m → Going (after (edge x) p) (s .to) (linkEvent (edge x) m)
   unfolding linkEvent linkOp blockAfter outerAfter linksAfter

@@ -205,7 +205,8 @@ labelled-program kinds keys links outer goes x i j h z wl wo =
     let es = eventsOf x in
     let done = linkAll es m in
     let g : Going kinds j [] i m = record { block = refl; held = tt; real = z; wide-links = wl; wide-outer = wo } in
-    let good = finished kinds keys (done .links) (done .outer) j es [] i m (program-text kinds x i j h) g (refl, refl) (subst (λ (p : Place). Final kinds keys (done .links) (done .outer) p) (sym (after-statement x [] [])) tt) .0 in
+    let good = finished kinds keys (done .links) (done .outer) j es [] i m (program-text kinds x i j h) g (refl, refl)
+    (subst (λ (p : Place). Final kinds keys (done .links) (done .outer) p) (sym (after-statement x [] [])) tt) .0 in
     rw (tree-tape x, link-all es m)
     (ap (λ (s : Labelling). s .labelled)
     (follows (labelOp keys (done .links) (done .outer)) (labelEvent keys) (At kinds keys (done .links) (done .outer))

@@ -23,7 +23,10 @@ same-length c = search needs
 
 returns-2 : tie.Need-returns-2
 unfolding usePlace
-returns-2 c = rw (le-ltb E.SUBSCRIPTED-INDEXED _ (c .before .before .before .before .before .if1 .left), lt-ltb _ E.INDEXED (c .if2 .taken)) (c .before .before .before .use-name .ensures)
+returns-2 c =
+    let at-use-name = c .before .before .before in
+    let at-if1 = at-use-name .before .before in
+    rw (le-ltb E.SUBSCRIPTED-INDEXED _ (at-if1 .if1 .left), lt-ltb _ E.INDEXED (c .if2 .taken)) (at-use-name .use-name .ensures)
 
 add-use-name : tie.Need-add-use-name
 add-use-name c = search needs

@@ -21,11 +21,17 @@ written-requires c κs = search needs
 
 returns-3 : tie.Need-returns-3
 unfolding blockAfter
-returns-3 c = (rw (ne-eqb _ E.BLOCK (c .before .before .before .if1 .left), ne-eqb _ E.PROCEDURE (c .before .before .if2 .left), c .before .if3 .taken) (c .written .ensures .0), c .written .ensures .1)
+returns-3 c =
+    let at-if2 = c .before .before in
+    let at-if1 = at-if2 .before in
+    (rw (ne-eqb _ E.BLOCK (at-if1 .if1 .left), ne-eqb _ E.PROCEDURE (at-if2 .if2 .left), c .before .if3 .taken) (c .written .ensures .0), c .written .ensures .1)
 
 returns-4 : tie.Need-returns-4
 unfolding blockAfter
-returns-4 c = (rw (ne-eqb _ E.BLOCK (c .before .before .if1 .left), ne-eqb _ E.PROCEDURE (c .before .if2 .left), c .if3 .left), c .before .before .before .before .pre .1)
+returns-4 c =
+    let at-if1 = c .before .before in
+    let start = at-if1 .before .before in
+    (rw (ne-eqb _ E.BLOCK (at-if1 .if1 .left), ne-eqb _ E.PROCEDURE (c .before .if2 .left), c .if3 .left), start .pre .1)
 
 pub block-after-spec : {M : Type 1} → statement M
 block-after-spec = tie.close (tie.spec returns returns-2 written-requires returns-3 returns-4)

@@ -24,10 +24,12 @@ value-requires : tie.Need-value-requires Inv-loop μ-loop
 value-requires c κs = search needs
 
 returns : tie.Need-returns Inv-loop μ-loop
-returns c = (
-  sym (hit _ _ _ _ (c .before .before .before .loop .l) _ (c .before .before .loop-test .taken) (c .before .value .ensures) (c .if1 .taken) (c .before .before .before .loop .inv .0)),
-  c .before .before .before .loop .inv .1,
-)
+returns c =
+    let at-loop-test = c .before .before in
+    let at-loop = at-loop-test .before in (
+      sym (hit _ _ _ _ (at-loop .loop .l) _ (at-loop-test .loop-test .taken) (c .before .value .ensures) (c .if1 .taken) (at-loop .loop .inv .0)),
+      at-loop .loop .inv .1,
+    )
 
 opens-requires : tie.Need-opens-requires Inv-loop μ-loop
 opens-requires c κs = search needs

@@ -31,10 +31,19 @@ token-requires : tie.Need-token-requires Inv-loop μ-loop
 token-requires c κs = search needs
 
 label-at-requires : tie.Need-label-at-requires Inv-loop μ-loop
-label-at-requires c κs = (let f = c .before .before .before .before .before .loop .inv .few in omega (arith, c .before .before .before .before .loop-test .taken, c .before .before .before .before .before .before .before .before .before .pre .1))
+label-at-requires c κs =
+    let at-loop-test = c .before .before .before .before in
+    let at-loop = at-loop-test .before in
+    let start = at-loop .before .before .before .before in
+    (let f = at-loop .loop .inv .few in omega (arith, at-loop-test .loop-test .taken, start .pre .1))
 
 block-after-requires : tie.Need-block-after-requires Inv-loop μ-loop
-block-after-requires c κs = (narrow-at (c .before .before .before .before .before .before .before .before .before .before .before .before .before .args .tape .now) _ _ (c .before .before .before .before .before .before .before .before .before .loop .i) (c .before .before .before .before .before .before .before .before .before .before .before .before .before .pre .0) (c .before .before .before .before .before .before .op .ensures .0) (c .before .before .before .before .before .token .ensures .0), c .before .before .before .before .before .before .before .before .before .loop .inv .small)
+block-after-requires c κs =
+    let at-token = c .before .before .before .before .before in
+    let at-op = at-token .before in
+    let at-loop = at-op .before .before .before in
+    let start = at-loop .before .before .before .before in
+    (narrow-at (start .args .tape .now) _ _ (at-loop .loop .i) (start .pre .0) (at-op .op .ensures .0) (at-token .token .ensures .0), at-loop .loop .inv .small)
 
 add-i : tie.Need-add-i Inv-loop μ-loop
 add-i c = omega (

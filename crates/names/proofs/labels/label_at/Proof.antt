@@ -30,7 +30,11 @@ same-length-2 c = search needs
 
 returns-2 : tie.Need-returns-2
 unfolding labelAt
-returns-2 c = rw (ne-eqb _ E.LABEL (c .before .before .before .before .before .if1 .left), eq-eqb _ E.GOTO (c .before .before .before .before .if2 .taken)) (c .before .before .bind .ensures)
+returns-2 c =
+    let at-bind = c .before .before in
+    let at-if2 = at-bind .before .before in
+    let at-if1 = at-if2 .before in
+    rw (ne-eqb _ E.LABEL (at-if1 .if1 .left), eq-eqb _ E.GOTO (at-if2 .if2 .taken)) (at-bind .bind .ensures)
 
 returns-3 : tie.Need-returns-3
 unfolding labelAt

@@ -38,9 +38,12 @@ block-after-requires c κs = (
 )
 
 link-requires : tie.Need-link-requires Inv-loop μ-loop
-link-requires c κs = narrow-at (c .before .before .before .before .before .before .before .before .before .before .args .tape .now) _ _
-    (c .before .before .before .before .before .before .before .loop .i) (c .before .before .before .before .before .before .before .before .before .before .pre)
-    (c .before .before .before .before .op .ensures .0) (c .before .before .before .token .ensures .0)
+link-requires c κs =
+    let at-token = c .before .before .before in
+    let at-op = at-token .before in
+    let at-loop = at-op .before .before .before in
+    let start = at-loop .before .before .before in
+    narrow-at (start .args .tape .now) _ _ (at-loop .loop .i) (start .pre) (at-op .op .ensures .0) (at-token .token .ensures .0)
 
 enclose-requires : tie.Need-enclose-requires Inv-loop μ-loop
 enclose-requires c κs = c .before .before .before .before .before .before .before .before .before .before .before .loop .inv .small

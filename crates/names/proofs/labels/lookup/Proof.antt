@@ -40,12 +40,15 @@ after-requires : tie.Need-after-requires Inv-loop μ-loop
 after-requires c κs = search needs
 
 loop-less : tie.Need-loop-less Inv-loop μ-loop
-loop-less c = omega (
-  arith,
-  c .after .ensures .0 (thinOf (c .before .before .before .before .before .before .before .before .before .args .thin .now) .written) (c .before .written .ensures .0),
-  after-less (thinOf (c .before .before .before .before .before .before .before .before .before .args .thin .now) .written)
-      (c .before .before .before .before .before .before .loop .b) (c .before .before .before .before .before .loop-test .taken),
-)
+loop-less c =
+    let at-loop-test = c .before .before .before .before .before in
+    let at-loop = at-loop-test .before in
+    let start = at-loop .before .before .before in
+    omega (
+      arith,
+      c .after .ensures .0 (thinOf (start .args .thin .now) .written) (c .before .written .ensures .0),
+      after-less (thinOf (start .args .thin .now) .written) (at-loop .loop .b) (at-loop-test .loop-test .taken),
+    )
 
 loop-again : tie.Need-loop-again Inv-loop μ-loop
 loop-again c = not-in _ _ _ _ (c .before .before .before .before .before .before .loop .b) _ _ (c .before .before .before .before .before .loop-test .taken)

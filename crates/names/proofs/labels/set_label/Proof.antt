@@ -21,9 +21,13 @@ entered-requires : tie.Need-entered-requires
 entered-requires c κs = search needs
 
 returns : tie.Need-returns
-returns c = label-set _ _ (thinOf (c .before .before .before .before .before .before .before .args .thin .now) .written) _
-    (c .before .before .before .before .before .before .before .args .n) _ _ _ _ (c .before .before .value .ensures)
-    (c .before .before .before .after .ensures .0 _ (c .before .before .before .before .opens .ensures .0)) (c .before .in-chain .ensures .0) (c .entered .ensures)
+returns c =
+    let at-value = c .before .before in
+    let at-after = at-value .before in
+    let at-opens = at-after .before in
+    let start = at-opens .before .before .before in
+    label-set _ _ (thinOf (start .args .thin .now) .written) _ (start .args .n) _ _ _ _ (at-value .value .ensures)
+    (at-after .after .ensures .0 _ (at-opens .opens .ensures .0)) (c .before .in-chain .ensures .0) (c .entered .ensures)
 
 pub set-label-spec : {M : Type 1} → statement M
 set-label-spec = tie.close (tie.spec opens-requires after-requires value-requires in-chain-requires entered-requires returns)
