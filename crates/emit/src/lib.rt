@@ -565,7 +565,7 @@ fn place(wide: &[u64], thin: &[u16], shape: u32, t: usize) -> Use
 }
 
 // The operand or designator at token t, by its shape.
-fn operand(wide: &[u64], thin: &[u16], shape: u32, t: usize) -> Use
+pub fn operand(wide: &[u64], thin: &[u16], shape: u32, t: usize) -> Use
     requires { ⌜ t < TOKEN-LIMIT ⌝ }
     ensures { λ r. ⌜ r ≡ useIn (wideOf (now (wide .entry)) .values) (thinOf (now (thin .entry)) .found) (wideOf (now (wide .entry)) .means)
         (wideOf (now (wide .entry)) .under) (wideOf (now (wide .entry)) .offsets) shape t ⌝ }
@@ -587,7 +587,7 @@ fn return_register(m: u64) -> u64
     0
 }
 
-fn register_at(wide: &[u64], thin: &[u16], family: u32, t: usize) -> u64
+pub fn register_at(wide: &[u64], thin: &[u16], family: u32, t: usize) -> u64
     requires { ⌜ t < TOKEN-LIMIT ⌝ }
     ensures { λ r. ⌜ r ≡ registerAt (thinOf (now (thin .entry)) .found) (wideOf (now (wide .entry)) .means) family t ⌝ }
 {
@@ -603,7 +603,7 @@ fn register_at(wide: &[u64], thin: &[u16], family: u32, t: usize) -> u64
     register(meaning(wide, thin, t))
 }
 
-fn goal_at(thin: &[u16], family: u32, t: usize) -> usize
+pub fn goal_at(thin: &[u16], family: u32, t: usize) -> usize
     ensures { λ r. ⌜ (r ≡ goalAt (thinOf (now (thin .entry)) .found) (thinOf (now (thin .entry)) .goes) (thinOf (now (thin .entry)) .opens) family t) × (r < thinLimit) ⌝ }
 {
     if family == tape::BASE {
@@ -625,7 +625,7 @@ fn signing(sign: u32, w: Writing) -> Writing
 }
 
 // Its target and its sign, after an event with the operand u and the register r.
-fn written_after(family: u32, w: Writing, u: Use, r: u64) -> Writing
+pub fn written_after(family: u32, w: Writing, u: Use, r: u64) -> Writing
     ensures { λ v. ⌜ v ≡ writtenAfter family w u r ⌝ }
 {
     if family == tape::TARGET {
@@ -741,7 +741,7 @@ fn others(thin: &[u16], family: u32, t: usize, n: Named) -> Codes
 }
 
 // The instructions of an event, by its operand u and what it names.
-fn codes_of(
+pub fn codes_of(
     kinds: &[u8],
     wide: &[u64],
     thin: &[u16],
