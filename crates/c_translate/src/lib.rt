@@ -3,7 +3,7 @@
 ghost use lib.ListN.{length as sizeOf};
 ghost use Rattle.translation.specs.Translate.{translate as answerTo};
 ghost use Rattle.c_translate.specs.Answered.{Answered, Told};
-use made::Answer;
+use translate::Answer;
 
 fn told(answer: Answer, place: &mut usize, length: &mut usize) -> u64
     ensures { λ r. ⌜ Told answer r (now (place .exit)) (now (length .exit)) ⌝ }

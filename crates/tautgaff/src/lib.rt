@@ -5,9 +5,9 @@ ghost use Prim.Native.Nat.{_≤_};
 ghost use lib.ListN.{length};
 ghost use Rattle.runner.specs.Numbers.{stopOf};
 ghost use Rattle.tautgaff.specs.Statuses.{statusOf};
-use made::Answer;
 use runner::Stop;
 use runner::Verdict;
+use translate::Answer;
 
 const DONE: i32 = 0;
 

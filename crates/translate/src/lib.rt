@@ -13,7 +13,7 @@ ghost use Rattle.translation.specs.Translate.{kindsOf, valuesOf, inRoom, make, 
 ghost use Rattle.settled.specs.Texts.{allTokens, Small, Text, Blanks, Lent, Rooms};
 ghost use Rattle.made.specs.Answers.{Gives, outcome, defined};
 use ledger::clear_written;
-use made::Answer;
+pub use made::Answer;
 use settled::FIRST_TOKEN;
 use settled::place_of;
 use token::Tokens;
