@@ -61,22 +61,28 @@ module _ (wide : List ℕ) (key : ℕ) where
   abbrev ms : List Meaning
   ms = meaningsOf (w .means) (w .under)
 
-  abbrev sites : ℕ → Site
-  sites t = sitesFrom (w .values) (place w key t nowhere) key t (drop t ms)
+  -- the cells from token t on
+  abbrev pub sitesAt : ℕ → Site
+  sitesAt t = sitesFrom (w .values) (λ (i : ℕ). getD (w .offsets) i 0) key t (drop t ms)
+
+  -- at token t, before others
+  abbrev at : ℕ → Meaning → Site → Site
+  at t m s = sited (w .values) (λ (i : ℕ). getD (w .offsets) i 0) key t m s
 
   long : length ms ≡ length wide / 4
   long = length-meanings 0 (w .means) (w .under) ∙ wide-length 1 wide
 
-  pub sites-start : nowhere ≡ sitesFrom (w .values) (λ (i : ℕ). getD (w .offsets) i 0) key (length wide / 4) (drop (length wide / 4) ms)
+  pub sites-start : nowhere ≡ sitesAt (length wide / 4)
   unfolding sitesFrom
   sites-start = rw (← long, drop-length ms)
 
-  pub sites-turn :
-      (u t : ℕ) {s s′ : Site} → suc t ≡ u → u ≤ length wide / 4 → s ≡ sitesFrom (w .values) (λ (i : ℕ). getD (w .offsets) i 0) key u (drop u ms)
-      → s′ ≡ sited (w .values) (λ (i : ℕ). getD (w .offsets) i 0) key t (unpacked t (getD (w .means) t 0) (basedIn (getD (w .under) t 0))) s
-      → s′ ≡ sitesFrom (w .values) (λ (i : ℕ). getD (w .offsets) i 0) key t (drop t ms)
+  sites-step : (t : ℕ) → t < length ms → sitesAt t ≡ at t (getD ms t nothing) (sitesAt (suc t))
   unfolding sitesFrom
+  sites-step t h = ap (λ (l : List Meaning). sitesFrom (w .values) (λ (i : ℕ). getD (w .offsets) i 0) key t l) (drop-cons ms t nothing h)
+
+  pub sites-turn : (u t : ℕ) {s s′ : Site} → suc t ≡ u → u ≤ length wide / 4 → s ≡ sitesAt u
+      → s′ ≡ at t (unpacked t (getD (w .means) t 0) (basedIn (getD (w .under) t 0))) s → s′ ≡ sitesAt t
   sites-turn u t e h es e′ =
       let l = long in
-      let d : drop t ms ≡ getD ms t nothing ∷ drop (suc t) ms = drop-cons ms t nothing (omega arith) in
-      e′ ∙ rw (d, e, meaning-at (w .means) (w .under) t, ← es)
+      e′ ∙ (ap (at t (unpacked t (getD (w .means) t 0) (basedIn (getD (w .under) t 0)))) (es ∙ ap sitesAt (sym e))
+      ∙ (ap (λ (m : Meaning). at t m (sitesAt (suc t))) (sym (meaning-at (w .means) (w .under) t)) ∙ sym (sites-step t (omega arith))))

@@ -1,32 +1,30 @@
+-- `look_in_lists` lends lists for 32,768 bytes. Assumes nothing.
+use borrow.Author.Needs.{needs}
+use native.Mathlib.Omega.{arith}
+use lib.ListN.{length}
+use Rattle.settled.proofs.Rooms.{rooms}
 use Rattle.listing.proofs.look_in_lists.Statement.{statement}
 use Rattle.listing.proofs.look_in_lists.Tie as tie
-use Rattle.listing.proofs.look_in_lists.Reads as reads
-use Rattle.listing.proofs.look_in_lists.Lts as lts
-use Rattle.listing.proofs.look_in.Reads as look-in-reads
 
--- src/lib.rt:344:9
 slice-aggregate-look-in : tie.Need-slice-aggregate-look-in
-slice-aggregate-look-in c = ?
+slice-aggregate-look-in c = search needs
 
--- src/lib.rt:345:9
 slice-aggregate-look-in-2 : tie.Need-slice-aggregate-look-in-2
-slice-aggregate-look-in-2 c = ?
+slice-aggregate-look-in-2 c = search needs
 
--- src/lib.rt:346:9
 slice-aggregate-look-in-3 : tie.Need-slice-aggregate-look-in-3
-slice-aggregate-look-in-3 c = ?
+slice-aggregate-look-in-3 c = search needs
 
--- src/lib.rt:347:9
 slice-aggregate-look-in-4 : tie.Need-slice-aggregate-look-in-4
-slice-aggregate-look-in-4 c = ?
+slice-aggregate-look-in-4 c = search needs
 
--- src/lib.rt:342:5
 look-in-requires : tie.Need-look-in-requires
-look-in-requires c κs = ?
+look-in-requires c κs =
+    let start = c .before .before .before .before .before in
+    rooms (length (start .args .src .now)) 32786 (omega (arith, start .pre)) (omega (arith, start .pre))
 
--- src/lib.rt:334:1
 returns : tie.Need-returns
-returns c = ?
+returns c = search needs
 
 pub look-in-lists-spec : {M : Type 1} → statement M
 look-in-lists-spec =

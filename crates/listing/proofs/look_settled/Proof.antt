@@ -1,30 +1,41 @@
+-- The cell by the ledger, the operand along the tape, and the places of its tokens. Assumes nothing.
+use borrow.Author.Needs.{needs}
+use native.Mathlib.Omega.{arith}
+use Rattle.listing.specs.declared.Spot.{Spot}
+use Rattle.settled.specs.Texts.{allTokens}
+use Rattle.translation.specs.Translate.{placeAt}
+use mathlib.Core.Path.{ap, _∙_}
 use Rattle.listing.proofs.look_settled.Statement.{statement}
 use Rattle.listing.proofs.look_settled.Tie as tie
-use Rattle.listing.proofs.look_settled.Reads as reads
-use Rattle.listing.proofs.look_settled.Lts as lts
-use Rattle.listing.proofs.sites.Reads as sites-reads
-use Rattle.listing.proofs.spot_along.Reads as spot-along-reads
-use Rattle.settled.proofs.place_of.Reads as place-of-reads
 
--- src/lib.rt:242:9
 sites-requires : tie.Need-sites-requires
-sites-requires c κs = ?
+sites-requires c κs = search needs
 
--- src/lib.rt:243:9
 spot-along-requires : tie.Need-spot-along-requires
-spot-along-requires c κs = ?
+spot-along-requires c κs =
+    let start = c .before .before .before .before .before .before in
+    omega (arith, start .pre .1)
 
--- src/lib.rt:246:15
 place-of-requires : tie.Need-place-of-requires
-place-of-requires c κs = ?
+place-of-requires c κs =
+    let start = c .before .before .before .before .before .before .before in
+    start .pre .0
 
--- src/lib.rt:247:13
 place-of-requires-2 : tie.Need-place-of-requires-2
-place-of-requires-2 c κs = ?
+place-of-requires-2 c κs =
+    let start = c .before .before .before .before .before .before .before .before in
+    start .pre .0
 
--- src/lib.rt:230:1
 returns : tie.Need-returns
-returns c = ?
+returns c =
+    let at-spot-along = c .before .before in
+    let at-sites = at-spot-along .before in
+    let start = at-sites .before .before .before .before .before .before in
+    record {
+      site-is = at-sites .sites .ensures;
+      from-is = c .before .place-of .ensures ∙ ap (λ (s : Spot). placeAt (allTokens (start .args .src .now)) (s .token)) (at-spot-along .spot-along .ensures);
+      to-is = c .place-of2 .ensures ∙ ap (λ (s : Spot). placeAt (allTokens (start .args .src .now)) (s .last)) (at-spot-along .spot-along .ensures);
+    }
 
 pub look-settled-spec : {M : Type 1} → statement M
 look-settled-spec =

@@ -1,51 +1,75 @@
+-- `look_tape` finds, settles, and looks where no rule is broken: groups 6 to 13 of a program on the tape. Assumes nothing.
+use borrow.Author.Needs.{needs}
+use native.Mathlib.Omega.{arith}
+use Prim.Native.Nat.{ℕ}
+use mathlib.Core.Path.{ap, _∙_}
+use lib.ListN.{replicate}
+use Rattle.settled.specs.Texts.{allTokens}
+use Rattle.settled.proofs.Rooms.{rows-are}
+use Rattle.listing.proofs.Looking.{rule-broken, none-broken}
 use Rattle.listing.proofs.look_tape.Statement.{statement}
 use Rattle.listing.proofs.look_tape.Tie as tie
-use Rattle.listing.proofs.look_tape.Reads as reads
-use Rattle.listing.proofs.look_tape.Lts as lts
-use Rattle.listing.proofs.look_settled.Reads as look-settled-reads
-use Rattle.listing.proofs.nothing.Reads as nothing-reads
-use Rattle.settled.proofs.bind.Reads as bind-reads
-use Rattle.settled.proofs.settle.Reads as settle-reads
 
--- src/lib.rt:264:9
 bind-requires : tie.Need-bind-requires
-bind-requires c κs = ?
+bind-requires c κs =
+    let start = c .before .before .before .before .before .before .before in
+    let l = start .pre .4 in (start .pre .2, omega (arith, start .pre .1, l .thin-long), omega (arith, l .few, l .thin-long), omega (arith, l .wide-long, l .thin-long))
 
--- src/lib.rt:265:9
 settle-requires : tie.Need-settle-requires
-settle-requires c κs = ?
+settle-requires c κs =
+    let start = c .before .before .before .before .before .before .before .before .before .before .before .before in
+    let l = start .pre .4 in (start .pre .3, omega (arith, start .pre .1, l .few), omega (arith, start .pre .1, l .wide-long), omega (arith, start .pre .1, l .thin-long))
 
--- src/lib.rt:269:9
 nothing-requires : tie.Need-nothing-requires
-nothing-requires c κs = ?
+nothing-requires c κs = search needs
 
--- src/lib.rt:269:9
 same-length : tie.Need-same-length
-same-length c = ?
+same-length c =
+    let at-settle = c .before .before .before .before .before .before .before in
+    at-settle .settle .kept .1 .1 .0
 
--- src/lib.rt:269:9
 same-length-2 : tie.Need-same-length-2
-same-length-2 c = ?
+same-length-2 c =
+    let at-settle = c .before .before .before .before .before .before .before in
+    let at-bind = at-settle .before .before .before .before .before in
+    at-settle .settle .kept .1 .1 .1 .0 ∙ at-bind .bind .kept .1 .1 .0
 
--- src/lib.rt:269:9
 returns : tie.Need-returns
-returns c = ?
+returns c =
+    let at-settle = c .before .before .before .before .before .before .before in
+    let at-bind = at-settle .before .before .before .before .before in
+    let start = at-bind .before .before .before .before .before .before .before .before in
+    λ x t ek bs. let ts = allTokens (start .args .src .now) in let b = at-bind .bind .ensures .1 ts x t (bs .no-found) (bs .no-goes) in let many = rows-are ts _ _ _ ek (start .pre .4) in
+    let rows = ap (λ (n : ℕ). replicate {A = ℕ} n 0) (many .1) in
+    let s = at-settle .settle .ensures .2 ts x t ek (b .found-is) (bs .no-means) (at-bind .bind .ensures .0 .opens-are ∙ rows) (at-bind .bind .ensures .0 .written-are ∙ rows) (many .0) in
+    rule-broken _ (start .args .key) (start .args .address) ts x _ _ _ _ _ _ _ t b (at-settle .settle .ensures .1) s (c .before .if1 .taken) (c .nothing .ensures (start .args .key) (start .args .address))
 
--- src/lib.rt:271:5
 look-settled-requires : tie.Need-look-settled-requires
-look-settled-requires c κs = ?
+look-settled-requires c κs =
+    let start = c .before .before .before .before .before .before .before .before .before .before .before .before .before .before .before .before .before .before .before .before .before in
+    (start .pre .0, omega (arith, start .pre .1, start .pre .4 .few))
 
--- src/lib.rt:252:1
 same-length-3 : tie.Need-same-length-3
-same-length-3 c = ?
+same-length-3 c =
+    let at-settle = c .before .before .before .before .before .before .before .before .before in
+    at-settle .settle .kept .1 .1 .0
 
--- src/lib.rt:252:1
 same-length-4 : tie.Need-same-length-4
-same-length-4 c = ?
+same-length-4 c =
+    let at-settle = c .before .before .before .before .before .before .before .before .before in
+    let at-bind = at-settle .before .before .before .before .before in
+    at-settle .settle .kept .1 .1 .1 .0 ∙ at-bind .bind .kept .1 .1 .0
 
--- src/lib.rt:252:1
 returns-2 : tie.Need-returns-2
-returns-2 c = ?
+returns-2 c =
+    let at-if1 = c .before .before .before in
+    let at-settle = at-if1 .before .before .before .before .before .before in
+    let at-bind = at-settle .before .before .before .before .before in
+    let start = at-bind .before .before .before .before .before .before .before .before in
+    λ x t ek bs. let ts = allTokens (start .args .src .now) in let b = at-bind .bind .ensures .1 ts x t (bs .no-found) (bs .no-goes) in let many = rows-are ts _ _ _ ek (start .pre .4) in
+    let rows = ap (λ (n : ℕ). replicate {A = ℕ} n 0) (many .1) in
+    let s = at-settle .settle .ensures .2 ts x t ek (b .found-is) (bs .no-means) (at-bind .bind .ensures .0 .opens-are ∙ rows) (at-bind .bind .ensures .0 .written-are ∙ rows) (many .0) in
+    none-broken _ (start .args .key) (start .args .address) ts x _ _ _ _ _ _ _ t b (at-settle .settle .ensures .1) s (start .args .kinds .now) ek (at-if1 .if1 .left) (c .look-settled .ensures)
 
 pub look-tape-spec : {M : Type 1} → statement M
 look-tape-spec =

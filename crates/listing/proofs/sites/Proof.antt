@@ -1,18 +1,15 @@
 -- `sites` goes from the last token to the first. The invariant: what is found is that of the tokens from t on. Assumes nothing.
 use borrow.Author.Needs.{needs}
 use native.Mathlib.Omega.{arith}
-use Prim.Native.Nat.{ℕ, _≤_, _/_}
-use mathlib.Core.Path.{_≡_, ap, _∙_}
-use lib.ListN.{length, drop, getD}
-use Rattle.ledger.specs.Book.{wideOf}
-use Rattle.tables.specs.Packed.{meaningsOf}
-use Rattle.listing.specs.Cells.{sitesFrom}
-use Rattle.listing.proofs.Siting.{sites-start, sites-turn}
+use Prim.Native.Nat.{_≤_, _/_}
+use lib.ListN.{length}
+use mathlib.Core.Path.{_≡_, _∙_}
+use Rattle.listing.proofs.Siting.{sitesAt, sites-start, sites-turn}
 use Rattle.listing.proofs.sites.Statement.{statement}
 use Rattle.listing.proofs.sites.Tie as tie
 
 abbrev Inv-loop : tie.InvT-loop
-Inv-loop wide key s₀ t₀ s t = (t ≤ length wide / 4) × (s ≡ sitesFrom (wideOf wide .values) (λ (i : ℕ). getD (wideOf wide .offsets) i 0) key t (drop t (meaningsOf (wideOf wide .means) (wideOf wide .under))))
+Inv-loop wide key s₀ t₀ s t = (t ≤ length wide / 4) × (s ≡ sitesAt wide key t)
 
 abbrev μ-loop : tie.MeasureT-loop
 μ-loop wide key s₀ t₀ s t = t
