@@ -45,6 +45,9 @@ fn read_some(fd: i32, room: &mut [u8]) -> Got
 // "source over 32,768 bytes": one byte more decides it.
 pub const SOURCE_ROOM: usize = 32769;
 
+// The longest object text has 44,095 bytes: one byte more decides that a file is none.
+pub const OBJECT_ROOM: usize = 44096;
+
 fn first_end(size: usize) -> usize
     ensures { λ r. ⌜ r ≤ size ⌝ }
 {

@@ -16,6 +16,8 @@ use Rattle.figures.specs.Parts.{partCount, partOf}
 use Rattle.figures.specs.Numbers.{digitOf, wholeNumber}
 use Rattle.figures.specs.declared.Reading.{Reading}
 use Rattle.figures.specs.declared.Reading.the-variants.{Number, Nothing}
+use Rattle.words.specs.declared.Names.{Names}
+use Rattle.words.specs.declared.Options.{Options}
 use Rattle.words.specs.declared.Wish.{Wish}
 
 -- the commands, and 0 for any other word
@@ -60,74 +62,87 @@ noValue = 5
 abbrev pub noName : ℕ
 noName = 6
 
--- a wish with one thing changed
+-- a wish with one part changed
+abbrev pub naming : Wish → Names → Wish
+naming w names = record { command = w .command; names = names; options = w .options; fault = w .fault }
+
+abbrev pub asking : Wish → Options → Wish
+asking w options = record { command = w .command; names = w .names; options = options; fault = w .fault }
+
 abbrev pub wrongAt : Wish → ℕ → ℕ → Wish
-wrongAt w n why =
-    record { command = w .command; names = w .names; file = w .file; other = w .other; waiting = w .waiting; budget = w .budget; code = w .code; why = why; word = n }
+wrongAt w n why = record { command = w .command; names = w .names; options = w .options; fault = record { why = why; word = n } }
+
+-- the first name is the file's, the second the other's; the object of `-o` is the other, and not counted
+abbrev pub firstName : Names → ℕ → Names
+firstName names n = record { count = 1; file = n; other = names .other }
+
+abbrev pub secondName : Names → ℕ → Names
+secondName names n = record { count = 2; file = names .file; other = n }
+
+abbrev pub objectName : Names → ℕ → Names
+objectName names n = record { count = names .count; file = names .file; other = n }
+
+-- what an option waits for, and the number that it waited for
+abbrev pub waitingFor : Options → ℕ → Options
+waitingFor options option = record { waiting = option; budget = options .budget; code = options .code }
+
+abbrev pub withNumber : Options → ℕ → Options
+withNumber options v =
+    choose (eqb (options .waiting) 4)
+    (record { waiting = 0; budget = v; code = options .code })
+    (record { waiting = 0; budget = options .budget; code = v })
 
 abbrev pub waitsFor : Wish → ℕ → Wish
-waitsFor w option =
-    record { command = w .command; names = w .names; file = w .file; other = w .other; waiting = option; budget = w .budget; code = w .code; why = w .why; word = w .word }
-
--- the first name is the file's, the second the other's; more are not counted
-abbrev pub firstName : Wish → ℕ → Wish
-firstName w n =
-    record { command = w .command; names = 1; file = n; other = w .other; waiting = w .waiting; budget = w .budget; code = w .code; why = w .why; word = w .word }
-
-abbrev pub secondName : Wish → ℕ → Wish
-secondName w n =
-    record { command = w .command; names = 2; file = w .file; other = n; waiting = w .waiting; budget = w .budget; code = w .code; why = w .why; word = w .word }
+waitsFor w option = asking w (waitingFor (w .options) option)
 
 abbrev pub withName : Wish → ℕ → Wish
-withName w n = choose (eqb (w .names) 0) (firstName w n) (choose (eqb (w .names) 1) (secondName w n) w)
+withName w n =
+    choose (eqb (w .names .count) 0) (naming w (firstName (w .names) n))
+    (choose (eqb (w .names .count) 1) (naming w (secondName (w .names) n)) w)
 
 abbrev pub withObject : Wish → ℕ → Wish
-withObject w n =
-    record { command = w .command; names = w .names; file = w .file; other = n; waiting = 0; budget = w .budget; code = w .code; why = w .why; word = w .word }
-
-abbrev pub withBudget : Wish → ℕ → Wish
-withBudget w v =
-    record { command = w .command; names = w .names; file = w .file; other = w .other; waiting = 0; budget = v; code = w .code; why = w .why; word = w .word }
-
-abbrev pub withCode : Wish → ℕ → Wish
-withCode w v =
-    record { command = w .command; names = w .names; file = w .file; other = w .other; waiting = 0; budget = w .budget; code = v; why = w .why; word = w .word }
+withObject w n = naming (waitsFor w 0) (objectName (w .names) n)
 
 -- nothing but a command; `translate` without `-o` has word 0 for its object
 abbrev pub startOf : ℕ → Wish
 startOf command =
-    record { command = command; names = 0; file = 0; other = 0; waiting = 0; budget = 1000000; code = 0; why = 0; word = 0 }
+    record {
+      command = command;
+      names = record { count = 0; file = 0; other = 0 };
+      options = record { waiting = 0; budget = 1000000; code = 0 };
+      fault = record { why = 0; word = 0 };
+    }
 
 -- a value that an option waits for
-abbrev pub withNumber : Wish → ℕ → Wish
-withNumber w v = choose (eqb (w .waiting) 4) (withBudget w v) (withCode w v)
+abbrev pub numbered : Wish → ℕ → Wish
+numbered w v = asking w (withNumber (w .options) v)
 
 abbrev pub counted : Wish → ℕ → Reading → Wish
-counted w n (Number v) = withNumber w v
+counted w n (Number v) = numbered w v
 counted w n Nothing = wrongAt w n noNumber
 
 -- one object is named
 abbrev pub objectNamed : Wish → ℕ → Wish
-objectNamed w n = choose (eqb (w .other) 0) (withObject w n) (wrongAt w n tooMany)
+objectNamed w n = choose (eqb (w .names .other) 0) (withObject w n) (wrongAt w n tooMany)
 
 abbrev pub valued : Wish → ℕ → List ℕ → Wish
 valued w n s =
     choose (isOption s) (wrongAt w n noValue)
-    (choose (eqb (w .waiting) 1) (objectNamed w n)
-    (choose (ltb (w .waiting) 4) (waitsFor w 0) (counted w n (wholeNumber 10 (2 ^ 32 - 1) s))))
+    (choose (eqb (w .options .waiting) 1) (objectNamed w n)
+    (choose (ltb (w .options .waiting) 4) (waitsFor w 0) (counted w n (wholeNumber 10 (2 ^ 32 - 1) s))))
 
 -- an option, or a name
 abbrev pub opened : Wish → ℕ → ℕ → Wish
 opened w n option = choose (eqb option 0) (wrongAt w n unknownOption) (waitsFor w option)
 
 abbrev pub namedBy : Wish → ℕ → Wish
-namedBy w n = choose (mostNames (w .command) (w .names)) (withName w n) (wrongAt w n tooMany)
+namedBy w n = choose (mostNames (w .command) (w .names .count)) (withName w n) (wrongAt w n tooMany)
 
 -- the word with the number n behind the command; a word behind a wrong one is not looked at
 abbrev pub taken : Wish → ℕ → List ℕ → Wish
 taken w n s =
-    choose (ltb 0 (w .why)) w
-    (choose (ltb 0 (w .waiting)) (valued w n s)
+    choose (ltb 0 (w .fault .why)) w
+    (choose (ltb 0 (w .options .waiting)) (valued w n s)
     (choose (isOption s) (opened w n (optionOf (w .command) s)) (namedBy w n)))
 
 -- k words from the number n
@@ -142,9 +157,9 @@ leastNames command = choose (eqb command 5) 0 (choose (eqb command 4) 2 1)
 -- at the end of n words
 abbrev pub finished : ℕ → Wish → Wish
 finished n w =
-    choose (ltb 0 (w .why)) w
-    (choose (ltb 0 (w .waiting)) (wrongAt w n noValue)
-    (choose (ltb (w .names) (leastNames (w .command))) (wrongAt w n noName) w))
+    choose (ltb 0 (w .fault .why)) w
+    (choose (ltb 0 (w .options .waiting)) (wrongAt w n noValue)
+    (choose (ltb (w .names .count) (leastNames (w .command))) (wrongAt w n noName) w))
 
 abbrev pub wishFor : ℕ → List ℕ → ℕ → Wish
 wishFor count words command =

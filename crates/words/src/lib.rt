@@ -2,7 +2,10 @@
 ghost use mathlib.Core.Path.{_≡_};
 ghost use Prim.Native.Nat.{_-_, _≤_, _<_};
 ghost use Rattle.figures.specs.Numbers.{digitOf};
-ghost use Rattle.words.specs.Wishes.{commandOf, isOption, runOption, optionOf, mostNames, wrongAt, waitsFor, firstName, secondName, withName, withObject, withBudget, withCode, startOf, withNumber, objectNamed, counted as countedOf, valued as valuedOf, opened as openedOf, namedBy, taken as takenOf, leastNames, takenAll, finished as finishedOf, wishOf, registerIn};
+ghost use Rattle.words.specs.Wishes.{commandOf, isOption, runOption, optionOf, mostNames, naming as namingOf, asking as askingOf, wrongAt};
+ghost use Rattle.words.specs.Wishes.{firstName, secondName, objectName, waitingFor, withNumber, waitsFor, withName, withObject, startOf};
+ghost use Rattle.words.specs.Wishes.{numbered as numberedOf, counted as countedOf, objectNamed, valued as valuedOf, opened as openedOf, namedBy};
+ghost use Rattle.words.specs.Wishes.{taken as takenOf, takenAll, leastNames, finished as finishedOf, wishOf, registerIn};
 use figures::Reading;
 use figures::same;
 
@@ -40,18 +43,31 @@ pub const NO_VALUE: u8 = 5;
 
 pub const NO_NAME: u8 = 6;
 
-// The command; how many names, and the words that are the file's and the other's; what is waited for; the budget and the code; why a word is wrong, and
-// which.
-pub struct Wish {
-    pub command: u8,
-    pub names: u8,
+// How many names there are, and the words that are the file's and the other's.
+pub struct Names {
+    pub count: u8,
     pub file: usize,
     pub other: usize,
+}
+
+// What is waited for; the budget and the code.
+pub struct Options {
     pub waiting: u8,
     pub budget: u32,
     pub code: u32,
+}
+
+// Why a word is wrong, 0 if none is, and which.
+pub struct Fault {
     pub why: u8,
     pub word: usize,
+}
+
+pub struct Wish {
+    pub command: u8,
+    pub names: Names,
+    pub options: Options,
+    pub fault: Fault,
 }
 
 pub fn command(s: &[u8]) -> u8
@@ -130,79 +146,106 @@ fn most_names(command: u8, names: u8) -> bool
     names < 1
 }
 
+fn naming(w: Wish, names: Names) -> Wish
+    ensures { λ r. ⌜ r ≡ namingOf w names ⌝ }
+{
+    let mut r = w;
+    r.names = names;
+    r
+}
+
+fn asking(w: Wish, options: Options) -> Wish
+    ensures { λ r. ⌜ r ≡ askingOf w options ⌝ }
+{
+    let mut r = w;
+    r.options = options;
+    r
+}
+
 fn wrong_at(w: Wish, n: usize, why: u8) -> Wish
     ensures { λ r. ⌜ r ≡ wrongAt w n why ⌝ }
 {
-    Wish {
-        command: w.command,
-        names: w.names,
-        file: w.file,
-        other: w.other,
-        waiting: w.waiting,
-        budget: w.budget,
-        code: w.code,
-        why: why,
-        word: n,
+    let fault = Fault { why: why, word: n };
+    let mut r = w;
+    r.fault = fault;
+    r
+}
+
+fn first_name(names: Names, n: usize) -> Names
+    ensures { λ r. ⌜ r ≡ firstName names n ⌝ }
+{
+    Names {
+        count: 1,
+        file: n,
+        other: names.other,
+    }
+}
+
+fn second_name(names: Names, n: usize) -> Names
+    ensures { λ r. ⌜ r ≡ secondName names n ⌝ }
+{
+    Names {
+        count: 2,
+        file: names.file,
+        other: n,
+    }
+}
+
+fn object_name(names: Names, n: usize) -> Names
+    ensures { λ r. ⌜ r ≡ objectName names n ⌝ }
+{
+    Names {
+        count: names.count,
+        file: names.file,
+        other: n,
+    }
+}
+
+fn waiting_for(options: Options, option: u8) -> Options
+    ensures { λ r. ⌜ r ≡ waitingFor options option ⌝ }
+{
+    Options {
+        waiting: option,
+        budget: options.budget,
+        code: options.code,
+    }
+}
+
+fn with_number(options: Options, v: u32) -> Options
+    ensures { λ r. ⌜ r ≡ withNumber options v ⌝ }
+{
+    let waiting = options.waiting;
+    if waiting == BUDGET {
+        return Options {
+            waiting: 0,
+            budget: v,
+            code: options.code,
+        };
+    }
+    Options {
+        waiting: 0,
+        budget: options.budget,
+        code: v,
     }
 }
 
 fn waits_for(w: Wish, option: u8) -> Wish
     ensures { λ r. ⌜ r ≡ waitsFor w option ⌝ }
 {
-    Wish {
-        command: w.command,
-        names: w.names,
-        file: w.file,
-        other: w.other,
-        waiting: option,
-        budget: w.budget,
-        code: w.code,
-        why: w.why,
-        word: w.word,
-    }
-}
-
-fn first_name(w: Wish, n: usize) -> Wish
-    ensures { λ r. ⌜ r ≡ firstName w n ⌝ }
-{
-    Wish {
-        command: w.command,
-        names: 1,
-        file: n,
-        other: w.other,
-        waiting: w.waiting,
-        budget: w.budget,
-        code: w.code,
-        why: w.why,
-        word: w.word,
-    }
-}
-
-fn second_name(w: Wish, n: usize) -> Wish
-    ensures { λ r. ⌜ r ≡ secondName w n ⌝ }
-{
-    Wish {
-        command: w.command,
-        names: 2,
-        file: w.file,
-        other: n,
-        waiting: w.waiting,
-        budget: w.budget,
-        code: w.code,
-        why: w.why,
-        word: w.word,
-    }
+    let options = w.options;
+    asking(w, waiting_for(options, option))
 }
 
 fn with_name(w: Wish, n: usize) -> Wish
     ensures { λ r. ⌜ r ≡ withName w n ⌝ }
 {
     let names = w.names;
-    if names == 0 {
-        return first_name(w, n);
+    let count = names.count;
+    if count == 0 {
+        return naming(w, first_name(names, n));
     }
-    if names == 1 {
-        return second_name(w, n);
+    if count == 1 {
+        return naming(w, second_name(names, n));
     }
     w
 }
@@ -210,82 +253,44 @@ fn with_name(w: Wish, n: usize) -> Wish
 fn with_object(w: Wish, n: usize) -> Wish
     ensures { λ r. ⌜ r ≡ withObject w n ⌝ }
 {
-    Wish {
-        command: w.command,
-        names: w.names,
-        file: w.file,
-        other: n,
-        waiting: 0,
-        budget: w.budget,
-        code: w.code,
-        why: w.why,
-        word: w.word,
-    }
-}
-
-fn with_budget(w: Wish, v: u32) -> Wish
-    ensures { λ r. ⌜ r ≡ withBudget w v ⌝ }
-{
-    Wish {
-        command: w.command,
-        names: w.names,
-        file: w.file,
-        other: w.other,
-        waiting: 0,
-        budget: v,
-        code: w.code,
-        why: w.why,
-        word: w.word,
-    }
-}
-
-fn with_code(w: Wish, v: u32) -> Wish
-    ensures { λ r. ⌜ r ≡ withCode w v ⌝ }
-{
-    Wish {
-        command: w.command,
-        names: w.names,
-        file: w.file,
-        other: w.other,
-        waiting: 0,
-        budget: w.budget,
-        code: v,
-        why: w.why,
-        word: w.word,
-    }
+    let names = w.names;
+    naming(waits_for(w, 0), object_name(names, n))
 }
 
 fn start(command: u8) -> Wish
     ensures { λ r. ⌜ r ≡ startOf command ⌝ }
 {
-    Wish {
-        command: command,
-        names: 0,
+    let names = Names {
+        count: 0,
         file: 0,
         other: 0,
+    };
+    let options = Options {
         waiting: 0,
         budget: 1000000,
         code: 0,
-        why: 0,
-        word: 0,
+    };
+    let fault = Fault { why: 0, word: 0 };
+    Wish {
+        command: command,
+        names: names,
+        options: options,
+        fault: fault,
     }
 }
 
-fn with_number(w: Wish, v: u32) -> Wish
-    ensures { λ r. ⌜ r ≡ withNumber w v ⌝ }
+fn numbered(w: Wish, v: u32) -> Wish
+    ensures { λ r. ⌜ r ≡ numberedOf w v ⌝ }
 {
-    let waiting = w.waiting;
-    if waiting == BUDGET {
-        return with_budget(w, v);
-    }
-    with_code(w, v)
+    let options = w.options;
+    asking(w, with_number(options, v))
 }
 
 fn counted(w: Wish, n: usize, found: Reading) -> Wish
     ensures { λ r. ⌜ r ≡ countedOf w n found ⌝ }
 {
     match found {
-        Reading::Number(v) => with_number(w, v),
+        Reading::Number(v) => numbered(w, v),
         Reading::Nothing => wrong_at(w, n, NO_NUMBER),
     }
 }
@@ -293,7 +298,7 @@ fn counted(w: Wish, n: usize, found: Reading) -> Wish
 fn object_named(w: Wish, n: usize) -> Wish
     ensures { λ r. ⌜ r ≡ objectNamed w n ⌝ }
 {
-    let other = w.other;
+    let other = w.names.other;
     if other == 0 {
         return with_object(w, n);
     }
@@ -304,7 +309,7 @@ fn object_named(w: Wish, n: usize) -> Wish
 fn valued(w: Wish, n: usize, s: &[u8]) -> Wish
     ensures { λ r. ⌜ r ≡ valuedOf w n (now (s .entry)) ⌝ }
 {
-    let waiting = w.waiting;
+    let waiting = w.options.waiting;
     if is_option(s) {
         return wrong_at(w, n, NO_VALUE);
     }
@@ -329,7 +334,7 @@ fn opened(w: Wish, n: usize, option: u8) -> Wish
 fn named_by(w: Wish, n: usize) -> Wish
     ensures { λ r. ⌜ r ≡ namedBy w n ⌝ }
 {
-    if most_names(w.command, w.names) {
+    if most_names(w.command, w.names.count) {
         return with_name(w, n);
     }
     wrong_at(w, n, TOO_MANY)
@@ -339,8 +344,8 @@ fn named_by(w: Wish, n: usize) -> Wish
 fn taken(w: Wish, n: usize, s: &[u8]) -> Wish
     ensures { λ r. ⌜ r ≡ takenOf w n (now (s .entry)) ⌝ }
 {
-    let why = w.why;
-    let waiting = w.waiting;
+    let why = w.fault.why;
+    let waiting = w.options.waiting;
     if 0 < why {
         return w;
     }
@@ -381,9 +386,9 @@ fn least_names(command: u8) -> u8
 fn finished(n: usize, w: Wish) -> Wish
     ensures { λ r. ⌜ r ≡ finishedOf n w ⌝ }
 {
-    let why = w.why;
-    let waiting = w.waiting;
-    let names = w.names;
+    let why = w.fault.why;
+    let waiting = w.options.waiting;
+    let names = w.names.count;
     if 0 < why {
         return w;
     }

@@ -3,8 +3,8 @@ use Prim.Native.Nat.{_≤_, _-_}
 use mathlib.Core.Path.{_≡_}
 use lib.ListN.{length}
 use borrow.Author.Needs.{needs}
-use Rattle.tautgaff.proofs.put_all_asked.Statement.{statement}
-use Rattle.tautgaff.proofs.put_all_asked.Tie as tie
+use Rattle.running.proofs.put_all_asked.Statement.{statement}
+use Rattle.running.proofs.put_all_asked.Tie as tie
 
 abbrev Inv-loop : tie.InvT-loop
 Inv-loop out₀ at words regs count end₀ n₀ out end n = (1 ≤ n) × (length out ≡ length out₀)

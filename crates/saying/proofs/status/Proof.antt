@@ -1,7 +1,7 @@
 -- `status` follows the definition. Assumes nothing.
 use borrow.Author.Tests.{eq-eqb, ne-eqb}
-use Rattle.tautgaff.proofs.status.Statement.{statement}
-use Rattle.tautgaff.proofs.status.Tie as tie
+use Rattle.saying.proofs.status.Statement.{statement}
+use Rattle.saying.proofs.status.Tie as tie
 
 returns : tie.Need-returns
 returns c = rw (eq-eqb _ _ (c .if1 .taken))
