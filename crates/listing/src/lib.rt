@@ -370,3 +370,11 @@ pub fn look(src: &[u8], key: u64, address: usize) -> Seen
     }
     nothing()
 }
+
+// The first cell of a name, by its key.
+pub fn cell(src: &[u8], key: u64) -> Site
+    ensures { λ r. ⌜ r ≡ siteNamed (now (src .entry)) key ⌝ }
+{
+    let seen = look(src, key, 0);
+    seen.site
+}
