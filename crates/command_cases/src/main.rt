@@ -1,4 +1,4 @@
-// What the command says of stored texts, compared with `stdout`: answers and messages, reports of runs, pages of help.
+// What the command says of stored texts, compared with `stdout`: answers and messages, reports of runs, comparisons, pages of help.
 fn main() {
     tautgaff::tautgaff_main(
         b"check\0small.pl360\0cr.pl360\0tab.pl360\0mark.pl360\0comment.pl360\0number.pl360\0order.pl360\0end.pl360\0depth.pl360\0",
@@ -12,5 +12,9 @@ fn main() {
     tautgaff::tautgaff_main(b"run\0accepted.object\0--set\0RA=#FF\0--cc\03\0");
     tautgaff::tautgaff_main(b"run\0loop.pl360\0--budget\01000\0");
     tautgaff::tautgaff_main(b"run\0index.pl360\0");
+    tautgaff::tautgaff_main(b"same\0accepted.pl360\0accepted.object\0");
+    tautgaff::tautgaff_main(b"same\0accepted.pl360\0changed.object\0");
+    tautgaff::tautgaff_main(b"same\0accepted.pl360\0short.object\0");
+    tautgaff::tautgaff_main(b"same\0accepted.pl360\0loop.pl360\0");
     tautgaff::tautgaff_main(b"help\010\0");
 }

@@ -10,10 +10,9 @@ use lib.Dec.{eqb, leb}
 use lib.ListN.{length, take, drop, getD, replicate}
 use Rattle.base.specs.Choose.{choose}
 use Rattle.base.specs.Text.{bytes, sameBytes}
-use Rattle.figures.specs.Digits.{decimal}
 use Rattle.figures.specs.Numbers.{digitOf}
 use Rattle.figures.specs.Parts.{partCount, partOf, filled}
-use Rattle.messages.specs.Lines.{visibles}
+use Rattle.excerpts.specs.Lines.{visibles, placeText}
 
 -- how many bytes two texts begin with in common
 unfoldable pub common : List ℕ → List ℕ → ℕ
@@ -48,9 +47,8 @@ lineKind line = filled (digitOf (getD line 3 0)) (partOf 10 (kindOf (getD line 1
 unfoldable pub endText : Bool → List ℕ
 endText ends = choose ends (bytes ", where the stored text ends\n") (bytes "\n")
 
-unfoldable pub placeText : List ℕ → ℕ → ℕ → List ℕ → List ℕ
-placeText object line column source =
-    object ++ bytes ":" ++ decimal line ++ bytes ":" ++ decimal column ++ bytes ": not what " ++ source ++ bytes " becomes: "
+unfoldable pub aboutText : List ℕ → ℕ → ℕ → List ℕ → List ℕ
+aboutText object line column source = placeText object line column ++ bytes ": not what " ++ source ++ bytes " becomes: "
 
 -- at most 100 bytes of a line are shown
 unfoldable pub shownText : List ℕ → List ℕ → List ℕ
@@ -64,7 +62,7 @@ unfoldable pub linesText : List ℕ → List ℕ → List ℕ
 linesText was is = shownText (bytes "  stored  ") was ++ shownText (bytes "  becomes ") is ++ caretText (common is was)
 
 unfoldable pub headText : List ℕ → List ℕ → ℕ → List ℕ → List ℕ → Bool → List ℕ
-headText source object line is was ends = placeText object (line + 1) (common is was + 1) source ++ lineKind is ++ endText ends
+headText source object line is was ends = aboutText object (line + 1) (common is was + 1) source ++ lineKind is ++ endText ends
 
 -- an object text begins with 01
 unfoldable pub hintText : List ℕ → List ℕ

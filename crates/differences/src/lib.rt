@@ -3,16 +3,15 @@ ghost use mathlib.Core.Path.{_≡_};
 ghost use Prim.Native.Nat.{_+_, _≤_, _<_, _^_};
 ghost use lib.ListN.{length, take, drop};
 ghost use Rattle.figures.specs.Writing.{Adds, Holds};
-ghost use Rattle.differences.specs.Differences.{caretText, common as commonOf, differenceAt, differenceText, endText, headText, hintText, kindOf, lineAt, lineKind, linesText, offsetText, placeText, shownText};
+ghost use Rattle.differences.specs.Differences.{caretText, common as commonOf, differenceAt, differenceText, endText, headText, hintText, kindOf, lineAt, lineKind, linesText, offsetText, aboutText, shownText};
+use excerpts::put_visible;
 use figures::byte;
 use figures::front;
 use figures::part;
 use figures::put_all;
-use figures::put_decimal;
 use figures::put_phrase;
 use figures::put_times;
 use figures::rest;
-use messages::put_visible;
 
 // What a line is, by its second digit.
 const KINDS: [u8; 102] = *b"behind the last line\n\
@@ -94,7 +93,7 @@ fn put_end(out: &mut [u8], at: usize, ends: bool) -> usize
     put_all(out, at, b"\n")
 }
 
-fn put_place(
+fn put_about(
     out: &mut [u8],
     at: usize,
     object: &[u8],
@@ -102,16 +101,12 @@ fn put_place(
     column: usize,
     source: &[u8],
 ) -> usize
-    ensures { λ r. ⌜ Adds (placeText (now (object .entry)) line column (now (source .entry))) (now (out .entry)) at (now (out .exit)) r ⌝ }
+    ensures { λ r. ⌜ Adds (aboutText (now (object .entry)) line column (now (source .entry))) (now (out .entry)) at (now (out .exit)) r ⌝ }
 {
-    let named = put_all(out, at, object);
-    let first = put_all(out, named, b":");
-    let lined = put_decimal(out, first, line);
-    let second = put_all(out, lined, b":");
-    let placed = put_decimal(out, second, column);
-    let denied = put_all(out, placed, b": not what ");
-    let begun = put_all(out, denied, source);
-    put_all(out, begun, b" becomes: ")
+    let placed = excerpts::put_place(out, at, object, line, column);
+    let parted = put_all(out, placed, b": not what ");
+    let named = put_all(out, parted, source);
+    put_all(out, named, b" becomes: ")
 }
 
 fn put_shown(out: &mut [u8], at: usize, name: &[u8], line: &[u8]) -> usize
@@ -151,7 +146,7 @@ fn put_head(
     ensures { λ r. ⌜ Adds (headText (now (source .entry)) (now (object .entry)) line (now (is .entry)) (now (was .entry)) ends) (now (out .entry)) 0 (now (out .exit)) r ⌝ }
 {
     let column = common(is, was) + 1;
-    let placed = put_place(out, 0, object, line + 1, column, source);
+    let placed = put_about(out, 0, object, line + 1, column, source);
     let told = put_kind(out, placed, is);
     put_end(out, told, ends)
 }

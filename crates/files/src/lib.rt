@@ -6,6 +6,8 @@ ghost use mathlib.Core.Path.{_≡_};
 use libc::STDERR_FILENO;
 use libc::STDIN_FILENO;
 use libc::STDOUT_FILENO;
+use libc::types::stat;
+use libc::types::timespec;
 
 // How many bytes were read, and whether reading failed.
 pub struct Got {
@@ -138,20 +140,6 @@ fn put_bytes(fd: i32, text: &[u8]) -> bool {
     whole & (closed == 0)
 }
 
-// Where a name leads elsewhere.
-fn write_directly(name: &[u8], text: &[u8]) -> bool {
-    let fd = os::open_overwrite(name);
-    if fd < 0 {
-        os::fail(name);
-        return false;
-    }
-    if put_bytes(fd, text) {
-        return true;
-    }
-    os::fail(name);
-    false
-}
-
 // Room for a name and what is put behind it.
 const NAME_ROOM: usize = 4200;
 
@@ -167,8 +155,77 @@ fn put_other_name(room: &mut [u8], name: &[u8]) -> usize {
     figures::put_decimal(room, second, figures::byte(&chance, 2) as usize)
 }
 
+// ── what is known of a file ──
+
+fn blank() -> stat {
+    let never = timespec {
+        tv_sec: 0,
+        tv_nsec: 0,
+    };
+    stat {
+        st_dev: 0,
+        st_ino: 0,
+        st_nlink: 0,
+        st_mode: 0,
+        st_uid: 0,
+        st_gid: 0,
+        __pad: 0,
+        st_rdev: 0,
+        st_size: 0,
+        st_blksize: 0,
+        st_blocks: 0,
+        st_atim: never,
+        st_mtim: never,
+        st_ctim: never,
+        __unused: [0, 0, 0],
+    }
+}
+
+fn asked(about: stat, fd: i32) -> stat {
+    let mut s = about;
+    libc::fstat(fd, &mut s);
+    s
+}
+
+// All zero where the system says nothing.
+fn known(fd: i32) -> stat {
+    asked(blank(), fd)
+}
+
+// A file as disks have them, by the kind in its mode.
+fn is_plain(about: stat) -> bool {
+    about.st_mode / 4096 == 8
+}
+
+fn is_same(a: stat, b: stat) -> bool {
+    (a.st_dev == b.st_dev) & (a.st_ino == b.st_ino)
+}
+
+// The file to which standard output or standard error goes, as `/dev/stdout` may be.
+fn is_standard_file(about: stat) -> bool {
+    is_same(about, known(STDOUT_FILENO)) | is_same(about, known(STDERR_FILENO))
+}
+
+// ── a file replaced ──
+
+// As the file was that is replaced: its mode, and owner and group where the system lets us.
+fn keep(fd: i32, about: stat) -> bool {
+    if about.st_mode == 0 {
+        return true;
+    }
+    libc::fchown(fd, about.st_uid, about.st_gid);
+    libc::fchmod(fd, about.st_mode % 512) == 0
+}
+
+fn put_as(fd: i32, about: stat, text: &[u8]) -> bool {
+    if keep(fd, about) {
+        return put_bytes(fd, text);
+    }
+    false
+}
+
 // The whole text under another name in the same folder, which then takes the name's place.
-fn replace(name: &[u8], text: &[u8]) -> bool {
+fn replace(name: &[u8], text: &[u8], about: stat) -> bool {
     let mut room = [0u8; NAME_ROOM];
     let end = put_other_name(&mut room, name);
     let other = figures::front(&room, end);
@@ -177,7 +234,7 @@ fn replace(name: &[u8], text: &[u8]) -> bool {
         os::fail(name);
         return false;
     }
-    if put_bytes(fd, text) {
+    if put_as(fd, about, text) {
         if os::rename(other, name) == 0 {
             return true;
         }
@@ -200,28 +257,49 @@ fn ended(name: &[u8]) -> [u8; 4096]
     path
 }
 
-fn is_link(name: &[u8]) -> bool {
+// What a link says, and no byte where there is none.
+fn read_link(name: &[u8], room: &mut [u8]) -> Got {
     let path = ended(name);
+    let n = libc::readlink(&path, room);
+    if n < 0 {
+        return nothing();
+    }
+    count(io::count(n, room))
+}
+
+fn is_link(name: &[u8]) -> bool {
     let mut target = [0u8; 8];
     let view: &mut [u8] = &mut target;
-    0 <= libc::readlink(&path, view)
+    let found = read_link(name, view);
+    !found.failed
 }
 
-// A file with a length of its own; what is no such file cannot be cut.
-fn is_plain(fd: i32) -> bool {
-    let size = libc::lseek(fd, 0, libc::SEEK_END);
-    if size < 0 {
+fn number(fd: i32) -> usize {
+    if fd < 0 {
+        return 0;
+    }
+    fd as usize
+}
+
+// The file behind a link, by the name that the system has for what was opened.
+fn replace_behind(name: &[u8], fd: i32, text: &[u8], about: stat) -> bool {
+    let mut room = [0u8; 32];
+    let at = figures::put_all(&mut room, 0, b"/proc/self/fd/");
+    let end = figures::put_decimal(&mut room, at, number(fd));
+    let mut target = [0u8; 4096];
+    let view: &mut [u8] = &mut target;
+    let found = read_link(figures::front(&room, end), view);
+    if found.failed {
+        os::fail(name);
         return false;
     }
-    libc::ftruncate(fd, size) == 0
+    replace(figures::front(&target, found.size), text, about)
 }
 
-// A pipe or a device is written as it was opened.
-fn store_over(name: &[u8], fd: i32, text: &[u8]) -> bool {
-    if is_plain(fd) {
-        libc::close(fd);
-        return replace(name, text);
-    }
+// ── writing ──
+
+// A pipe or a device, or where standard output goes, is written as it was opened.
+fn write_directly(name: &[u8], fd: i32, text: &[u8]) -> bool {
     if put_bytes(fd, text) {
         return true;
     }
@@ -229,20 +307,33 @@ fn store_over(name: &[u8], fd: i32, text: &[u8]) -> bool {
     false
 }
 
-// Writes a file whole or not at all.
+fn store_over(name: &[u8], fd: i32, text: &[u8]) -> bool {
+    let about = known(fd);
+    if is_standard_file(about) | !is_plain(about) {
+        return write_directly(name, fd, text);
+    }
+    if is_link(name) {
+        let done = replace_behind(name, fd, text, about);
+        libc::close(fd);
+        return done;
+    }
+    libc::close(fd);
+    replace(name, text, about)
+}
+
+// Writes a file whole or not at all. A link that leads nowhere is not followed.
 pub fn store(name: &[u8], text: &[u8]) -> bool {
     if is_standard(name) {
         return print(text);
     }
-    if is_link(name) {
-        return write_directly(name, text);
-    }
-    let fd = os::open_update(name);
+    let fd = os::open_append(name);
     if 0 <= fd {
         return store_over(name, fd, text);
     }
     if os::errno() == libc::ENOENT {
-        return replace(name, text);
+        if !is_link(name) {
+            return replace(name, text, blank());
+        }
     }
     os::fail(name);
     false

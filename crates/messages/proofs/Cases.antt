@@ -5,8 +5,8 @@ use Rattle.base.specs.Text.{bytes}
 use Rattle.base.specs.Runs.{runLen}
 use Rattle.figures.specs.Digits.{numeral}
 use Rattle.figures.specs.Parts.{behind, partCount, filled}
-use Rattle.messages.specs.Lines.{lineOf, sinceNewline, columnOf, shownBefore, visibles, shownLine, wordAt}
-use Rattle.messages.specs.Messages.{registerAt, headlineAt, figureAt, noteAt, wideAt, placeText, headText, caretText, lineText, firstLine, otherLines, placedText, messageText}
+use Rattle.excerpts.specs.Lines.{lineOf, sinceNewline, columnOf, shownBefore, visibles, shownLine, wordAt, wideAt, placeText, lineText}
+use Rattle.messages.specs.Messages.{registerAt, headlineAt, figureAt, noteAt, headText, caretText, firstLine, otherLines, placedText, messageText}
 
 pub protected-register : messageText (bytes "survey.pl360") 10 8 (bytes "BEGIN\n  RE := R1;\nEND @\n")
     ≡ bytes "survey.pl360:2:3: refusal 10: register 14 is protected here\n  RE := R1;\n  ^^ the data base: cells without SEGMENT BASE belong to it\n"

@@ -1,4 +1,3 @@
 -- What is said of a refusal: where it is, the line that it stands in, and why.
-pub mod Lines
 pub mod Phrases
 pub mod Messages

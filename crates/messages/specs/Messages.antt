@@ -12,7 +12,7 @@ use Rattle.base.specs.Text.{bytes, within}
 use Rattle.figures.specs.Digits.{decimal}
 use Rattle.figures.specs.Parts.{partOf, filled}
 use Rattle.words.specs.Wishes.{registerIn}
-use Rattle.messages.specs.Lines.{lineOf, columnOf, shownBefore, shownLine, visibles, wordAt, underlined}
+use Rattle.excerpts.specs.Lines.{lineOf, columnOf, shownBefore, shownLine, wordAt, wideAt, placeText, lineText}
 use Rattle.messages.specs.Phrases.{headlines, notes, faults}
 
 -- refusals 2 to 13 have a place in the text
@@ -52,17 +52,11 @@ noteFor number b register ends =
 abbrev pub figureFor : ℕ → ℕ → ℕ → ℕ → ℕ
 figureFor number b register place = choose (eqb number 2) b (choose (eqb number 10) register place)
 
-unfoldable pub placeText : List ℕ → ℕ → ℕ → List ℕ
-placeText file line column = file ++ bytes ":" ++ decimal line ++ bytes ":" ++ decimal column
-
 unfoldable pub headText : ℕ → ℕ → ℕ → List ℕ
 headText number k n = bytes ": refusal " ++ decimal number ++ bytes ": " ++ filled n (partOf 10 k headlines) ++ bytes "\n"
 
 unfoldable pub caretText : ℕ → ℕ → ℕ → List ℕ
 caretText before wide k = replicate before 32 ++ replicate wide 94 ++ filled 0 (partOf 10 k notes) ++ bytes "\n"
-
-unfoldable pub lineText : List ℕ → List ℕ
-lineText line = visibles line ++ bytes "\n"
 
 -- what is said of a place of a text
 unfoldable pub registerAt : List ℕ → ℕ → ℕ
@@ -76,9 +70,6 @@ figureAt number text place = figureFor number (getD text place 0) (registerAt te
 
 unfoldable pub noteAt : ℕ → List ℕ → ℕ → ℕ
 noteAt number text place = noteFor number (getD text place 0) (registerAt text place) (leb (length text) place)
-
-unfoldable pub wideAt : List ℕ → ℕ → ℕ
-wideAt text place = underlined (length (wordAt text place))
 
 unfoldable pub firstLine : List ℕ → ℕ → ℕ → List ℕ → List ℕ
 firstLine file number place text =

@@ -7,11 +7,10 @@ ghost use Rattle.base.specs.Runs.{runLen};
 ghost use Rattle.base.specs.Choose.{choose};
 ghost use Rattle.figures.specs.Parts.{firstPart};
 ghost use lib.Dec.{eqb};
-ghost use Rattle.messages.specs.Lines.{sinceNewline, visible as visibleOf, visibles, inWord, wordOf, underlined as underlinedOf, lineOf, since as sinceOf, columnOf, shownBefore, shownLine, wordAt};
-ghost use Rattle.messages.specs.Messages.{hasPlace, byteHeadline, registerHeadline, headline as headlineOf, registerNote, byteNote, noteFor, figureFor, registerAt, headlineAt, figureAt, noteAt, wideAt, placeText, headText, caretText, lineText, firstLine, otherLines, placedText, messageText, acceptedText, equalText, faultText};
+ghost use Rattle.messages.specs.Messages.{hasPlace, byteHeadline, registerHeadline, headline as headlineOf, registerNote, byteNote, noteFor, figureFor};
+ghost use Rattle.messages.specs.Messages.{registerAt, headlineAt, figureAt, noteAt, headText, caretText, firstLine, otherLines, messageText};
+ghost use Rattle.messages.specs.Messages.{acceptedText, equalText, faultText};
 use base::least;
-use base::less;
-use figures::put;
 use figures::put_all;
 use figures::put_decimal;
 use figures::put_phrase;
@@ -88,106 +87,6 @@ const FAULTS: [u8; 348] = *b"\nthere is no such command\
     \nthis is no value: decimal, with _ or - in front, or # and hexadecimal digits\
     \nthis names no register: R0 to R9, RA to RF\
     \nthere is no help on this: a command, or a number from 0 to 19";
-
-const NEWLINE: u8 = 10;
-
-const SHOWN_BEFORE: usize = 60;
-
-const SHOWN: usize = 100;
-
-const UNDERLINED: usize = 40;
-
-// ── lines ──
-
-fn since_after(b: u8, k: usize) -> usize
-    requires { ⌜ k < 32768 ⌝ }
-    ensures { λ r. ⌜ (r ≡ choose (eqb b 10) 0 (k + 1)) × (r ≤ k + 1) ⌝ }
-{
-    if b == NEWLINE {
-        return 0;
-    }
-    k + 1
-}
-
-// How many bytes come after the last newline.
-fn since_newline(s: &[u8]) -> usize
-    requires { ⌜ length (now s) ≤ 32768 ⌝ }
-    ensures { λ r. ⌜ (r ≡ sinceNewline 0 (now (s .entry))) × (r ≤ length (now (s .entry))) ⌝ }
-{
-    let mut k: usize = 0;
-    let mut i: usize = 0;
-    while i < s.len() {
-        k = since_after(s[i], k);
-        i += 1;
-    }
-    k
-}
-
-fn visible(b: u8) -> u8
-    ensures { λ r. ⌜ r ≡ visibleOf b ⌝ }
-{
-    if (32 <= b) & (b <= 126) {
-        return b;
-    }
-    if b == 9 {
-        return 32;
-    }
-    63
-}
-
-pub fn put_visible(out: &mut [u8], at: usize, line: &[u8]) -> usize
-    ensures { λ r. ⌜ Adds (visibles (now (line .entry))) (now (out .entry)) at (now (out .exit)) r ⌝ }
-{
-    let mut end = at;
-    let mut i: usize = 0;
-    while i < line.len() {
-        end = put(out, end, visible(line[i]));
-        i += 1;
-    }
-    end
-}
-
-fn in_word(b: u8) -> bool
-    ensures { λ r. ⌜ r ≡ inWord b ⌝ }
-{
-    ((65 <= b) & (b <= 90) | (48 <= b) & (b <= 57)) | ((b == b'_') | (b == b'#'))
-}
-
-fn word_length(s: &[u8]) -> usize
-    ensures { λ r. ⌜ r ≡ runLen inWord (now (s .entry)) ⌝ }
-{
-    let mut i: usize = 0;
-    while i < s.len() {
-        if in_word(s[i]) {
-            i += 1;
-        } else {
-            return i;
-        }
-    }
-    i
-}
-
-// The word or number at the front.
-fn word(s: &[u8]) -> &[u8]
-    ensures { λ r. ⌜ now r ≡ wordOf (now (s .entry)) ⌝ }
-{
-    let size = word_length(s);
-    figures::front(s, least(UNDERLINED, size))
-}
-
-fn underlined(n: usize) -> usize
-    ensures { λ r. ⌜ r ≡ underlinedOf n ⌝ }
-{
-    if n == 0 { 1 } else { n }
-}
-
-// The part of the line at the front that is shown.
-fn shown(s: &[u8]) -> &[u8]
-    ensures { λ r. ⌜ now r ≡ take 100 (firstPart 10 (now (s .entry))) ⌝ }
-{
-    let size = figures::part_length(s, NEWLINE);
-    figures::front(figures::front(s, size), SHOWN)
-}
 
 // ── what is said ──
 
@@ -311,59 +210,10 @@ fn figure(number: usize, b: u8, register: usize, place: usize) -> usize
 
 // ── at a place ──
 
-fn line_of(text: &[u8], place: usize) -> usize
-    requires { ⌜ place ≤ 32768 ⌝ }
-    ensures { λ r. ⌜ r ≡ lineOf (now (text .entry)) place ⌝ }
-{
-    figures::part_count(figures::front(text, place), NEWLINE) + 1
-}
-
-fn since(text: &[u8], place: usize) -> usize
-    requires { ⌜ place ≤ 32768 ⌝ }
-    ensures { λ r. ⌜ (r ≡ sinceOf (now (text .entry)) place) × (r ≤ 32768) ⌝ }
-{
-    since_newline(figures::front(text, place))
-}
-
-fn column_of(text: &[u8], place: usize) -> usize
-    requires { ⌜ place ≤ 32768 ⌝ }
-    ensures { λ r. ⌜ r ≡ columnOf (now (text .entry)) place ⌝ }
-{
-    since(text, place) + 1
-}
-
-fn shown_before(text: &[u8], place: usize) -> usize
-    requires { ⌜ place ≤ 32768 ⌝ }
-    ensures { λ r. ⌜ r ≡ shownBefore (now (text .entry)) place ⌝ }
-{
-    least(SHOWN_BEFORE, since(text, place))
-}
-
-fn shown_line(text: &[u8], place: usize) -> &[u8]
-    requires { ⌜ place ≤ 32768 ⌝ }
-    ensures { λ r. ⌜ now r ≡ shownLine (now (text .entry)) place ⌝ }
-{
-    let before = shown_before(text, place);
-    shown(figures::rest(text, less(place, before)))
-}
-
-fn word_at(text: &[u8], place: usize) -> &[u8]
-    ensures { λ r. ⌜ now r ≡ wordAt (now (text .entry)) place ⌝ }
-{
-    word(figures::rest(text, place))
-}
-
-fn wide_at(text: &[u8], place: usize) -> usize
-    ensures { λ r. ⌜ r ≡ wideAt (now (text .entry)) place ⌝ }
-{
-    let there = word_at(text, place);
-    underlined(there.len())
-}
-
 fn register_at(text: &[u8], place: usize) -> usize
     ensures { λ r. ⌜ r ≡ registerAt (now (text .entry)) place ⌝ }
 {
-    words::register(word_at(text, place))
+    words::register(excerpts::word_at(text, place))
 }
 
 fn headline_at(number: usize, text: &[u8], place: usize) -> usize
@@ -392,16 +242,6 @@ fn note_at(number: usize, text: &[u8], place: usize) -> usize
 
 // ── the message ──
 
-fn put_place(out: &mut [u8], at: usize, file: &[u8], line: usize, column: usize) -> usize
-    ensures { λ r. ⌜ Adds (placeText (now (file .entry)) line column) (now (out .entry)) at (now (out .exit)) r ⌝ }
-{
-    let named = put_all(out, at, file);
-    let first = put_all(out, named, b":");
-    let lined = put_decimal(out, first, line);
-    let second = put_all(out, lined, b":");
-    put_decimal(out, second, column)
-}
-
 fn put_head(out: &mut [u8], at: usize, number: usize, k: usize, n: usize) -> usize
     ensures { λ r. ⌜ Adds (headText number k n) (now (out .entry)) at (now (out .exit)) r ⌝ }
 {
@@ -410,13 +250,6 @@ fn put_head(out: &mut [u8], at: usize, number: usize, k: usize, n: usize) -> usi
     let parted = put_all(out, numbered, b": ");
     let told = put_phrase(out, parted, &HEADLINES, k, n);
     put_all(out, told, b"\n")
-}
-
-fn put_line(out: &mut [u8], at: usize, line: &[u8]) -> usize
-    ensures { λ r. ⌜ Adds (lineText (now (line .entry))) (now (out .entry)) at (now (out .exit)) r ⌝ }
-{
-    let lined = put_visible(out, at, line);
-    put_all(out, lined, b"\n")
 }
 
 fn put_carets(out: &mut [u8], at: usize, before: usize, wide: usize, k: usize) -> usize
@@ -439,11 +272,11 @@ fn put_first(
     requires { ⌜ place ≤ 32768 ⌝ }
     ensures { λ r. ⌜ Adds (firstLine (now (file .entry)) number place (now (text .entry))) (now (out .entry)) at (now (out .exit)) r ⌝ }
 {
-    let line = line_of(text, place);
-    let column = column_of(text, place);
+    let line = excerpts::line_of(text, place);
+    let column = excerpts::column_of(text, place);
     let k = headline_at(number, text, place);
     let n = figure_at(number, text, place);
-    let placed = put_place(out, at, file, line, column);
+    let placed = excerpts::put_place(out, at, file, line, column);
     put_head(out, placed, number, k, n)
 }
 
@@ -451,10 +284,10 @@ fn put_others(out: &mut [u8], at: usize, number: usize, place: usize, text: &[u8
     requires { ⌜ place ≤ 32768 ⌝ }
     ensures { λ r. ⌜ Adds (otherLines number place (now (text .entry))) (now (out .entry)) at (now (out .exit)) r ⌝ }
 {
-    let before = shown_before(text, place);
-    let wide = wide_at(text, place);
+    let before = excerpts::shown_before(text, place);
+    let wide = excerpts::wide_at(text, place);
     let k = note_at(number, text, place);
-    let lined = put_line(out, at, shown_line(text, place));
+    let lined = excerpts::put_line(out, at, excerpts::shown_line(text, place));
     put_carets(out, lined, before, wide, k)
 }
 

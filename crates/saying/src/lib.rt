@@ -43,10 +43,14 @@ pub fn tell_refusal(name: &[u8], number: usize, place: usize, text: &[u8]) -> u8
     said(files::print(figures::front(&out, n)), REFUSED)
 }
 
+// Of a word that is wrong so many bytes are shown.
+const WORD_SHOWN: usize = 4000;
+
 // A word that is wrong, on standard error.
 pub fn complain(words: &[u8], word: usize, why: usize) -> u8 {
     let mut out = [0u8; MESSAGE_ROOM];
-    let n = messages::fault(&mut out, figures::part(words, 0, word), why);
+    let shown = figures::front(figures::part(words, 0, word), WORD_SHOWN);
+    let n = messages::fault(&mut out, shown, why);
     files::complain(figures::front(&out, n));
     WRONG
 }

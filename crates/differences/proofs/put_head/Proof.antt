@@ -11,11 +11,11 @@ common-requires c κs = search needs
 add-column : tie.Need-add-column
 add-column c = search needs
 
-add-put-place : tie.Need-add-put-place
-add-put-place c = search needs
+add-put-about : tie.Need-add-put-about
+add-put-about c = search needs
 
-put-place-requires : tie.Need-put-place-requires
-put-place-requires c κs = search needs
+put-about-requires : tie.Need-put-about-requires
+put-about-requires c κs = search needs
 
 put-kind-requires : tie.Need-put-kind-requires
 put-kind-requires c κs = search needs
@@ -30,7 +30,7 @@ returns : tie.Need-returns
 unfolding headText
 returns c =
     called (rw (c .before .before .before .before .before .before .before .before .before .before .before .before .common .ensures .0))
-    (two (two (c .before .before .before .before .before .before .before .before .before .before .put-place .ensures)
+    (two (two (c .before .before .before .before .before .before .before .before .before .before .put-about .ensures)
     (c .before .before .before .before .before .before .put-kind .ensures)) (c .before .before .put-end .ensures))
 
 pub put-head-spec : {M : Type 1} → statement M
@@ -39,8 +39,8 @@ put-head-spec =
     (tie.spec
     common-requires
     add-column
-    add-put-place
-    put-place-requires
+    add-put-about
+    put-about-requires
     put-kind-requires
     put-end-requires
     same-length

@@ -1,5 +1,5 @@
 -- `message` says where, what and why. Assumes nothing.
-use Rattle.messages.proofs.Going.{renamed}
+use Rattle.excerpts.proofs.Going.{renamed}
 use Rattle.messages.specs.Messages.{placedText}
 use Rattle.figures.proofs.Writing.{two, into}
 use Rattle.base.proofs.Tests.{told}

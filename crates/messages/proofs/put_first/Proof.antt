@@ -1,5 +1,5 @@
 -- `put_first` puts the place and the headline. Assumes nothing.
-use Rattle.messages.proofs.Going.{renamed}
+use Rattle.excerpts.proofs.Going.{renamed}
 use Rattle.messages.specs.Messages.{firstLine}
 use Rattle.figures.proofs.Writing.{two}
 use borrow.Author.Needs.{needs}

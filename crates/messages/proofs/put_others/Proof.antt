@@ -1,5 +1,5 @@
 -- `put_others` puts the line and the carets below it. Assumes nothing.
-use Rattle.messages.proofs.Going.{renamed}
+use Rattle.excerpts.proofs.Going.{renamed}
 use Rattle.messages.specs.Messages.{otherLines}
 use Rattle.figures.proofs.Writing.{two}
 use borrow.Author.Needs.{needs}
