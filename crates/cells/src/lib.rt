@@ -421,12 +421,12 @@ fn wide(b: u8) -> usize
     b as usize
 }
 
-pub fn address(regs: &[u32; 16], store: &[u8], counter: usize) -> usize
-    requires { ⌜ counter < 4294967296 ⌝ }
+pub fn address(regs: &[u32; 16], store: &[u8], counter: u32) -> usize
     ensures { λ r. ⌜ r ≡ operandAddress (cpu (now (regs .entry)) 0 counter) (now (store .entry)) ⌝ }
 {
-    let fields = wide(figures::byte(store, counter + 1));
-    let high = wide(figures::byte(store, counter + 2));
-    let low = wide(figures::byte(store, counter + 3));
+    let at = counter as usize;
+    let fields = wide(figures::byte(store, at + 1));
+    let high = wide(figures::byte(store, at + 2));
+    let low = wide(figures::byte(store, at + 3));
     machine::address(regs, fields % 16, high / 16, high % 16 * 256 + low) as usize
 }
