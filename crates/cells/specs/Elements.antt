@@ -2,8 +2,8 @@
 -- first element, and the first 10 characters count.
 use mathlib.Core.List.{List}
 use mathlib.Core.Bool.{Bool, true, false, not, _&&_, _||_}
-use Prim.Native.Nat.{ℕ, _+_, _*_, _%_}
-use lib.Dec.{eqb, ltb, leb}
+use Prim.Native.Nat.{ℕ, _+_, _/_, _%_}
+use lib.Dec.{eqb, ltb}
 use lib.ListN.{getD, replicate}
 use Rattle.base.specs.Choose.{choose}
 use Rattle.token.specs.Kinds as K
@@ -44,9 +44,9 @@ askedIn word = let r : Reading = tokensInto 5 word in askedBy (laid kindOf (r .t
 abbrev pub noElement : ℕ → Element
 noElement why = record { why = why; address = 0; size = 0; more = false }
 
--- "is a multiple of the element size, and its element lies inside the array", its 32 bits read as signed
+-- "is a multiple of the element size, and its element lies inside the array": so many elements are before it
 abbrev pub isInside : Site → ℕ → Bool
-isInside s v = choose (eqb (s .size) 0) false (choose (ltb v 2147483648) (eqb (v % s .size) 0 && leb (v + s .size) (s .size * s .elements)) false)
+isInside s v = choose (eqb (s .size) 0) false (eqb (v % s .size) 0 && ltb (v / s .size) (s .elements))
 
 -- "A subscript is a byte offset, belongs only to arrays"
 abbrev pub isElement : Site → Asked → Bool

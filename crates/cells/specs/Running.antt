@@ -1,9 +1,8 @@
--- The run of an object text whose cells are set when it is loaded; and the operand at which a run stopped.
+-- The run of an object text whose cells are set when it is loaded.
 use mathlib.Core.List.{List}
-use mathlib.Core.Bool.{Bool, _&&_}
 use mathlib.Core.Option.{Option, none, some}
 use Prim.Native.Nat.{ℕ}
-use lib.Dec.{leb}
+use lib.Dec.{ltb}
 use lib.ListN.{length}
 use Rattle.base.specs.Choose.{choose}
 use Rattle.objtext.specs.Object.{Segment}
@@ -19,7 +18,9 @@ module _ (source words : List ℕ) where
   abbrev pub onObject : Option (List Segment) → (text regs : List ℕ) (k budget : ℕ) → List ℕ → Outcome
   onObject none text regs k budget s = runner text regs k budget s
   onObject (some gs) text regs k budget s =
-      choose (leb k 3 && leb needed (length s)) (accepted (run budget (spaceOf gs) (started regs k) (laidBy source words (loaded gs s) .store))) (runner text regs k budget s)
+      choose (ltb 3 k) (runner text regs k budget s)
+      (choose (ltb (length s) needed) (runner text regs k budget s)
+      (accepted (run budget (spaceOf gs) (started regs k) (laidBy source words (loaded gs s) .store))))
 
   unfoldable pub runSet : (text regs : List ℕ) (k budget : ℕ) → List ℕ → Outcome
   runSet text regs k budget s = onObject (readObject text) text regs k budget s

@@ -1,23 +1,27 @@
 -- `--set NAME=VALUE` where NAME is no register: the value is laid into the cell when the program is loaded. What is wrong of a word is told by its number.
 use mathlib.Core.List.{List}
 use mathlib.Core.Bool.{Bool, true, false}
-use Prim.Native.Nat.{ℕ, zero, suc, _+_, _-_}
+use Prim.Native.Nat.{ℕ, _+_, _-_}
 use lib.Dec.{eqb, ltb, leb}
 use lib.ListN.{length, take, drop}
 use Rattle.base.specs.Choose.{choose}
 use Rattle.base.specs.Numbers.{stored}
 use Rattle.grammar.specs.Tree.{short}
 use Rattle.static_rules.specs.Rules.{fitsWidth}
-use Rattle.figures.specs.Parts.{partLength, partOf, partCount}
+use Rattle.figures.specs.Parts.{partLength, partCount}
 use Rattle.figures.specs.Numbers.{numberIn}
 use Rattle.figures.specs.declared.Reading.{Reading}
 use Rattle.figures.specs.declared.Reading.the-variants.{Number, Nothing}
-use Rattle.words.specs.Wishes.{registerIn, runOption}
+use Rattle.words.specs.Wishes.{registerIn}
+use Rattle.settings.specs.Setting.{wordsFrom}
 use Rattle.cells.specs.declared.Element.{Element}
 use Rattle.cells.specs.declared.Fault.{Fault}
 use Rattle.cells.specs.Elements.{elementNamed}
 
 -- ── faults ──
+
+abbrev pub noFault : Fault
+noFault = record { why = 0; word = 0 }
 
 -- the first one stays
 unfoldable pub faulted : Fault → (n why : ℕ) → Fault
@@ -69,14 +73,6 @@ module _ (source : List ℕ) where
   unfoldable pub layWord : (option n : ℕ) (s : List ℕ) → Laying → Laying
   layWord option n s l = choose (eqb option 2) (setWord n s l) (choose (eqb option 3) (showWord n s l) l)
 
-  -- k words from the number n, each with the one before it
-  unfoldable pub layFrom : List ℕ → (k n : ℕ) → Laying → Laying
-  layFrom words zero n l = l
-  layFrom words (suc k) n l = layFrom words k (n + 1) (layWord (runOption (partOf 0 (n - 1) words)) n (partOf 0 n words) l)
-
-  abbrev pub noFault : Fault
-  noFault = record { why = 0; word = 0 }
-
   -- the cells that the words set, in storage
   unfoldable pub laidBy : (words store : List ℕ) → Laying
-  laidBy words s = layFrom words (partCount 0 words - 1) 1 (layingOf s noFault)
+  laidBy words s = wordsFrom layWord words (partCount 0 words - 1) 1 (layingOf s noFault)

@@ -1,14 +1,15 @@
 -- `--show NAME`: a line for a register, or for a cell of a source, in the order of the words.
 use mathlib.Core.List.{List, [], _++_}
 use mathlib.Core.Bool.{Bool}
-use Prim.Native.Nat.{ℕ, zero, suc, _+_, _-_}
+use Prim.Native.Nat.{ℕ, _+_, _-_}
 use lib.Dec.{eqb, ltb, leb}
 use lib.ListN.{length, getD}
 use Rattle.base.specs.Choose.{choose}
 use Rattle.base.specs.Text.{bytes}
 use Rattle.base.specs.Numbers.{valueAt}
-use Rattle.figures.specs.Parts.{partOf, partCount}
-use Rattle.words.specs.Wishes.{registerIn, runOption}
+use Rattle.figures.specs.Parts.{partCount}
+use Rattle.words.specs.Wishes.{registerIn}
+use Rattle.settings.specs.Setting.{wordsFrom}
 use Rattle.machine.specs.Step.{extended}
 use Rattle.reports.specs.Reports.{valueText}
 use Rattle.cells.specs.declared.Element.{Element}
@@ -32,10 +33,9 @@ module _ (source regs store : List ℕ) where
   unfoldable pub askedText : (option : ℕ) → List ℕ → List ℕ
   askedText option name = choose (eqb option 3) (nameText name) []
 
-  -- k words from the number n
-  unfoldable pub askedFrom : List ℕ → (k n : ℕ) → List ℕ
-  askedFrom words zero n = []
-  askedFrom words (suc k) n = askedText (runOption (partOf 0 (n - 1) words)) (partOf 0 n words) ++ askedFrom words k (n + 1)
+  -- behind what is said so far
+  abbrev pub saidAlso : (option n : ℕ) → (name text : List ℕ) → List ℕ
+  saidAlso option n name text = text ++ askedText option name
 
   unfoldable pub allAsked : List ℕ → List ℕ
-  allAsked words = askedFrom words (partCount 0 words - 1) 1
+  allAsked words = wordsFrom saidAlso words (partCount 0 words - 1) 1 []

@@ -88,10 +88,7 @@ fn is_inside(s: Site, v: u64) -> bool
     if size == 0 {
         return false;
     }
-    if v < 2147483648 {
-        return (v % size == 0) & (v + size <= size * elements);
-    }
-    false
+    (v % size == 0) & (v / size < elements)
 }
 
 fn is_element(s: Site, a: Asked) -> bool
@@ -100,23 +97,26 @@ fn is_element(s: Site, a: Asked) -> bool
     (s.array | !a.numbered) & is_inside(s, a.subscript)
 }
 
+// "Segment k goes to 4096·(k+1)".
+const PAGE: u64 = 4096;
+
 fn placed_at(s: Site, v: u64) -> Element
     ensures { λ r. ⌜ r ≡ placedAt s v ⌝ }
 {
-    let segment = s.segment;
+    let segment = s.segment as u64;
     let offset = s.offset;
     if 3 < segment {
         return no_element(NO_ELEMENT);
     }
-    if 4096 < offset {
+    if PAGE < offset {
         return no_element(NO_ELEMENT);
     }
-    if 4096 < v {
+    if PAGE < v {
         return no_element(NO_ELEMENT);
     }
     Element {
         why: 0,
-        address: 4096 * (segment + 1) + (offset + v) as u32,
+        address: (PAGE * (segment + 1) + (offset + v)) as u32,
         size: s.size,
         more: s.more,
     }
@@ -389,6 +389,9 @@ pub fn put_all_asked(
 
 // ── run ──
 
+// Storage of five pages.
+const NEEDED: usize = machine::ROOM * machine::PAGES;
+
 // An object text whose cells are set when it is loaded.
 pub fn run_set(
     source: &[u8],
@@ -405,12 +408,15 @@ pub fn run_set(
     if count == 0 {
         return runner::run_object(object, regs, code, budget, store);
     }
-    if (code <= 3) & (20480 <= store.len()) {
-        runner::load(object, count, store);
-        lay(source, words, store);
-        return runner::started(object, count, regs, code, budget, store);
+    if 3 < code {
+        return runner::run_object(object, regs, code, budget, store);
     }
-    runner::run_object(object, regs, code, budget, store)
+    if store.len() < NEEDED {
+        return runner::run_object(object, regs, code, budget, store);
+    }
+    runner::load(object, count, store);
+    lay(source, words, store);
+    runner::started(object, count, regs, code, budget, store)
 }
 
 // ── the operand at which a run stopped ──

@@ -43,13 +43,16 @@ shownBy x n s source = choose (ltb (registerIn s) 16) x (other x n source)
 abbrev pub saidBy : Registers → ℕ → ℕ → List ℕ → (source : Bool) → Registers
 saidBy x option n s source = choose (ltb 0 (x .why)) x (choose (eqb option 2) (setBy x n s source) (choose (eqb option 3) (shownBy x n s source) x))
 
--- k words from the number n, each with the one before it
-unfoldable pub saidFrom : List ℕ → (source : Bool) → ℕ → ℕ → Registers → Registers
-saidFrom words source zero n x = x
-saidFrom words source (suc k) n x = saidFrom words source k (n + 1) (saidBy x (runOption (partOf 0 (n - 1) words)) n (partOf 0 n words) source)
+-- step by step over k words from the number n: by the option that the word before each is, its number and the word itself
+unfoldable pub wordsFrom : {A : Type 0} → (ℕ → ℕ → List ℕ → A → A) → List ℕ → ℕ → ℕ → A → A
+wordsFrom step words zero n x = x
+wordsFrom step words (suc k) n x = wordsFrom step words k (n + 1) (step (runOption (partOf 0 (n - 1) words)) n (partOf 0 n words) x)
+
+abbrev pub saidIn : (source : Bool) → ℕ → ℕ → List ℕ → Registers → Registers
+saidIn source option n s x = saidBy x option n s source
 
 abbrev pub none : Registers
 none = record { values = replicate 16 0; why = 0; word = 0 }
 
 abbrev pub startOf : List ℕ → (source : Bool) → Registers
-startOf words source = saidFrom words source (partCount 0 words - 1) 1 none
+startOf words source = wordsFrom (saidIn source) words (partCount 0 words - 1) 1 none

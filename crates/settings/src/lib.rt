@@ -2,7 +2,7 @@
 ghost use mathlib.Core.Path.{_≡_};
 ghost use Prim.Native.Nat.{_-_, _<_, _≤_};
 ghost use lib.ListN.{length};
-ghost use Rattle.settings.specs.Setting.{wrongAt, withRegister, valued as valuedOf, other as otherOf, setBy, shownBy, saidBy, none as noneOf, saidFrom, startOf};
+ghost use Rattle.settings.specs.Setting.{wrongAt, withRegister, valued as valuedOf, other as otherOf, setBy, shownBy, saidBy, none as noneOf, startOf};
 use figures::Reading;
 use words::SET;
 use words::SHOW;

@@ -1,6 +1,6 @@
 -- `start` goes word by word. The invariant: the whole is what the words that are left make of the registers so far. Assumes nothing.
 use Rattle.settings.proofs.Going.{word-on, words-end}
-use Rattle.settings.specs.Setting.{saidFrom, startOf}
+use Rattle.settings.specs.Setting.{wordsFrom, saidIn, startOf}
 use mathlib.Core.Path.{_≡_}
 use Prim.Native.Nat.{_≤_, _-_}
 use borrow.Author.Needs.{needs}
@@ -8,7 +8,7 @@ use Rattle.settings.proofs.start.Statement.{statement}
 use Rattle.settings.proofs.start.Tie as tie
 
 abbrev Inv-loop : tie.InvT-loop
-Inv-loop words source count x₀ n₀ x n = (1 ≤ n) × (startOf words source ≡ saidFrom words source (count - n) n x)
+Inv-loop words source count x₀ n₀ x n = (1 ≤ n) × (startOf words source ≡ wordsFrom (saidIn source) words (count - n) n x)
 
 abbrev μ-loop : tie.MeasureT-loop
 μ-loop words source count x₀ n₀ x n = count - n
