@@ -43,14 +43,7 @@ fn wide(from: usize, to: usize, text: &[u8], place: usize) -> usize
     )
 }
 
-fn put_head(
-    out: &mut [u8],
-    at: usize,
-    file: &[u8],
-    stop: usize,
-    text: &[u8],
-    place: usize,
-) -> usize
+fn put_head(out: &mut [u8], at: usize, file: &[u8], stop: usize, text: &[u8], place: usize) -> usize
     requires { ⌜ place ≤ 32768 ⌝ }
     ensures { λ r. ⌜ Adds (headText (now (file .entry)) stop (now (text .entry)) place) (now (out .entry)) at (now (out .exit)) r ⌝ }
 {

@@ -67,7 +67,8 @@ module _ (q : Seen) (key address : ℕ) where
           go zero e = absurd (h (judged ∙ e))
           go (suc m) e = n
 
-      pub none-broken : (kinds : List ℕ) → kinds ≡ kindsOf ts → r .broken .number ≡ 0 → Shows ts kinds w b tape key address q → Sees (ruled ts x (make ts x .broken .number)) key address q
+      pub none-broken : (kinds : List ℕ) → kinds ≡ kindsOf ts → r .broken .number ≡ 0 → Shows ts kinds w b tape key address q
+          → Sees (ruled ts x (make ts x .broken .number)) key address q
       unfolding make layout siteIn
       none-broken kinds ek h g = subst (λ (n : ℕ). Sees (ruled ts x n) key address q) (sym (sym judged ∙ h)) (record {
         site-is = g .site-is ∙ rw (k .values-stay, t .values-are, s .means-are) (sites-same (valuesOf ts) _ _ key 0 _ (s .offsets-are h));

@@ -6,15 +6,18 @@ use Prim.Native.Nat.{ℕ}
 use lib.ListN.{getD}
 use Rattle.token.specs.declared.Token.{Token}
 use Rattle.grammar.specs.Tree.{Statement}
+use Rattle.grammar.specs.Grammar.{program}
+use Rattle.scopes.specs.Search.{firstToken}
 use Rattle.tape.specs.Tape.{tapeStatement}
 use Rattle.ledger.specs.Book.{Wide, Thin}
-use Rattle.tables.specs.Packed.{meaningsOf}
-use Rattle.translation.specs.Translate.{kindsOf, valuesOf, placeAt, named, labelled}
+use Rattle.tables.specs.Packed.{unpacked, basedIn, meaningsOf}
+use Rattle.translation.specs.Translate.{kindsOf, valuesOf, placeAt, named, labelled, make}
 use Rattle.translation.specs.Layout.{placeCells, offsetOf}
-use Rattle.settled.specs.Texts.{meantIn}
+use Rattle.settled.specs.Texts.{allTokens, Small, Text, Blanks, meantIn}
 use Rattle.listing.specs.declared.Seen.{Seen}
-use Rattle.listing.specs.Sound.{Sound}
-use Rattle.listing.specs.Cells.{sitesFrom, siteBy}
+use Rattle.listing.specs.declared.Site.{Site}
+use Rattle.listing.specs.Sound.{Sound, ruled, afterTokens}
+use Rattle.listing.specs.Cells.{sited, sitesFrom, siteBy}
 use Rattle.listing.specs.declared.Spot.{Spot}
 use Rattle.listing.specs.Operands.{spotAlong}
 
@@ -45,8 +48,32 @@ pub record Sees (s : Option Sound) (key address : ℕ) (r : Seen) : Type 0 where
   pub site-is : r .site ≡ siteBy s key
   pub located : LocatedBy s address (r .from) (r .to)
 
--- by the ledger of a text on its tape
+-- ── by the ledger ──
+
+abbrev pub placeBy : Wide → ℕ → ℕ
+placeBy w t = getD (w .offsets) t 0
+
+-- what is declared at token t, before those behind it
+abbrev pub sitedIn : Wide → (key t : ℕ) → Site → Site
+sitedIn w key t later = sited (w .values) (placeBy w) key t (unpacked t (getD (w .means) t 0) (basedIn (getD (w .under) t 0))) later
+
+abbrev pub sitesIn : Wide → (key : ℕ) → Site
+sitesIn w key = sitesFrom (w .values) (placeBy w) key 0 (meaningsOf (w .means) (w .under))
+
+-- of a text on its tape
 pub record Shows (ts : List Token) (kinds : List ℕ) (w : Wide) (b : Thin) (tape : List ℕ) (key address : ℕ) (r : Seen) : Type 0 where
-  pub site-is : r .site ≡ sitesFrom (w .values) (λ (i : ℕ). getD (w .offsets) i 0) key 0 (meaningsOf (w .means) (w .under))
+  pub site-is : r .site ≡ sitesIn w key
   pub from-is : r .from ≡ placeAt ts (spotAlong address kinds w b tape .token)
   pub to-is : r .to ≡ placeAt ts (spotAlong address kinds w b tape .last)
+
+-- ── where the tape, or the tokens, are still to be found to be a program's ──
+
+abbrev pub LooksOn : (source kinds tape : List ℕ) → Wide → Thin → (key address : ℕ) → Seen → Type 0
+LooksOn source kinds tape w b key address r =
+    let ts : List Token = allTokens source in
+    (x : Statement) → Text ts x (w .values) tape → kinds ≡ kindsOf ts → Blanks ts w b → Sees (ruled ts x (make ts x .broken .number)) key address r
+
+abbrev pub LooksAt : (source kinds : List ℕ) → Wide → Thin → (key address : ℕ) → Seen → Type 0
+LooksAt source kinds w b key address r =
+    let ts : List Token = allTokens source in
+    kinds ≡ kindsOf ts → w .values ≡ valuesOf ts → Small ts → Blanks ts w b → Sees (afterTokens ts (program kinds firstToken)) key address r

@@ -2,21 +2,16 @@
 ghost use mathlib.Core.Path.{_≡_};
 ghost use mathlib.Core.Option.{none};
 ghost use Prim.Native.Nat.{ℕ, _+_, _≤_, _<_};
-ghost use lib.ListN.{length, getD};
+ghost use lib.ListN.{length};
 ghost use Rattle.token.specs.Text.{tokensOf};
 ghost use Rattle.tape.specs.Events.{TOKEN-LIMIT};
-ghost use Rattle.grammar.specs.Tree.{Statement};
-ghost use Rattle.grammar.specs.Grammar.{program};
-ghost use Rattle.scopes.specs.Search.{firstToken};
 ghost use Rattle.ledger.specs.Book.{wideOf, thinOf};
 ghost use Rattle.ledger.specs.Bounds.{Narrow, Nested};
-ghost use Rattle.tables.specs.Packed.{unpacked, basedIn, meaningsOf};
-ghost use Rattle.translation.specs.Translate.{kindsOf, valuesOf, make};
-ghost use Rattle.settled.specs.Texts.{allTokens, Small, Text, Blanks, Lent, Rooms};
-ghost use Rattle.listing.specs.Sound.{ruled, afterTokens, soundOf};
-ghost use Rattle.listing.specs.Cells.{nowhere as nowhereOf, sited as sitedOf, sitesFrom, siteNamed};
+ghost use Rattle.settled.specs.Texts.{allTokens, Lent, Rooms};
+ghost use Rattle.listing.specs.Sound.{soundOf};
+ghost use Rattle.listing.specs.Cells.{nowhere as nowhereOf, siteNamed};
 ghost use Rattle.listing.specs.Operands.{noSpot, spotOf, stores as storesOf, targetAfter, operandBy, spotAfter, spotAlong, reach as reachOf};
-ghost use Rattle.listing.specs.Seeing.{Shows, Sees};
+ghost use Rattle.listing.specs.Seeing.{sitedIn, sitesIn, Shows, LooksOn, LooksAt, Sees};
 use emit::Named;
 use emit::Use;
 use emit::Writing;
@@ -69,7 +64,7 @@ fn nowhere() -> Site
 
 // What is declared at token t, before those behind it.
 fn sited(wide: &[u64], key: u64, t: usize, later: Site) -> Site
-    ensures { λ r. ⌜ r ≡ sitedOf (wideOf (now (wide .entry)) .values) (λ i. getD (wideOf (now (wide .entry)) .offsets) i 0) key t (unpacked t (getD (wideOf (now (wide .entry)) .means) t 0) (basedIn (getD (wideOf (now (wide .entry)) .under) t 0))) later ⌝ }
+    ensures { λ r. ⌜ r ≡ sitedIn (wideOf (now (wide .entry))) key t later ⌝ }
 {
     let m = mean(wide, t);
     if is_cell(m) & (value(wide, t) == key) {
@@ -87,7 +82,7 @@ fn sited(wide: &[u64], key: u64, t: usize, later: Site) -> Site
 }
 
 fn sites(wide: &[u64], key: u64) -> Site
-    ensures { λ r. ⌜ r ≡ sitesFrom (wideOf (now (wide .entry)) .values) (λ i. getD (wideOf (now (wide .entry)) .offsets) i 0) key 0 (meaningsOf (wideOf (now (wide .entry)) .means) (wideOf (now (wide .entry)) .under)) ⌝ }
+    ensures { λ r. ⌜ r ≡ sitesIn (wideOf (now (wide .entry))) key ⌝ }
 {
     let mut s = nowhere();
     let mut t: usize = wide.len() / 4;
@@ -258,8 +253,9 @@ fn look_tape(
     key: u64,
     address: usize,
 ) -> Seen
-    requires { ⌜ (tokensOf (now src) .number ≡ 0) × (17 + length (now tape) ≤ length (now kinds)) × Narrow (now tape) × Nested 64 0 0 (now tape) × Lent (length (now kinds)) (now wide) (now thin) ⌝ }
-    ensures { λ r. ⌜ (let ts = allTokens (now (src .entry)) in (x : Statement) → Text ts x (wideOf (now (wide .entry)) .values) (now (tape .entry)) → now (kinds .entry) ≡ kindsOf ts → Blanks ts (wideOf (now (wide .entry))) (thinOf (now (thin .entry))) → Sees (ruled ts x (make ts x .broken .number)) key address r) ⌝ }
+    requires { ⌜ (tokensOf (now src) .number ≡ 0) × (17 + length (now tape) ≤ length (now kinds)) × Narrow (now tape) × Nested 64 0 0 (now tape)
+        × Lent (length (now kinds)) (now wide) (now thin) ⌝ }
+    ensures { λ r. ⌜ LooksOn (now (src .entry)) (now (kinds .entry)) (now (tape .entry)) (wideOf (now (wide .entry))) (thinOf (now (thin .entry))) key address r ⌝ }
 {
     let others = settled::bind(tape, wide, thin);
     let s = settled::settle(tape, kinds, wide, thin, others);
@@ -282,7 +278,7 @@ fn look_tokens(
     address: usize,
 ) -> Seen
     requires { ⌜ (tokensOf (now src) .number ≡ 0) × (17 ≤ length (now kinds)) × (length (now tape) ≡ length (now kinds)) × Lent (length (now kinds)) (now wide) (now thin) ⌝ }
-    ensures { λ r. ⌜ (let ts = allTokens (now (src .entry)) in now (kinds .entry) ≡ kindsOf ts → wideOf (now (wide .entry)) .values ≡ valuesOf ts → Small ts → Blanks ts (wideOf (now (wide .entry))) (thinOf (now (thin .entry))) → Sees (afterTokens ts (program (now (kinds .entry)) firstToken)) key address r) ⌝ }
+    ensures { λ r. ⌜ LooksAt (now (src .entry)) (now (kinds .entry)) (wideOf (now (wide .entry))) (thinOf (now (thin .entry))) key address r ⌝ }
 {
     let p = parse::program(kinds, FIRST_TOKEN, tape);
     let number = p.number;

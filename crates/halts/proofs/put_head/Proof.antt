@@ -34,7 +34,8 @@ returns c =
     let at-put-place = at-put-all .before .before .before .before .before in
     let at-column-of = at-put-place .before .before in
     let at-line-of = at-column-of .before in
-    called (rw (at-line-of .line-of .ensures, at-column-of .column-of .ensures)) (two (two (at-put-place .put-place .ensures) (at-put-all .put-all .ensures)) (at-put-stop .put-stop .ensures))
+    called (rw (at-line-of .line-of .ensures, at-column-of .column-of .ensures)) (two (two (at-put-place .put-place .ensures) (at-put-all .put-all .ensures))
+    (at-put-stop .put-stop .ensures))
 
 pub put-head-spec : {M : Type 1} → statement M
 put-head-spec =

@@ -43,7 +43,14 @@ returns c =
     let at-reason = at-put-head .before .before in
     let at-least2 = at-reason .before in
     let at-least = at-least2 .before in
-    into (called (rw (at-shown-before .shown-before .ensures, at-wide .wide .ensures, at-shown-line .shown-line .ensures, at-reason .reason .ensures, at-least2 .least2 .ensures, at-least .least .ensures)) (two (at-put-head .put-head .ensures) (at-put-lines .put-lines .ensures)))
+    into (called (rw (
+      at-shown-before .shown-before .ensures,
+      at-wide .wide .ensures,
+      at-shown-line .shown-line .ensures,
+      at-reason .reason .ensures,
+      at-least2 .least2 .ensures,
+      at-least .least .ensures,
+    )) (two (at-put-head .put-head .ensures) (at-put-lines .put-lines .ensures)))
 
 pub stopped-spec : {M : Type 1} → statement M
 stopped-spec =

@@ -9,7 +9,7 @@ look-requires c κs = search needs
 
 returns : tie.Need-returns
 unfolding siteNamed
-returns c = c .look .ensures .site-is
+returns c = c .before .look .ensures .site-is
 
 pub cell-spec : {M : Type 1} → statement M
 cell-spec = tie.close (tie.spec look-requires returns)

@@ -42,7 +42,12 @@ slice-aggregate-look-tokens c =
     let at-tokens = c .before .before in
     let at-read = at-tokens .before .before .before .before .before .before in
     let start = at-read .before .before .before .before .before .before .before .before in
-    sym (length-take-le _ _ (omega (arith, few-read (start .args .src .now) _ (at-read .read .ensures .0 .is) _ (at-tokens .tokens .given .1), start .pre .for-kinds, at-read .read .kept .1 .0)))
+    sym (length-take-le _ _ (omega (
+      arith,
+      few-read (start .args .src .now) _ (at-read .read .ensures .0 .is) _ (at-tokens .tokens .given .1),
+      start .pre .for-kinds,
+      at-read .read .kept .1 .0,
+    )))
 
 slice-relend-prefix-look-tokens : tie.Need-slice-relend-prefix-look-tokens
 slice-relend-prefix-look-tokens c =
@@ -70,7 +75,12 @@ slice-aggregate-look-tokens-3 c =
     let at-tokens = c .before .before .before .before in
     let at-read = at-tokens .before .before .before .before .before .before in
     let start = at-read .before .before .before .before .before .before .before .before in
-    sym (length-take-le _ _ (omega (arith, few-read (start .args .src .now) _ (at-read .read .ensures .0 .is) _ (at-tokens .tokens .given .1), start .pre .for-wide, at-read .read .kept .1 .1 .0)))
+    sym (length-take-le _ _ (omega (
+      arith,
+      few-read (start .args .src .now) _ (at-read .read .ensures .0 .is) _ (at-tokens .tokens .given .1),
+      start .pre .for-wide,
+      at-read .read .kept .1 .1 .0,
+    )))
 
 slice-relend-prefix-look-tokens-3 : tie.Need-slice-relend-prefix-look-tokens-3
 slice-relend-prefix-look-tokens-3 c =
@@ -92,7 +102,9 @@ look-tokens-requires c κs =
     let at-read = at-tokens .before .before .before .before .before .before in
     let start = at-read .before .before .before .before .before .before .before .before in
     let f = few-read (start .args .src .now) _ (at-read .read .ensures .0 .is) _ (at-tokens .tokens .given .1) in
-    let l = cut-lent (17 + at-tokens .tokens .given .0 .0) (at-read .read .last .1 .0) (start .args .tape .now) (at-read .read .last .1 .1 .0) (start .args .thin .now) (omega arith) (omega (arith, f, start .pre .short)) (omega (arith, f, start .pre .for-kinds, at-read .read .kept .1 .0)) (omega (arith, f, start .pre .for-tape)) (omega (arith, f, start .pre .for-wide, at-read .read .kept .1 .1 .0)) (omega (arith, f, start .pre .for-thin)) in
+    let l = cut-lent (17 + at-tokens .tokens .given .0 .0) (at-read .read .last .1 .0) (start .args .tape .now) (at-read .read .last .1 .1 .0) (start .args .thin .now)
+    (omega arith) (omega (arith, f, start .pre .short)) (omega (arith, f, start .pre .for-kinds, at-read .read .kept .1 .0)) (omega (arith, f, start .pre .for-tape))
+    (omega (arith, f, start .pre .for-wide, at-read .read .kept .1 .1 .0)) (omega (arith, f, start .pre .for-thin)) in
     (all-read (start .args .src .now) _ (at-read .read .ensures .0 .is) _ (at-tokens .tokens .given .1), l .0, l .1, l .2)
 
 enum-told : tie.Need-enum-told
@@ -136,14 +148,16 @@ same-length-3 c =
     let at-look-tokens = c .before .before .before .before .before .before in
     let at-tokens = at-look-tokens .before .before .before .before .before .before in
     let at-read = at-tokens .before .before .before .before .before .before in
-    length-front (at-read .read .last .1 .1 .0) (at-look-tokens .look-tokens .last .1 .1 .1 .0) (4 * (17 + at-tokens .tokens .given .0 .0)) (at-look-tokens .look-tokens .kept .1 .1 .1 .0) ∙ at-read .read .kept .1 .1 .0
+    length-front (at-read .read .last .1 .1 .0) (at-look-tokens .look-tokens .last .1 .1 .1 .0) (4 * (17 + at-tokens .tokens .given .0 .0))
+    (at-look-tokens .look-tokens .kept .1 .1 .1 .0) ∙ at-read .read .kept .1 .1 .0
 
 same-length-4 : tie.Need-same-length-4
 same-length-4 c =
     let at-look-tokens = c .before .before .before .before .before .before in
     let at-tokens = at-look-tokens .before .before .before .before .before .before in
     let start = at-tokens .before .before .before .before .before .before .before .before .before .before .before .before .before .before in
-    length-front (start .args .thin .now) (at-look-tokens .look-tokens .last .1 .1 .1 .1 .0) (4 * (17 + at-tokens .tokens .given .0 .0)) (at-look-tokens .look-tokens .kept .1 .1 .1 .1 .0)
+    length-front (start .args .thin .now) (at-look-tokens .look-tokens .last .1 .1 .1 .1 .0) (4 * (17 + at-tokens .tokens .given .0 .0))
+    (at-look-tokens .look-tokens .kept .1 .1 .1 .1 .0)
 
 returns : tie.Need-returns
 returns c =
@@ -152,8 +166,11 @@ returns c =
     let at-read = at-tokens .before .before .before .before .before .before in
     let start = at-read .before .before .before .before .before .before .before .before in
     let f = few-read (start .args .src .now) _ (at-read .read .ensures .0 .is) _ (at-tokens .tokens .given .1) in
-    text-read _ (start .args .key) (start .args .address) _ _ _ _ (at-read .read .ensures .0) _ (at-tokens .tokens .given .1) _ _ (wide-take 0 (17 + at-tokens .tokens .given .0 .0) (at-read .read .last .1 .1 .0) (omega arith) (omega (arith, f, start .pre .for-wide, at-read .read .kept .1 .1 .0)))
-    (cut-blanks (start .args .src .now) _ (at-read .read .ensures .0 .is) _ (at-tokens .tokens .given .1) (start .args .wide .now) (at-read .read .last .1 .1 .0) (start .args .thin .now) (start .pre .no-wide) (start .pre .no-thin) (at-read .read .ensures .1) (at-read .read .kept .1 .1 .0) (omega (arith, f, start .pre .for-wide)) (omega (arith, f, start .pre .for-thin)))
+    text-read _ (start .args .key) (start .args .address) _ _ _ _ (at-read .read .ensures .0)
+    _ (at-tokens .tokens .given .1) _ _ (wide-take 0 (17 + at-tokens .tokens .given .0 .0) (at-read .read .last .1 .1 .0) (omega arith) (omega (arith, f, start .pre .for-wide, at-read .read .kept .1 .1 .0)))
+    (cut-blanks (start .args .src .now) _ (at-read .read .ensures .0 .is) _ (at-tokens .tokens .given .1) (start .args .wide .now) (at-read .read .last .1 .1 .0)
+    (start .args .thin .now) (start .pre .no-wide) (start .pre .no-thin) (at-read .read .ensures .1) (at-read .read .kept .1 .1 .0) (omega (arith, f, start .pre .for-wide))
+    (omega (arith, f, start .pre .for-thin)))
     (at-look-tokens .look-tokens .ensures)
 
 same-length-5 : tie.Need-same-length-5
@@ -166,7 +183,8 @@ returns-2 : tie.Need-returns-2
 returns-2 c =
     let at-read = c .before .before .before .before .before .before .before in
     let start = at-read .before .before .before .before .before .before .before .before in
-    text-refused _ (start .args .key) (start .args .address) _ _ _ _ (at-read .read .ensures .0) _ 0 (c .before .enum-told .given .1) refl (c .nothing .ensures (start .args .key) (start .args .address))
+    text-refused _ (start .args .key) (start .args .address) _ _ _ _ (at-read .read .ensures .0)
+    _ 0 (c .before .enum-told .given .1) refl (c .nothing .ensures (start .args .key) (start .args .address))
 
 same-length-7 : tie.Need-same-length-7
 same-length-7 c = search needs
@@ -178,7 +196,8 @@ returns-3 : tie.Need-returns-3
 returns-3 c =
     let at-read = c .before .before .before .before .before .before .before in
     let start = at-read .before .before .before .before .before .before .before .before in
-    text-refused _ (start .args .key) (start .args .address) _ _ _ _ (at-read .read .ensures .0) _ 1 (c .before .enum-told2 .given .1) refl (c .nothing2 .ensures (start .args .key) (start .args .address))
+    text-refused _ (start .args .key) (start .args .address) _ _ _ _ (at-read .read .ensures .0)
+    _ 1 (c .before .enum-told2 .given .1) refl (c .nothing2 .ensures (start .args .key) (start .args .address))
 
 same-length-9 : tie.Need-same-length-9
 same-length-9 c = search needs
@@ -190,7 +209,8 @@ returns-4 : tie.Need-returns-4
 returns-4 c =
     let at-read = c .before .before .before .before .before .before .before in
     let start = at-read .before .before .before .before .before .before .before .before in
-    text-refused _ (start .args .key) (start .args .address) _ _ _ _ (at-read .read .ensures .0) _ 2 (c .before .enum-told3 .given .1) refl (c .nothing3 .ensures (start .args .key) (start .args .address))
+    text-refused _ (start .args .key) (start .args .address) _ _ _ _ (at-read .read .ensures .0)
+    _ 2 (c .before .enum-told3 .given .1) refl (c .nothing3 .ensures (start .args .key) (start .args .address))
 
 same-length-11 : tie.Need-same-length-11
 same-length-11 c = search needs
@@ -202,7 +222,8 @@ returns-5 : tie.Need-returns-5
 returns-5 c =
     let at-read = c .before .before .before .before .before .before .before in
     let start = at-read .before .before .before .before .before .before .before .before in
-    text-refused _ (start .args .key) (start .args .address) _ _ _ _ (at-read .read .ensures .0) _ 15 (c .before .enum-told4 .given .1) refl (c .nothing4 .ensures (start .args .key) (start .args .address))
+    text-refused _ (start .args .key) (start .args .address) _ _ _ _ (at-read .read .ensures .0)
+    _ 15 (c .before .enum-told4 .given .1) refl (c .nothing4 .ensures (start .args .key) (start .args .address))
 
 pub look-in-spec : {M : Type 1} → statement M
 look-in-spec =

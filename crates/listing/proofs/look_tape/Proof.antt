@@ -39,10 +39,13 @@ returns c =
     let at-settle = c .before .before .before .before .before .before .before in
     let at-bind = at-settle .before .before .before .before .before in
     let start = at-bind .before .before .before .before .before .before .before .before in
-    λ x t ek bs. let ts = allTokens (start .args .src .now) in let b = at-bind .bind .ensures .1 ts x t (bs .no-found) (bs .no-goes) in let many = rows-are ts _ _ _ ek (start .pre .4) in
+    λ x t ek bs. let ts = allTokens (start .args .src .now) in let b = at-bind .bind .ensures .1 ts x t (bs .no-found) (bs .no-goes) in
+    let many = rows-are ts _ _ _ ek (start .pre .4) in
     let rows = ap (λ (n : ℕ). replicate {A = ℕ} n 0) (many .1) in
-    let s = at-settle .settle .ensures .2 ts x t ek (b .found-is) (bs .no-means) (at-bind .bind .ensures .0 .opens-are ∙ rows) (at-bind .bind .ensures .0 .written-are ∙ rows) (many .0) in
-    rule-broken _ (start .args .key) (start .args .address) ts x _ _ _ _ _ _ _ t b (at-settle .settle .ensures .1) s (c .before .if1 .taken) (c .nothing .ensures (start .args .key) (start .args .address))
+    let s = at-settle .settle .ensures .2 ts x t ek (b .found-is) (bs .no-means) (at-bind .bind .ensures .0 .opens-are ∙ rows) (at-bind .bind .ensures .0 .written-are ∙ rows)
+    (many .0) in
+    rule-broken _ (start .args .key) (start .args .address) ts x _ _ _ _ _ _ _ t b (at-settle .settle .ensures .1) s (c .before .if1 .taken)
+    (c .nothing .ensures (start .args .key) (start .args .address))
 
 look-settled-requires : tie.Need-look-settled-requires
 look-settled-requires c κs =
@@ -66,10 +69,13 @@ returns-2 c =
     let at-settle = at-if1 .before .before .before .before .before .before in
     let at-bind = at-settle .before .before .before .before .before in
     let start = at-bind .before .before .before .before .before .before .before .before in
-    λ x t ek bs. let ts = allTokens (start .args .src .now) in let b = at-bind .bind .ensures .1 ts x t (bs .no-found) (bs .no-goes) in let many = rows-are ts _ _ _ ek (start .pre .4) in
+    λ x t ek bs. let ts = allTokens (start .args .src .now) in let b = at-bind .bind .ensures .1 ts x t (bs .no-found) (bs .no-goes) in
+    let many = rows-are ts _ _ _ ek (start .pre .4) in
     let rows = ap (λ (n : ℕ). replicate {A = ℕ} n 0) (many .1) in
-    let s = at-settle .settle .ensures .2 ts x t ek (b .found-is) (bs .no-means) (at-bind .bind .ensures .0 .opens-are ∙ rows) (at-bind .bind .ensures .0 .written-are ∙ rows) (many .0) in
-    none-broken _ (start .args .key) (start .args .address) ts x _ _ _ _ _ _ _ t b (at-settle .settle .ensures .1) s (start .args .kinds .now) ek (at-if1 .if1 .left) (c .look-settled .ensures)
+    let s = at-settle .settle .ensures .2 ts x t ek (b .found-is) (bs .no-means) (at-bind .bind .ensures .0 .opens-are ∙ rows) (at-bind .bind .ensures .0 .written-are ∙ rows)
+    (many .0) in
+    none-broken _ (start .args .key) (start .args .address) ts x _ _ _ _ _ _ _ t b (at-settle .settle .ensures .1) s (start .args .kinds .now) ek (at-if1 .if1 .left)
+    (c .look-settled .ensures)
 
 pub look-tape-spec : {M : Type 1} → statement M
 look-tape-spec =

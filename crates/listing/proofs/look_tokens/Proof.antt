@@ -26,7 +26,8 @@ returns : tie.Need-returns
 returns c =
     let at-program = c .before .before .before .before in
     let start = at-program .before .before .before .before .before .before .before in
-    λ ek ev small bs. no-program _ (start .args .key) (start .args .address) (allTokens (start .args .src .now)) _ _ _ (at-program .program .ensures) (c .before .if1 .taken) (c .nothing .ensures (start .args .key) (start .args .address))
+    λ ek ev small bs. no-program _ (start .args .key) (start .args .address) (allTokens (start .args .src .now)) _ _ _ (at-program .program .ensures) (c .before .if1 .taken)
+    (c .nothing .ensures (start .args .key) (start .args .address))
 
 slice-reshare-prefix-look-tape : tie.Need-slice-reshare-prefix-look-tape
 slice-reshare-prefix-look-tape c = search needs
@@ -41,8 +42,13 @@ look-tape-requires c κs =
     let at-if1 = c .before .before .before in
     let at-program = at-if1 .before .before .before in
     let start = at-program .before .before .before .before .before .before .before in
-    let f = tape-fits _ _ _ (at-program .program .ensures) (at-if1 .if1 .left) (omega (arith, start .pre .3 .few)) in
-    (start .pre .0, omega (arith, length-take (at-program .program .result .value) (at-program .program .last .1 .1 .0), at-program .program .ensures .few, start .pre .2), f .0, f .1, start .pre .3)
+    let f = tape-fits _ _ _ (at-program .program .ensures) (at-if1 .if1 .left) (omega (arith, start .pre .3 .few)) in (
+      start .pre .0,
+      omega (arith, length-take (at-program .program .result .value) (at-program .program .last .1 .1 .0), at-program .program .ensures .few, start .pre .2),
+      f .0,
+      f .1,
+      start .pre .3,
+    )
 
 same-length-2 : tie.Need-same-length-2
 same-length-2 c =
@@ -65,7 +71,8 @@ returns-2 c =
     let at-if1 = at-look-tape .before .before .before .before in
     let at-program = at-if1 .before .before .before in
     let start = at-program .before .before .before .before .before .before .before in
-    λ ek ev small bs. some-program _ (start .args .key) (start .args .address) (allTokens (start .args .src .now)) (start .args .kinds .now) (at-program .program .last .1 .1 .0) (at-program .program .result) (at-program .program .ensures) (at-if1 .if1 .left)
+    λ ek ev small bs. some-program _ (start .args .key) (start .args .address) (allTokens (start .args .src .now)) (start .args .kinds .now)
+    (at-program .program .last .1 .1 .0) (at-program .program .result) (at-program .program .ensures) (at-if1 .if1 .left)
     (wideOf (start .args .wide .now) .values) ek ev small (λ x t. at-look-tape .look-tape .ensures x t ek bs)
 
 pub look-tokens-spec : {M : Type 1} → statement M

@@ -50,14 +50,29 @@ returns c =
     let at-is-cell = at-value .before in
     let at-mean = at-is-cell .before in
     let start = at-mean .before .before in
-    rw (at-under .under .ensures, at-offset .offset .ensures, at-element-size .element-size .ensures .0, c .before .number .ensures .0, c .is-array .ensures, at-mean .mean .ensures) (sited-here (wideOf (start .args .wide .now)) (start .args .key) (start .args .t) (start .args .later) (rw (at-is-cell .is-cell .ensures, at-mean .mean .ensures, at-value .value .ensures) at (at-if1 .if1 .taken)))
+    rw (
+      at-under .under .ensures,
+      at-offset .offset .ensures,
+      at-element-size .element-size .ensures .0,
+      c .before .number .ensures .0,
+      c .is-array .ensures,
+      at-mean .mean .ensures,
+    ) (sited-here (wideOf (start .args .wide .now)) (start .args .key) (start .args .t) (start .args .later) (rw (
+      at-is-cell .is-cell .ensures,
+      at-mean .mean .ensures,
+      at-value .value .ensures,
+    ) at (at-if1 .if1 .taken)))
 
 returns-2 : tie.Need-returns-2
 returns-2 c =
     let at-is-cell = c .before .before in
     let at-mean = at-is-cell .before in
     let start = at-mean .before .before in
-    sited-else (wideOf (start .args .wide .now)) (start .args .key) (start .args .t) (start .args .later) (rw (at-is-cell .is-cell .ensures, at-mean .mean .ensures, c .before .value .ensures) at (c .if1 .left))
+    sited-else (wideOf (start .args .wide .now)) (start .args .key) (start .args .t) (start .args .later) (rw (
+      at-is-cell .is-cell .ensures,
+      at-mean .mean .ensures,
+      c .before .value .ensures,
+    ) at (c .if1 .left))
 
 pub sited-spec : {M : Type 1} → statement M
 sited-spec =

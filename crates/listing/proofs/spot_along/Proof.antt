@@ -122,15 +122,18 @@ loop-again c =
     let at-loop-test = at-op .before .before in
     let at-loop = at-loop-test .before in
     let start = at-loop .before .before .before .before .before .before .before in
-    let a = start .args in let l = at-loop .loop in let op = at-op .op in let t = at-token .token in let f = at-family .family .ensures in let s = at-form .form .ensures .0 in let u = at-operand .operand .ensures in let r = at-register-at .register-at .ensures in
+    let a = start .args in let l = at-loop .loop in let op = at-op .op in let t = at-token .token in let f = at-family .family .ensures in
+    let s = at-form .form .ensures .0 in let u = at-operand .operand .ensures in let r = at-register-at .register-at .ensures in
     let h = at-loop-test .loop-test .taken in
-    let codes = codes-known (a .kinds .now) (wideOf (a .wide .now)) (thinOf (a .thin .now)) (op .result) (t .result) (l .w) f s u r (at-goal-at .goal-at .ensures .0) (at-codes-of .codes-of .ensures) in
-    let written = written-known (a .kinds .now) (wideOf (a .wide .now)) (thinOf (a .thin .now)) (op .result) (t .result) (l .w) f s u r (c .written-after .ensures) in
-    (
+    let codes = codes-known (a .kinds .now) (wideOf (a .wide .now)) (thinOf (a .thin .now)) (op .result) (t .result) (l .w) f s u r (at-goal-at .goal-at .ensures .0)
+    (at-codes-of .codes-of .ensures) in
+    let written = written-known (a .kinds .now) (wideOf (a .wide .now)) (thinOf (a .thin .now)) (op .result) (t .result) (l .w) f s u r (c .written-after .ensures) in (
       omega arith,
       omega (arith, l .inv .1, at-size .size .ensures .1),
-      spot-turn (a .address) (a .kinds .now) (wideOf (a .wide .now)) (thinOf (a .thin .now)) (op .result) (t .result) (l .p) (l .w) (l .target) (l .spot) (a .tape .now) (l .i) h (op .ensures .0)
-      (t .ensures .0) f s codes (at-size .size .ensures .0) (at-spot-at .spot-at .ensures) (at-operand-by .operand-by .ensures) (at-spot-after .spot-after .ensures) (c .before .target-after .ensures) written (l .inv .2),
+      spot-turn (a .address) (a .kinds .now) (wideOf (a .wide .now)) (thinOf (a .thin .now)) (op .result) (t .result) (l .p) (l .w) (l .target) (l .spot) (a .tape .now)
+          (l .i) h (op .ensures .0)
+          (t .ensures .0) f s codes (at-size .size .ensures .0) (at-spot-at .spot-at .ensures) (at-operand-by .operand-by .ensures) (at-spot-after .spot-after .ensures)
+          (c .before .target-after .ensures) written (l .inv .2),
     )
 
 returns : tie.Need-returns Inv-loop μ-loop
@@ -138,7 +141,8 @@ unfolding spotAlong
 returns c =
     let start = c .before .before .before .before .before .before .before .before in
     let a = start .args in let l = c .before .loop in
-    ap (λ (s : Spotting). s .spot) (pass-end (spotEvent (a .address) (a .kinds .now) (wideOf (a .wide .now)) (thinOf (a .thin .now))) (spottingOf (l .p) (l .w) (l .target) (l .spot)) (a .tape .now) (l .i) (c .loop-test .left) (l .inv .2))
+    ap (λ (s : Spotting). s .spot) (pass-end (spotEvent (a .address) (a .kinds .now) (wideOf (a .wide .now)) (thinOf (a .thin .now))) (spottingOf (l .p) (l .w) (l .target)
+    (l .spot)) (a .tape .now) (l .i) (c .loop-test .left) (l .inv .2))
 
 pub spot-along-spec : {M : Type 1} → statement M
 spot-along-spec =
