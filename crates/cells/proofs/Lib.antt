@@ -1,1 +1,2 @@
--- Laws of cells.
+-- The run with cells set.
+pub mod Running

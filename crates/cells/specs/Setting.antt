@@ -2,7 +2,7 @@
 use mathlib.Core.List.{List}
 use mathlib.Core.Bool.{Bool, true, false}
 use Prim.Native.Nat.{ℕ, _+_, _-_}
-use lib.Dec.{eqb, ltb, leb}
+use lib.Dec.{eqb, ltb}
 use lib.ListN.{length, take, drop}
 use Rattle.base.specs.Choose.{choose}
 use Rattle.base.specs.Numbers.{stored}
@@ -42,7 +42,7 @@ unfoldable pub fits : (size v : ℕ) → Bool
 fits size v = choose (eqb size 2) (fitsWidth short v) true
 
 unfoldable pub putCell : Element → (v : ℕ) → List ℕ → List ℕ
-putCell e v s = choose (leb (e .address + e .size) (length s)) (stored s (e .address) (e .size) v) s
+putCell e v s = choose (ltb (length s) (e .address + e .size)) s (stored s (e .address) (e .size) v)
 
 unfoldable pub setNumber : Element → (v n : ℕ) → Laying → Laying
 setNumber e v n l = choose (fits (e .size) v) (layingOf (putCell e v (l .store)) (l .fault)) (layingOf (l .store) (faulted (l .fault) n 12))

@@ -134,7 +134,7 @@ fn element_of(s: Site, a: Asked) -> Element
     no_element(NO_CELL)
 }
 
-pub fn element(source: &[u8], word: &[u8]) -> Element
+pub fn element_named(source: &[u8], word: &[u8]) -> Element
     ensures { λ r. ⌜ r ≡ elementNamed (now (source .entry)) (now (word .entry)) ⌝ }
 {
     let a = asked_in(word);
@@ -180,9 +180,10 @@ fn put_cell(store: &mut [u8], e: Element, v: u32)
 {
     let at = e.address as usize;
     let size = e.size as usize;
-    if at + size <= store.len() {
-        base::store(store, at, size, v);
+    if store.len() < at + size {
+        return;
     }
+    base::store(store, at, size, v);
 }
 
 fn set_number(store: &mut [u8], e: Element, v: u32, n: usize, x: Fault) -> Fault
@@ -224,7 +225,7 @@ fn set_word(source: &[u8], n: usize, s: &[u8], store: &mut [u8], x: Fault) -> Fa
     if k < 16 {
         return x;
     }
-    let e = element(source, name);
+    let e = element_named(source, name);
     let found = figures::number(figures::rest(figures::rest(s, size), 1));
     set_element(store, e, found, n, x)
 }
@@ -237,7 +238,7 @@ fn show_word(source: &[u8], n: usize, s: &[u8], x: Fault) -> Fault
     if k < 16 {
         return x;
     }
-    let e = element(source, s);
+    let e = element_named(source, s);
     let why = e.why;
     if 0 < why {
         return faulted(x, n, why);
@@ -336,7 +337,7 @@ fn put_name(
     if k < 16 {
         return reports::put_value(out, at, name, regs[k]);
     }
-    let e = element(source, name);
+    let e = element_named(source, name);
     put_cell_line(out, at, name, e, store)
 }
 
