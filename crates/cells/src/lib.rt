@@ -2,11 +2,11 @@
 // run; and the address of the operand at which a run stopped.
 ghost use mathlib.Core.Path.{_≡_};
 ghost use mathlib.Core.List.{List};
-ghost use Prim.Native.Nat.{ℕ, _<_};
+ghost use Prim.Native.Nat.{ℕ, _+_, _*_, _/_, _%_, _<_};
 ghost use lib.ListN.{length, getD};
 ghost use Rattle.figures.specs.Writing.{Adds};
 ghost use Rattle.objtext.specs.Reader.{readAs, readObject};
-ghost use Rattle.machine.specs.Step.{cpu, extended as extendedOf};
+ghost use Rattle.machine.specs.Step.{cpu, address as addressOf, extended as extendedOf};
 ghost use Rattle.machine.specs.Operands.{operandAddress};
 ghost use Rattle.runner.specs.Runner.{outcome};
 ghost use Rattle.cells.specs.Elements.{askedBy, askedIn, noElement, isInside, isElement, placedAt, elementOf, elementNamed};
@@ -428,6 +428,13 @@ fn wide(b: u8) -> usize
     b as usize
 }
 
+fn reached(regs: &[u32; 16], fields: usize, high: usize, low: usize) -> usize
+    requires { ⌜ (high < 256) × (low < 256) ⌝ }
+    ensures { λ r. ⌜ r ≡ addressOf (now (regs .entry)) (fields % 16) (high / 16) (high % 16 * 256 + low) ⌝ }
+{
+    machine::address(regs, fields % 16, high / 16, high % 16 * 256 + low) as usize
+}
+
 pub fn address(regs: &[u32; 16], store: &[u8], counter: u32) -> usize
     ensures { λ r. ⌜ r ≡ operandAddress (cpu (now (regs .entry)) 0 counter) (now (store .entry)) ⌝ }
 {
@@ -435,5 +442,5 @@ pub fn address(regs: &[u32; 16], store: &[u8], counter: u32) -> usize
     let fields = wide(figures::byte(store, at + 1));
     let high = wide(figures::byte(store, at + 2));
     let low = wide(figures::byte(store, at + 3));
-    machine::address(regs, fields % 16, high / 16, high % 16 * 256 + low) as usize
+    reached(regs, fields, high, low)
 }
