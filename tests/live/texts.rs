@@ -16,12 +16,13 @@ reader!(tautgaff_tokens);
 /// Every entry of a list before a reading.
 const BEFORE: (u8, u64, u32) = (165, 165, 165);
 
-/// The proved side counts from the text's end, 0, and has COMMENT's number among the words, before INTEGER's.
+/// The proved side counts from the text's end, 0, has COMMENT's number among the words, before INTEGER's, and the signs from 64 on.
 fn kind_number(kind: Kind) -> u8 {
     match kind {
         Kind::TextEnd => 0,
         kind if (kind as u8) < Kind::Integer as u8 => kind as u8 + 1,
-        kind => kind as u8 + 2,
+        kind if (kind as u8) < Kind::Assign as u8 => kind as u8 + 2,
+        kind => kind as u8 - Kind::Assign as u8 + 64,
     }
 }
 

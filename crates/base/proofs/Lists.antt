@@ -3,7 +3,8 @@ use Prim.Native.Nat.{ℕ, zero, suc, _<_}
 use mathlib.Core.Path.{_≡_, refl, sym, subst}
 use mathlib.Core.Logic.{_⊎_, inl, inr}
 use mathlib.Core.Bool.{Bool, true, false, _||_}
-use mathlib.Core.List.{List, [], _∷_, _++_}
+use mathlib.Core.List.{List, [], _∷_, _++_, map}
+use mathlib.Core.Option.{none, some}
 use native.Mathlib.Omega.{arith}
 use lib.Dec.{eqb}
 use lib.ListN.{length, take, drop, getD, set, replicate}
@@ -111,3 +112,24 @@ in-member x (y ∷ l) (inr h) = go (eqb x y) (in-member x l h)
 -- what holds at each number of a table holds at each that passes the test
 pub each : (P : ℕ → Type 0) (l : List ℕ) → All P l → (x : ℕ) → member x l ≡ true → P x
 each P l a x h = all-in P l a x (member-in x l h)
+
+-- what is in a list of images is the image of something in the list
+pub map-in : {A B : Type 0} (f : A → B) (y : B) (xs : List A) → y ∈ map f xs → (x : A) × (x ∈ xs) × (y ≡ f x)
+map-in f y [] h = absurd h
+map-in f y (x ∷ xs) (inl e) = (x, inl refl, e)
+map-in f y (x ∷ xs) (inr h) = let r = map-in f y xs h in (r .0, inr (r .1), r .2)
+
+-- ── zeros ──
+
+pub zeros-at : (n i : ℕ) → getD (replicate {A = ℕ} n 0) i 0 ≡ 0
+zeros-at zero i = refl
+zeros-at (suc n) zero = refl
+zeros-at (suc n) (suc i) = zeros-at n i
+
+-- ── what is there or not ──
+
+pub some-is : {A : Type 0} (a b : A) → some a ≡ some b → a ≡ b
+some-is a b e = cc
+
+pub none-some : {A : Type 0} (a : A) → none ≡ some a → ⊥
+none-some a e = let z : _≡_ {A = ℕ} 0 1 = cc in omega arith

@@ -17,6 +17,9 @@ use Rattle.base.specs.Numbers.{numberFrom, valueOf, bytesOf, valueAt, st
 use Rattle.base.proofs.Lists.{all-both}
 use Rattle.base.proofs.Parts.{part-sets, part-elsewhere, sets-last}
 
+pub one-less : (n : ℕ) → suc n - 1 ≡ n
+one-less n = omega arith
+
 -- quotient and remainder are told by the number
 pub parts-told : (P a b u v : ℕ) → u < P → v < P → a * P + u ≡ b * P + v → (a ≡ b) × (u ≡ v)
 parts-told P a b u v hu hv e = go (decLe (suc a) b) (decLe (suc b) a)

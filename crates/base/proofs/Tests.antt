@@ -57,6 +57,11 @@ pub and-right : (a b : Bool) → T (a && b) → T b
 and-right true b t = t
 and-right false b t = absurd t
 
+-- two tests that are passed together
+pub both : (a b : Bool) → (a && b) ≡ true → (a ≡ true) × (b ≡ true)
+both true b e = (refl, e)
+both false b e = never-true e
+
 -- a rule on what passes a test, tested
 pub implied : (a b : Bool) → T (not a || b) → a ≡ true → T b
 implied true b t e = t

@@ -44,7 +44,9 @@ pub extern "C" fn tautgaff_tokens(
     place: &mut usize,
     count: &mut usize,
 ) -> u64
-    ensures { λ r. ⌜ ((t : Tokens) × ((summaryOf t ≡ summary r (now (place .exit)) (now (count .exit))) × Laid (tokensInto (room (now (kinds .entry)) (now (values .entry)) (now (places .entry))) (now (text .entry))) (now (kinds .entry)) (now (values .entry)) (now (places .entry)) (now (kinds .exit)) (now (values .exit)) (now (places .exit)) t)) ⌝ }
+    ensures { λ r. ⌜ ((t : Tokens) × ((summaryOf t ≡ summary r (now (place .exit)) (now (count .exit)))
+        × Laid (tokensInto (room (now (kinds .entry)) (now (values .entry)) (now (places .entry))) (now (text .entry))) (now (kinds .entry))
+        (now (values .entry)) (now (places .entry)) (now (kinds .exit)) (now (values .exit)) (now (places .exit)) t)) ⌝ }
 {
     let read = token_lists::tokens_of(text, kinds, values, places);
     told(read, place, count)
@@ -60,7 +62,9 @@ pub extern "C" fn tautgaff_read_tokens(
     place: &mut usize,
     count: &mut usize,
 ) -> u64
-    ensures { λ r. ⌜ ((t : Tokens) × ((summaryOf t ≡ summary r (now (place .exit)) (now (count .exit))) × Laid (readInto (room (now (kinds .entry)) (now (values .entry)) (now (places .entry))) (now (text .entry))) (now (kinds .entry)) (now (values .entry)) (now (places .entry)) (now (kinds .exit)) (now (values .exit)) (now (places .exit)) t)) ⌝ }
+    ensures { λ r. ⌜ ((t : Tokens) × ((summaryOf t ≡ summary r (now (place .exit)) (now (count .exit)))
+        × Laid (readInto (room (now (kinds .entry)) (now (values .entry)) (now (places .entry))) (now (text .entry))) (now (kinds .entry)) (now (values .entry))
+        (now (places .entry)) (now (kinds .exit)) (now (values .exit)) (now (places .exit)) t)) ⌝ }
 {
     let read = token_lists::read_tokens(text, kinds, values, places);
     told(read, place, count)

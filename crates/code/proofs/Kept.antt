@@ -1,7 +1,7 @@
 -- The ledger keeps 16 bits of an address. Of a program that ends below 65,536 that is all of it (`places-kept`); and how long a program is does not hang on where
 -- its branches go (`length-same`). Assumes nothing.
 use mathlib.Core.Path.{_≡_, refl, sym, ap, ap₂, _∙_}
-use mathlib.Core.Bool.{Bool, true, false}
+use mathlib.Core.Bool.{Bool, true, false, _||_}
 use mathlib.Core.List.{List, [], _∷_}
 use Prim.Native.Nat.{ℕ, _+_, _/_, _%_, _<_, _≤_}
 use native.Mathlib.Omega.{arith}
@@ -20,8 +20,9 @@ use Rattle.emit.specs.Codes.{listOf, codeSize, codeSizes, applyCode, isAbsent, 
 use Rattle.emit.specs.Events.{useIn, registerAt, goalAt, comparedCodes, bareCodes, limitCodes, stepCodes, otherCodes, codesOf, writingAfter, codesBy}
 use Rattle.code.specs.Places.{whole, kept, Placing, noWriting, placeEvent, placesAlong}
 use Rattle.code.specs.Coding.{Laid, laidOf, layCode, layAll, Coding, codingOf, codeEvent, codeAlong}
+use Rattle.ledger.specs.Book.{thinLimit}
 
-pub kept-is : (n : ℕ) → n < 65536 → kept n ≡ n
+pub kept-is : (n : ℕ) → n < thinLimit → kept n ≡ n
 unfolding kept
 kept-is n h = omega arith
 
@@ -43,18 +44,18 @@ module _ (kinds values found goes means under opens offsets : List ℕ) where
   pass-grows [] s = omega arith
   pass-grows (e ∷ es) s = omega (arith, event-grows (e % E.EVENTS) (e / E.EVENTS) s, pass-grows es (exact (e % E.EVENTS) (e / E.EVENTS) s))
 
-  event-kept : (op t : ℕ) (s : Placing) → exact op t s .at < 65536 → cut op t s ≡ exact op t s
+  event-kept : (op t : ℕ) (s : Placing) → exact op t s .at < thinLimit → cut op t s ≡ exact op t s
   unfolding placeEvent
   event-kept op t s h = rw (kept-is (s .at) (omega arith), kept-is _ h)
 
-  pass-kept : (tape : List ℕ) (s : Placing) → pass exact s tape .at < 65536 → pass cut s tape ≡ pass exact s tape
+  pass-kept : (tape : List ℕ) (s : Placing) → pass exact s tape .at < thinLimit → pass cut s tape ≡ pass exact s tape
   unfolding pass fold onEvent
   pass-kept [] s h = refl
   pass-kept (e ∷ es) s h =
       let after = exact (e % E.EVENTS) (e / E.EVENTS) s in
       ap (λ (x : Placing). pass cut x es) (event-kept (e % E.EVENTS) (e / E.EVENTS) s (omega (arith, pass-grows es after, h))) ∙ pass-kept es after h
 
-  pub places-kept : (marks tape : List ℕ) → placesAlong whole kinds values found goes means under opens offsets marks tape .at < 65536
+  pub places-kept : (marks tape : List ℕ) → placesAlong whole kinds values found goes means under opens offsets marks tape .at < thinLimit
       → placesAlong kept kinds values found goes means under opens offsets marks tape ≡ placesAlong whole kinds values found goes means under opens offsets marks tape
   unfolding placesAlong
   places-kept marks tape h = pass-kept tape _ h
@@ -77,12 +78,10 @@ module _ (kinds values marks marks′ : List ℕ) where
   unfolding otherCodes listOf codeSize
   others-same family t n =
       either-same (eqb family E.BASE) _ _ _ _ refl
-      (either-same (eqb family E.PROCEDURE) _ _ _ _ refl
       (either-same (eqb family E.END-PROCEDURE) _ _ _ _ refl
-      (either-same (eqb family E.ELSE) _ _ _ _ refl
-      (either-same (eqb family E.END-WHILE) _ _ _ _ refl
       (either-same (eqb family E.CALL) _ _ _ _ refl
-      (either-same (eqb family E.GOTO) _ _ _ _ refl refl))))))
+      (either-same (eqb family E.GOTO) _ _ _ _ refl
+      (either-same (eqb family E.PROCEDURE || (eqb family E.ELSE || eqb family E.END-WHILE)) _ _ _ _ refl refl))))
 
   step-same : (t : ℕ) → bytes (stepCodes values marks t) ≡ bytes (stepCodes values marks′ t)
   unfolding stepCodes applyThen isAbsent applyCode listOf codeSize

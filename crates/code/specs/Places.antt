@@ -1,6 +1,7 @@
 -- Addresses along a tape: where branches go, by token, as `emit` reads them. Each is set when its place is passed, from the addresses before and behind the
 -- event's instructions. The ledger keeps 16 bits of each: enough for a program that fits its segment.
 use mathlib.Core.List.{List}
+use mathlib.Core.Bool.{_||_}
 use Prim.Native.Nat.{ℕ, _+_, _-_, _%_}
 use lib.Dec.{eqb}
 use lib.ListN.{set}
@@ -8,7 +9,7 @@ use Rattle.base.specs.Choose.{if_then_else_}
 use Rattle.tape.specs.Events as E
 use Rattle.tape.specs.Numbers.{familyAt}
 use Rattle.tape.specs.Pass.{pass}
-use Rattle.ledger.specs.Book.{Wide, Thin, onThin}
+use Rattle.ledger.specs.Book.{Wide, Thin, onThin, thinLimit}
 use Rattle.emit.specs.declared.Use.{Use}
 use Rattle.emit.specs.declared.Use.the-variants.{Absent}
 use Rattle.emit.specs.declared.Writing.{Writing}
@@ -20,7 +21,7 @@ abbrev pub whole : ℕ → ℕ
 whole n = n
 
 unfoldable pub kept : ℕ → ℕ
-kept n = n % 65536
+kept n = n % thinLimit
 
 -- a FOR's compare, and its control register
 unfoldable pub markLimit : (t from : ℕ) → Use → List ℕ → List ℕ
@@ -29,17 +30,13 @@ markLimit t from aim marks = set (set marks (t - 2) from) (t - 1) (kept (heldIn 
 unfoldable pub markClosing : (family t to : ℕ) → List ℕ → List ℕ
 markClosing family t to marks =
     if eqb family E.END-FOR then set marks (t - 1) to else
-    if eqb family E.END-ELSE then set marks (t + 1) to else
-    if eqb family E.ELSE then set marks t to else
-    if eqb family E.END-IF then set marks t to else
-    if eqb family E.END-WHILE then set marks t to else
+    if eqb family E.END-PROCEDURE || eqb family E.END-ELSE then set marks (t + 1) to else
+    if (eqb family E.PROCEDURE || eqb family E.ELSE) || (eqb family E.END-IF || eqb family E.END-WHILE) then set marks t to else
     marks
 
 unfoldable pub markAfter : (family t from to : ℕ) → Use → List ℕ → List ℕ
 markAfter family t from to aim marks =
     if eqb family E.LABEL then set marks t from else
-    if eqb family E.PROCEDURE then set marks t to else
-    if eqb family E.END-PROCEDURE then set marks (t + 1) to else
     if eqb family E.LIMIT then markLimit t from aim marks else
     if eqb family E.WHILE then set marks (t + 1) from else
     markClosing family t to marks

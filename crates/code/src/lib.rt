@@ -9,86 +9,66 @@ ghost use Rattle.translation.specs.Instructions.{literal};
 ghost use Rattle.translation.specs.Layout.{needs};
 ghost use Rattle.translation.specs.Bytes.{twoBytes, fourBytes};
 ghost use Rattle.emit.specs.Codes.{listOf, codeSize};
-ghost use Rattle.ledger.specs.Book.{wideOf, thinOf, putIn};
+ghost use Rattle.ledger.specs.Book.{wideOf, thinOf, putIn, thinLimit};
 ghost use Rattle.code.specs.Places.{markLimit, markClosing, markAfter, onMarks, placesIn};
 ghost use Rattle.code.specs.Coding.{bytesIn, Laid, laidBy, layCode, layAll, codeIn, Holds};
 use arrays::put_wide;
+use base::less;
 use emit::Code;
 use emit::Codes;
 use emit::DATA_BASE;
-use emit::Named;
 use emit::Use;
 use emit::Writing;
-use emit::before;
 use emit::code_size;
-use emit::codes_of;
 use emit::count;
-use emit::goal_at;
 use emit::held;
 use emit::nth;
-use emit::operand;
-use emit::register_at;
 use emit::size;
 use emit::stop;
-use emit::written_after;
+use ledger::THIN_LIMIT;
 use ledger::put_written;
 
 // ── addresses ──
 
 fn put_mark(thin: &mut [u16], t: usize, v: usize)
-    requires { ⌜ v < 65536 ⌝ }
+    requires { ⌜ v < thinLimit ⌝ }
     ensures { λ _. ⌜ thinOf (now (thin .exit)) ≡ onMarks (putIn t v) (thinOf (now (thin .entry))) ⌝ }
 {
     put_written(thin, t, v);
 }
 
 fn mark_limit(t: usize, from: usize, aim: Use, thin: &mut [u16])
-    requires { ⌜ from < 65536 ⌝ }
+    requires { ⌜ from < thinLimit ⌝ }
     ensures { λ _. ⌜ thinOf (now (thin .exit)) ≡ onMarks (markLimit t from aim) (thinOf (now (thin .entry))) ⌝ }
 {
-    put_mark(thin, before(t, 2), from);
-    put_mark(thin, before(t, 1), (held(aim) % 65536) as usize);
+    put_mark(thin, less(t, 2), from);
+    put_mark(thin, less(t, 1), held(aim) as usize % THIN_LIMIT);
 }
 
 fn mark_closing(family: u32, t: usize, to: usize, thin: &mut [u16])
-    requires { ⌜ (t < TOKEN-LIMIT) × (to < 65536) ⌝ }
+    requires { ⌜ (t < TOKEN-LIMIT) × (to < thinLimit) ⌝ }
     ensures { λ _. ⌜ thinOf (now (thin .exit)) ≡ onMarks (markClosing family t to) (thinOf (now (thin .entry))) ⌝ }
 {
     if family == tape::END_FOR {
-        put_mark(thin, before(t, 1), to);
+        put_mark(thin, less(t, 1), to);
         return;
     }
-    if family == tape::END_ELSE {
+    if (family == tape::END_PROCEDURE) | (family == tape::END_ELSE) {
         put_mark(thin, t + 1, to);
         return;
     }
-    if family == tape::ELSE {
-        put_mark(thin, t, to);
-        return;
-    }
-    if family == tape::END_IF {
-        put_mark(thin, t, to);
-        return;
-    }
-    if family == tape::END_WHILE {
+    let opens = (family == tape::PROCEDURE) | (family == tape::ELSE);
+    if opens | ((family == tape::END_IF) | (family == tape::END_WHILE)) {
         put_mark(thin, t, to);
     }
 }
 
 fn mark_after(family: u32, t: usize, from: usize, to: usize, aim: Use, thin: &mut [u16])
-    requires { ⌜ (t < TOKEN-LIMIT) × (from < 65536) × (to < 65536) ⌝ }
+    requires { ⌜ (t < TOKEN-LIMIT) × (from < thinLimit) × (to < thinLimit) ⌝ }
     ensures { λ _. ⌜ thinOf (now (thin .exit)) ≡ onMarks (markAfter family t from to aim) (thinOf (now (thin .entry))) ⌝ }
 {
     if family == tape::LABEL {
         put_mark(thin, t, from);
-        return;
-    }
-    if family == tape::PROCEDURE {
-        put_mark(thin, t, to);
-        return;
-    }
-    if family == tape::END_PROCEDURE {
-        put_mark(thin, t + 1, to);
         return;
     }
     if family == tape::LIMIT {
@@ -104,8 +84,10 @@ fn mark_after(family: u32, t: usize, from: usize, to: usize, aim: Use, thin: &mu
 
 // Where branches go, by token; the length of the program but for its last instruction.
 pub fn places(tape: &[u32], kinds: &[u8], wide: &[u64], thin: &mut [u16]) -> usize
-    requires { ⌜ length (now tape) ≤ 67108864 ⌝ }
-    ensures { λ r. ⌜ (r ≡ placesIn (now (kinds .entry)) (wideOf (now (wide .entry))) (thinOf (now (thin .entry))) (now (tape .entry)) .at) × (thinOf (now (thin .exit)) ≡ onMarks (λ marks. placesIn (now (kinds .entry)) (wideOf (now (wide .entry))) (thinOf (now (thin .entry))) (now (tape .entry)) .marks) (thinOf (now (thin .entry)))) ⌝ }
+    requires { ⌜ length (now tape) ≤ 2 * TOKEN-LIMIT ⌝ }
+    ensures { λ r. ⌜ (r ≡ placesIn (now (kinds .entry)) (wideOf (now (wide .entry))) (thinOf (now (thin .entry))) (now (tape .entry)) .at)
+        × (thinOf (now (thin .exit)) ≡ onMarks (λ marks. placesIn (now (kinds .entry)) (wideOf (now (wide .entry))) (thinOf (now (thin .entry)))
+        (now (tape .entry)) .marks) (thinOf (now (thin .entry)))) ⌝ }
 {
     let mut p: usize = 0;
     let mut w = Writing {
@@ -117,15 +99,20 @@ pub fn places(tape: &[u32], kinds: &[u8], wide: &[u64], thin: &mut [u16]) -> usi
         let e = tape[i];
         let op = tape::op(e);
         let t = tape::token(e);
-        let family = tape::family(op);
-        let u = operand(wide, thin, tape::form(op), t);
-        let register = register_at(wide, thin, family, t);
-        let goal = goal_at(thin, family, t);
-        let m = codes_of(kinds, wide, thin, family, t, w, u, Named { register, goal });
-        let q = p + size(m);
+        let made = emit::event(kinds, wide, thin, op, t, w);
+        let codes = made.codes;
+        let q = p + size(codes);
         let aim = w.aim;
-        mark_after(family, t, p % 65536, q % 65536, aim, thin);
-        w = written_after(family, w, u, register);
+        mark_after(
+            tape::family(op),
+            t,
+            p % THIN_LIMIT,
+            q % THIN_LIMIT,
+            aim,
+            thin,
+        );
+        let next = made.writing;
+        w = next;
         p = q;
         i += 1;
     }
@@ -194,7 +181,8 @@ fn enter(literals: &mut [u64], count: usize, place: usize, v: u64) -> usize
 // The same, as long as there is room.
 fn enter_in_room(literals: &mut [u64], count: usize, place: usize, v: u64) -> usize
     requires { ⌜ (count ≤ length (now literals)) × (place ≡ indexOf v (take count (now literals))) × (place ≤ count) ⌝ }
-    ensures { λ r. ⌜ (count < length (now (literals .entry)) → (take r (now (literals .exit)) ≡ needs (literal v) (take count (now (literals .entry)))) × (place ≡ indexOf v (take r (now (literals .exit))))) × (count ≡ length (now (literals .entry)) → r ≡ count) × (r ≤ count + 1) ⌝ }
+    ensures { λ r. ⌜ (count < length (now (literals .entry)) → (take r (now (literals .exit)) ≡ needs (literal v) (take count (now (literals .entry))))
+        × (place ≡ indexOf v (take r (now (literals .exit))))) × (count ≡ length (now (literals .entry)) → r ≡ count) × (r ≤ count + 1) ⌝ }
 {
     if count < literals.len() {
         return enter(literals, count, place, v);
@@ -212,7 +200,8 @@ fn lay_code(
     c: Code,
 ) -> usize
     requires { ⌜ (n ≤ length (now literals)) × (length (now literals) ≤ 4294967296) × (start < 1099511627776) × (p < 4294967296) ⌝ }
-    ensures { λ r. ⌜ (n < length (now (literals .entry)) → laidBy (p + codeSize c) r (now (image .exit)) (now (literals .exit)) ≡ layCode start c (laidBy p n (now (image .entry)) (now (literals .entry)))) × (n ≡ length (now (literals .entry)) → r ≡ n) × (r ≤ n + 1) ⌝ }
+    ensures { λ r. ⌜ (n < length (now (literals .entry)) → laidBy (p + codeSize c) r (now (image .exit)) (now (literals .exit)) ≡ layCode start c
+        (laidBy p n (now (image .entry)) (now (literals .entry)))) × (n ≡ length (now (literals .entry)) → r ≡ n) × (r ≤ n + 1) ⌝ }
 {
     match c {
         Code::Two(op, r, s) => {
@@ -240,7 +229,9 @@ pub struct Reached {
 // Lays the instructions of an event, one behind the other.
 fn lay_codes(image: &mut [u8], literals: &mut [u64], start: u64, from: Reached, m: Codes) -> Reached
     requires { ⌜ (from .literals ≤ length (now literals)) × (length (now literals) ≤ 4294967296) × (start < 1099511627776) × (from .length + 8 < 4294967296) ⌝ }
-    ensures { λ r. ⌜ ((s : Laid) → Holds (length (now (literals .entry))) (from .length) (from .literals) (now (image .entry)) (now (literals .entry)) s → Holds (length (now (literals .entry))) (r .length) (r .literals) (now (image .exit)) (now (literals .exit)) (layAll start (listOf m) s)) × (r .literals ≤ from .literals + 2) × (r .literals ≤ length (now (literals .entry))) × (r .length ≤ from .length + 8) ⌝ }
+    ensures { λ r. ⌜ ((s : Laid) → Holds (length (now (literals .entry))) (from .length) (from .literals) (now (image .entry)) (now (literals .entry)) s
+        → Holds (length (now (literals .entry))) (r .length) (r .literals) (now (image .exit)) (now (literals .exit)) (layAll start (listOf m) s))
+        × (r .literals ≤ from .literals + 2) × (r .literals ≤ length (now (literals .entry))) × (r .length ≤ from .length + 8) ⌝ }
 {
     let last = count(m);
     let mut p: usize = from.length;
@@ -268,8 +259,10 @@ pub fn write_code(
     image: &mut [u8],
     literals: &mut [u64],
 ) -> Reached
-    requires { ⌜ (length (now tape) ≤ 67108864) × (length (now literals) ≤ 4294967296) × (start < 1099511627776) ⌝ }
-    ensures { λ r. ⌜ Holds (length (now (literals .entry))) (r .length) (r .literals) (now (image .exit)) (now (literals .exit)) (codeIn start (now (kinds .entry)) (wideOf (now (wide .entry))) (thinOf (now (thin .entry))) (now (image .entry)) (now (tape .entry))) × (r .literals ≤ 2 * length (now (tape .entry)) + 1) ⌝ }
+    requires { ⌜ (length (now tape) ≤ 2 * TOKEN-LIMIT) × (length (now literals) ≤ 4294967296) × (start < 1099511627776) ⌝ }
+    ensures { λ r. ⌜ Holds (length (now (literals .entry))) (r .length) (r .literals) (now (image .exit)) (now (literals .exit))
+        (codeIn start (now (kinds .entry)) (wideOf (now (wide .entry))) (thinOf (now (thin .entry))) (now (image .entry)) (now (tape .entry)))
+        × (r .literals ≤ 2 * length (now (tape .entry)) + 1) ⌝ }
 {
     let mut at = Reached {
         length: 0,
@@ -284,13 +277,11 @@ pub fn write_code(
         let e = tape[i];
         let op = tape::op(e);
         let t = tape::token(e);
-        let family = tape::family(op);
-        let u = operand(wide, thin, tape::form(op), t);
-        let register = register_at(wide, thin, family, t);
-        let goal = goal_at(thin, family, t);
-        let m = codes_of(kinds, wide, thin, family, t, w, u, Named { register, goal });
-        at = lay_codes(image, literals, start, at, m);
-        w = written_after(family, w, u, register);
+        let made = emit::event(kinds, wide, thin, op, t, w);
+        let codes = made.codes;
+        at = lay_codes(image, literals, start, at, codes);
+        let next = made.writing;
+        w = next;
         i += 1;
     }
     let p = at.length;

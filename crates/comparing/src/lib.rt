@@ -1,6 +1,4 @@
 // `tautgaff same`: a source translated again, and the result held against a stored object text.
-use translate::Answer;
-
 // A message with the names of two files.
 const SAME_ROOM: usize = 12288;
 
@@ -34,11 +32,11 @@ fn compare_object(source: &[u8], object: &[u8], made: &[u8]) -> u8 {
 
 fn compare_text(source: &[u8], object: &[u8], text: &[u8]) -> u8 {
     let mut out = [0u8; files::OBJECT_ROOM];
-    let answer = translate::translate(text, &mut out);
-    match answer {
-        Answer::Accepted(n) => compare_object(source, object, figures::front(&out, n)),
-        Answer::Refused(number, place) => saying::refuse(source, number, place, text),
+    let n = sources::object(source, text, &mut out);
+    if n == 0 {
+        return saying::REFUSED;
     }
+    compare_object(source, object, figures::front(&out, n))
 }
 
 pub fn compare_files(source: &[u8], object: &[u8]) -> u8 {

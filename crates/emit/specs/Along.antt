@@ -5,7 +5,6 @@ use Rattle.grammar.specs.Tree.{Sign, plain, abs, neg, negAbs, Assignment}
 use Rattle.tape.specs.Events as E
 use Rattle.tape.specs.Tape.{shape}
 use Rattle.tables.specs.Packed.{registerIn, packedAt}
-use Rattle.static_rules.specs.Meaning.{Cell, Based}
 use Rattle.static_rules.specs.Meanings.{dataBase}
 use Rattle.translation.specs.Instructions.{Datum, element, literal, entry, Instruction, rr, rx, shift, branch, link, stop}
 use Rattle.emit.specs.declared.Use.the-variants.{Held}

@@ -2,6 +2,7 @@
 -- next token; IF and WHILE, where a false condition goes, and at the next token behind an ELSE part, or the condition of the loop; a STEP's number, the compare,
 -- and at the token before it behind the loop, at the token after it the control register.
 use mathlib.Core.List.{List}
+use mathlib.Core.Bool.{_||_}
 use Prim.Native.Nat.{ℕ, _+_, _-_, _/_, _%_}
 use lib.Dec.{eqb}
 use lib.ListN.{getD}
@@ -18,19 +19,20 @@ use Rattle.emit.specs.declared.Codes.{Codes}
 use Rattle.emit.specs.declared.Codes.the-variants.{None, One}
 use Rattle.emit.specs.declared.Named.{Named}
 use Rattle.emit.specs.declared.Writing.{Writing}
+use Rattle.emit.specs.declared.Emitted.{Emitted}
 use Rattle.emit.specs.Codes.{applyThen, heldIn, firstCodes, nextCodes, branchCode, linkCode, baseCode, returnCode}
 
 -- ── operands ──
 
--- a subscript follows the name in shapes 1 and 3
+-- a subscript follows the name where the shape is odd: name(number), name(number)(name)
 unfoldable pub subscriptIn : (values : List ℕ) (shape t : ℕ) → ℕ
 subscriptIn values shape t = if eqb (shape % 2) 1 then getD values (t + 2) 0 else 0
 
--- an index in shapes 2 and 3
+-- an index, two or five tokens behind it: name(name), name(number)(name)
 unfoldable pub indexIn : (found means : List ℕ) (shape t : ℕ) → ℕ
 indexIn found means shape t =
-    if eqb shape 2 then registerIn (packedAt found means (t + 2)) else
-    if eqb shape 3 then registerIn (packedAt found means (t + 5)) else
+    if eqb shape E.INDEXED then registerIn (packedAt found means (t + 2)) else
+    if eqb shape E.SUBSCRIPTED-INDEXED then registerIn (packedAt found means (t + 5)) else
     0
 
 -- an element of the cell that is declared at token d, with the packed meaning m
@@ -48,9 +50,8 @@ module _ (values found means under offsets : List ℕ) where
   unfoldable pub placeIn : (shape t : ℕ) → Use
   placeIn shape t = placeBy under offsets (getD found t 0) (packedAt found means t) (subscriptIn values shape t) (indexIn found means shape t)
 
-  -- a number has shape 4
   unfoldable pub useIn : (shape t : ℕ) → Use
-  useIn shape t = if eqb shape 4 then Number (getD values t 0) else placeIn shape t
+  useIn shape t = if eqb shape E.NUMBER then Number (getD values t 0) else placeIn shape t
 
 -- ── what an event names ──
 
@@ -82,9 +83,7 @@ unfoldable pub writtenAfter : (family : ℕ) → Writing → Use → (register :
 writtenAfter family w u r =
     if eqb family E.TARGET then record { aim = u; sign = 0 } else
     if eqb family E.CONTROL then record { aim = Held r; sign = 0 } else
-    if eqb family E.ABS then signing family w else
-    if eqb family E.NEG then signing family w else
-    if eqb family E.NEG-ABS then signing family w else
+    if eqb family E.ABS || (eqb family E.NEG || eqb family E.NEG-ABS) then signing family w else
     w
 
 -- ── the instructions ──
@@ -108,12 +107,10 @@ stepCodes values marks t = applyThen addRow (getD marks (t + 1) 0) (Number (getD
 unfoldable pub otherCodes : (marks : List ℕ) (family t : ℕ) → Named → Codes
 otherCodes marks family t n =
     if eqb family E.BASE then One (baseCode (n .register) (n .goal)) else
-    if eqb family E.PROCEDURE then One (branchCode always (getD marks (t + 1) 0)) else
     if eqb family E.END-PROCEDURE then One (returnCode (n .register)) else
-    if eqb family E.ELSE then One (branchCode always (getD marks (t + 1) 0)) else
-    if eqb family E.END-WHILE then One (branchCode always (getD marks (t + 1) 0)) else
     if eqb family E.CALL then One (linkCode (n .register) (getD marks (n .goal) 0)) else
     if eqb family E.GOTO then One (branchCode always (getD marks (n .goal) 0)) else
+    if eqb family E.PROCEDURE || (eqb family E.ELSE || eqb family E.END-WHILE) then One (branchCode always (getD marks (t + 1) 0)) else
     None
 
 unfoldable pub codesOf : (kinds values marks : List ℕ) (family t : ℕ) → Writing → Use → Named → Codes
@@ -143,3 +140,6 @@ writingIn w b op t v = writingAfter (w .values) (b .found) (w .means) (w .under)
 
 abbrev pub codesIn : (kinds : List ℕ) → Wide → Thin → (op t : ℕ) → Writing → Codes
 codesIn kinds w b op t v = codesBy kinds (w .values) (b .found) (b .goes) (w .means) (w .under) (b .opens) (w .offsets) (b .written) op t v
+
+abbrev pub emittedIn : (kinds : List ℕ) → Wide → Thin → (op t : ℕ) → Writing → Emitted
+emittedIn kinds w b op t v = record { codes = codesIn kinds w b op t v; writing = writingIn w b op t v }

@@ -6,13 +6,14 @@ ghost use Rattle.tape.specs.Events.{TOKEN-LIMIT};
 ghost use lib.ListN.{length, getD};
 ghost use Rattle.base.specs.Lists.{member};
 ghost use Rattle.base.specs.Runs.{indexOf};
-ghost use Rattle.ledger.specs.Book.{wideOf, thinOf};
+ghost use Rattle.ledger.specs.Book.{wideOf, thinOf, thinLimit};
 ghost use Rattle.static_rules.specs.Rules.{shifts};
 ghost use Rattle.translation.specs.Instructions.{opcode as opcodeOf, rowOf, shiftCode, falseMask};
 ghost use Rattle.translation.specs.Core.{exitMask};
 ghost use Rattle.emit.specs.Codes.{listOf, blank as blankCode, codeSize, codeSizes, columnOf, applyCode, isAbsent, applyCodes, applyThen, signCode, signedCodes, loadCodes, heldIn, amountIn, isLongUse, productRegister, termCodes, firstCodes, nextCodes, branchCode, linkCode, baseCode, returnCode, stopCode};
-ghost use Rattle.emit.specs.Events.{subscriptIn, indexIn, elementIn, placeBy, placeIn, useIn, returnIn, registerAt, goalAt, signing as signingOf, writtenAfter, comparedCodes, bareCodes, limitCodes, stepCodes, otherCodes, codesOf};
+ghost use Rattle.emit.specs.Events.{subscriptIn, indexIn, elementIn, placeBy, placeIn, useIn, returnIn, registerAt, goalAt, signing as signingOf, writtenAfter, comparedCodes, bareCodes, limitCodes, stepCodes, otherCodes, codesOf, emittedIn};
 use arrays::kind;
+use base::less;
 use ledger::found;
 use ledger::goes;
 use ledger::meaning;
@@ -61,6 +62,12 @@ pub struct Named {
 pub struct Writing {
     pub aim: Use,
     pub sign: u32,
+}
+
+// What an event makes: its instructions, and the assignment that is written after it.
+pub struct Emitted {
+    pub codes: Codes,
+    pub writing: Writing,
 }
 
 // ── the tables ──
@@ -422,7 +429,7 @@ fn is_long(u: Use) -> bool
     }
 }
 
-fn less(r: u64) -> u64
+fn lower(r: u64) -> u64
     ensures { λ n. ⌜ n ≡ r - 1 ⌝ }
 {
     if r == 0 { 0 } else { r - 1 }
@@ -432,7 +439,7 @@ fn product_register(r: u64, u: Use) -> u64
     ensures { λ n. ⌜ n ≡ productRegister r u ⌝ }
 {
     if is_long(u) {
-        return less(r);
+        return lower(r);
     }
     r
 }
@@ -513,10 +520,10 @@ fn index(wide: &[u64], thin: &[u16], shape: u32, t: usize) -> u64
     requires { ⌜ t < TOKEN-LIMIT ⌝ }
     ensures { λ r. ⌜ r ≡ indexIn (thinOf (now (thin .entry)) .found) (wideOf (now (wide .entry)) .means) shape t ⌝ }
 {
-    if shape == 2 {
+    if shape == tape::INDEXED {
         return register(meaning(wide, thin, t + 2));
     }
-    if shape == 3 {
+    if shape == tape::SUBSCRIPTED_INDEXED {
         return register(meaning(wide, thin, t + 5));
     }
     0
@@ -549,7 +556,8 @@ fn place_by(wide: &[u64], d: usize, m: u64, subscript: u64, index: u64) -> Use
 
 fn place(wide: &[u64], thin: &[u16], shape: u32, t: usize) -> Use
     requires { ⌜ t < TOKEN-LIMIT ⌝ }
-    ensures { λ r. ⌜ r ≡ placeIn (wideOf (now (wide .entry)) .values) (thinOf (now (thin .entry)) .found) (wideOf (now (wide .entry)) .means) (wideOf (now (wide .entry)) .under) (wideOf (now (wide .entry)) .offsets) shape t ⌝ }
+    ensures { λ r. ⌜ r ≡ placeIn (wideOf (now (wide .entry)) .values) (thinOf (now (thin .entry)) .found) (wideOf (now (wide .entry)) .means)
+        (wideOf (now (wide .entry)) .under) (wideOf (now (wide .entry)) .offsets) shape t ⌝ }
 {
     let s = subscript(wide, shape, t);
     let x = index(wide, thin, shape, t);
@@ -559,9 +567,10 @@ fn place(wide: &[u64], thin: &[u16], shape: u32, t: usize) -> Use
 // The operand or designator at token t, by its shape.
 pub fn operand(wide: &[u64], thin: &[u16], shape: u32, t: usize) -> Use
     requires { ⌜ t < TOKEN-LIMIT ⌝ }
-    ensures { λ r. ⌜ r ≡ useIn (wideOf (now (wide .entry)) .values) (thinOf (now (thin .entry)) .found) (wideOf (now (wide .entry)) .means) (wideOf (now (wide .entry)) .under) (wideOf (now (wide .entry)) .offsets) shape t ⌝ }
+    ensures { λ r. ⌜ r ≡ useIn (wideOf (now (wide .entry)) .values) (thinOf (now (thin .entry)) .found) (wideOf (now (wide .entry)) .means)
+        (wideOf (now (wide .entry)) .under) (wideOf (now (wide .entry)) .offsets) shape t ⌝ }
 {
-    if shape == 4 {
+    if shape == tape::NUMBER {
         return Use::Number(value(wide, t));
     }
     place(wide, thin, shape, t)
@@ -578,12 +587,6 @@ fn return_register(m: u64) -> u64
     0
 }
 
-pub fn before(t: usize, n: usize) -> usize
-    ensures { λ r. ⌜ r ≡ t - n ⌝ }
-{
-    if t < n { 0 } else { t - n }
-}
-
 pub fn register_at(wide: &[u64], thin: &[u16], family: u32, t: usize) -> u64
     requires { ⌜ t < TOKEN-LIMIT ⌝ }
     ensures { λ r. ⌜ r ≡ registerAt (thinOf (now (thin .entry)) .found) (wideOf (now (wide .entry)) .means) family t ⌝ }
@@ -592,7 +595,7 @@ pub fn register_at(wide: &[u64], thin: &[u16], family: u32, t: usize) -> u64
         return register(meaning(wide, thin, t + 2));
     }
     if family == tape::COMPARED {
-        return register(meaning(wide, thin, before(t, 2)));
+        return register(meaning(wide, thin, less(t, 2)));
     }
     if family == tape::CALL {
         return return_register(meaning(wide, thin, t));
@@ -601,7 +604,7 @@ pub fn register_at(wide: &[u64], thin: &[u16], family: u32, t: usize) -> u64
 }
 
 pub fn goal_at(thin: &[u16], family: u32, t: usize) -> usize
-    ensures { λ r. ⌜ (r ≡ goalAt (thinOf (now (thin .entry)) .found) (thinOf (now (thin .entry)) .goes) (thinOf (now (thin .entry)) .opens) family t) × (r < 65536) ⌝ }
+    ensures { λ r. ⌜ (r ≡ goalAt (thinOf (now (thin .entry)) .found) (thinOf (now (thin .entry)) .goes) (thinOf (now (thin .entry)) .opens) family t) × (r < thinLimit) ⌝ }
 {
     if family == tape::BASE {
         return opens(thin, t);
@@ -634,13 +637,7 @@ pub fn written_after(family: u32, w: Writing, u: Use, r: u64) -> Writing
             sign: 0,
         };
     }
-    if family == tape::ABS {
-        return signing(family, w);
-    }
-    if family == tape::NEG {
-        return signing(family, w);
-    }
-    if family == tape::NEG_ABS {
+    if (family == tape::ABS) | ((family == tape::NEG) | (family == tape::NEG_ABS)) {
         return signing(family, w);
     }
     w
@@ -661,7 +658,7 @@ fn link(r: u64, to: usize) -> Code
 }
 
 fn base(r: u64, k: usize) -> Code
-    requires { ⌜ k < 65536 ⌝ }
+    requires { ⌜ k < thinLimit ⌝ }
     ensures { λ c. ⌜ c ≡ baseCode r k ⌝ }
 {
     Code::Four(opcode(LOAD, 1), r, 0, DATA_BASE, 4 * k as u64)
@@ -676,7 +673,7 @@ pub fn stop() -> Code
 
 // Where a branch goes, by token: the column of what procedures write is done, and lent again.
 fn mark(thin: &[u16], t: usize) -> usize
-    ensures { λ r. ⌜ (r ≡ getD (thinOf (now (thin .entry)) .written) t 0) × (r < 65536) ⌝ }
+    ensures { λ r. ⌜ (r ≡ getD (thinOf (now (thin .entry)) .written) t 0) × (r < thinLimit) ⌝ }
 {
     written(thin, t)
 }
@@ -685,28 +682,23 @@ fn mark(thin: &[u16], t: usize) -> usize
 fn compared(kinds: &[u8], thin: &[u16], r: u64, t: usize, u: Use) -> Codes
     ensures { λ m. ⌜ m ≡ comparedCodes (now (kinds .entry)) (thinOf (now (thin .entry)) .written) r t u ⌝ }
 {
-    let mask = false_mask(kind(kinds, before(t, 1)));
-    apply_then(COMPARE, r, u, branch(mask, mark(thin, before(t, 3))))
+    let mask = false_mask(kind(kinds, less(t, 1)));
+    apply_then(COMPARE, r, u, branch(mask, mark(thin, less(t, 3))))
 }
 
 fn bare(kinds: &[u8], thin: &[u16], t: usize) -> Codes
     ensures { λ m. ⌜ m ≡ bareCodes (now (kinds .entry)) (thinOf (now (thin .entry)) .written) t ⌝ }
 {
     let mask = false_mask(kind(kinds, t));
-    Codes::One(branch(mask, mark(thin, before(t, 1))))
+    Codes::One(branch(mask, mark(thin, less(t, 1))))
 }
 
 // "compare with limit; exit branch": the control register and the operand u.
 fn limit(wide: &[u64], thin: &[u16], aim: Use, t: usize, u: Use) -> Codes
     ensures { λ m. ⌜ m ≡ limitCodes (wideOf (now (wide .entry)) .values) (thinOf (now (thin .entry)) .written) aim t u ⌝ }
 {
-    let mask = exit_mask(value(wide, before(t, 2)));
-    apply_then(
-        COMPARE,
-        held(aim),
-        u,
-        branch(mask, mark(thin, before(t, 3))),
-    )
+    let mask = exit_mask(value(wide, less(t, 2)));
+    apply_then(COMPARE, held(aim), u, branch(mask, mark(thin, less(t, 3))))
 }
 
 // "5A of the step; branch to the compare".
@@ -725,7 +717,7 @@ fn step(wide: &[u64], thin: &[u16], t: usize) -> Codes
 
 // Declarations, ends of statements, calls and GOTOs.
 fn others(thin: &[u16], family: u32, t: usize, n: Named) -> Codes
-    requires { ⌜ (t < TOKEN-LIMIT) × (n .goal < 65536) ⌝ }
+    requires { ⌜ (t < TOKEN-LIMIT) × (n .goal < thinLimit) ⌝ }
     ensures { λ m. ⌜ m ≡ otherCodes (thinOf (now (thin .entry)) .written) family t n ⌝ }
 {
     let r = n.register;
@@ -733,23 +725,17 @@ fn others(thin: &[u16], family: u32, t: usize, n: Named) -> Codes
     if family == tape::BASE {
         return Codes::One(base(r, goal));
     }
-    if family == tape::PROCEDURE {
-        return Codes::One(branch(ALWAYS, mark(thin, t + 1)));
-    }
     if family == tape::END_PROCEDURE {
         return Codes::One(Code::Two(RETURN, ALWAYS, r));
-    }
-    if family == tape::ELSE {
-        return Codes::One(branch(ALWAYS, mark(thin, t + 1)));
-    }
-    if family == tape::END_WHILE {
-        return Codes::One(branch(ALWAYS, mark(thin, t + 1)));
     }
     if family == tape::CALL {
         return Codes::One(link(r, mark(thin, goal)));
     }
     if family == tape::GOTO {
         return Codes::One(branch(ALWAYS, mark(thin, goal)));
+    }
+    if (family == tape::PROCEDURE) | ((family == tape::ELSE) | (family == tape::END_WHILE)) {
+        return Codes::One(branch(ALWAYS, mark(thin, t + 1)));
     }
     Codes::None
 }
@@ -765,7 +751,7 @@ pub fn codes_of(
     u: Use,
     n: Named,
 ) -> Codes
-    requires { ⌜ (t < TOKEN-LIMIT) × (n .goal < 65536) ⌝ }
+    requires { ⌜ (t < TOKEN-LIMIT) × (n .goal < thinLimit) ⌝ }
     ensures { λ m. ⌜ m ≡ codesOf (now (kinds .entry)) (wideOf (now (wide .entry)) .values) (thinOf (now (thin .entry)) .written) family t w u n ⌝ }
 {
     let aim = w.aim;
@@ -773,7 +759,7 @@ pub fn codes_of(
         return first(aim, w.sign, u);
     }
     if family == tape::TERM {
-        return next(aim, kind(kinds, before(t, 1)), u);
+        return next(aim, kind(kinds, less(t, 1)), u);
     }
     if family == tape::COMPARED {
         return compared(kinds, thin, n.register, t, u);
@@ -788,4 +774,18 @@ pub fn codes_of(
         return step(wide, thin, t);
     }
     others(thin, family, t, n)
+}
+
+// What an event makes, by its number and its token.
+pub fn event(kinds: &[u8], wide: &[u64], thin: &[u16], op: u32, t: usize, w: Writing) -> Emitted
+    requires { ⌜ t < TOKEN-LIMIT ⌝ }
+    ensures { λ r. ⌜ r ≡ emittedIn (now (kinds .entry)) (wideOf (now (wide .entry))) (thinOf (now (thin .entry))) op t w ⌝ }
+{
+    let family = tape::family(op);
+    let u = operand(wide, thin, tape::form(op), t);
+    let register = register_at(wide, thin, family, t);
+    let goal = goal_at(thin, family, t);
+    let codes = codes_of(kinds, wide, thin, family, t, w, u, Named { register, goal });
+    let writing = written_after(family, w, u, register);
+    Emitted { codes, writing }
 }

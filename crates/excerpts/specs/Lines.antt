@@ -1,9 +1,9 @@
 -- The line and the column of a place: "line = 1 + newlines before, column = 1 + bytes since"; the part of the line that is shown, and what is underlined.
 use Prim.Native.Nat.{ℕ, _+_, _-_, min}
-use mathlib.Core.Bool.{Bool, true, false, _||_}
+use mathlib.Core.Bool.{Bool, _||_}
 use mathlib.Core.List.{List, [], _∷_, _++_}
 use lib.Dec.{eqb}
-use lib.ListN.{length, take, drop}
+use lib.ListN.{take, drop}
 use Rattle.base.specs.Choose.{choose}
 use Rattle.base.specs.Text.{bytes, within}
 use Rattle.base.specs.Runs.{runLen}

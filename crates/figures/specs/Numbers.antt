@@ -1,7 +1,7 @@
 -- Numbers as the language has them, and with `-` for `_`: "decimal 0 to 2147483647; with `_` directly in front, `_0` to `_2147483648`; or `#` and one or more
 -- hexadecimal digits with a value below 2^32, taken as 32 bits".
-use Prim.Native.Nat.{ℕ, zero, suc, _+_, _-_, _*_, _%_, _^_}
-use mathlib.Core.Bool.{Bool, true, false, _||_}
+use Prim.Native.Nat.{ℕ, _+_, _-_, _*_, _%_, _^_}
+use mathlib.Core.Bool.{true, false, _||_}
 use mathlib.Core.List.{List, [], _∷_}
 use lib.Dec.{ltb, leb, eqb}
 use lib.ListN.{length, getD, drop}

@@ -1,7 +1,7 @@
 -- A text that is written from the front of lent room: as much of it as there is room for, and behind it what stood there.
 use Prim.Native.Nat.{ℕ, min}
 use mathlib.Core.Path.{_≡_}
-use mathlib.Core.List.{List, [], _∷_, _++_}
+use mathlib.Core.List.{List, _++_}
 use lib.ListN.{length, take, drop}
 
 abbrev pub written : List ℕ → List ℕ → List ℕ

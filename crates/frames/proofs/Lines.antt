@@ -9,7 +9,7 @@ use lib.Seq.{sets, take-all, drop-drop}
 use Rattle.base.specs.Numbers.{bytesOf}
 use Rattle.base.proofs.Parts.{drop-turn, sets-append}
 use Rattle.objtext.specs.Object.{hexDigit, hex, line, newline, contentFrame, contentFrames, framesFor, textOf}
-use Rattle.objtext.specs.Reader.{contentLength}
+use Rattle.objtext.specs.Reader.{contentLength, lineLength, frameHeadBytes, bytesPlace}
 use Rattle.objtext.proofs.Lines.{length-hex, length-line}
 
 -- ── digits ──
@@ -33,7 +33,7 @@ pub line-laid : (s t : List ℕ) (at : ℕ) (f : List ℕ) → t ≡ sets s at (
 line-laid s t at f e = rw (e, ← length-hex f) (sym (sets-append s at (hex f) (newline ∷ [])))
 
 -- a frame's head, and its bytes behind it
-pub frame-laid : (s t u : List ℕ) (at : ℕ) (k o : ℕ) (bs : List ℕ) → t ≡ sets s at (hex (0 ∷ k ∷ o / 256 % 256 ∷ o % 256 ∷ length bs ∷ [])) → u ≡ sets t (at + 10) (line bs)
+pub frame-laid : (s t u : List ℕ) (at : ℕ) (k o : ℕ) (bs : List ℕ) → t ≡ sets s at (hex (0 ∷ k ∷ o / 256 % 256 ∷ o % 256 ∷ length bs ∷ [])) → u ≡ sets t (at + bytesPlace) (line bs)
     → u ≡ sets s at (line (contentFrame k o bs))
 unfolding bytesOf
 frame-laid s t u at k o bs e q = q ∙ rw e (sym (sets-append s at (hex (0 ∷ k ∷ o / 256 % 256 ∷ o % 256 ∷ length bs ∷ [])) (line bs)))
@@ -78,13 +78,13 @@ module _ (k : ℕ) (bs : List ℕ) (o e : ℕ) (h : o < length bs) (m : e ≡ mi
   taken = omega (arith, length-take (e - o) (drop o bs), length-drop o bs)
 
   pub content-on : (s t : List ℕ) (at : ℕ) {z : List ℕ} → t ≡ sets s at (line (contentFrame k o (take (e - o) (drop o bs)))) → sets s at (rest k bs o) ≡ z
-      → sets t (at + (2 * (e - o) + 11)) (rest k bs e) ≡ z
+      → sets t (at + (2 * (e - o) + lineLength frameHeadBytes)) (rest k bs e) ≡ z
   unfolding bytesOf
   content-on s t at q g =
-      let l : length (line (contentFrame k o (take (e - o) (drop o bs)))) ≡ 2 * (e - o) + 11 = omega (arith, length-line (contentFrame k o (take (e - o) (drop o bs))), taken) in
+      let l : length (line (contentFrame k o (take (e - o) (drop o bs)))) ≡ 2 * (e - o) + lineLength frameHeadBytes = omega (arith, length-line (contentFrame k o (take (e - o) (drop o bs))), taken) in
       rw (q, ← l) (sym (sets-append s at (line (contentFrame k o (take (e - o) (drop o bs)))) (rest k bs e)) ∙ (ap (λ (u : List ℕ). sets s at u) (sym first) ∙ g))
 
-  pub room-on : contentLength (length bs - o) ≡ 2 * (e - o) + 11 + contentLength (length bs - e)
+  pub room-on : contentLength (length bs - o) ≡ 2 * (e - o) + lineLength frameHeadBytes + contentLength (length bs - e)
   room-on = omega arith
 
 pub content-end : (s : List ℕ) (at k : ℕ) (bs : List ℕ) (o : ℕ) {z : List ℕ} → length bs ≤ o → sets s at (rest k bs o) ≡ z → s ≡ z

@@ -11,19 +11,20 @@ use Rattle.objtext.specs.Object.{Segment, program, cells, line, headFrame, cont
 use Rattle.objtext.proofs.Lines.{length-line}
 use Rattle.objtext.proofs.Written.{text-append, length-frames}
 use Rattle.frames.specs.Frames.{laterData, framesFrom, objectOf, programLength, dataLength, laterLength, lengthFor}
+use Rattle.objtext.specs.Reader.{dataLine, programLine}
 
 -- ── segments ──
 
 abbrev content : ℕ → List ℕ → List ℕ
 content k bs = textOf (contentFrames (framesFor (length bs)) k 0 bs)
 
-pub program-laid : (s t u : List ℕ) (at : ℕ) (bs : List ℕ) → t ≡ sets s at (line (1 ∷ 0 ∷ length bs / 256 % 256 ∷ length bs % 256 ∷ [])) → u ≡ sets t (at + 9) (content 0 bs)
+pub program-laid : (s t u : List ℕ) (at : ℕ) (bs : List ℕ) → t ≡ sets s at (line (1 ∷ 0 ∷ length bs / 256 % 256 ∷ length bs % 256 ∷ [])) → u ≡ sets t (at + programLine) (content 0 bs)
     → u ≡ sets s at (textOf (segmentFrames 0 (program bs)))
 unfolding bytesOf
 program-laid s t u at bs e q = q ∙ rw e (sym (sets-append s at (line (1 ∷ 0 ∷ length bs / 256 % 256 ∷ length bs % 256 ∷ [])) (content 0 bs)))
 
 pub data-laid : (s t u : List ℕ) (at k : ℕ) (bs : List ℕ) (from to : ℕ)
-    → t ≡ sets s at (line (2 ∷ k ∷ length bs / 256 % 256 ∷ length bs % 256 ∷ from / 256 % 256 ∷ from % 256 ∷ to / 256 % 256 ∷ to % 256 ∷ [])) → u ≡ sets t (at + 17) (content k bs)
+    → t ≡ sets s at (line (2 ∷ k ∷ length bs / 256 % 256 ∷ length bs % 256 ∷ from / 256 % 256 ∷ from % 256 ∷ to / 256 % 256 ∷ to % 256 ∷ [])) → u ≡ sets t (at + dataLine) (content k bs)
     → u ≡ sets s at (textOf (segmentFrames k (cells bs from to)))
 unfolding bytesOf
 data-laid s t u at k bs from to e q =

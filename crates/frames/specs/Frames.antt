@@ -3,7 +3,7 @@ use mathlib.Core.List.{List, [], _∷_, _++_}
 use Prim.Native.Nat.{ℕ, zero, suc, _+_}
 use lib.ListN.{length}
 use Rattle.objtext.specs.Object.{Segment, program, cells, segmentFrames}
-use Rattle.objtext.specs.Reader.{contentLength}
+use Rattle.objtext.specs.Reader.{lineLength, programLine, dataLine, contentLength}
 
 -- "Data head: … writable from, writable to (the cells; …)": segments 2 and 3 hold nothing but cells; as many as there are base declarations
 abbrev pub laterData : (bases : ℕ) (second third : List ℕ) → List Segment
@@ -23,10 +23,10 @@ objectOf code first to bases second third = program code ∷ cells first 16 to �
 -- ── how long the text is, by the lengths of the contents ──
 
 abbrev pub programLength : ℕ → ℕ
-programLength n = 9 + contentLength n
+programLength n = programLine + contentLength n
 
 abbrev pub dataLength : ℕ → ℕ
-dataLength n = 17 + contentLength n
+dataLength n = dataLine + contentLength n
 
 abbrev pub laterLength : (bases second third : ℕ) → ℕ
 laterLength zero second third = 0
@@ -34,4 +34,4 @@ laterLength (suc zero) second third = dataLength second
 laterLength (suc (suc n)) second third = dataLength second + dataLength third
 
 unfoldable pub lengthFor : (code first bases second third : ℕ) → ℕ
-lengthFor code first bases second third = programLength code + (dataLength first + (laterLength bases second third + 3))
+lengthFor code first bases second third = programLength code + (dataLength first + (laterLength bases second third + lineLength 1))

@@ -3,20 +3,17 @@ ghost use mathlib.Core.Path.{_≡_};
 ghost use Prim.Native.Nat.{_+_, _*_, _<_, _≤_};
 ghost use lib.ListN.{length};
 ghost use lib.Seq.{sets};
-ghost use Rattle.objtext.specs.Object.{program, cells, hexDigit, hex, line, contentFrame, contentFrames, framesFor, segmentFrames, textOf, objectText};
-ghost use Rattle.objtext.specs.Reader.{contentLength};
+ghost use Rattle.objtext.specs.Object.{program, cells, hexDigit, hex, line, frameBytes, contentFrame, contentFrames, framesFor, segmentFrames, textOf, objectText, programLimit, dataLimit, contentLimit};
+ghost use Rattle.objtext.specs.Reader.{lineLength, frameHeadBytes, contentLength};
 ghost use Rattle.frames.specs.Frames.{laterData, framesFrom, objectOf, programLength, dataLength, laterLength, lengthFor};
 use base::least;
+use objtext::BYTES_PLACE;
 use objtext::DATA_HEAD;
+use objtext::FRAME_BYTES;
+use objtext::FRAME_HEAD_LINE;
+use objtext::NEWLINE;
 use objtext::PROGRAM_HEAD;
 use objtext::content_length;
-
-const NEWLINE: u8 = 10;
-
-// "16 bytes a frame", behind a head of five bytes.
-const FRAME_BYTES: usize = 16;
-
-const FRAME_HEAD: usize = 10;
 
 // "last line FF".
 const LAST: [u8; 1] = [255];
@@ -84,7 +81,7 @@ fn put_line(out: &mut [u8], at: usize, frame: &[u8])
 
 // "Content: 00, number, offset (2 bytes), count, bytes".
 fn put_frame(out: &mut [u8], at: usize, k: u8, o: usize, content: &[u8])
-    requires { ⌜ (length (now content) ≤ 16) × (at + (2 * length (now content) + 11) ≤ length (now out)) ⌝ }
+    requires { ⌜ (length (now content) ≤ frameBytes) × (at + lineLength (frameHeadBytes + length (now content)) ≤ length (now out)) ⌝ }
     ensures { λ _. ⌜ now (out .exit) ≡ sets (now (out .entry)) at (line (contentFrame k o (now (content .entry)))) ⌝ }
 {
     let head = [
@@ -95,20 +92,21 @@ fn put_frame(out: &mut [u8], at: usize, k: u8, o: usize, content: &[u8])
         content.len() as u8,
     ];
     put_hex(out, at, &head);
-    put_line(out, at + FRAME_HEAD, content);
+    put_line(out, at + BYTES_PLACE, content);
 }
 
 // The frames of a segment's bytes; the place behind them.
 fn put_content(out: &mut [u8], at: usize, k: u8, content: &[u8]) -> usize
-    requires { ⌜ (length (now content) ≤ 4096) × (at + contentLength (length (now content)) ≤ length (now out)) ⌝ }
-    ensures { λ r. ⌜ (r ≡ at + contentLength (length (now (content .entry)))) × (now (out .exit) ≡ sets (now (out .entry)) at (textOf (contentFrames (framesFor (length (now (content .entry)))) k 0 (now (content .entry))))) ⌝ }
+    requires { ⌜ (length (now content) ≤ contentLimit) × (at + contentLength (length (now content)) ≤ length (now out)) ⌝ }
+    ensures { λ r. ⌜ (r ≡ at + contentLength (length (now (content .entry))))
+        × (now (out .exit) ≡ sets (now (out .entry)) at (textOf (contentFrames (framesFor (length (now (content .entry)))) k 0 (now (content .entry))))) ⌝ }
 {
     let mut o: usize = 0;
     let mut p = at;
     while o < content.len() {
         let e = least(o + FRAME_BYTES, content.len());
         put_frame(out, p, k, o, &content[o..e]);
-        p += 2 * (e - o) + 11;
+        p += 2 * (e - o) + FRAME_HEAD_LINE;
         o = e;
     }
     p
@@ -116,7 +114,7 @@ fn put_content(out: &mut [u8], at: usize, k: u8, content: &[u8]) -> usize
 
 // "Program head: 01, number, length (2 bytes)"; the place behind the segment's frames.
 fn put_program(out: &mut [u8], at: usize, content: &[u8]) -> usize
-    requires { ⌜ (length (now content) ≤ 4096) × (at + programLength (length (now content)) ≤ length (now out)) ⌝ }
+    requires { ⌜ (length (now content) ≤ programLimit) × (at + programLength (length (now content)) ≤ length (now out)) ⌝ }
     ensures { λ r. ⌜ (r ≡ at + programLength (length (now (content .entry)))) × (now (out .exit) ≡ sets (now (out .entry)) at (textOf (segmentFrames 0 (program (now (content .entry)))))) ⌝ }
 {
     let n = content.len();
@@ -127,7 +125,7 @@ fn put_program(out: &mut [u8], at: usize, content: &[u8]) -> usize
 
 // "Data head: 02, number, length, writable from, writable to".
 fn put_data(out: &mut [u8], at: usize, k: u8, content: &[u8], from: usize, to: usize) -> usize
-    requires { ⌜ (length (now content) ≤ 4096) × (at + dataLength (length (now content)) ≤ length (now out)) ⌝ }
+    requires { ⌜ (length (now content) ≤ dataLimit) × (at + dataLength (length (now content)) ≤ length (now out)) ⌝ }
     ensures { λ r. ⌜ (r ≡ at + dataLength (length (now (content .entry)))) × (now (out .exit) ≡ sets (now (out .entry)) at (textOf (segmentFrames k (cells (now (content .entry)) from to)))) ⌝ }
 {
     let n = content.len();
@@ -147,8 +145,9 @@ fn put_data(out: &mut [u8], at: usize, k: u8, content: &[u8], from: usize, to: u
 
 // The segments of the base declarations.
 fn put_later(out: &mut [u8], at: usize, bases: usize, second: &[u8], third: &[u8]) -> usize
-    requires { ⌜ (length (now second) ≤ 4096) × (length (now third) ≤ 4096) × (at + laterLength bases (length (now second)) (length (now third)) ≤ length (now out)) ⌝ }
-    ensures { λ r. ⌜ (r ≡ at + laterLength bases (length (now (second .entry))) (length (now (third .entry)))) × (now (out .exit) ≡ sets (now (out .entry)) at (textOf (framesFrom 2 (laterData bases (now (second .entry)) (now (third .entry)))))) ⌝ }
+    requires { ⌜ (length (now second) ≤ dataLimit) × (length (now third) ≤ dataLimit) × (at + laterLength bases (length (now second)) (length (now third)) ≤ length (now out)) ⌝ }
+    ensures { λ r. ⌜ (r ≡ at + laterLength bases (length (now (second .entry))) (length (now (third .entry))))
+        × (now (out .exit) ≡ sets (now (out .entry)) at (textOf (framesFrom 2 (laterData bases (now (second .entry)) (now (third .entry)))))) ⌝ }
 {
     if bases == 0 {
         return at;
@@ -162,7 +161,7 @@ fn put_later(out: &mut [u8], at: usize, bases: usize, second: &[u8], third: &[u8
 
 // How long the text of an object is, by the lengths of its segments.
 pub fn text_length(code: usize, first: usize, bases: usize, second: usize, third: usize) -> usize
-    requires { ⌜ (code ≤ 4096) × (first ≤ 4096) × (second ≤ 4096) × (third ≤ 4096) ⌝ }
+    requires { ⌜ (code ≤ programLimit) × (first ≤ dataLimit) × (second ≤ dataLimit) × (third ≤ dataLimit) ⌝ }
     ensures { λ r. ⌜ r ≡ lengthFor code first bases second third ⌝ }
 {
     let two = PROGRAM_HEAD + content_length(code) + (DATA_HEAD + content_length(first));
@@ -186,7 +185,8 @@ pub fn write_object(
     second: &[u8],
     third: &[u8],
 )
-    requires { ⌜ (length (now code) ≤ 4096) × (length (now first) ≤ 4096) × (length (now second) ≤ 4096) × (length (now third) ≤ 4096) × (lengthFor (length (now code)) (length (now first)) bases (length (now second)) (length (now third)) ≤ length (now out)) ⌝ }
+    requires { ⌜ (length (now code) ≤ programLimit) × (length (now first) ≤ dataLimit) × (length (now second) ≤ dataLimit) × (length (now third) ≤ dataLimit)
+        × (lengthFor (length (now code)) (length (now first)) bases (length (now second)) (length (now third)) ≤ length (now out)) ⌝ }
     ensures { λ _. ⌜ now (out .exit) ≡ sets (now (out .entry)) 0 (objectText (objectOf (now (code .entry)) (now (first .entry)) to bases (now (second .entry)) (now (third .entry)))) ⌝ }
 {
     let data = put_program(out, 0, code);

@@ -319,7 +319,8 @@ module _ (kinds others : List ℕ) (k : ℕ) (same : SameBefore (k + 1) kinds ot
   unfolding afterName andThen look
   name-alike n i = here (λ z. eqb z K.BECOMES || eqb z K.OPEN) i _ _ _ _ (λ b. after _ _ (assignment-alike n i) (λ a j le. gives)) (λ b. gives)
 
-  statement-of-alike : (room : ℕ) (c c′ : Reader Statement) (i : ℕ) → Alike (StatementAt room) i (c kinds i) (c′ others i) → Alike (StatementAt room) i (statementOf c kinds i) (statementOf c′ others i)
+  statement-of-alike : (room : ℕ) (c c′ : Reader Statement) (i : ℕ) → Alike (StatementAt room) i (c kinds i) (c′ others i)
+      → Alike (StatementAt room) i (statementOf c kinds i) (statementOf c′ others i)
   unfolding statementOf andThen look next
   statement-of-alike room c c′ i h = here (λ z. member z openers) i _ _ _ _ (λ o. h)
       (λ o. here (λ z. eqb z K.NAME) i _ _ _ _ (λ n. nexts (name-alike i (i + 1)))
@@ -434,7 +435,8 @@ module _ (kinds others : List ℕ) (k : ℕ) (same : SameBefore (k + 1) kinds ot
     statement-alike zero zero h i = statement-of-alike zero _ _ i refuses
     statement-alike zero (suc room′) h i = statement-of-alike zero _ _ i (deeper i (opened _ _ i))
     statement-alike (suc room) zero h i = absurd (omega arith)
-    statement-alike (suc room) (suc room′) h i = statement-of-alike (suc room) _ _ i (construct-alike room room′ (λ j. statement-alike room room′ (omega arith) j) (λ j. procedure-alike room room′ (omega arith) j) i)
+    statement-alike (suc room) (suc room′) h i = statement-of-alike (suc room) _ _ i
+        (construct-alike room room′ (λ j. statement-alike room room′ (omega arith) j) (λ j. procedure-alike room room′ (omega arith) j) i)
 
     procedure-alike : (room room′ : ℕ) → room ≤ room′ → (i : ℕ) → Alike (ProcedureAt room) i (procedureOf room kinds i) (procedureOf room′ others i)
     procedure-alike zero zero h i = refuses

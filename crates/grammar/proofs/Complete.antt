@@ -122,7 +122,8 @@ module _ (kinds : List ℕ) where
   unfolding registerItem isRegister andThen want
   complete-register r i j (e, h, (o, (y, z, (c, q)))) f = rw (h, o, z, c, q, ← y, ← e)
 
-  module _ {A : Type 0} (is : A → Part) (read : Reader A) (rises : (x : A) (i j : ℕ) → is x i j → i ≤ j) (complete : (x : A) (i j : ℕ) → is x i j → has kinds j K.OPEN ≡ false → read kinds i ≡ ok x j) where
+  module _ {A : Type 0} (is : A → Part) (read : Reader A) (rises : (x : A) (i j : ℕ) → is x i j → i ≤ j) (complete : (x : A) (i j : ℕ) → is x i j
+      → has kinds j K.OPEN ≡ false → read kinds i ≡ ok x j) where
     complete-list : (xs : List A) (fuel i j : ℕ) → areSome kinds is xs i j → length kinds < suc fuel + i → has kinds j K.OPEN ≡ false
         → has kinds j K.COMMA ≡ false → listOf read (suc fuel) kinds i ≡ ok xs j
     unfolding listOf areSome areMore look next andThen
@@ -316,7 +317,10 @@ module _ (kinds : List ℕ) where
     unfolding bodyOf look next andThen
     items-step fuel i j xs h e = rw (fails kinds i (λ k. member k declarators) (K.END ∷ K.NAME ∷ notNamed) h refl, isnt-one kinds i (K.END ∷ K.NAME ∷ notNamed) K.PROCEDURE h refl, e)
 
-  procedure-of-step : (room i m : ℕ) (s : Statement) → getD kinds (i + 1) 0 ≡ K.NAME → getD kinds (i + 1 + 1) 0 ≡ K.OPEN → getD kinds (i + 1 + 1 + 1) 0 ≡ K.NAME → getD kinds (i + 1 + 1 + 1 + 1) 0 ≡ K.CLOSE → getD kinds (i + 1 + 1 + 1 + 1 + 1) 0 ≡ K.SEMICOLON → statement room kinds (i + 1 + 1 + 1 + 1 + 1 + 1) ≡ ok s m → procedureOf (suc room) kinds i ≡ ok (record { name = i + 1; return = i + 1 + 1 + 1; body = s }) m
+  procedure-of-step : (room i m : ℕ) (s : Statement) → getD kinds (i + 1) 0 ≡ K.NAME → getD kinds (i + 1 + 1) 0 ≡ K.OPEN → getD kinds (i + 1 + 1 + 1) 0 ≡ K.NAME
+      → getD kinds (i + 1 + 1 + 1 + 1) 0 ≡ K.CLOSE → getD kinds (i + 1 + 1 + 1 + 1 + 1) 0 ≡ K.SEMICOLON
+      → statement room kinds (i + 1 + 1 + 1 + 1 + 1 + 1) ≡ ok s m
+      → procedureOf (suc room) kinds i ≡ ok (record { name = i + 1; return = i + 1 + 1 + 1; body = s }) m
   unfolding statement next andThen want
   procedure-of-step room i m s n o r c d e = rw (n, o, r, c, d, e)
 
@@ -398,7 +402,9 @@ module _ (kinds : List ℕ) where
     complete-body (procedure a t s b) (suc room) zero i j h n l = absurd (let r = body-real (procedure a t s b) i j h in omega arith)
     complete-body (procedure a t s b) (suc room) (suc fuel) i j (m, (w, (e, x, (o, (y, z, (p, (d, k)))))), (c, r)) n l =
         let le = keep-statement {kinds = kinds} {others = kinds} s .rises k in
-        rw (e, y) (procedure-step _ _ fuel i m j _ b w (procedure-of-step room i m s x o z p d (complete-statement s room _ m k (omega arith) (stop-semicolon m c) (no-else m s c refl))) c (complete-body b (suc room) fuel (m + 1) j r (omega arith) (omega arith)))
+        rw (e, y) (procedure-step _ _ fuel i m j _ b w
+        (procedure-of-step room i m s x o z p d (complete-statement s room _ m k (omega arith) (stop-semicolon m c) (no-else m s c refl))) c
+        (complete-body b (suc room) fuel (m + 1) j r (omega arith) (omega arith)))
     complete-body (items xs) room zero i j h n l = absurd (let r = body-real (items xs) i j h in omega arith)
     complete-body (items xs) room (suc fuel) i j h n l = items-step _ _ fuel i j xs (items-first xs i j h) (complete-items xs room (suc (length kinds)) i j h n (omega arith))
 

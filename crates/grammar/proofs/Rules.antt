@@ -11,14 +11,14 @@ use lib.Dec.{eqb}
 use lib.ListN.{getD, length}
 use borrow.Author.Tests.{eqb-true, eq-eqb}
 use Rattle.base.specs.Lists.{member}
-use Rattle.base.proofs.Tests.{cases, never-true, not-true}
+use Rattle.base.proofs.Tests.{cases, never-true, not-true, both}
 use Rattle.base.proofs.Lists.{each}
 use Rattle.token.specs.Kinds as K
 use Rattle.grammar.specs.Tree.{Designator, Operand, number, place, Sign, plain, abs, neg, negAbs, Term, Assignment, Condition, compared, bare, Width, full, short, Register, Item, Declaration, registers, cells, base, Statement, assign, call, block, goto, null, ifThen, ifElse, while, for, Body, declare, procedure, items, Items, ended, label, item}
 use Rattle.grammar.specs.Reader.{Result, ok, bad, Reader, andThen, look, next, want}
 use Rattle.grammar.specs.Grammar.{compounds, designatorOf, operand, relations, condition, operators, terms, signOf, assignmentOf, numbers, cellItem, registerItem, listOf, typeOf, cellsOf, afterType, declaration, afterName, openers, statementOf, itemsOf, Procedure, declarators, bodyOf, ifOf, constructOf, statement, procedureOf, nesting, program}
 use Rattle.grammar.specs.Derives.{Part, Begins, only, within, constructs, nestingOf, bodyNesting, itemsNesting, isDesignator, isOperand, isCondition, isSign, areTerms, isAssignment, areNumbers, isItem, isRegister, areMore, areSome, integerOrLogical, isType, isDeclaration, simple, isProcedure, isStatement, isBody, isItems, isBlock, isProgram, isProgramWithin}
-use Rattle.grammar.proofs.Tests.{has, real, later, the-one, second, first, both}
+use Rattle.grammar.proofs.Tests.{has, real, later, the-one, second, first}
 use Rattle.grammar.proofs.Kept.{keep-designator, keep-operand, keep-condition, keep-sign, keep-terms, keep-assignment, keep-numbers, keep-item, keep-register, keep-some, keep-type, keep-declaration, keep-procedure, keep-statement, keep-body, keep-items, keep-only, keep-within, keep-block}
 use Rattle.grammar.proofs.Sequences.{Rule, Plain, always, plainly, Sequence, reach, right-onward, made, token, oneOf, part, parens, Each, Leads, Right, leads-token, leads-one, leads-part, leads-begins, part-begins, starts, gives, refuses, needs, wants, wants-one, wants-parens, reads, either}
 
@@ -242,7 +242,8 @@ module _ {A : Type 0} (one : Plain A) where
         (λ c. absurd (let t = real kinds m K.COMMA (omega arith) (eqb-true _ _ c) in let r = one .kept {kinds = kinds} {others = kinds} x .rises h in omega arith))
         (λ c. gives l))
     right-list (suc fuel) i enough = reads _ (as-one i) (right i) (λ x m h l. either (has kinds m K.COMMA) _ _ _
-        (λ c. reads _ (leads-token (leads-part (as-more i) h) (eqb-true _ _ c)) (right-list fuel (m + 1) (let r = one .kept {kinds = kinds} {others = kinds} x .rises h in omega arith)) (λ xs j hs. gives))
+        (λ c. reads _ (leads-token (leads-part (as-more i) h) (eqb-true _ _ c))
+        (right-list fuel (m + 1) (let r = one .kept {kinds = kinds} {others = kinds} x .rises h in omega arith)) (λ xs j hs. gives))
         (λ c. gives l))
 
 module _ {kinds : List ℕ} (i : ℕ) where
@@ -480,7 +481,9 @@ module _ (kinds : List ℕ) where
       (λ e. reads _ (as-assign room n) (right-assignment kinds n h) (λ a j ha. gives))
       (λ e. gives (leads-token (as-call room n) h))
 
-  right-statement-of : (room : ℕ) (construct : Reader Statement) (i : ℕ) → (member (getD kinds i 0) openers ≡ true → Right (statementIn room) kinds i (construct kinds i)) → Right (statementIn room) kinds i (statementOf construct kinds i)
+  right-statement-of : (room : ℕ) (construct : Reader Statement) (i : ℕ)
+      → (member (getD kinds i 0) openers ≡ true → Right (statementIn room) kinds i (construct kinds i))
+      → Right (statementIn room) kinds i (statementOf construct kinds i)
   unfolding statementOf andThen look next
   right-statement-of room construct i right = either (member (getD kinds i 0) openers) _ _ _ right
       (λ o. either (has kinds i K.NAME) _ _ _ (λ n. right-after-name room i (eqb-true _ _ n))
@@ -519,7 +522,9 @@ module _ (kinds : List ℕ) where
         (λ e. gives l))
 
     -- the reader of a procedure, wherever PROCEDURE stands, is right as the beginning of what follows BEGIN
-    module _ (proc : Reader Procedure) (right-proc : (i : ℕ) → getD kinds i 0 ≡ K.PROCEDURE → (f : Procedure → ℕ → Result Body) → ((p : Procedure) (m : ℕ) → Leads (bodyIn room) kinds i (afterProcedure room p) m → Right (bodyIn room) kinds i (f p m)) → Right (bodyIn room) kinds i (andThen (proc kinds i) f)) where
+    module _ (proc : Reader Procedure) (right-proc : (i : ℕ) → getD kinds i 0 ≡ K.PROCEDURE → (f : Procedure → ℕ → Result Body)
+        → ((p : Procedure) (m : ℕ) → Leads (bodyIn room) kinds i (afterProcedure room p) m → Right (bodyIn room) kinds i (f p m))
+        → Right (bodyIn room) kinds i (andThen (proc kinds i) f)) where
       right-body : (fuel i : ℕ) → Right (bodyIn room) kinds i (bodyOf inner proc fuel kinds i)
       unfolding bodyOf andThen look next
       right-body zero i = refuses (as-no-declaration room i)
@@ -537,7 +542,9 @@ module _ (kinds : List ℕ) where
           (λ f. reads _ (leads-token (as-if-then room i) (eqb-true _ _ f)) (right-condition kinds (i + 1)) (λ c m h l. wants _ l (λ t l. right-if i m c (eqb-true _ _ f) h t)))
           (λ f. either (has kinds i K.WHILE) _ _ _
           (λ w. reads _ (leads-token (as-while room i) (eqb-true _ _ w)) (right-condition kinds (i + 1)) (λ c m h l. wants _ l (λ d l. reads _ l (right-inner (m + 1)) (λ s j hs. gives))))
-          (λ w. let l = leads-token (as-for room i) (the-one _ _ (later (getD kinds i 0) K.WHILE (K.FOR ∷ []) (later (getD kinds i 0) K.IF (K.WHILE ∷ K.FOR ∷ []) (later (getD kinds i 0) K.BEGIN (K.IF ∷ K.WHILE ∷ K.FOR ∷ []) o b) f) w)) in
+          (λ w. let l = leads-token (as-for room i)
+          (the-one _ _ (later (getD kinds i 0) K.WHILE (K.FOR ∷ [])
+          (later (getD kinds i 0) K.IF (K.WHILE ∷ K.FOR ∷ []) (later (getD kinds i 0) K.BEGIN (K.IF ∷ K.WHILE ∷ K.FOR ∷ []) o b) f) w)) in
           needs _ _ l (λ n. reads _ l (right-assignment kinds (i + 1) n) (λ a m h l. wants _ l (λ x l. wants _ l (λ v l. wants _ l (λ y l.
           reads _ l (right-operand kinds (m + 1 + 1 + 1)) (λ t q ht l. wants _ l (λ z l. reads _ l (right-inner (q + 1)) (λ s j hs. gives)))))))))))
 
@@ -588,7 +595,8 @@ module _ (kinds : List ℕ) where
 
     right-statement : (room i : ℕ) → Right (statementIn room) kinds i (statement room kinds i)
     right-statement zero i = right-statement-of zero _ i (too-deep i)
-    right-statement (suc room) i = right-statement-of (suc room) _ i (right-construct room (statement room) (λ j. right-statement room j) (procedureOf room) (λ j h f k. right-procedure room j h f k) i)
+    right-statement (suc room) i = right-statement-of (suc room) _ i (right-construct room (statement room) (λ j. right-statement room j) (procedureOf room)
+        (λ j h f k. right-procedure room j h f k) i)
 
     right-procedure : (room i : ℕ) → getD kinds i 0 ≡ K.PROCEDURE → (f : Procedure → ℕ → Result Body)
         → ((p : Procedure) (m : ℕ) → Leads (bodyIn room) kinds i (afterProcedure room p) m → Right (bodyIn room) kinds i (f p m))

@@ -8,7 +8,7 @@ use lib.Dec.{eqb}
 use lib.ListN.{getD, length}
 use borrow.Author.Tests.{eqb-true, eq-eqb}
 use Rattle.base.specs.Lists.{All, member}
-use Rattle.base.proofs.Tests.{never-true, not-true, cases}
+use Rattle.base.proofs.Tests.{never-true, not-true, cases, both}
 use Rattle.base.proofs.Lists.{each}
 
 abbrev pub has : List ℕ → (i k : ℕ) → Bool
@@ -41,10 +41,6 @@ second k x y h e = the-one k y (later k x (y ∷ []) h e)
 
 pub first : (k x y : ℕ) → member k (x ∷ y ∷ []) ≡ true → eqb k y ≡ false → k ≡ x
 first k x y h e = each (λ z. eqb z y ≡ false → z ≡ x) (x ∷ y ∷ []) (λ d. refl, (λ d. never-true (sym d ∙ eq-eqb y y refl), tt)) k h e
-
-pub both : (a b : Bool) → (a && b) ≡ true → (a ≡ true) × (b ≡ true)
-both true b h = (refl, h)
-both false b h = never-true h
 
 -- what each number of a list passes, one that is in it passes
 abbrev pub allPass : (ℕ → Bool) → List ℕ → Bool

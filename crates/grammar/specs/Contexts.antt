@@ -2,7 +2,7 @@
 -- come. An event agrees with the events before it (`Suits`), and a pass that is handed numbers alone keeps what stands open.
 use mathlib.Core.Path.{_≡_}
 use mathlib.Core.List.{List, [], _∷_}
-use mathlib.Core.Option.{Option, none, some}
+use mathlib.Core.Option.{Option}
 use Prim.Native.Nat.{ℕ}
 use Rattle.grammar.specs.Tree.{Designator, Sign, plain, abs, neg, negAbs, Width}
 use Rattle.grammar.specs.Events.{Entry, named, celled, itemed, valued, based, Phrase, aimed, driven, signed, given, joined, tested, limited, called, Event, edge, route, entry, phrase, mark}

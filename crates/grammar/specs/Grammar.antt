@@ -1,7 +1,7 @@
 -- Document 01, "Grammar": a reader for each rule, the last rule first. "4: no program begins with the tokens up to here" is given at the first token that no
 -- rule has there; "5: BEGIN, IF, WHILE, FOR or PROCEDURE inside 64 such constructs" where the room for them is used up. What the grammar lacks is left out.
 use mathlib.Core.List.{List, [], _∷_}
-use mathlib.Core.Bool.{Bool, true, false, _&&_, _||_, not}
+use mathlib.Core.Bool.{_&&_, _||_, not}
 use mathlib.Core.Option.{Option, none, some}
 use Prim.Native.Nat.{ℕ, zero, suc}
 use lib.Dec.{eqb}
@@ -10,7 +10,7 @@ use Rattle.base.specs.Choose.{if_then_else_}
 use Rattle.base.specs.Lists.{member}
 use Rattle.token.specs.Kinds as K
 use Rattle.grammar.specs.Tree.{Designator, Operand, number, place, Sign, plain, abs, neg, negAbs, Term, Assignment, Condition, compared, bare, Width, full, short, Register, Item, Declaration, registers, cells, base, Statement, assign, call, block, goto, null, ifThen, ifElse, while, for, Body, declare, procedure, items, Items, ended, label, item}
-use Rattle.grammar.specs.Reader.{Result, ok, bad, Reader, andThen, _>>=_, _>>_, give, refuse, look, next, want, wantOne}
+use Rattle.grammar.specs.Reader.{Reader, _>>=_, _>>_, give, refuse, look, next, want, wantOne}
 
 -- a reader that is handed, as fuel for a list "{…}", the number of all tokens and one more, which no list uses up
 abbrev pub fuelled : {A : Type 0} → (ℕ → Reader A) → Reader A

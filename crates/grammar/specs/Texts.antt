@@ -2,14 +2,13 @@
 -- grammar; every program's events are one (proofs/Texts).
 use mathlib.Core.Path.{_≡_}
 use mathlib.Core.List.{List, [], _∷_}
-use mathlib.Core.Option.{Option, none, some}
+use mathlib.Core.Option.{none, some}
 use Prim.Native.Nat.{ℕ, _+_, _≤_}
 use Rattle.token.specs.Kinds as K
-use Rattle.grammar.specs.Tree.{Designator, Operand, Sign, Term, Condition, Width, Register, Item}
 use Rattle.grammar.specs.Grammar.{operators}
-use Rattle.grammar.specs.Derives.{Part, end, _⟫_, _▸_, _#_▸_, _∋_▸_, isDesignator, isOperand, isCondition, isSign, isRegister, isType, isProcedure}
+use Rattle.grammar.specs.Derives.{Part, end, _▸_, _#_▸_, _∋_▸_, isDesignator, isOperand, isCondition, isSign, isRegister, isType, isProcedure}
 use Rattle.grammar.specs.Events.{Edge, opened, closed, entered, left, Route, labelled, sent, Entry, named, celled, itemed, valued, based, Phrase, aimed, driven, signed, given, joined, tested, limited, called, Event, edge, route, entry, phrase, mark}
-use Rattle.grammar.specs.Places.{Block, Frame, within, body, Place, after}
+use Rattle.grammar.specs.Places.{within, body, Place, after}
 
 -- ── the place that an event asks for ──
 

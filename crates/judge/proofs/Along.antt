@@ -50,11 +50,11 @@ low-under n (x ∷ l) a = more n l (a .1)
 low-after : (f : Tables) (op t n : ℕ) (h : Held) → Low n h → Low (n + 1) (heldAfter f op t h)
 unfolding heldAfter
 low-after f op t n h (a, b) =
-    by-test (Low (n + 1)) (eqb op 0) _ _ (λ _. (omega arith, (omega arith, more n (h .counts) b)))
-    (λ _. by-test (Low (n + 1)) (eqb op 1) _ _ (λ _. (low-top n (h .counts) b, low-under n (h .counts) b))
-    (λ _. by-test (Low (n + 1)) (eqb op 9) _ _ (λ _. (omega arith, more n (h .counts) b))
-    (λ _. by-test (Low (n + 1)) (eqb op 10) _ _ (λ _. (omega arith, more n (h .counts) b))
-    (λ _. by-test (Low (n + 1)) (eqb op 11) _ _ (λ _. (omega arith, more n (h .counts) b)) (λ _. (omega arith, more n (h .counts) b))))))
+    by-test (Low (n + 1)) (eqb op E.BLOCK) _ _ (λ _. (omega arith, (omega arith, more n (h .counts) b)))
+    (λ _. by-test (Low (n + 1)) (eqb op E.END-BLOCK) _ _ (λ _. (low-top n (h .counts) b, low-under n (h .counts) b))
+    (λ _. by-test (Low (n + 1)) (eqb op E.BASE) _ _ (λ _. (omega arith, more n (h .counts) b))
+    (λ _. by-test (Low (n + 1)) (eqb op E.PROCEDURE) _ _ (λ _. (omega arith, more n (h .counts) b))
+    (λ _. by-test (Low (n + 1)) (eqb op E.END-PROCEDURE) _ _ (λ _. (omega arith, more n (h .counts) b)) (λ _. (omega arith, more n (h .counts) b))))))
 
 -- ── so many blocks are open as the tape has opened and not closed ──
 
@@ -73,11 +73,11 @@ Opened op h x = length (x .counts) ≡ blocksOpen op (length (h .counts))
 opened-after : (f : Tables) (op t : ℕ) (h : Held) → Opened op h (heldAfter f op t h)
 unfolding heldAfter
 opened-after f op t h =
-    by-test (Opened op h) (eqb op 0) _ _ (λ e. rw e)
-    (λ e. by-test (Opened op h) (eqb op 1) _ _ (λ g. rw (e, g) (under-length (h .counts)))
-    (λ g. by-test (Opened op h) (eqb op 9) _ _ (λ _. rw (e, g))
-    (λ _. by-test (Opened op h) (eqb op 10) _ _ (λ _. rw (e, g))
-    (λ _. by-test (Opened op h) (eqb op 11) _ _ (λ _. rw (e, g)) (λ _. rw (e, g))))))
+    by-test (Opened op h) (eqb op E.BLOCK) _ _ (λ e. rw e)
+    (λ e. by-test (Opened op h) (eqb op E.END-BLOCK) _ _ (λ g. rw (e, g) (under-length (h .counts)))
+    (λ g. by-test (Opened op h) (eqb op E.BASE) _ _ (λ _. rw (e, g))
+    (λ _. by-test (Opened op h) (eqb op E.PROCEDURE) _ _ (λ _. rw (e, g))
+    (λ _. by-test (Opened op h) (eqb op E.END-PROCEDURE) _ _ (λ _. rw (e, g)) (λ _. rw (e, g))))))
 
 -- ── the loop ──
 

@@ -4,7 +4,7 @@ use mathlib.Core.List.{List, [], _∷_}
 use mathlib.Core.Bool.{Bool, true, false, _&&_, _||_}
 use Prim.Native.Nat.{ℕ, zero, suc, _+_, _-_, _≤_}
 use lib.Dec.{eqb, leb}
-use lib.ListN.{getD, drop}
+use lib.ListN.{drop}
 use Rattle.base.specs.Choose.{if_then_else_}
 use Rattle.tape.specs.Events as E
 use Rattle.tape.specs.Numbers.{PHRASE, layerAt, formAt, familyAt}
@@ -62,8 +62,8 @@ cellsOf s n room = record { short = s; elements = n; room = room }
 
 unfoldable pub cellsAfter : Tables → (op t : ℕ) → Cells → Cells
 cellsAfter f op t c =
-    if eqb (familyAt op) E.SINGLE-FULL then cellsOf (eqb (formAt op) 1) 1 (c .room) else
-    if eqb (familyAt op) E.ARRAY-FULL then cellsOf (eqb (formAt op) 1) (valueAt f t) (c .room) else
+    if eqb (familyAt op) E.SINGLE-FULL then cellsOf (eqb (formAt op) E.SHORT) 1 (c .room) else
+    if eqb (familyAt op) E.ARRAY-FULL then cellsOf (eqb (formAt op) E.SHORT) (valueAt f t) (c .room) else
     if eqb op E.ITEM then cellsOf (c .short) (c .elements) (c .elements) else
     if eqb op E.VALUE then cellsOf (c .short) (c .elements) (c .room - 1) else
     c

@@ -177,7 +177,7 @@ fn cells_after(op: u32, t: usize, wide: &[u64], c: Cells) -> Cells
     let room = c.room;
     let elements = c.elements;
     let k = family(op);
-    let short = tape::form(op) == 1;
+    let short = tape::form(op) == tape::SHORT;
     if k == tape::SINGLE_FULL {
         return Cells {
             short,

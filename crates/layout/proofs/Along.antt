@@ -1,5 +1,5 @@
 -- The loops of layout and images: a turn is a step of the pass, in the ledger. Assumes nothing.
-use Prim.Native.Nat.{ℕ, _+_, _-_, _*_, _/_, _%_, _≤_, _<_}
+use Prim.Native.Nat.{ℕ, suc, _+_, _-_, _*_, _/_, _%_, _≤_, _<_}
 use mathlib.Core.Path.{_≡_, refl, sym, ap, ap₂, _∙_}
 use mathlib.Core.List.{List}
 use native.Mathlib.Omega.{arith}
@@ -11,7 +11,6 @@ use Rattle.base.specs.Numbers.{stored}
 use Rattle.scopes.specs.declared.Broken.{Broken}
 use Rattle.scopes.specs.Broken.{unbroken, rule, _⊕_}
 use Rattle.static_rules.specs.Meaning.{elementSize}
-use Rattle.grammar.specs.Tree.{Width, full, short}
 use Rattle.tape.specs.Events as E
 use Rattle.tape.specs.Pass.{pass}
 use Rattle.tape.proofs.Pass.{pass-turn, pass-end}
@@ -29,21 +28,17 @@ use Rattle.layout.specs.Along.{Imaging, imagingOf, nowhere, startCell, l
 pub round-room : (z n : ℕ) → 2 ≤ z → z ≤ 4 → roundUp z n ≤ n + 3
 round-room z n a b = omega (arith, div-mul-le-self (n + (z - 1)) z)
 
-pub size-small : (w : Width) → (2 ≤ elementSize w) × (elementSize w ≤ 4)
-size-small full = (omega arith, omega arith)
-size-small short = (omega arith, omega arith)
-
 -- at most 2^34
 pub cell-small : (z n : ℕ) → z ≤ 4 → n < 4294967296 → z * n ≤ 17179869184
 cell-small z n a b = omega (arith, mul-le-mul-right n a)
 
 -- ── a cell is placed ──
 
-pub within-is : (n : ℕ) → n ≤ 4096 → n ≡ capped n
+pub within-is : (n : ℕ) → n ≤ segmentLimit → n ≡ capped n
 unfolding capped
 within-is n h = rw (le-leb n segmentLimit h)
 
-pub past-is : (n : ℕ) → 4096 < n → 4097 ≡ capped n
+pub past-is : (n : ℕ) → segmentLimit < n → suc segmentLimit ≡ capped n
 unfolding capped
 past-is n h = rw (lt-leb n segmentLimit h)
 
@@ -109,12 +104,12 @@ begun tape thin w {b} {b′} e f =
 
 -- ── images ──
 
-pub laid-is : (image : List ℕ) (f : Filling) (v : ℕ) {image′ : List ℕ} → f .at < 4096 → image′ ≡ stored image (f .at) (f .size) v
+pub laid-is : (image : List ℕ) (f : Filling) (v : ℕ) {image′ : List ℕ} → f .at < segmentLimit → image′ ≡ stored image (f .at) (f .size) v
     → imagingOf image′ (record { at = f .at + f .size; size = f .size }) ≡ layValue v (imagingOf image f)
 unfolding layValue
 laid-is image f v h e = rw (lt-ltb (f .at) segmentLimit h, e)
 
-pub not-laid : (image : List ℕ) (f : Filling) (v : ℕ) → 4096 ≤ f .at → imagingOf image f ≡ layValue v (imagingOf image f)
+pub not-laid : (image : List ℕ) (f : Filling) (v : ℕ) → segmentLimit ≤ f .at → imagingOf image f ≡ layValue v (imagingOf image f)
 unfolding layValue
 not-laid image f v h = rw (le-ltb (f .at) segmentLimit h)
 

@@ -128,7 +128,8 @@ module _ (k : ℕ) (means bases offsets values : List ℕ) where
     cell-laid d image r =
         let f = fields means bases d r in
         cases (eqb (d .cell .base .segment) k)
-        (λ e. rw (f .of-segment, e) (ap (λ (bs : List ℕ). sets image (getD offsets (d .cell .name) 0) bs) (ap (λ (z : ℕ). bytesAll z (d .values)) (f .of-size) ∙ values-are (d .cell .width) (d .values))))
+        (λ e. rw (f .of-segment, e) (ap (λ (bs : List ℕ). sets image (getD offsets (d .cell .name) 0) bs) (ap (λ (z : ℕ). bytesAll z (d .values)) (f .of-size)
+        ∙ values-are (d .cell .width) (d .values))))
         (λ e. rw (f .of-segment, e, none-are (d .values)))
 
     one : (i : Item) (d : Filled) (ds : List Filled) → d .cell .name ≡ i .name → d .values ≡ read (i .numbers) → Right means bases d → onItem step i (made ds) ≡ made (d ∷ ds)

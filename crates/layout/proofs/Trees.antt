@@ -124,5 +124,6 @@ module _ (kinds values found : List ℕ) where
       pub cells-made : (x : Statement) (i j : ℕ) → isProgram kinds x i j → (s : Meant) → s .cells ≡ [] → All Right (meanProgram kinds values found x s .cells)
           → pass f (made []) (tapeStatement x []) ≡ made (meanProgram kinds values found x s .cells)
       cells-made x i j h s e r =
-          let (c, d, k) = follows-in f step Made (λ e p. Stands kinds e p 0) turn (eventsOf x) [] nowhere s (made []) (text-stands kinds _ _ _ _ (program-text kinds x i j h)) (program-coherent x) (λ r. ap made (sym e)) in
+          let (c, d, k) = follows-in f step Made (λ e p. Stands kinds e p 0) turn (eventsOf x) [] nowhere s (made [])
+          (text-stands kinds _ _ _ _ (program-text kinds x i j h)) (program-coherent x) (λ r. ap made (sym e)) in
           ap (pass f (made [])) (tree-tape x) ∙ (ap (λ (ts : List ℕ). onValues f ts (pass f (made []) (tapeOf (eventsOf x)))) (sym (complete-none c d)) ∙ k r)

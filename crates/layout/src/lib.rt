@@ -5,10 +5,8 @@ ghost use Prim.Native.Nat.{_+_, _/_, _≤_, _<_};
 ghost use lib.ListN.{length, set};
 ghost use Rattle.base.specs.Numbers.{stored};
 ghost use Rattle.scopes.specs.Broken.{unbroken};
-ghost use Rattle.static_rules.specs.Meaning.{elementSize};
 ghost use Rattle.tape.specs.Pass.{pass};
-ghost use Rattle.ledger.specs.Book.{wideOf};
-ghost use Rattle.tables.specs.Packed.{widthIn};
+ghost use Rattle.ledger.specs.Book.{wideOf, thinLimit};
 ghost use Rattle.translation.specs.Layout.{roundUp};
 ghost use Rattle.layout.specs.Along.{segmentAt, capped, bookIn, placeIn, eventIn, layoutIn, imagingOf, nowhere, startIn, layValue, imageIn};
 use ledger::clear_written;
@@ -22,27 +20,17 @@ use ledger::written;
 use scopes::Broken;
 use scopes::join;
 use scopes::rule;
-use tables::is_short;
+use tables::element_size;
 use tables::number;
 
 // "A segment is at most 4,096 bytes, every cell included."
-const SEGMENT_LIMIT: u64 = 4096;
+pub const SEGMENT_LIMIT: usize = 4096;
 
 // What is kept of an end that is past it.
-const PAST_LIMIT: usize = 4097;
+const PAST_LIMIT: usize = SEGMENT_LIMIT + 1;
 
 // "Segment 1 begins with a table of four 4-byte entries".
 const TABLE_BYTES: usize = 16;
-
-// "(4, or 2 for short)".
-pub fn element_size(m: u64) -> u64
-    ensures { λ r. ⌜ (r ≡ elementSize (widthIn m)) × (2 ≤ r) × (r ≤ 4) ⌝ }
-{
-    if is_short(m) {
-        return 2;
-    }
-    4
-}
 
 // The segment of the cell that is declared at a token.
 fn segment(wide: &[u64], t: usize) -> usize
@@ -61,9 +49,9 @@ pub fn round_up(z: u64, n: u64) -> u64
 
 // What is kept of an end in 16 bits.
 fn cap(end: u64) -> usize
-    ensures { λ r. ⌜ (r ≡ capped end) × (r < 65536) ⌝ }
+    ensures { λ r. ⌜ (r ≡ capped end) × (r < thinLimit) ⌝ }
 {
-    if end <= SEGMENT_LIMIT {
+    if end <= SEGMENT_LIMIT as u64 {
         return end as usize;
     }
     PAST_LIMIT
@@ -79,7 +67,7 @@ fn place_cell(wide: &mut [u64], thin: &mut [u16], t: usize, broken: Broken) -> B
     let end = start + size * number(m);
     put_offset(wide, t, start);
     put_written(thin, k, cap(end));
-    join(broken, rule(end <= SEGMENT_LIMIT, 12, t))
+    join(broken, rule(end <= SEGMENT_LIMIT as u64, 12, t))
 }
 
 fn layout_event(op: u32, t: usize, wide: &mut [u64], thin: &mut [u16], broken: Broken) -> Broken
@@ -153,7 +141,7 @@ fn lay_value(image: &mut [u8], v: u64, f: Filling) -> Filling
 {
     let at = f.at;
     let size = f.size;
-    if at < 4096 {
+    if at < SEGMENT_LIMIT {
         lay(image, at, size, v);
         return Filling {
             at: at + size,

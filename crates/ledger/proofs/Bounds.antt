@@ -12,6 +12,7 @@ use lib.Seq.{drop-cons}
 use Rattle.base.specs.Lists.{All}
 use Rattle.base.proofs.Lists.{all-getD}
 use Rattle.base.proofs.Tests.{never-true}
+use Rattle.base.proofs.Numbers.{one-less}
 use Rattle.grammar.specs.Tree.{Designator, Sign, plain, abs, neg, negAbs, Term, Assignment, Width, full, short, Register, Item, Declaration, registers, cells, base, Statement, assign, call, block, goto, null, ifThen, ifElse, while, for, Body, declare, procedure, items, Items, ended, label, item}
 use Rattle.grammar.specs.Derives.{isProgram, isRegister, nestingOf, bodyNesting, itemsNesting}
 use Rattle.grammar.specs.Events.{Edge, opened, closed, entered, left, Route, labelled, sent, Entry, named, celled, itemed, valued, based, Event, edge, route, entry, phrase, mark, aimed, driven, signed, given, joined, tested, limited, called, looped, endedIf, otherwise, endedElse, endedWhile, endedFor, each, eventsValue, eventsItem, eventsRegister, eventsDeclaration, eventsSign, eventsTerm, eventsChain, eventsStatement, eventsBody, eventsItems, eventsOf}
@@ -27,13 +28,14 @@ use Rattle.tape.proofs.Numbers.{op-fits, other-layer}
 use Rattle.tape.proofs.Pass.{event-op, event-token}
 use Rattle.tape.proofs.Written.{tree-tape}
 use Rattle.ledger.specs.Bounds.{noted, Narrow, blocksOpen, proceduresOpen, Nested}
+use Rattle.ledger.specs.Book.{thinLimit}
 
 -- ── at an event of a loop ──
 
-pub narrow-at : (tape : List ℕ) (op t i : ℕ) → Narrow tape → op ≡ getD tape i 0 % E.EVENTS → t ≡ getD tape i 0 / E.EVENTS → noted op ≡ true → t < 65536
+pub narrow-at : (tape : List ℕ) (op t i : ℕ) → Narrow tape → op ≡ getD tape i 0 % E.EVENTS → t ≡ getD tape i 0 / E.EVENTS → noted op ≡ true → t < thinLimit
 narrow-at tape op t i n eo et h =
-    let z : noted (0 % E.EVENTS) ≡ true → 0 / E.EVENTS < 65536 = λ _. omega arith in
-    let k = all-getD (λ (e : ℕ). noted (e % E.EVENTS) ≡ true → e / E.EVENTS < 65536) tape i 0 n z (ap noted (sym eo) ∙ h) in
+    let z : noted (0 % E.EVENTS) ≡ true → 0 / E.EVENTS < thinLimit = λ _. omega arith in
+    let k = all-getD (λ (e : ℕ). noted (e % E.EVENTS) ≡ true → e / E.EVENTS < thinLimit) tape i 0 n z (ap noted (sym eo) ∙ h) in
     omega arith
 
 -- where a name is declared its token is written down
@@ -65,9 +67,6 @@ nested-on most b p op i tape h eo n = rw (add-one i, eo) ((rw (drop-cons tape i 
 
 op-of : (e : Event) → event (opOf e) (tokenOf e) % E.EVENTS ≡ opOf e
 op-of e = event-op (opOf e) (tokenOf e) ∙ omega (arith, op-fits e)
-
-one-less : (n : ℕ) → suc n - 1 ≡ n
-one-less n = omega arith
 
 module _ (most : ℕ) where
   record Deep (b p : ℕ) (es : List Event) : Type 0 where
@@ -191,12 +190,12 @@ module _ (kinds : List ℕ) where
   noted-before (phrase f) p i s h = never-true (sym (not-noted (phrase f) refl refl refl) ∙ h)
   noted-before (mark m) p i s h = never-true (sym (not-noted (mark m) refl refl refl) ∙ h)
 
-  narrow-text : (es : List Event) (p : Place) (i j : ℕ) → j ≤ 65536 → Text kinds es p i j → Narrow (tapeOf es)
+  narrow-text : (es : List Event) (p : Place) (i j : ℕ) → j ≤ thinLimit → Text kinds es p i j → Narrow (tapeOf es)
   unfolding Text
   narrow-text [] p i j m h = tt
   narrow-text (e ∷ es) p i j m (s, h) =
       let r = text-rises kinds es (after e p) (s .to) j h in
       ((λ n. rw (event-token (opOf e) (tokenOf e)) (let q = noted-before e p i s (ap noted (sym (op-of e)) ∙ n) in omega arith)), narrow-text es (after e p) (s .to) j m h)
 
-pub program-narrow : (kinds : List ℕ) (x : Statement) (i j : ℕ) → isProgram kinds x i j → j ≤ 65536 → Narrow (tapeStatement x [])
+pub program-narrow : (kinds : List ℕ) (x : Statement) (i j : ℕ) → isProgram kinds x i j → j ≤ thinLimit → Narrow (tapeStatement x [])
 program-narrow kinds x i j h m = rw (tree-tape x) (narrow-text kinds (eventsOf x) [] i j m (program-text kinds x i j h))

@@ -5,10 +5,11 @@ use Prim.Native.Nat.{ℕ, zero, suc, _+_, _-_, _/_, _≤_, _<_}
 use native.Mathlib.Omega.{arith}
 use native.Mathlib.Numerals.{add-one}
 use lib.Dec.{eqb}
-use lib.ListN.{getD, set, length, length-set, replicate, length-replicate}
+use lib.ListN.{getD, set, length, length-set, length-replicate}
 use lib.Seq.{getD-set-same, getD-set-other, ext-getD}
 use borrow.Author.Tests.{eqb-true, eqb-false}
 use Rattle.base.proofs.Tests.{cases}
+use Rattle.base.proofs.Lists.{zeros-at}
 use Rattle.ledger.specs.Columns.{column}
 use Rattle.ledger.specs.Book.{Wide, Thin, wideOf, thinOf, onWide, onThin, putIn, zeros}
 use Rattle.ledger.proofs.Columns.{length-column}
@@ -31,11 +32,6 @@ cleared-at (suc t) i l h k = cases (eqb i t)
   where
     ne-below : (i t : ℕ) → i < suc t → (i ≡ t → ⊥) → i < t
     ne-below i t h z = omega arith
-
-zeros-at : (n i : ℕ) → getD (replicate {A = ℕ} n 0) i 0 ≡ 0
-zeros-at zero i = refl
-zeros-at (suc n) zero = refl
-zeros-at (suc n) (suc i) = zeros-at n i
 
 all-cleared : (t : ℕ) (l : List ℕ) → length l ≤ t → clearedTo t l ≡ zeros l
 all-cleared t l h =

@@ -5,8 +5,7 @@ use Prim.Native.Nat.{ℕ, zero, suc, _+_, _*_, _/_, _≤_, _<_}
 use native.Mathlib.Omega.{arith}
 use lib.ListN.{getD, take, length, replicate, length-take, length-replicate}
 use lib.Seq.{length-take-le, getD-take, ext-getD}
-use Rattle.base.specs.Lists.{All}
-use Rattle.base.proofs.Lists.{all-getD, all-replicate}
+use Rattle.base.proofs.Lists.{zeros-at}
 use Rattle.ledger.specs.Book.{wideOf, thinOf, wideColumn, thinColumn}
 use Rattle.ledger.proofs.Columns.{wide-read, thin-read, wide-length, thin-length}
 
@@ -43,10 +42,7 @@ module _ (see : ℕ → List ℕ → List ℕ) (s : Sees see) where
       ext-getD 0 (see c (replicate n 0)) (replicate (n / 4) 0) (omega arith)
       (λ i k.
       sym (s .reads (replicate n 0) i c less (omega arith))
-      ∙ (zero-at n (i * 4 + c) ∙ sym (zero-at (n / 4) i)))
-    where
-      zero-at : (n i : ℕ) → getD (replicate {A = ℕ} n 0) i 0 ≡ 0
-      zero-at n i = all-getD (λ (v : ℕ). v ≡ 0) (replicate n 0) i 0 (all-replicate (λ (v : ℕ). v ≡ 0) n 0 (omega arith)) (omega arith)
+      ∙ (zeros-at n (i * 4 + c) ∙ sym (zeros-at (n / 4) i)))
 
 pub wide-take : (c m : ℕ) (l : List ℕ) → c < 4 → 4 * m ≤ length l → wideColumn c (wideOf (take (4 * m) l)) ≡ take m (wideColumn c (wideOf l))
 wide-take c m l = column-take _ wide-sees c m l

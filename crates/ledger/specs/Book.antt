@@ -11,6 +11,10 @@ pub record Wide : Type 0 where
   pub under : List ℕ
   pub offsets : List ℕ
 
+-- what 16 bits hold is below this
+abbrev pub thinLimit : ℕ
+thinLimit = 65536
+
 -- 16 bits each: the declaration that a name means; the label that a GOTO means; the segment that a base declaration opens; the registers that a procedure's text writes
 pub record Thin : Type 0 where
   pub found : List ℕ

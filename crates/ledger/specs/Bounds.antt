@@ -8,13 +8,14 @@ use Rattle.base.specs.Choose.{if_then_else_}
 use Rattle.base.specs.Lists.{All}
 use Rattle.tape.specs.Events as E
 use Rattle.tape.specs.Names.{declaring}
+use Rattle.ledger.specs.Book.{thinLimit}
 
 -- blocks, labels and declared names are written down by their tokens
 abbrev pub noted : ℕ → Bool
 noted op = eqb op E.BLOCK || (eqb op E.LABEL || declaring op)
 
 abbrev pub Narrow : List ℕ → Type 0
-Narrow tape = All (λ (e : ℕ). noted (e % E.EVENTS) ≡ true → e / E.EVENTS < 65536) tape
+Narrow tape = All (λ (e : ℕ). noted (e % E.EVENTS) ≡ true → e / E.EVENTS < thinLimit) tape
 
 -- how many blocks, and how many procedures, are open after an event
 abbrev pub level : (opening closing op d : ℕ) → ℕ

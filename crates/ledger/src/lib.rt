@@ -2,7 +2,10 @@
 ghost use mathlib.Core.Path.{_≡_};
 ghost use Prim.Native.Nat.{_<_};
 ghost use lib.ListN.{getD};
-ghost use Rattle.ledger.specs.Book.{wideOf, thinOf, wideColumn, thinColumn, onWide, onThin, putIn, zeros, putValue, putMean, putUnder, putOffset, putFound, putGoes, putOpens, putWritten};
+ghost use Rattle.ledger.specs.Book.{wideOf, thinOf, wideColumn, thinColumn, onWide, onThin, putIn, zeros, putValue, putMean, putUnder, putOffset, putFound, putGoes, putOpens, putWritten, thinLimit};
+
+// What a thin column keeps of a number: 16 bits.
+pub const THIN_LIMIT: usize = 65536;
 
 // ── a column by its number ──
 
@@ -18,7 +21,7 @@ fn wide_at(wide: &[u64], column: usize, t: usize) -> u64
 
 fn thin_at(thin: &[u16], column: usize, t: usize) -> usize
     requires { ⌜ column < 4 ⌝ }
-    ensures { λ r. ⌜ (r ≡ getD (thinColumn column (thinOf (now (thin .entry)))) t 0) × (r < 65536) ⌝ }
+    ensures { λ r. ⌜ (r ≡ getD (thinColumn column (thinOf (now (thin .entry)))) t 0) × (r < thinLimit) ⌝ }
 {
     if t < thin.len() / 4 {
         return thin[t * 4 + column] as usize;
@@ -36,7 +39,7 @@ fn put_wide(wide: &mut [u64], column: usize, t: usize, v: u64)
 }
 
 fn put_thin(thin: &mut [u16], column: usize, t: usize, v: usize)
-    requires { ⌜ (column < 4) × (v < 65536) ⌝ }
+    requires { ⌜ (column < 4) × (v < thinLimit) ⌝ }
     ensures { λ _. ⌜ thinOf (now (thin .exit)) ≡ onThin column (putIn t v) (thinOf (now (thin .entry))) ⌝ }
 {
     if t < thin.len() / 4 {
@@ -131,55 +134,55 @@ pub fn clear_offsets(wide: &mut [u64])
 
 // The declaration that a name means.
 pub fn found(thin: &[u16], t: usize) -> usize
-    ensures { λ r. ⌜ (r ≡ getD (thinOf (now (thin .entry)) .found) t 0) × (r < 65536) ⌝ }
+    ensures { λ r. ⌜ (r ≡ getD (thinOf (now (thin .entry)) .found) t 0) × (r < thinLimit) ⌝ }
 {
     thin_at(thin, 0, t)
 }
 
 // The label that a GOTO means.
 pub fn goes(thin: &[u16], t: usize) -> usize
-    ensures { λ r. ⌜ (r ≡ getD (thinOf (now (thin .entry)) .goes) t 0) × (r < 65536) ⌝ }
+    ensures { λ r. ⌜ (r ≡ getD (thinOf (now (thin .entry)) .goes) t 0) × (r < thinLimit) ⌝ }
 {
     thin_at(thin, 1, t)
 }
 
 // The segment that a base declaration opens.
 pub fn opens(thin: &[u16], t: usize) -> usize
-    ensures { λ r. ⌜ (r ≡ getD (thinOf (now (thin .entry)) .opens) t 0) × (r < 65536) ⌝ }
+    ensures { λ r. ⌜ (r ≡ getD (thinOf (now (thin .entry)) .opens) t 0) × (r < thinLimit) ⌝ }
 {
     thin_at(thin, 2, t)
 }
 
 // The registers that a procedure's text writes.
 pub fn written(thin: &[u16], t: usize) -> usize
-    ensures { λ r. ⌜ (r ≡ getD (thinOf (now (thin .entry)) .written) t 0) × (r < 65536) ⌝ }
+    ensures { λ r. ⌜ (r ≡ getD (thinOf (now (thin .entry)) .written) t 0) × (r < thinLimit) ⌝ }
 {
     thin_at(thin, 3, t)
 }
 
 pub fn put_found(thin: &mut [u16], t: usize, v: usize)
-    requires { ⌜ v < 65536 ⌝ }
+    requires { ⌜ v < thinLimit ⌝ }
     ensures { λ _. ⌜ thinOf (now (thin .exit)) ≡ putFound t v (thinOf (now (thin .entry))) ⌝ }
 {
     put_thin(thin, 0, t, v);
 }
 
 pub fn put_goes(thin: &mut [u16], t: usize, v: usize)
-    requires { ⌜ v < 65536 ⌝ }
+    requires { ⌜ v < thinLimit ⌝ }
     ensures { λ _. ⌜ thinOf (now (thin .exit)) ≡ putGoes t v (thinOf (now (thin .entry))) ⌝ }
 {
     put_thin(thin, 1, t, v);
 }
 
 pub fn put_opens(thin: &mut [u16], t: usize, v: usize)
-    requires { ⌜ v < 65536 ⌝ }
+    requires { ⌜ v < thinLimit ⌝ }
     ensures { λ _. ⌜ thinOf (now (thin .exit)) ≡ putOpens t v (thinOf (now (thin .entry))) ⌝ }
 {
     put_thin(thin, 2, t, v);
 }
 
 pub fn put_written(thin: &mut [u16], t: usize, v: usize)
-    requires { ⌜ v < 65536 ⌝ }
+    requires { ⌜ v < thinLimit ⌝ }
     ensures { λ _. ⌜ thinOf (now (thin .exit)) ≡ putWritten t v (thinOf (now (thin .entry))) ⌝ }
 {
     put_thin(thin, 3, t, v);

@@ -12,21 +12,16 @@ ghost use Rattle.listing.specs.Sound.{soundOf};
 ghost use Rattle.listing.specs.Cells.{nowhere as nowhereOf, siteNamed};
 ghost use Rattle.listing.specs.Operands.{noSpot, spotOf, stores as storesOf, targetAfter, operandBy, spotAfter, spotAlong, reach as reachOf};
 ghost use Rattle.listing.specs.Seeing.{sitedIn, sitesIn, Shows, LooksOn, LooksAt, Sees};
-use emit::Named;
 use emit::Use;
 use emit::Writing;
-use emit::codes_of;
-use emit::goal_at;
-use emit::operand;
-use emit::register_at;
 use emit::size;
-use emit::written_after;
 use ledger::mean;
 use ledger::offset;
 use ledger::under;
 use ledger::value;
 use settled::FIRST_TOKEN;
 use settled::place_of;
+use tables::element_size;
 use tables::is_array;
 use tables::is_cell;
 use tables::number;
@@ -73,7 +68,7 @@ fn sited(wide: &[u64], key: u64, t: usize, later: Site) -> Site
             more: later.found,
             segment: (under(wide, t) % 4294967296) as u32,
             offset: offset(wide, t),
-            size: layout::element_size(m) as u32,
+            size: element_size(m) as u32,
             elements: number(m) as u32,
             array: is_array(m),
         };
@@ -184,18 +179,16 @@ fn spot_along(tape: &[u32], kinds: &[u8], wide: &[u64], thin: &[u16], address: u
         let e = tape[i];
         let op = tape::op(e);
         let t = tape::token(e);
-        let family = tape::family(op);
-        let form = tape::form(op);
-        let u = operand(wide, thin, form, t);
-        let register = register_at(wide, thin, family, t);
-        let goal = goal_at(thin, family, t);
-        let m = codes_of(kinds, wide, thin, family, t, w, u, Named { register, goal });
-        let q = p + size(m);
+        let made = emit::event(kinds, wide, thin, op, t, w);
+        let codes = made.codes;
+        let q = p + size(codes);
         let aim = w.aim;
-        let own = spot_at(t, form);
+        let family = tape::family(op);
+        let own = spot_at(t, tape::form(op));
         spot = spot_after(address, p, q, operand_by(family, aim, own, target), spot);
         target = target_after(family, own, target);
-        w = written_after(family, w, u, register);
+        let next = made.writing;
+        w = next;
         p = q;
         i += 1;
     }

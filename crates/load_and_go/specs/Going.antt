@@ -10,7 +10,6 @@ use Rattle.translation.specs.Translate as T
 use Rattle.translation.specs.Translate.{translate, leaves}
 use Rattle.made.specs.Answers.{numberOf, placeOf, lengthOf}
 use Rattle.made.specs.declared.Answer as A
-use Rattle.runner.specs.declared.Stop.{Stop}
 use Rattle.runner.specs.declared.Stop.the-variants.{BudgetUsed}
 use Rattle.runner.specs.Numbers.{stopOf}
 use Rattle.runner.specs.Runner as R

@@ -135,7 +135,8 @@ module _
     image-is : (k : ℕ) → imageAlong w tape k ≡ fill k (y .placed) zeros
     unfolding imageAlong meant layout
     image-is k =
-        image-of-tree k means under offsets (valuesOf ts) zeros (let e = length-replicate {A = ℕ} segmentLimit 0 in omega arith) (kindsOf ts) (named ts x .found) x firstToken to program before (m .bases) refl right
+        image-of-tree k means under offsets (valuesOf ts) zeros (let e = length-replicate {A = ℕ} segmentLimit 0 in omega arith) (kindsOf ts)
+        (named ts x .found) x firstToken to program before (m .bases) refl right
         (all-map _ _ (placeCells (m .bases) (m .cells) .placed) (λ (p : Placed) h. offsets-are (p .name) ∙ h) (placed-there (m .bases) (m .cells) (known .falling)))
 
     -- ── the program ──

@@ -18,13 +18,13 @@ use Rattle.made.specs.declared.Answer.{Answer}
 use Rattle.made.specs.declared.Answer.the-variants.{Refused}
 use Rattle.made.specs.Answers.{Gives}
 use Rattle.settled.specs.Texts.{endOf}
-use Rattle.made.specs.Making.{zeros, startOf, objectAlong, codedAlong, madeAlong}
+use Rattle.made.specs.Making.{zeros, literalRoom, startOf, objectAlong, codedAlong, madeAlong}
 
--- Where a room for 1,025 literals is full, they end past the segment.
+-- Where the room for literals is full, they end past the segment.
 module _
     (kinds : List ℕ) (w : Wide) (b b′ : Thin) (ends tape image literals : List ℕ) (bases cells start size count room : ℕ) (e₁ : cells ≡ endOf ends 1)
     (es : start ≡ roundUp 4 cells) (eb : b′ ≡ onMarks (λ (marks : List ℕ). placesIn kinds w b tape .marks) b)
-    (ec : Holds room size count image literals (codeIn start kinds w b′ zeros tape)) (er : room ≡ 1025) (el : length literals ≡ room)
+    (ec : Holds room size count image literals (codeIn start kinds w b′ zeros tape)) (er : room ≡ literalRoom) (el : length literals ≡ room)
   where
     abbrev laid : Laid
     laid = codeIn start kinds w b′ zeros tape

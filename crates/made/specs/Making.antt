@@ -1,7 +1,6 @@
 -- The object that the passes make of a text along its tape, by what the ledger has of its tokens.
 use mathlib.Core.List.{List}
-use mathlib.Core.Bool.{Bool}
-use Prim.Native.Nat.{ℕ, _+_, _*_}
+use Prim.Native.Nat.{ℕ, _+_, _*_, _/_}
 use lib.Dec.{eqb, ltb}
 use lib.ListN.{length, take, replicate}
 use lib.Seq.{sets}
@@ -11,16 +10,20 @@ use Rattle.objtext.specs.Object.{Segment, objectText}
 use Rattle.translation.specs.Layout.{segmentLimit, roundUp}
 use Rattle.translation.specs.Image.{words}
 use Rattle.translation.specs.Translate.{Answer, accepted, refused, inRoom}
-use Rattle.layout.specs.Along.{Imaging, imagingOf, nowhere, imageEvent}
+use Rattle.layout.specs.Along.{imagingOf, nowhere, imageEvent}
 use Rattle.ledger.specs.Book.{Wide, Thin}
 use Rattle.settled.specs.Texts.{endOf}
-use Rattle.code.specs.Places.{Placing, onMarks, placesIn}
+use Rattle.code.specs.Places.{onMarks, placesIn}
 use Rattle.code.specs.Coding.{Laid, codeIn}
 use Rattle.frames.specs.Frames.{objectOf}
 
 -- "Each segment's image is built in an array of 4,096 zero bytes"
 abbrev pub zeros : List ℕ
 zeros = replicate segmentLimit 0
+
+-- "15: literals end past 4,096": where a room for so many is full, they do
+abbrev pub literalRoom : ℕ
+literalRoom = segmentLimit / 4 + 1
 
 -- "Segment 1 ends with its last literal; with none, with its last cell, or at 16."
 unfoldable pub endOfFirst : (cells start literals : ℕ) → ℕ

@@ -5,14 +5,16 @@ ghost use mathlib.Core.List.{List};
 ghost use Prim.Native.Nat.{ℕ, _+_, _*_, _≤_};
 ghost use lib.ListN.{length};
 ghost use lib.Seq.{sets};
-ghost use Rattle.ledger.specs.Book.{wideOf, thinOf};
+ghost use Rattle.ledger.specs.Book.{wideOf, thinOf, thinLimit};
 ghost use Rattle.objtext.specs.Object.{objectText};
+ghost use Rattle.translation.specs.Layout.{segmentLimit};
 ghost use Rattle.translation.specs.Image.{words};
 ghost use Rattle.translation.specs.Translate.{accepted, inRoom};
 ghost use Rattle.frames.specs.Frames.{lengthFor};
 ghost use Rattle.settled.specs.Texts.{Ended};
 ghost use Rattle.made.specs.Answers.{Gives};
 ghost use Rattle.made.specs.Making.{endOfFirst, objectCut, objectAlong, madeAlong};
+use layout::SEGMENT_LIMIT;
 use settled::Judged;
 
 // The bytes written; or a refusal's number and place.
@@ -21,14 +23,11 @@ pub enum Answer {
     Refused(usize, usize),
 }
 
-// "A segment is at most 4,096 bytes".
-const SEGMENT_LIMIT: usize = 4096;
-
 // ── the segments ──
 
 // The literals, one behind the other.
 fn lay_literals(image: &mut [u8], start: usize, literals: &[u64])
-    requires { ⌜ start + 4 * length (now literals) ≤ 4096 ⌝ }
+    requires { ⌜ start + 4 * length (now literals) ≤ segmentLimit ⌝ }
     ensures { λ _. ⌜ now (image .exit) ≡ sets (now (image .entry)) start (words (now (literals .entry))) ⌝ }
 {
     let mut i: usize = 0;
@@ -40,8 +39,8 @@ fn lay_literals(image: &mut [u8], start: usize, literals: &[u64])
 
 // "Segment 1 ends with its last literal; with none, with its last cell, or at 16."
 fn end_of_first(cells: usize, start: usize, literals: usize) -> usize
-    requires { ⌜ (cells ≤ 4096) × (start + 4 * literals ≤ 4096) ⌝ }
-    ensures { λ r. ⌜ (r ≡ endOfFirst cells start literals) × (r ≤ 4096) ⌝ }
+    requires { ⌜ (cells ≤ segmentLimit) × (start + 4 * literals ≤ segmentLimit) ⌝ }
+    ensures { λ r. ⌜ (r ≡ endOfFirst cells start literals) × (r ≤ segmentLimit) ⌝ }
 {
     if literals == 0 {
         return cells;
@@ -60,8 +59,11 @@ fn write(
     s: Judged,
     out: &mut [u8],
 )
-    requires { ⌜ (length (now code) ≤ 4096) × (start + 4 * length (now literals) ≤ 4096) × (last ≤ 4096) × (s .two ≤ 4096) × (s .three ≤ 4096) × (lengthFor (length (now code)) last (s .bases) (s .two) (s .three) ≤ length (now out)) ⌝ }
-    ensures { λ _. ⌜ now (out .exit) ≡ sets (now (out .entry)) 0 (objectText (objectCut (wideOf (now (wide .entry))) (now (tape .entry)) (s .bases) start (now (code .entry)) (now (literals .entry)) (s .cells) last (s .two) (s .three))) ⌝ }
+    requires { ⌜ (length (now code) ≤ segmentLimit) × (start + 4 * length (now literals) ≤ segmentLimit) × (last ≤ segmentLimit) × (s .two ≤ segmentLimit)
+        × (s .three ≤ segmentLimit) × (lengthFor (length (now code)) last (s .bases) (s .two) (s .three) ≤ length (now out)) ⌝ }
+    ensures { λ _. ⌜ now (out .exit) ≡ sets (now (out .entry)) 0
+        (objectText (objectCut (wideOf (now (wide .entry))) (now (tape .entry)) (s .bases) start (now (code .entry)) (now (literals .entry)) (s .cells) last
+        (s .two) (s .three))) ⌝ }
 {
     let mut first = [0u8; SEGMENT_LIMIT];
     let mut second = [0u8; SEGMENT_LIMIT];
@@ -95,8 +97,11 @@ fn deliver(
     s: Judged,
     out: &mut [u8],
 ) -> Answer
-    requires { ⌜ (length (now code) ≤ 4096) × (start + 4 * length (now literals) ≤ 4096) × (s .cells ≤ 4096) × (s .two ≤ 4096) × (s .three ≤ 4096) ⌝ }
-    ensures { λ r. ⌜ ((ends : List ℕ) → Ended ends s → Gives (inRoom (length (now (out .entry))) (accepted (objectText (objectAlong (wideOf (now (wide .entry))) (now (tape .entry)) (s .bases) ends start (now (code .entry)) (now (literals .entry)))))) (now (out .entry)) (now (out .exit)) r) ⌝ }
+    requires { ⌜ (length (now code) ≤ segmentLimit) × (start + 4 * length (now literals) ≤ segmentLimit) × (s .cells ≤ segmentLimit) × (s .two ≤ segmentLimit) × (s .three ≤ segmentLimit) ⌝ }
+    ensures { λ r. ⌜ ((ends : List ℕ) → Ended ends s
+        → Gives (inRoom (length (now (out .entry)))
+        (accepted (objectText (objectAlong (wideOf (now (wide .entry))) (now (tape .entry)) (s .bases) ends start (now (code .entry))
+        (now (literals .entry)))))) (now (out .entry)) (now (out .exit)) r) ⌝ }
 {
     let last = end_of_first(s.cells, start, literals.len());
     let needed = frames::text_length(code.len(), last, s.bases, s.two, s.three);
@@ -108,7 +113,7 @@ fn deliver(
 }
 
 // "15: literals end past 4,096 … 0": from 16 on there is room for 1,020, so that a room that is full says that they do.
-const LITERALS: usize = 1025;
+const LITERALS: usize = SEGMENT_LIMIT / 4 + 1;
 
 pub fn make(
     tape: &[u32],
@@ -118,8 +123,10 @@ pub fn make(
     s: Judged,
     out: &mut [u8],
 ) -> Answer
-    requires { ⌜ (length (now tape) ≤ 65536) × (s .cells ≤ 4096) × (s .two ≤ 4096) × (s .three ≤ 4096) ⌝ }
-    ensures { λ r. ⌜ ((ends : List ℕ) → Ended ends s → Gives (madeAlong (now (kinds .entry)) (wideOf (now (wide .entry))) (thinOf (now (thin .entry))) ends (now (tape .entry)) (s .bases) (length (now (out .entry)))) (now (out .entry)) (now (out .exit)) r) ⌝ }
+    requires { ⌜ (length (now tape) ≤ thinLimit) × (s .cells ≤ segmentLimit) × (s .two ≤ segmentLimit) × (s .three ≤ segmentLimit) ⌝ }
+    ensures { λ r. ⌜ ((ends : List ℕ) → Ended ends s
+        → Gives (madeAlong (now (kinds .entry)) (wideOf (now (wide .entry))) (thinOf (now (thin .entry))) ends (now (tape .entry)) (s .bases)
+        (length (now (out .entry)))) (now (out .entry)) (now (out .exit)) r) ⌝ }
 {
     let mut image = [0u8; SEGMENT_LIMIT];
     let mut literals = [0u64; LITERALS];

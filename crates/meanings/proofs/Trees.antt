@@ -303,7 +303,14 @@ module _ (kinds values found : List ℕ) where
       where
         settles : (e : Event) → (x : Placed kinds N e p) → Settles p s (meanAt e p s)
         settles e x =
-            let z : Stands kinds e p (x .stands .from) = record { fits = x .stands .fits; from = x .stands .from; to = x .stands .to; later = omega arith; rises = x .stands .rises; is = x .stands .is } in
+            let z : Stands kinds e p (x .stands .from) = record {
+              fits = x .stands .fits;
+              from = x .stands .from;
+              to = x .stands .to;
+              later = omega arith;
+              rises = x .stands .rises;
+              is = x .stands .is;
+            } in
             let k = event-stays kinds values found e p (x .stands .from) s z in
             (base-stays early (x .stands .from) s (meanAt e p s) k p (x .earlier), outer-stays early (x .stands .from) s (meanAt e p s) k p (x .earlier))
 
@@ -327,6 +334,7 @@ pub meant-program :
     → pass (meanEvent kinds values found) (beginning (tabled s)) (tapeStatement x []) .meant ≡ tabled (meanProgram kinds values found x s)
 meant-program kinds values found small early x i j h s l =
     let N = length (s .opens) in
-    let (c, k, (form, target, e, o, w)) = follows-in (meanEvent kinds values found) (D.meanEvent kinds values found) (At kinds values found N) (Placed kinds N) (turn kinds values found small early N) (eventsOf x) [] nowhere
+    let (c, k, (form, target, e, o, w)) = follows-in (meanEvent kinds values found) (D.meanEvent kinds values found) (At kinds values found N) (Placed kinds N)
+    (turn kinds values found small early N) (eventsOf x) [] nowhere
     s (beginning (tabled s)) (text-placed kinds N (eventsOf x) [] i j l (program-text kinds x i j h) tt) (program-coherent x) (0, 0, refl, tt, refl) in
     ap (λ (l : List ℕ). pass (meanEvent kinds values found) (beginning (tabled s)) l .meant) (tree-tape x) ∙ ap (λ (m : Meaning-walk). m .meant) e

@@ -8,6 +8,7 @@ use native.Mathlib.Numerals.{add-one}
 use lib.Bits.{bitOr, or-lt}
 use lib.Pow.{pow-lt}
 use lib.ListN.{getD, length}
+use Rattle.base.proofs.Numbers.{one-less}
 use Rattle.static_rules.specs.Registers.{Registers, addRegister}
 use Rattle.static_rules.specs.Meaning.{Meaning, register, routine, meaningOf, registerOf}
 use Rattle.static_rules.specs.Meanings.{Meant, mean, write, writeText, callWrites, openBase}
@@ -17,10 +18,10 @@ use Rattle.tables.proofs.Meanings.{as-routine}
 use Rattle.meanings.specs.Along.{writeTarget, writeLower}
 use Rattle.meanings.proofs.Moves.{register-at}
 use Rattle.meanings.proofs.Changes as changes
-use Rattle.ledger.specs.Book.{Wide, Thin, putMean, putUnder, putOpens, putWritten}
+use Rattle.ledger.specs.Book.{Wide, Thin, putMean, putUnder, putOpens, putWritten, thinLimit}
 use Rattle.meanings.specs.Flat.{View, viewOf, changed, namedTo}
 
-pub more-small : (x m : ℕ) → x < 16 → m < 65536 → bitOr m (2 ^ x) < 65536
+pub more-small : (x m : ℕ) → x < 16 → m < thinLimit → bitOr m (2 ^ x) < thinLimit
 more-small x m h k = or-lt 16 m (2 ^ x) k (pow-lt {i = x} {j = 16} h)
 
 abbrev with-meant : View → Meant → View
@@ -70,9 +71,6 @@ module _ (w : Wide) (b : Thin) (n : ℕ) where
   no-call own t p m e f h = ap (with-meant (viewOf w b n)) (changes.no-call (w .means) (w .under) (b .opens) (b .written) n own (b .found) t p m e f h)
 
 -- ── a target ──
-
-one-less : (n : ℕ) → suc n - 1 ≡ n
-one-less n = omega arith
 
 pub some-target : (own target : ℕ) (v : View) → (target ≡ 0 → ⊥) → changed (write own (target - 1)) v ≡ changed (writeTarget own target) v
 unfolding writeTarget

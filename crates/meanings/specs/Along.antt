@@ -98,7 +98,7 @@ declaredAfter values found op t own b form s =
 
 -- the operator stands before its operand
 unfoldable pub isProductAt : (kinds found : List ℕ) (op t : ℕ) → List Meaning → Bool
-isProductAt kinds found op t means = eqb (getD kinds (t - 1) 0) K.TIMES && (eqb (formAt op) 4 || isLong (meaningOf found means t))
+isProductAt kinds found op t means = eqb (getD kinds (t - 1) 0) K.TIMES && (eqb (formAt op) E.NUMBER || isLong (meaningOf found means t))
 
 unfoldable pub writeProduct : (kinds found : List ℕ) (op t own target : ℕ) → Meant → Meant
 writeProduct kinds found op t own target s = if isProductAt kinds found op t (s .means) then writeLower own target s else s

@@ -1,8 +1,7 @@
 -- The state of the walk as arrays, and what the ledger shows of the tables.
 use mathlib.Core.Path.{_≡_}
 use mathlib.Core.List.{List, [], map}
-use Prim.Native.Nat.{ℕ, zero, suc, _+_, _%_, _≤_, _<_}
-use lib.Dec.{eqb}
+use Prim.Native.Nat.{ℕ, zero, suc, _<_}
 use lib.ListN.{set, length}
 use Rattle.base.specs.Choose.{if_then_else_}
 use Rattle.grammar.specs.Grammar.{nesting}

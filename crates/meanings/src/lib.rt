@@ -8,7 +8,7 @@ ghost use Rattle.static_rules.specs.Registers.{addRegister};
 ghost use Rattle.static_rules.specs.Meaning.{meaningOf, registerOf, routine};
 ghost use Rattle.static_rules.specs.Meanings.{callWrites, openBase, mean as meanAt, write as writeOne, writeText};
 ghost use Rattle.tables.specs.Packed.{meaningsOf, basedIn, setOf};
-ghost use Rattle.ledger.specs.Book.{Wide, wideOf, thinOf};
+ghost use Rattle.ledger.specs.Book.{Wide, wideOf, thinOf, thinLimit};
 ghost use Rattle.ledger.specs.Bounds.{blocksOpen, proceduresOpen};
 ghost use Rattle.meanings.specs.Along.{enterBlock, leaveBlock, enterProcedure, leaveProcedure, changeBase, writeTarget, writeLower, withinAfter, formAfter, targetAfter, declaredAfter, isProductAt, writeProduct, writtenAfter, meanEvent, beginning};
 ghost use Rattle.meanings.specs.Flat.{withinOf, Moved, targetIn, viewOf, changed, namedTo, Roomy};
@@ -99,7 +99,9 @@ fn leave_procedure(owners: &[u64], s: Scope) -> Scope
 
 fn change_base(wide: &[u64], thin: &[u16], bases: usize, t: usize, s: Scope) -> Scope
     requires { ⌜ bases < 65534 ⌝ }
-    ensures { λ r. ⌜ ((under owners outer : List ℕ) → Moved (changeBase (registerOf (meaningOf (thinOf (now (thin .entry)) .found) (meaningsOf (wideOf (now (wide .entry)) .means) under) t)) bases (withinOf owners outer s)) owners outer (s .outer) (s .owners) r) ⌝ }
+    ensures { λ r. ⌜ ((under owners outer : List ℕ)
+        → Moved (changeBase (registerOf (meaningOf (thinOf (now (thin .entry)) .found) (meaningsOf (wideOf (now (wide .entry)) .means) under) t)) bases
+        (withinOf owners outer s)) owners outer (s .outer) (s .owners) r) ⌝ }
 {
     let r = register(meaning(wide, thin, t));
     Scope {
@@ -121,7 +123,10 @@ fn within_after(
     s: Scope,
 ) -> Scope
     requires { ⌜ (s .owners < length (now owners)) × ((s .outer < length (now outer)) × (bases < 65534)) ⌝ }
-    ensures { λ r. ⌜ ((under : List ℕ) → Moved (withinAfter (thinOf (now (thin .entry)) .found) op t (meaningsOf (wideOf (now (wide .entry)) .means) under) bases (withinOf (now (owners .entry)) (now (outer .entry)) s)) (now (owners .exit)) (now (outer .exit)) (blocksOpen op (s .outer)) (proceduresOpen op (s .owners)) r) ⌝ }
+    ensures { λ r. ⌜ ((under : List ℕ) → Moved
+        (withinAfter (thinOf (now (thin .entry)) .found) op t (meaningsOf (wideOf (now (wide .entry)) .means) under) bases
+        (withinOf (now (owners .entry)) (now (outer .entry)) s)) (now (owners .exit)) (now (outer .exit)) (blocksOpen op (s .outer))
+        (proceduresOpen op (s .owners)) r) ⌝ }
 {
     if op == tape::BLOCK {
         return enter_block(outer, s);
@@ -181,8 +186,8 @@ fn target_after(op: u32, t: usize, wide: &[u64], thin: &[u16], target: usize) ->
 
 // A set with one register more; only 0 to 15 are in sets.
 fn with_register(m: usize, r: u64) -> usize
-    requires { ⌜ m < 65536 ⌝ }
-    ensures { λ x. ⌜ (setOf x ≡ addRegister r (setOf m)) × (x < 65536) ⌝ }
+    requires { ⌜ m < thinLimit ⌝ }
+    ensures { λ x. ⌜ (setOf x ≡ addRegister r (setOf m)) × (x < thinLimit) ⌝ }
 {
     if r < 16 {
         return m | (1usize << r);
@@ -209,7 +214,10 @@ fn write_text(thin: &mut [u16], own: usize, p: usize)
 // A base declaration opens a segment.
 fn open_base(wide: &[u64], thin: &mut [u16], own: usize, t: usize, bases: usize) -> usize
     requires { ⌜ bases < 65534 ⌝ }
-    ensures { λ r. ⌜ (viewOf (wideOf (now (wide .entry))) (thinOf (now (thin .exit))) r ≡ changed (openBase own (registerOf (meaningOf (thinOf (now (thin .entry)) .found) (meaningsOf (wideOf (now (wide .entry)) .means) (wideOf (now (wide .entry)) .under)) t)) t) (viewOf (wideOf (now (wide .entry))) (thinOf (now (thin .entry))) bases)) × (r ≡ bases + 1) ⌝ }
+    ensures { λ r. ⌜ (viewOf (wideOf (now (wide .entry))) (thinOf (now (thin .exit))) r ≡ changed
+        (openBase own (registerOf (meaningOf (thinOf (now (thin .entry)) .found)
+        (meaningsOf (wideOf (now (wide .entry)) .means) (wideOf (now (wide .entry)) .under)) t)) t)
+        (viewOf (wideOf (now (wide .entry))) (thinOf (now (thin .entry))) bases)) × (r ≡ bases + 1) ⌝ }
 {
     put_opens(thin, t, bases + 2);
     write(thin, own, register(meaning(wide, thin, t)));
@@ -218,7 +226,10 @@ fn open_base(wide: &[u64], thin: &mut [u16], own: usize, t: usize, bases: usize)
 
 fn declare_routine(wide: &mut [u64], thin: &[u16], t: usize)
     requires { ⌜ t < 4294967296 ⌝ }
-    ensures { λ _. ⌜ ((n : ℕ) → viewOf (wideOf (now (wide .exit))) (thinOf (now (thin .entry))) n ≡ changed (meanAt t (routine (registerOf (meaningOf (thinOf (now (thin .entry)) .found) (meaningsOf (wideOf (now (wide .entry)) .means) (wideOf (now (wide .entry)) .under)) (t + 2))))) (viewOf (wideOf (now (wide .entry))) (thinOf (now (thin .entry))) n)) ⌝ }
+    ensures { λ _. ⌜ ((n : ℕ) → viewOf (wideOf (now (wide .exit))) (thinOf (now (thin .entry))) n ≡ changed
+        (meanAt t (routine (registerOf (meaningOf (thinOf (now (thin .entry)) .found)
+        (meaningsOf (wideOf (now (wide .entry)) .means) (wideOf (now (wide .entry)) .under)) (t + 2)))))
+        (viewOf (wideOf (now (wide .entry))) (thinOf (now (thin .entry))) n)) ⌝ }
 {
     let r = register(meaning(wide, thin, t + 2));
     put_mean(wide, t, packed(tables::ROUTINE, 0, r));
@@ -234,7 +245,9 @@ fn declared_after(
     bases: usize,
 ) -> usize
     requires { ⌜ (t < 4294967296) × (bases < 65534) ⌝ }
-    ensures { λ r. ⌜ (viewOf (wideOf (now (wide .exit))) (thinOf (now (thin .exit))) r ≡ changed (declaredAfter (wideOf (now (wide .entry)) .values) (thinOf (now (thin .entry)) .found) op t (s .own) (basedIn (s .base)) form) (viewOf (wideOf (now (wide .entry))) (thinOf (now (thin .entry))) bases)) × (r ≤ bases + 1) ⌝ }
+    ensures { λ r. ⌜ (viewOf (wideOf (now (wide .exit))) (thinOf (now (thin .exit))) r ≡ changed
+        (declaredAfter (wideOf (now (wide .entry)) .values) (thinOf (now (thin .entry)) .found) op t (s .own) (basedIn (s .base)) form)
+        (viewOf (wideOf (now (wide .entry))) (thinOf (now (thin .entry))) bases)) × (r ≤ bases + 1) ⌝ }
 {
     let own = s.own;
     let base = s.base;
@@ -286,7 +299,7 @@ fn is_product(op: u32, t: usize, kinds: &[u8], wide: &[u64], thin: &[u16]) -> bo
     ensures { λ r. ⌜ ((under : List ℕ) → r ≡ isProductAt (now (kinds .entry)) (thinOf (now (thin .entry)) .found) op t (meaningsOf (wideOf (now (wide .entry)) .means) under)) ⌝ }
 {
     let times = kind(kinds, less(t, 1)) == token::kinds::TIMES;
-    let number = tape::form(op) == 4;
+    let number = tape::form(op) == tape::NUMBER;
     times & (number | is_long(meaning(wide, thin, t)))
 }
 
@@ -299,7 +312,9 @@ fn write_product(
     own: usize,
     target: usize,
 )
-    ensures { λ _. ⌜ ((n : ℕ) → viewOf (wideOf (now (wide .entry))) (thinOf (now (thin .exit))) n ≡ changed (writeProduct (now (kinds .entry)) (thinOf (now (thin .entry)) .found) op t own target) (viewOf (wideOf (now (wide .entry))) (thinOf (now (thin .entry))) n)) ⌝ }
+    ensures { λ _. ⌜ ((n : ℕ) → viewOf (wideOf (now (wide .entry))) (thinOf (now (thin .exit))) n ≡ changed
+        (writeProduct (now (kinds .entry)) (thinOf (now (thin .entry)) .found) op t own target)
+        (viewOf (wideOf (now (wide .entry))) (thinOf (now (thin .entry))) n)) ⌝ }
 {
     if is_product(op, t, kinds, wide, thin) {
         write_lower(thin, own, target);
@@ -308,7 +323,9 @@ fn write_product(
 
 // "A call writes the procedure's return register and all that its body's text writes".
 fn write_call(wide: &[u64], thin: &mut [u16], own: usize, t: usize)
-    ensures { λ _. ⌜ ((n : ℕ) → viewOf (wideOf (now (wide .entry))) (thinOf (now (thin .exit))) n ≡ changed (callWrites (meaningOf (thinOf (now (thin .entry)) .found) (meaningsOf (wideOf (now (wide .entry)) .means) (wideOf (now (wide .entry)) .under)) t) own (getD (thinOf (now (thin .entry)) .found) t 0)) (viewOf (wideOf (now (wide .entry))) (thinOf (now (thin .entry))) n)) ⌝ }
+    ensures { λ _. ⌜ ((n : ℕ) → viewOf (wideOf (now (wide .entry))) (thinOf (now (thin .exit))) n ≡ changed
+        (callWrites (meaningOf (thinOf (now (thin .entry)) .found) (meaningsOf (wideOf (now (wide .entry)) .means) (wideOf (now (wide .entry)) .under)) t) own
+        (getD (thinOf (now (thin .entry)) .found) t 0)) (viewOf (wideOf (now (wide .entry))) (thinOf (now (thin .entry))) n)) ⌝ }
 {
     let p = found(thin, t);
     let m = mean(wide, p);
@@ -327,7 +344,9 @@ fn written_after(
     own: usize,
     target: usize,
 )
-    ensures { λ _. ⌜ ((n : ℕ) → viewOf (wideOf (now (wide .entry))) (thinOf (now (thin .exit))) n ≡ changed (writtenAfter (now (kinds .entry)) (thinOf (now (thin .entry)) .found) op t own target) (viewOf (wideOf (now (wide .entry))) (thinOf (now (thin .entry))) n)) ⌝ }
+    ensures { λ _. ⌜ ((n : ℕ) → viewOf (wideOf (now (wide .entry))) (thinOf (now (thin .exit))) n ≡ changed
+        (writtenAfter (now (kinds .entry)) (thinOf (now (thin .entry)) .found) op t own target)
+        (viewOf (wideOf (now (wide .entry))) (thinOf (now (thin .entry))) n)) ⌝ }
 {
     let k = family(op);
     if (k == tape::TARGET) | (k == tape::CONTROL) {
@@ -369,7 +388,9 @@ pub fn meanings(
     outer: &mut [u64],
 ) -> usize
     requires { ⌜ Roomy (now tape) (length (now owners)) (length (now outer)) ⌝ }
-    ensures { λ r. ⌜ viewOf (wideOf (now (wide .exit))) (thinOf (now (thin .exit))) r ≡ changed (λ s. (pass (meanEvent (now (kinds .entry)) (wideOf (now (wide .entry)) .values) (thinOf (now (thin .entry)) .found)) (beginning s) (now (tape .entry))) .meant) (viewOf (namedTo 16 (wideOf (now (wide .entry)))) (thinOf (now (thin .entry))) 0) ⌝ }
+    ensures { λ r. ⌜ viewOf (wideOf (now (wide .exit))) (thinOf (now (thin .exit))) r ≡ changed
+        (λ s. (pass (meanEvent (now (kinds .entry)) (wideOf (now (wide .entry)) .values) (thinOf (now (thin .entry)) .found)) (beginning s) (now (tape .entry)))
+        .meant) (viewOf (namedTo 16 (wideOf (now (wide .entry)))) (thinOf (now (thin .entry))) 0) ⌝ }
 {
     name_registers(wide);
     let mut s = Scope {

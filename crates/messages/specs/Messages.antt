@@ -2,11 +2,11 @@
 --     survey.pl360:2:3: refusal 10: register 14 is protected here
 --       RE := R1;
 --       ^^ the data base: cells without SEGMENT BASE belong to it
-use Prim.Native.Nat.{ℕ, _+_, _-_, min}
-use mathlib.Core.Bool.{Bool, true, false, _&&_, _||_}
-use mathlib.Core.List.{List, [], _∷_, _++_}
+use Prim.Native.Nat.{ℕ, _+_, min}
+use mathlib.Core.Bool.{Bool, _&&_}
+use mathlib.Core.List.{List, _++_}
 use lib.Dec.{eqb, ltb, leb}
-use lib.ListN.{length, take, drop, getD, replicate}
+use lib.ListN.{length, getD, replicate}
 use Rattle.base.specs.Choose.{choose}
 use Rattle.base.specs.Text.{bytes, within}
 use Rattle.figures.specs.Digits.{decimal}

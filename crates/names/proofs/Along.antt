@@ -1,9 +1,8 @@
 -- What a declaration, a use and a whole event leave, and the loop along the tape.
 use mathlib.Core.Path.{_≡_, refl, sym, ap, subst, _∙_}
 use mathlib.Core.List.{List}
-use Prim.Native.Nat.{ℕ, suc, _+_, _-_, _/_, _%_, _≤_, _<_}
+use Prim.Native.Nat.{ℕ, suc, _+_, _-_, _*_, _/_, _%_, _≤_, _<_}
 use native.Mathlib.Omega.{arith}
-use native.Mathlib.Numerals.{add-one}
 use lib.Dec.{eqb, ltb}
 use lib.ListN.{getD, length, drop}
 use Rattle.base.proofs.Tests.{by-test}
@@ -12,14 +11,14 @@ use Rattle.tape.specs.Events as E
 use Rattle.tape.specs.Numbers.{familyAt}
 use Rattle.tape.specs.Names.{declaring, shapeAt, indexAfter}
 use Rattle.tape.proofs.Pass.{pass-turn, pass-end}
-use Rattle.ledger.specs.Book.{Thin, thinOf, putFound}
+use Rattle.ledger.specs.Book.{Thin, thinOf, putFound, thinLimit}
 use Rattle.ledger.proofs.Columns.{thin-length}
-use Rattle.scopes.specs.declared.Broken.{Broken}
-use Rattle.scopes.specs.Broken.{rule, _⊕_, unbroken}
+use Rattle.scopes.specs.Broken.{unbroken}
 use Rattle.scopes.specs.Search.{inBlock, find, innermost}
 use Rattle.scopes.specs.Names.{Named, noteFound, useName, declareName, mostNames}
 use Rattle.names.specs.declared.Blocks.{Blocks}
 use Rattle.scopes.specs.declared.Noted.{Noted}
+use Rattle.names.specs.Judged.{entered, sought}
 use Rattle.names.specs.Naming.{Naming, blocksAfter, declareAt, useRegister, usePlace, useAt, nameOp, beginning}
 use Rattle.names.specs.Flat.{span, blocksOf, blocksIn, namedIn, Rising, Roomy, Changed, Stays, Begun, Searching, searchIn, naming}
 
@@ -27,19 +26,17 @@ use Rattle.names.specs.Flat.{span, blocksOf, blocksIn, namedIn, Rising, 
 
 module _ (keys : List ℕ) (l : Thin) (b : Blocks) (t : ℕ) (n : Noted) (key : ℕ) where
   pub declared :
-      (start earlier : ℕ) (once few both all : Broken) → key ≡ getD keys t 0
-      → innermost (blocksIn l b) ≡ span (l .opens) start (b .count) → earlier ≡ inBlock keys key (span (l .opens) start (b .count)) 0
-      → once ≡ rule (eqb earlier 0) 7 t → few ≡ rule (ltb (n .count) mostNames) 13 t → both ≡ once ⊕ few → all ≡ n .broken ⊕ both
-      → (found : List ℕ) → namedIn found (record { count = n .count + 1; broken = all }) ≡ declareName keys t (blocksIn l b) (namedIn found n)
-  unfolding declareName
-  declared start earlier once few both all k s e o f j q found = rw (add-one (n .count), q, j, o, f, e, k, s)
+      (start earlier : ℕ) (r : Noted) → key ≡ getD keys t 0 → innermost (blocksIn l b) ≡ span (l .opens) start (b .count)
+      → earlier ≡ inBlock keys key (span (l .opens) start (b .count)) 0 → r ≡ entered earlier mostNames t n
+      → (found : List ℕ) → namedIn found r ≡ declareName keys t (blocksIn l b) (namedIn found n)
+  unfolding declareName entered
+  declared start earlier r k s e q found = rw (q, e, k, s)
 
   pub used :
-      (d : ℕ) (one all : Broken) (l′ : Thin) → key ≡ getD keys t 0 → d ≡ find keys key (blocksIn l b) → l′ ≡ putFound t d l
-      → one ≡ rule (ltb 0 d) 6 t → all ≡ n .broken ⊕ one
-      → searchIn l′ (record { count = n .count; broken = all }) ≡ naming b (useName keys t) (searchIn l n)
-  unfolding useName noteFound
-  used d one all l′ k e s o q = rw (q, o, s, e, k)
+      (d : ℕ) (r : Noted) (l′ : Thin) → key ≡ getD keys t 0 → d ≡ find keys key (blocksIn l b) → l′ ≡ putFound t d l → r ≡ sought d t n
+      → searchIn l′ r ≡ naming b (useName keys t) (searchIn l n)
+  unfolding useName noteFound sought
+  used d r l′ k e s q = rw (q, s, e, k)
 
 -- ── an event declares one name at most ──
 
@@ -108,7 +105,7 @@ going tape keys thin b g =
     }
 
 -- there is room for one more block and one more name
-pub roomy : (tape keys thin₀ thin : List ℕ) (b : Blocks) (n : Noted) (i : ℕ) → Going tape keys thin₀ thin b n i → i < length tape → 17 + length tape ≤ length thin₀ / 4 → length thin₀ ≤ 262144
+pub roomy : (tape keys thin₀ thin : List ℕ) (b : Blocks) (n : Noted) (i : ℕ) → Going tape keys thin₀ thin b n i → i < length tape → 17 + length tape ≤ length thin₀ / 4 → length thin₀ ≤ 4 * thinLimit
     → Roomy (thinOf thin) b
 roomy tape keys thin₀ thin b n i g h r w =
     let deep = g .deep in

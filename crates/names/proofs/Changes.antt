@@ -8,13 +8,15 @@ use native.Mathlib.Numerals.{add-one}
 use lib.ListN.{getD, set, length}
 use lib.Seq.{getD-set-same, getD-set-other}
 use borrow.Author.Tests.{le-leb, ne-eqb}
+use Rattle.base.proofs.Numbers.{one-less}
+use Rattle.tape.specs.Events as E
 use Rattle.ledger.specs.Book.{Thin, putOpens, putWritten}
 use Rattle.scopes.specs.Search.{innermost, enter}
 use Rattle.names.specs.declared.Blocks.{Blocks}
 use Rattle.tape.specs.Names.{declaring}
 use Rattle.names.specs.Naming.{outer, blocksAfter}
 use Rattle.names.specs.Flat.{span, blocksOf, blocksIn, Rising, Changed, Stays, Begun}
-use Rattle.names.proofs.Search.{one-less, span-none}
+use Rattle.names.proofs.Search.{span-none}
 
 abbrev blocks : ℕ → ℕ → Blocks
 blocks depth count = record { depth = depth; count = count }
@@ -182,19 +184,19 @@ entering-end {b = b} g h =
 -- ── an event ──
 
 module _ (op t : ℕ) (before : Thin) (b : Blocks) where
-  pub after-open : {l : Thin} {r : Blocks} → op ≡ 0 → Changed ([] ∷ blocksIn before b) l b r → Changed (blocksAfter op t (blocksIn before b)) l b r
+  pub after-open : {l : Thin} {r : Blocks} → op ≡ E.BLOCK → Changed ([] ∷ blocksIn before b) l b r → Changed (blocksAfter op t (blocksIn before b)) l b r
   unfolding blocksAfter
   after-open e c = rw e c
 
-  pub after-close : {r : Blocks} → (op ≡ 0 → ⊥) → op ≡ 1 → Changed (outer (blocksIn before b)) before b r → Changed (blocksAfter op t (blocksIn before b)) before b r
+  pub after-close : {r : Blocks} → (op ≡ E.BLOCK → ⊥) → op ≡ E.END-BLOCK → Changed (outer (blocksIn before b)) before b r → Changed (blocksAfter op t (blocksIn before b)) before b r
   unfolding blocksAfter
   after-close m e c = rw e c
 
   pub after-enter :
-      {l : Thin} {r : Blocks} → (op ≡ 0 → ⊥) → (op ≡ 1 → ⊥) → declaring op ≡ true → Changed (enter t (blocksIn before b)) l b r → Changed (blocksAfter op t (blocksIn before b)) l b r
+      {l : Thin} {r : Blocks} → (op ≡ E.BLOCK → ⊥) → (op ≡ E.END-BLOCK → ⊥) → declaring op ≡ true → Changed (enter t (blocksIn before b)) l b r → Changed (blocksAfter op t (blocksIn before b)) l b r
   unfolding blocksAfter
-  after-enter m n e c = rw (ne-eqb op 0 m, ne-eqb op 1 n, e) c
+  after-enter m n e c = rw (ne-eqb op E.BLOCK m, ne-eqb op E.END-BLOCK n, e) c
 
-  pub after-other : (op ≡ 0 → ⊥) → (op ≡ 1 → ⊥) → declaring op ≡ false → Rising (before .written) (b .depth) (b .count) → Changed (blocksAfter op t (blocksIn before b)) before b b
+  pub after-other : (op ≡ E.BLOCK → ⊥) → (op ≡ E.END-BLOCK → ⊥) → declaring op ≡ false → Rising (before .written) (b .depth) (b .count) → Changed (blocksAfter op t (blocksIn before b)) before b b
   unfolding blocksAfter
-  after-other m n e r = rw (ne-eqb op 0 m, ne-eqb op 1 n, e) (record { is = refl; rising = r; deep = omega arith; wide = omega arith })
+  after-other m n e r = rw (ne-eqb op E.BLOCK m, ne-eqb op E.END-BLOCK n, e) (record { is = refl; rising = r; deep = omega arith; wide = omega arith })

@@ -6,11 +6,9 @@ use Prim.Native.Nat.{ℕ, zero, suc, _-_, _≤_, _<_}
 use native.Mathlib.Omega.{arith}
 use lib.ListN.{getD}
 use borrow.Author.Tests.{eq-eqb, ne-eqb, le-leb, lt-leb}
+use Rattle.base.proofs.Numbers.{one-less}
 use Rattle.scopes.specs.Search.{inBlock, find}
 use Rattle.names.specs.Flat.{span, blocksOf}
-
-pub one-less : (n : ℕ) → suc n - 1 ≡ n
-one-less n = omega arith
 
 module _ (scope : List ℕ) (lo : ℕ) where
   pub span-none : (j : ℕ) → j ≤ lo → span scope lo j ≡ []

@@ -8,7 +8,7 @@ use lib.ListN.{getD, length}
 use Rattle.base.specs.Choose.{if_then_else_}
 use Rattle.scopes.specs.Search.{around}
 use Rattle.scopes.specs.Names.{Named}
-use Rattle.ledger.specs.Book.{Thin}
+use Rattle.ledger.specs.Book.{Thin, thinLimit}
 use Rattle.names.specs.declared.Blocks.{Blocks}
 use Rattle.scopes.specs.declared.Noted.{Noted}
 
@@ -38,8 +38,8 @@ pub record Roomy (l : Thin) (b : Blocks) : Type 0 where
   pub rising : Rising (l .written) (b .depth) (b .count)
   pub deep : b .depth < length (l .written)
   pub wide : b .count < length (l .opens)
-  pub shallow : b .depth < 65536
-  pub small : b .count < 65536
+  pub shallow : b .depth < thinLimit
+  pub small : b .count < thinLimit
 
 pub record Changed (blocks : List (List ℕ)) (l : Thin) (b r : Blocks) : Type 0 where
   pub is : blocksIn l r ≡ blocks

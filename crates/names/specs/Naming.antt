@@ -43,8 +43,8 @@ module _ (keys : List ℕ) where
 
   unfoldable pub usePlace : ℕ → ℕ → List (List ℕ) → Named → Named
   usePlace shape t bs s =
-      if ltb 3 shape then s else
-      if ltb shape 2 then useName keys t bs s else
+      if ltb E.SUBSCRIPTED-INDEXED shape then s else
+      if ltb shape E.INDEXED then useName keys t bs s else
       useName keys (t + indexAfter shape) bs (useName keys t bs s)
 
   unfoldable pub useAt : ℕ → ℕ → List (List ℕ) → Named → Named

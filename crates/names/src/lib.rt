@@ -1,17 +1,21 @@
 // Document 01, "Names, cells, protected registers": which declaration each name means, refusals 6, 7 and 13 of names, in one loop along the tape. Two columns of
-// the ledger are worked in: `opens` has the tokens that declare names, oldest first, and `written` for each open block where it begins there.
+// the ledger are worked in: `opens` has the tokens that declare names, oldest first, and `written` for each open block where it begins there. Labels have a module of their own.
+pub mod labels;
+
 ghost use mathlib.Core.Path.{_≡_};
 ghost use mathlib.Core.Bool.{true};
 ghost use mathlib.Core.List.{List, [], _∷_};
-ghost use Prim.Native.Nat.{ℕ, _+_, _-_, _/_, _≤_, _<_};
+ghost use Prim.Native.Nat.{ℕ, _+_, _-_, _*_, _/_, _≤_, _<_};
 ghost use lib.ListN.{length};
 ghost use Rattle.tape.specs.Pass.{pass};
-ghost use Rattle.ledger.specs.Book.{wideOf, thinOf};
+ghost use Rattle.ledger.specs.Book.{wideOf, thinOf, thinLimit};
 ghost use Rattle.ledger.specs.Bounds.{noted, Narrow};
 ghost use Rattle.scopes.specs.Search.{inBlock, find, innermost, enter};
 ghost use Rattle.scopes.specs.Names.{useName, declareName};
+ghost use Rattle.names.specs.Judged.{entered as enteredBy, sought as soughtBy};
 ghost use Rattle.names.specs.Naming.{outer, blocksAfter, declareAt, useRegister, usePlace, useAt, nameOp, beginning};
 ghost use Rattle.names.specs.Flat.{span, blocksOf, blocksIn, namedIn, Rising, Roomy, Changed, Stays, searchIn, naming, Begun};
+use base::less;
 use ledger::opens;
 use ledger::put_found;
 use ledger::put_opens;
@@ -51,7 +55,7 @@ fn in_block(wide: &[u64], thin: &[u16], wanted: u64, lo: usize, hi: usize) -> us
 
 // "the search goes outward from the innermost block and ends at the first match"
 fn lookup(wide: &[u64], thin: &[u16], wanted: u64, depth: usize, count: usize) -> usize
-    ensures { λ r. ⌜ (r ≡ find (wideOf (now (wide .entry)) .values) wanted (blocksOf (thinOf (now (thin .entry)) .opens) (thinOf (now (thin .entry)) .written) depth count)) × (r < 65536) ⌝ }
+    ensures { λ r. ⌜ (r ≡ find (wideOf (now (wide .entry)) .values) wanted (blocksOf (thinOf (now (thin .entry)) .opens) (thinOf (now (thin .entry)) .written) depth count)) × (r < thinLimit) ⌝ }
 {
     let mut end = count;
     let mut left = depth;
@@ -76,8 +80,9 @@ fn lookup(wide: &[u64], thin: &[u16], wanted: u64, depth: usize, count: usize) -
 // ── the open blocks ──
 
 fn open_block(thin: &mut [u16], b: Blocks) -> Blocks
-    requires { ⌜ Rising (thinOf (now thin) .written) (b .depth) (b .count) × ((b .depth < length (thinOf (now thin) .written)) × ((b .depth < 65536) × (b .count < 65536))) ⌝ }
-    ensures { λ r. ⌜ Changed ([] ∷ blocksIn (thinOf (now (thin .entry))) b) (thinOf (now (thin .exit))) b r × Stays (thinOf (now (thin .entry))) (thinOf (now (thin .exit))) × ((r .depth ≡ b .depth + 1) × (r .count ≡ b .count)) ⌝ }
+    requires { ⌜ Rising (thinOf (now thin) .written) (b .depth) (b .count) × ((b .depth < length (thinOf (now thin) .written)) × ((b .depth < thinLimit) × (b .count < thinLimit))) ⌝ }
+    ensures { λ r. ⌜ Changed ([] ∷ blocksIn (thinOf (now (thin .entry))) b) (thinOf (now (thin .exit))) b r
+        × Stays (thinOf (now (thin .entry))) (thinOf (now (thin .exit))) × ((r .depth ≡ b .depth + 1) × (r .count ≡ b .count)) ⌝ }
 {
     let depth = b.depth;
     let count = b.count;
@@ -104,8 +109,9 @@ fn close_block(thin: &[u16], b: Blocks) -> Blocks
 }
 
 fn enter_name(thin: &mut [u16], t: usize, b: Blocks) -> Blocks
-    requires { ⌜ Rising (thinOf (now thin) .written) (b .depth) (b .count) × ((b .count < length (thinOf (now thin) .opens)) × ((b .count < 65536) × (t < 65536))) ⌝ }
-    ensures { λ r. ⌜ Changed (enter t (blocksIn (thinOf (now (thin .entry))) b)) (thinOf (now (thin .exit))) b r × Stays (thinOf (now (thin .entry))) (thinOf (now (thin .exit))) × ((r .depth ≡ b .depth) × (r .count ≡ b .count + 1)) ⌝ }
+    requires { ⌜ Rising (thinOf (now thin) .written) (b .depth) (b .count) × ((b .count < length (thinOf (now thin) .opens)) × ((b .count < thinLimit) × (t < thinLimit))) ⌝ }
+    ensures { λ r. ⌜ Changed (enter t (blocksIn (thinOf (now (thin .entry))) b)) (thinOf (now (thin .exit))) b r
+        × Stays (thinOf (now (thin .entry))) (thinOf (now (thin .exit))) × ((r .depth ≡ b .depth) × (r .count ≡ b .count + 1)) ⌝ }
 {
     let depth = b.depth;
     let count = b.count;
@@ -117,7 +123,7 @@ fn enter_name(thin: &mut [u16], t: usize, b: Blocks) -> Blocks
 }
 
 fn blocks_after(op: u32, t: usize, thin: &mut [u16], b: Blocks) -> Blocks
-    requires { ⌜ Roomy (thinOf (now thin)) b × (noted op ≡ true → t < 65536) ⌝ }
+    requires { ⌜ Roomy (thinOf (now thin)) b × (noted op ≡ true → t < thinLimit) ⌝ }
     ensures { λ r. ⌜ Changed (blocksAfter op t (blocksIn (thinOf (now (thin .entry))) b)) (thinOf (now (thin .exit))) b r × Stays (thinOf (now (thin .entry))) (thinOf (now (thin .exit))) ⌝ }
 {
     if op == tape::BLOCK {
@@ -130,6 +136,35 @@ fn blocks_after(op: u32, t: usize, thin: &mut [u16], b: Blocks) -> Blocks
         return enter_name(thin, t, b);
     }
     b
+}
+
+// ── the rules of names and of labels ──
+
+// One more, with what stands earlier in its block under the same key, or 0.
+fn entered(earlier: usize, most: usize, t: usize, n: Noted) -> Noted
+    requires { ⌜ n .count < 4294967296 ⌝ }
+    ensures { λ r. ⌜ r ≡ enteredBy earlier most t n ⌝ }
+{
+    let count = n.count;
+    let broken = n.broken;
+    let once = rule(earlier == 0, 7, t);
+    let few = rule(count < most, 13, t);
+    Noted {
+        count: count + 1,
+        broken: join(broken, join(once, few)),
+    }
+}
+
+// What was looked for, with what was found, or 0.
+fn sought(d: usize, t: usize, n: Noted) -> Noted
+    ensures { λ r. ⌜ r ≡ soughtBy d t n ⌝ }
+{
+    let count = n.count;
+    let broken = n.broken;
+    Noted {
+        count,
+        broken: join(broken, rule(0 < d, 6, t)),
+    }
 }
 
 // ── declarations and uses ──
@@ -150,31 +185,19 @@ fn declare_name(wide: &[u64], thin: &[u16], b: Blocks, t: usize, n: Noted) -> No
     requires { ⌜ n .count < 4294967296 ⌝ }
     ensures { λ r. ⌜ ((found : List ℕ) → namedIn found r ≡ declareName (wideOf (now (wide .entry)) .values) t (blocksIn (thinOf (now (thin .entry))) b) (namedIn found n)) ⌝ }
 {
-    let count = n.count;
-    let broken = n.broken;
     let hi = b.count;
     let earlier = in_block(wide, thin, value(wide, t), innermost_start(thin, b), hi);
-    let once = rule(earlier == 0, 7, t);
-    let few = rule(count < MOST_NAMES, 13, t);
-    Noted {
-        count: count + 1,
-        broken: join(broken, join(once, few)),
-    }
+    entered(earlier, MOST_NAMES, t, n)
 }
 
 fn use_name(wide: &[u64], thin: &mut [u16], b: Blocks, t: usize, n: Noted) -> Noted
     ensures { λ r. ⌜ searchIn (thinOf (now (thin .exit))) r ≡ naming b (useName (wideOf (now (wide .entry)) .values) t) (searchIn (thinOf (now (thin .entry))) n) ⌝ }
 {
-    let count = n.count;
-    let broken = n.broken;
     let depth = b.depth;
     let hi = b.count;
     let d = lookup(wide, thin, value(wide, t), depth, hi);
     put_found(thin, t, d);
-    Noted {
-        count,
-        broken: join(broken, rule(0 < d, 6, t)),
-    }
+    sought(d, t, n)
 }
 
 // ── an event ──
@@ -197,30 +220,23 @@ fn use_register(op: u32, t: usize, wide: &[u64], thin: &mut [u16], b: Blocks, n:
         return use_name(wide, thin, b, t + 2, n);
     }
     if tape::family(op) == tape::COMPARED {
-        return use_name(wide, thin, b, two_before(t), n);
+        return use_name(wide, thin, b, less(t, 2), n);
     }
     n
-}
-
-// The place of a condition's register, two tokens before its operand.
-fn two_before(t: usize) -> usize
-    ensures { λ r. ⌜ r ≡ t - 2 ⌝ }
-{
-    if t < 2 { 0 } else { t - 2 }
 }
 
 fn use_place(shape: u32, t: usize, wide: &[u64], thin: &mut [u16], b: Blocks, n: Noted) -> Noted
     requires { ⌜ t < 4294967296 ⌝ }
     ensures { λ r. ⌜ searchIn (thinOf (now (thin .exit))) r ≡ naming b (usePlace (wideOf (now (wide .entry)) .values) shape t) (searchIn (thinOf (now (thin .entry))) n) ⌝ }
 {
-    if 3 < shape {
+    if tape::SUBSCRIPTED_INDEXED < shape {
         return n;
     }
     let m = use_name(wide, thin, b, t, n);
-    if shape < 2 {
+    if shape < tape::INDEXED {
         return m;
     }
-    if shape == 2 {
+    if shape == tape::INDEXED {
         return use_name(wide, thin, b, t + 2, m);
     }
     use_name(wide, thin, b, t + 5, m)
@@ -251,8 +267,9 @@ fn open_around(thin: &mut [u16]) -> Blocks
 }
 
 pub fn names(tape: &[u32], wide: &[u64], thin: &mut [u16]) -> Noted
-    requires { ⌜ Narrow (now tape) × ((17 + length (now tape) ≤ length (now thin) / 4) × (length (now thin) ≤ 262144)) ⌝ }
-    ensures { λ r. ⌜ (namedIn (thinOf (now (thin .exit)) .found) r ≡ pass (nameOp (wideOf (now (wide .entry)) .values)) (beginning (thinOf (now (thin .entry)) .found)) (now (tape .entry)) .named) × (thinOf (now (thin .exit)) .goes ≡ thinOf (now (thin .entry)) .goes) ⌝ }
+    requires { ⌜ Narrow (now tape) × ((17 + length (now tape) ≤ length (now thin) / 4) × (length (now thin) ≤ 4 * thinLimit)) ⌝ }
+    ensures { λ r. ⌜ (namedIn (thinOf (now (thin .exit)) .found) r ≡ pass (nameOp (wideOf (now (wide .entry)) .values))
+        (beginning (thinOf (now (thin .entry)) .found)) (now (tape .entry)) .named) × (thinOf (now (thin .exit)) .goes ≡ thinOf (now (thin .entry)) .goes) ⌝ }
 {
     let mut b = open_around(thin);
     let mut n = Noted {

@@ -2,7 +2,7 @@
 -- a segment, an object. Assumes nothing.
 use Prim.Native.Nat.{ℕ, zero, suc, _+_, _-_, _*_, _/_, _%_, _<_, _≤_, min}
 use mathlib.Core.Path.{_≡_, refl, sym, ap, _∙_, subst}
-use mathlib.Core.Bool.{Bool, true, false, not, _&&_, _||_}
+use mathlib.Core.Bool.{Bool, true, false, not, _||_}
 use mathlib.Core.List.{List, [], _∷_, _++_, append-assoc, append-nil}
 use mathlib.Core.Logic.{_↔_}
 use mathlib.Core.Option.{none, some}
@@ -14,19 +14,14 @@ use lib.Seq.{drop-at, take-at, take-all, drop-drop}
 use borrow.Author.Tests.{lt-ltb, le-ltb, lt-leb, ltb-true, leb-true, eqb-true}
 use Rattle.base.specs.Lists.{All}
 use Rattle.base.specs.Numbers.{bytesOf}
-use Rattle.base.proofs.Lists.{all-both}
+use Rattle.base.proofs.Lists.{all-both, none-some}
 use Rattle.base.proofs.Tables.{all-below}
-use Rattle.base.proofs.Tests.{cases, implied, never-true}
-use Rattle.objtext.specs.Object.{Segment, program, cells, Bytes, contentFrame, contentFrames, framesFor, segmentFrames, objectFrames, hexDigit, hex, line, textOf, newline, objectText, Data, IsData, Object, Form, of-object, of-none}
-use Rattle.objtext.specs.Reader.{digitOf, joinOf, byteOf, twoOf, isLine, isContentFrame, isContent, headLength, headFrom, headTo, isProgramHead, isDataHead, also, isProgram, programAt, afterProgram, isData, dataAt, afterData, isLast, Read, onSegment, readData, readObject}
+use Rattle.base.proofs.Tests.{cases, implied, never-true, both}
+use Rattle.objtext.specs.Object.{Segment, program, cells, Bytes, contentFrame, contentFrames, framesFor, segmentFrames, objectFrames, hexDigit, hex, line, textOf, newline, objectText, Data, IsData, Object, Form, of-object, of-none, programLimit, dataLimit}
+use Rattle.objtext.specs.Reader.{digitOf, joinOf, byteOf, twoOf, isLine, isContentFrame, isContent, headLength, headFrom, headTo, isProgramHead, isDataHead, also, isProgram, programAt, afterProgram, isData, dataAt, afterData, isLast, Read, onSegment, readData, readObject, frameLine, dataLine, programLine}
 use Rattle.objtext.proofs.Lines.{before, line-before, length-line}
 use Rattle.objtext.proofs.Written.{text-append, only-frames, segmentText, segment-before, the-program, past-program, the-data, past-data, read-written}
-use Rattle.objtext.proofs.Walks.{no-some, Behind, behind, at-end}
-
--- both of two tests are passed
-both : (a b : Bool) → (a && b) ≡ true → (a ≡ true) × (b ≡ true)
-both true b e = (refl, e)
-both false b e = never-true e
+use Rattle.objtext.proofs.Walks.{Behind, behind, at-end}
 
 -- ── digits and bytes ──
 
@@ -178,8 +173,8 @@ unfolding bytesOf
 content-form zero k o n s q e = record { content = []; rest = s; bytes = tt; long = omega arith; whole = refl }
 content-form (suc m) k o n s q e = go f (content-form m k (o + 16) (n - 16) (f .rest) (omega arith) others)
   where
-    t : (isContentFrame k o (min 16 n) s ≡ true) × (isContent m k (o + 16) (n - 16) (drop 43 s) ≡ true)
-    t = both (isContentFrame k o (min 16 n) s) (isContent m k (o + 16) (n - 16) (drop 43 s)) e
+    t : (isContentFrame k o (min 16 n) s ≡ true) × (isContent m k (o + 16) (n - 16) (drop frameLine s) ≡ true)
+    t = both (isContentFrame k o (min 16 n) s) (isContent m k (o + 16) (n - 16) (drop frameLine s)) e
 
     f : Framed k o (min 16 n) s
     f = frame-form k o (min 16 n) s (t .0)
@@ -187,13 +182,13 @@ content-form (suc m) k o n s q e = go f (content-form m k (o + 16) (n - 16) (f .
     F : List ℕ
     F = contentFrame k o (f .content)
 
-    behind-frame : 0 < m → f .rest ≡ drop 43 s
+    behind-frame : 0 < m → f .rest ≡ drop frameLine s
     behind-frame h =
         let l = f .long in
-        sym (ap (drop 43) (f .whole ∙ sym (line-before F (f .rest))) ∙ drop-at (line F) (f .rest) 43 (omega (arith, length-line F)))
+        sym (ap (drop frameLine) (f .whole ∙ sym (line-before F (f .rest))) ∙ drop-at (line F) (f .rest) frameLine (omega (arith, length-line F)))
 
     others : isContent m k (o + 16) (n - 16) (f .rest) ≡ true
-    others = only-frames m k (o + 16) (n - 16) (f .rest) (drop 43 s) behind-frame (t .1)
+    others = only-frames m k (o + 16) (n - 16) (f .rest) (drop frameLine s) behind-frame (t .1)
 
     go : (f : Framed k o (min 16 n) s) → Content m k (o + 16) (n - 16) (f .rest) → Content (suc m) k o n s
     go f c =
@@ -214,7 +209,7 @@ content-form (suc m) k o n s q e = go f (content-form m k (o + 16) (n - 16) (f .
 
 -- a program of bytes that is not too long
 abbrev Program : Segment → Type 0
-Program (program c) = Bytes c × (length c ≤ 4096)
+Program (program c) = Bytes c × (length c ≤ programLimit)
 Program (cells c from to) = ⊥
 
 -- what is read of segment k is a segment of its kind, and its lines stand in front of what is read next
@@ -234,14 +229,14 @@ program-exact : (k : ℕ) (s : List ℕ) → k < 256 → isProgram k s ≡ true 
 unfolding isProgram bytesOf
 program-exact k s hk e =
     let a = also-both (isProgramHead k s) _ e in
-    let b = both _ (leb (headLength s) 4096) (a .0) in
+    let b = both _ (leb (headLength s) programLimit) (a .0) in
     let c = both _ (eqb (byteOf (drop 2 s)) k) (b .0) in
     let d = both (isLine 4 s) (eqb (byteOf s) 1) (c .0) in
     let h = head-form 0 1 k s (d .0) (eqb-true (byteOf s) 1 (d .1)) (eqb-true (byteOf (drop 2 s)) k (c .1)) in
-    let n : drop 8 s ≡ newline ∷ drop 9 s = rw (← drop-drop 1 8 s) (end-form (drop 8 s) (h .1)) in
-    let f = content-form (framesFor (headLength s)) k 0 (headLength s) (drop 9 s) refl (a .1) in
+    let n : drop 8 s ≡ newline ∷ drop programLine s = rw (← drop-drop 1 8 s) (end-form (drop 8 s) (h .1)) in
+    let f = content-form (framesFor (headLength s)) k 0 (headLength s) (drop programLine s) refl (a .1) in
     let l = f .long in
-    let short : length (f .content) ≤ 4096 = omega (arith, leb-true (headLength s) 4096 (b .1)) in
+    let short : length (f .content) ≤ programLimit = omega (arith, leb-true (headLength s) programLimit (b .1)) in
     let w : s ≡ segmentText k (program (f .content)) (f .rest)
     = rw l (h .0 ∙ ap (λ (t : List ℕ). hex (1 ∷ k ∷ bytesOf 2 (headLength s)) ++ t) (n ∙ ap (λ (t : List ℕ). newline ∷ t) (f .whole))) in
     taken Program k (program (f .content)) (programAt s) s (afterProgram s) (f .rest)
@@ -252,7 +247,7 @@ data-exact : (k : ℕ) (s : List ℕ) → k < 256 → isData k s ≡ true → Ta
 unfolding isData bytesOf
 data-exact k s hk e =
     let a = also-both (isDataHead k s) _ e in
-    let b = both _ (leb (headLength s) 4096) (a .0) in
+    let b = both _ (leb (headLength s) dataLimit) (a .0) in
     let c = both _ (leb (headTo s) (headLength s)) (b .0) in
     let d = both _ (leb (headFrom s) (headTo s)) (c .0) in
     let g = both _ (eqb (byteOf (drop 2 s)) k) (d .0) in
@@ -260,13 +255,13 @@ data-exact k s hk e =
     let h = head-form 4 2 k s (i .0) (eqb-true (byteOf s) 2 (i .1)) (eqb-true (byteOf (drop 2 s)) k (g .1)) in
     let p = two-form 2 (drop 8 s) (h .1) in
     let q = two-form 0 (drop 12 s) (rw (drop-drop 4 8 s) at (p .1)) in
-    let m : drop 16 s ≡ newline ∷ drop 17 s = rw (← drop-drop 1 16 s) (end-form (drop 16 s) (rw (drop-drop 4 12 s) at (q .1))) in
-    let f = content-form (framesFor (headLength s)) k 0 (headLength s) (drop 17 s) refl (a .1) in
+    let m : drop 16 s ≡ newline ∷ drop dataLine s = rw (← drop-drop 1 16 s) (end-form (drop 16 s) (rw (drop-drop 4 12 s) at (q .1))) in
+    let f = content-form (framesFor (headLength s)) k 0 (headLength s) (drop dataLine s) refl (a .1) in
     let l = f .long in
     let is : IsData (f .content) (headFrom s) (headTo s)
     = record {
       bytes = f .bytes;
-      short = omega (arith, leb-true (headLength s) 4096 (b .1));
+      short = omega (arith, leb-true (headLength s) dataLimit (b .1));
       order = leb-true (headFrom s) (headTo s) (d .1);
       inside = omega (arith, leb-true (headTo s) (headLength s) (c .1));
     } in
@@ -327,7 +322,7 @@ data-exactly : (n k : ℕ) (s : List ℕ) (gs : List Segment) → k + n ≤ 256 
 unfolding readData
 data-exactly zero k s gs h e =
     let a = at-end (isLast s) (λ u. none) gs e in
-    cases (isLast s) (λ l. rest-none zero k s gs l (a .0 l)) (λ l. no-some gs (a .1 l))
+    cases (isLast s) (λ l. rest-none zero k s gs l (a .0 l)) (λ l. absurd (none-some gs (a .1 l)))
 data-exactly (suc n) k s gs h e =
     let next : Unit {0} → Read = λ v. readData n (suc k) (afterData s) in
     let a = at-end (isLast s) (λ u. onSegment (isData k s) (dataAt s) next) gs e in
@@ -365,5 +360,5 @@ unfoldable pub form : (t : List ℕ) → Form t
 form t = go (readObject t) refl
   where
     go : (r : Read) → readObject t ≡ r → Form t
-    go none e = of-none (λ gs o q. no-some gs (sym e ∙ exactly t gs .1 (o, q)))
+    go none e = of-none (λ gs o q. none-some gs (sym e ∙ exactly t gs .1 (o, q)))
     go (some gs) e = of-object gs (read-exact t gs e .0) (read-exact t gs e .1)

@@ -11,8 +11,8 @@ use lib.Seq.{drop-drop, getD-drop, getD-append-add, sets}
 use borrow.Author.Tests.{lt-ltb, le-ltb, le-leb, lt-leb}
 use Rattle.base.proofs.Tests.{cases}
 use Rattle.base.proofs.Parts.{drop-turn}
-use Rattle.objtext.specs.Object.{framesFor, newline}
-use Rattle.objtext.specs.Reader.{digitOf, joinOf, byteOf, frontBytes, twoOf, isLine, contentLength, isContentFrame, isContent, contentAt, headLength, headFrom, headTo, isProgramHead, isDataHead, also, isProgram, afterProgram, isData, afterData}
+use Rattle.objtext.specs.Object.{framesFor, newline, programLimit, dataLimit}
+use Rattle.objtext.specs.Reader.{digitOf, joinOf, byteOf, frontBytes, twoOf, isLine, contentLength, isContentFrame, isContent, contentAt, headLength, headFrom, headTo, isProgramHead, isDataHead, also, isProgram, afterProgram, isData, afterData, frameLine, dataLine, programLine, programHeadBytes, dataHeadBytes, frameHeadBytes, bytesPlace}
 
 -- ── bytes ──
 
@@ -51,15 +51,15 @@ line-end t at (suc n) h e = absurd (omega arith)
 
 module _ (t : List ℕ) (k at o left m : ℕ) (h : 0 < m) where
   pub frame-on : isContentFrame k o (min 16 left) (drop at t) ≡ true → {x : Bool} → isContent m k o left (drop at t) ≡ x
-      → isContent (m - 1) k (o + 16) (left - min 16 left) (drop (at + 43) t) ≡ x
+      → isContent (m - 1) k (o + 16) (left - min 16 left) (drop (at + frameLine) t) ≡ x
   frame-on b {x} = go m h
     where
-      go : (n : ℕ) → 0 < n → isContent n k o left (drop at t) ≡ x → isContent (n - 1) k (o + 16) (left - min 16 left) (drop (at + 43) t) ≡ x
+      go : (n : ℕ) → 0 < n → isContent n k o left (drop at t) ≡ x → isContent (n - 1) k (o + 16) (left - min 16 left) (drop (at + frameLine) t) ≡ x
       go zero z e = absurd (omega arith)
       go (suc n) z e =
           let w : suc n - 1 ≡ n = omega arith in
           let l : left - min 16 left ≡ left - 16 = omega arith in
-          rw (w, l, ← drop-drop 43 at t) (rw b at e)
+          rw (w, l, ← drop-drop frameLine at t) (rw b at e)
 
   pub frame-stop : isContentFrame k o (min 16 left) (drop at t) ≡ false → {x : Bool} → isContent m k o left (drop at t) ≡ x → false ≡ x
   frame-stop b {x} = go m h
@@ -72,12 +72,12 @@ pub frame-end : (t : List ℕ) (k at o left m : ℕ) → m ≤ 0 → {x : Bool} 
 frame-end t k at o left zero h e = e
 frame-end t k at o left (suc m) h e = absurd (omega arith)
 
-pub frame-place : (t : List ℕ) (i k o n : ℕ) → isLine (5 + n) (drop i t) ≡ true
+pub frame-place : (t : List ℕ) (i k o n : ℕ) → isLine (frameHeadBytes + n) (drop i t) ≡ true
     → (eqb (byteOf (drop i t)) 0 && eqb (byteOf (drop (i + 2) t)) k && eqb (twoOf (drop (i + 4) t)) o && eqb (byteOf (drop (i + 8) t)) n) ≡ isContentFrame k o n (drop i t)
 unfolding isContentFrame
 frame-place t i k o n h = rw (h, drop-drop 2 i t, drop-drop 4 i t, drop-drop 8 i t)
 
-pub no-frame : (t : List ℕ) (i k o n : ℕ) → isLine (5 + n) (drop i t) ≡ false → false ≡ isContentFrame k o n (drop i t)
+pub no-frame : (t : List ℕ) (i k o n : ℕ) → isLine (frameHeadBytes + n) (drop i t) ≡ false → false ≡ isContentFrame k o n (drop i t)
 unfolding isContentFrame
 no-frame t i k o n h = rw h
 
@@ -96,38 +96,38 @@ length-front (suc n) s = ap suc (length-front n (drop 2 s))
 
 -- the place of byte j behind the place of its frames
 abbrev pub bytePlace : ℕ → ℕ
-bytePlace j = j / 16 * 43 + 10 + j % 16 * 2
+bytePlace j = j / 16 * frameLine + bytesPlace + j % 16 * 2
 
 content-length : (m n : ℕ) (s : List ℕ) → n ≤ 16 * m → length (contentAt m n s) ≡ n
 content-length zero n s h = omega arith
 content-length (suc m) n s h =
-    let a = length-append (frontBytes (min 16 n) (drop 10 s)) (contentAt m (n - 16) (drop 43 s)) in
-    let f = length-front (min 16 n) (drop 10 s) in
-    let r = content-length m (n - 16) (drop 43 s) (omega arith) in
+    let a = length-append (frontBytes (min 16 n) (drop bytesPlace s)) (contentAt m (n - 16) (drop frameLine s)) in
+    let f = length-front (min 16 n) (drop bytesPlace s) in
+    let r = content-length m (n - 16) (drop frameLine s) (omega arith) in
     omega arith
 
 content-at : (m n : ℕ) (s : List ℕ) (j : ℕ) → n ≤ 16 * m → j < n → getD (contentAt m n s) j 0 ≡ byteOf (drop (bytePlace j) s) % 256
 content-at zero n s j h l = absurd (omega arith)
-content-at (suc m) n s j h l = go (decLe 16 j) (content-at m (n - 16) (drop 43 s) (j - 16))
+content-at (suc m) n s j h l = go (decLe 16 j) (content-at m (n - 16) (drop frameLine s) (j - 16))
   where
-    front : j < 16 → getD (frontBytes (min 16 n) (drop 10 s) ++ contentAt m (n - 16) (drop 43 s)) j 0 ≡ byteOf (drop (bytePlace j) s) % 256
+    front : j < 16 → getD (frontBytes (min 16 n) (drop bytesPlace s) ++ contentAt m (n - 16) (drop frameLine s)) j 0 ≡ byteOf (drop (bytePlace j) s) % 256
     front g =
-        let e : 10 + 2 * j ≡ bytePlace j = omega arith in
-        List·getD-append (frontBytes (min 16 n) (drop 10 s)) (contentAt m (n - 16) (drop 43 s)) 0 j (omega (arith, length-front (min 16 n) (drop 10 s)))
-        ∙ front-at (min 16 n) (drop 10 s) j (omega arith)
-        ∙ ap (λ (u : List ℕ). byteOf u % 256) (drop-drop (2 * j) 10 s ∙ ap (λ (i : ℕ). drop i s) e)
+        let e : bytesPlace + 2 * j ≡ bytePlace j = omega arith in
+        List·getD-append (frontBytes (min 16 n) (drop bytesPlace s)) (contentAt m (n - 16) (drop frameLine s)) 0 j (omega (arith, length-front (min 16 n) (drop bytesPlace s)))
+        ∙ front-at (min 16 n) (drop bytesPlace s) j (omega arith)
+        ∙ ap (λ (u : List ℕ). byteOf u % 256) (drop-drop (2 * j) bytesPlace s ∙ ap (λ (i : ℕ). drop i s) e)
 
-    behind : 16 ≤ j → getD (contentAt m (n - 16) (drop 43 s)) (j - 16) 0 ≡ byteOf (drop (bytePlace (j - 16)) (drop 43 s)) % 256
-        → getD (frontBytes (min 16 n) (drop 10 s) ++ contentAt m (n - 16) (drop 43 s)) j 0 ≡ byteOf (drop (bytePlace j) s) % 256
+    behind : 16 ≤ j → getD (contentAt m (n - 16) (drop frameLine s)) (j - 16) 0 ≡ byteOf (drop (bytePlace (j - 16)) (drop frameLine s)) % 256
+        → getD (frontBytes (min 16 n) (drop bytesPlace s) ++ contentAt m (n - 16) (drop frameLine s)) j 0 ≡ byteOf (drop (bytePlace j) s) % 256
     behind g ih =
-        let p : length (frontBytes (min 16 n) (drop 10 s)) + (j - 16) ≡ j = omega (arith, length-front (min 16 n) (drop 10 s)) in
-        let e : 43 + bytePlace (j - 16) ≡ bytePlace j = omega arith in
-        subst (λ (i : ℕ). getD (frontBytes (min 16 n) (drop 10 s) ++ contentAt m (n - 16) (drop 43 s)) i 0 ≡ byteOf (drop (bytePlace j) s) % 256) p
-        (getD-append-add (frontBytes (min 16 n) (drop 10 s)) (contentAt m (n - 16) (drop 43 s)) (j - 16) 0
-        ∙ ih ∙ ap (λ (u : List ℕ). byteOf u % 256) (drop-drop (bytePlace (j - 16)) 43 s ∙ ap (λ (i : ℕ). drop i s) e))
+        let p : length (frontBytes (min 16 n) (drop bytesPlace s)) + (j - 16) ≡ j = omega (arith, length-front (min 16 n) (drop bytesPlace s)) in
+        let e : frameLine + bytePlace (j - 16) ≡ bytePlace j = omega arith in
+        subst (λ (i : ℕ). getD (frontBytes (min 16 n) (drop bytesPlace s) ++ contentAt m (n - 16) (drop frameLine s)) i 0 ≡ byteOf (drop (bytePlace j) s) % 256) p
+        (getD-append-add (frontBytes (min 16 n) (drop bytesPlace s)) (contentAt m (n - 16) (drop frameLine s)) (j - 16) 0
+        ∙ ih ∙ ap (λ (u : List ℕ). byteOf u % 256) (drop-drop (bytePlace (j - 16)) frameLine s ∙ ap (λ (i : ℕ). drop i s) e))
 
-    go : Dec (16 ≤ j) → (n - 16 ≤ 16 * m → j - 16 < n - 16 → getD (contentAt m (n - 16) (drop 43 s)) (j - 16) 0 ≡ byteOf (drop (bytePlace (j - 16)) (drop 43 s)) % 256)
-        → getD (frontBytes (min 16 n) (drop 10 s) ++ contentAt m (n - 16) (drop 43 s)) j 0 ≡ byteOf (drop (bytePlace j) s) % 256
+    go : Dec (16 ≤ j) → (n - 16 ≤ 16 * m → j - 16 < n - 16 → getD (contentAt m (n - 16) (drop frameLine s)) (j - 16) 0 ≡ byteOf (drop (bytePlace (j - 16)) (drop frameLine s)) % 256)
+        → getD (frontBytes (min 16 n) (drop bytesPlace s) ++ contentAt m (n - 16) (drop frameLine s)) j 0 ≡ byteOf (drop (bytePlace j) s) % 256
     go (yes g) ih = behind g (ih (omega arith) (omega arith))
     go (no g) ih = front (omega arith)
 
@@ -136,12 +136,12 @@ module _ (t : List ℕ) (i n : ℕ) where
   pub length-content : length (contentAt (framesFor n) n (drop i t)) ≡ n
   length-content = content-length (framesFor n) n (drop i t) (omega arith)
 
-  pub fill-on : (s : List ℕ) (at j b : ℕ) {x : List ℕ} → j < n → b ≡ byteOf (drop (i + j / 16 * 43 + 10 + j % 16 * 2) t)
+  pub fill-on : (s : List ℕ) (at j b : ℕ) {x : List ℕ} → j < n → b ≡ byteOf (drop (i + j / 16 * frameLine + bytesPlace + j % 16 * 2) t)
       → sets s (at + j) (drop j (contentAt (framesFor n) n (drop i t))) ≡ x → sets (set s (at + j) (b % 256)) (at + (j + 1)) (drop (j + 1) (contentAt (framesFor n) n (drop i t))) ≡ x
   fill-on s at j b h e q =
       let c = contentAt (framesFor n) n (drop i t) in
       let p : at + (j + 1) ≡ suc (at + j) = omega arith in
-      let w : i + bytePlace j ≡ i + j / 16 * 43 + 10 + j % 16 * 2 = omega arith in
+      let w : i + bytePlace j ≡ i + j / 16 * frameLine + bytesPlace + j % 16 * 2 = omega arith in
       let v : getD c j 0 ≡ b % 256
       = content-at (framesFor n) n (drop i t) j (omega arith) h ∙ ap (λ (u : List ℕ). byteOf u % 256) (drop-drop (bytePlace j) i t ∙ ap (λ (z : ℕ). drop z t) w) ∙ ap (λ (y : ℕ). y % 256) (sym e) in
       rw (p, ← v) (rw (drop-turn c j 0 (omega (arith, length-content))) at q)
@@ -181,57 +181,59 @@ module _ (t : List ℕ) (i k : ℕ) where
   content-place h = ap (λ (l : List ℕ). isContent (framesFor (headLength s)) k 0 (headLength s) l) (sym (drop-drop h i t))
 
   abbrev pub programHead : Bool
-  programHead = isLine 4 s && eqb (byteOf s) 1 && eqb (byteOf (drop (i + 2) t)) k
+  programHead = isLine programHeadBytes s && eqb (byteOf s) 1 && eqb (byteOf (drop (i + 2) t)) k
 
-  program-by : {b : Bool} → programHead ≡ b → isProgramHead k s ≡ (b && leb (headLength s) 4096)
+  program-by : {b : Bool} → programHead ≡ b → isProgramHead k s ≡ (b && leb (headLength s) programLimit)
   program-by e =
-      ap (λ (l : List ℕ). isLine 4 s && eqb (byteOf s) 1 && eqb (byteOf l) k && leb (headLength s) 4096) (drop-drop 2 i t)
-      ∙ ap (λ (x : Bool). x && leb (headLength s) 4096) e
+      ap (λ (l : List ℕ). isLine programHeadBytes s && eqb (byteOf s) 1 && eqb (byteOf l) k && leb (headLength s) programLimit) (drop-drop 2 i t)
+      ∙ ap (λ (x : Bool). x && leb (headLength s) programLimit) e
 
-  pub long-program : 4096 < headLength s → false ≡ isProgram k s
+  pub long-program : programLimit < headLength s → false ≡ isProgram k s
   unfolding isProgram
-  long-program h = too-long programHead (headLength s) 4096 (content 9) h ∙ sym (ap (λ (x : Bool). also x (content 9)) (program-by refl))
+  long-program h = too-long programHead (headLength s) programLimit (content programLine) h ∙ sym (ap (λ (x : Bool). also x (content programLine)) (program-by refl))
 
   pub no-program : programHead ≡ false → false ≡ isProgram k s
   unfolding isProgram
-  no-program h = sym (ap (λ (x : Bool). also x (content 9)) (program-by h))
+  no-program h = sym (ap (λ (x : Bool). also x (content programLine)) (program-by h))
 
-  pub program-place : programHead ≡ true → headLength s ≤ 4096 → isContent (framesFor (headLength s)) k 0 (headLength s) (drop (i + 9) t) ≡ isProgram k s
+  pub program-place : programHead ≡ true → headLength s ≤ programLimit → isContent (framesFor (headLength s)) k 0 (headLength s) (drop (i + programLine) t) ≡ isProgram k s
   unfolding isProgram
-  program-place h l = content-place 9 ∙ sym (ap (λ (x : Bool). also x (content 9)) (program-by h ∙ le-leb (headLength s) 4096 l))
+  program-place h l = content-place programLine ∙ sym (ap (λ (x : Bool). also x (content programLine)) (program-by h ∙ le-leb (headLength s) programLimit l))
 
   abbrev pub dataHead : Bool
   dataHead =
-      isLine 8 s && eqb (byteOf s) 2 && eqb (byteOf (drop (i + 2) t)) k
+      isLine dataHeadBytes s && eqb (byteOf s) 2 && eqb (byteOf (drop (i + 2) t)) k
       && leb (twoOf (drop (i + 8) t)) (twoOf (drop (i + 12) t)) && leb (twoOf (drop (i + 12) t)) (twoOf (drop (i + 4) t))
 
-  data-by : {b : Bool} → dataHead ≡ b → isDataHead k s ≡ (b && leb (headLength s) 4096)
+  data-by : {b : Bool} → dataHead ≡ b → isDataHead k s ≡ (b && leb (headLength s) dataLimit)
   data-by e =
-      ap (λ (l : List ℕ). isLine 8 s && eqb (byteOf s) 2 && eqb (byteOf l) k && leb (headFrom s) (headTo s) && leb (headTo s) (headLength s) && leb (headLength s) 4096) (drop-drop 2 i t)
+      ap (λ (l : List ℕ).
+      isLine dataHeadBytes s && eqb (byteOf s) 2 && eqb (byteOf l) k && leb (headFrom s) (headTo s) && leb (headTo s) (headLength s) && leb (headLength s) dataLimit)
+      (drop-drop 2 i t)
       ∙ (λ j.
-      isLine 8 s && eqb (byteOf s) 2 && eqb (byteOf (drop (i + 2) t)) k && leb (sym (from-place t i) j) (sym (to-place t i) j) && leb (sym (to-place t i) j) (sym (length-place t i) j)
-      && leb (headLength s) 4096)
-      ∙ ap (λ (x : Bool). x && leb (headLength s) 4096) e
+      isLine dataHeadBytes s && eqb (byteOf s) 2 && eqb (byteOf (drop (i + 2) t)) k && leb (sym (from-place t i) j) (sym (to-place t i) j) && leb (sym (to-place t i) j) (sym (length-place t i) j)
+      && leb (headLength s) dataLimit)
+      ∙ ap (λ (x : Bool). x && leb (headLength s) dataLimit) e
 
-  pub long-data : 4096 < headLength s → false ≡ isData k s
+  pub long-data : dataLimit < headLength s → false ≡ isData k s
   unfolding isData
-  long-data h = too-long dataHead (headLength s) 4096 (content 17) h ∙ sym (ap (λ (x : Bool). also x (content 17)) (data-by refl))
+  long-data h = too-long dataHead (headLength s) dataLimit (content dataLine) h ∙ sym (ap (λ (x : Bool). also x (content dataLine)) (data-by refl))
 
   pub no-data : dataHead ≡ false → false ≡ isData k s
   unfolding isData
-  no-data h = sym (ap (λ (x : Bool). also x (content 17)) (data-by h))
+  no-data h = sym (ap (λ (x : Bool). also x (content dataLine)) (data-by h))
 
-  pub data-place : dataHead ≡ true → headLength s ≤ 4096 → isContent (framesFor (headLength s)) k 0 (headLength s) (drop (i + 17) t) ≡ isData k s
+  pub data-place : dataHead ≡ true → headLength s ≤ dataLimit → isContent (framesFor (headLength s)) k 0 (headLength s) (drop (i + dataLine) t) ≡ isData k s
   unfolding isData
-  data-place h l = content-place 17 ∙ sym (ap (λ (x : Bool). also x (content 17)) (data-by h ∙ le-leb (headLength s) 4096 l))
+  data-place h l = content-place dataLine ∙ sym (ap (λ (x : Bool). also x (content dataLine)) (data-by h ∙ le-leb (headLength s) dataLimit l))
 
-pub after-program-place : (t : List ℕ) → drop (9 + contentLength (headLength t)) t ≡ afterProgram t
+pub after-program-place : (t : List ℕ) → drop (programLine + contentLength (headLength t)) t ≡ afterProgram t
 unfolding afterProgram
 after-program-place t = refl
 
-pub after-data-place : (t : List ℕ) (i : ℕ) → drop (i + (17 + contentLength (headLength (drop i t)))) t ≡ afterData (drop i t)
+pub after-data-place : (t : List ℕ) (i : ℕ) → drop (i + (dataLine + contentLength (headLength (drop i t)))) t ≡ afterData (drop i t)
 unfolding afterData
-after-data-place t i = sym (drop-drop (17 + contentLength (headLength (drop i t))) i t)
+after-data-place t i = sym (drop-drop (dataLine + contentLength (headLength (drop i t))) i t)
 
 -- two tests that are passed together
 pub same-test : (a b : Bool) → (a ≡ true → b ≡ true) → (a ≡ false → b ≡ false) → a ≡ b

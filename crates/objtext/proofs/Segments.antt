@@ -9,7 +9,7 @@ use native.Mathlib.Omega.{arith}
 use native.Mathlib.Numerals.{add-one}
 use lib.ListN.{drop}
 use Rattle.objtext.specs.Object.{Segment}
-use Rattle.objtext.specs.Reader.{contentLength, headLength, isProgram, programAt, afterProgram, isData, dataAt, afterData, isLast, Read, push, onSegment, atLast, readData, readObject, dataList, readAs}
+use Rattle.objtext.specs.Reader.{contentLength, headLength, isProgram, programAt, afterProgram, isData, dataAt, afterData, isLast, Read, push, onSegment, atLast, readData, readObject, dataList, readAs, dataLine}
 use Rattle.objtext.proofs.Places.{after-data-place}
 
 -- the first j data segments from s on in front of what is read behind them
@@ -55,10 +55,10 @@ module _ (t : List ℕ) (at : ℕ) (p : isProgram 0 t ≡ true) (e : drop at t �
   unfolding readAs readObject onSegment push
   no-data h = rw (p, ← e, h)
 
-  pub first-data : isData 1 (drop at t) ≡ true → Reading t 2 (at + (17 + contentLength (headLength (drop at t))))
+  pub first-data : isData 1 (drop at t) ≡ true → Reading t 2 (at + (dataLine + contentLength (headLength (drop at t))))
   unfolding readObject onSegment
   first-data h =
-      let q : drop (at + (17 + contentLength (headLength (drop at t)))) t ≡ afterData (afterProgram t) = after-data-place t at ∙ ap afterData e in
+      let q : drop (at + (dataLine + contentLength (headLength (drop at t)))) t ≡ afterData (afterProgram t) = after-data-place t at ∙ ap afterData e in
       record { rest = q; whole = rw (q, p, ← e, h) }
 
 -- ── the turns ──
@@ -95,13 +95,13 @@ module _ (t : List ℕ) (k at : ℕ) (l : 1 ≤ k) (g : Reading t k at) where
     unfolding readData atLast onSegment
     no-more d = let w : 4 - k ≡ suc (4 - (k + 1)) = omega arith in nothing (rw (w, h, d))
 
-    pub one-more : isData k (drop at t) ≡ true → Reading t (k + 1) (at + (17 + contentLength (headLength (drop at t))))
+    pub one-more : isData k (drop at t) ≡ true → Reading t (k + 1) (at + (dataLine + contentLength (headLength (drop at t))))
     unfolding readData atLast onSegment
     one-more d =
         let w : 4 - k ≡ suc (4 - (k + 1)) = omega arith in
         let v : k + 1 - 1 ≡ suc (k - 1) = omega arith in
         let a = afterProgram t in
-        let q : drop (at + (17 + contentLength (headLength (drop at t)))) t ≡ afterData (drop at t) = after-data-place t at in
+        let q : drop (at + (dataLine + contentLength (headLength (drop at t)))) t ≡ afterData (drop at t) = after-data-place t at in
         let r : Read = readData (4 - (k + 1)) (k + 1) (afterData (drop at t)) in
         let s : readData (4 - k) k (drop at t) ≡ push (dataAt (drop at t)) r = rw (w, h, d, add-one k) in
         let u : push (programAt t) (pushAll (k - 1) a (push (dataAt (restAfter (k - 1) a)) r)) ≡ readObject t

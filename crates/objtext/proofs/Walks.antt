@@ -9,8 +9,9 @@ use lib.Dec.{T, leb, eqb}
 use lib.ListN.{length, drop}
 use borrow.Author.Tests.{leb-true}
 use Rattle.base.proofs.Tests.{cases, and-right, is-true}
-use Rattle.objtext.specs.Object.{Segment, framesFor}
-use Rattle.objtext.specs.Reader.{byteOf, headLength, headFrom, headTo, isLine, isContent, isProgramHead, isDataHead, also, isProgram, programAt, afterProgram, isData, dataAt, afterData, isLast, Read, push, onSegment, atLast, readData, readObject, dataList, segmentList, readAs}
+use Rattle.base.proofs.Lists.{none-some}
+use Rattle.objtext.specs.Object.{Segment, framesFor, programLimit, dataLimit}
+use Rattle.objtext.specs.Reader.{byteOf, headLength, headFrom, headTo, isLine, isContent, isProgramHead, isDataHead, also, isProgram, programAt, afterProgram, isData, dataAt, afterData, isLast, Read, push, onSegment, atLast, readData, readObject, dataList, segmentList, readAs, dataLine, programLine, programHeadBytes, dataHeadBytes}
 
 -- n data segments, numbered from k on, stand at the front
 abbrev pub Walked : ℕ → ℕ → List ℕ → Type 0
@@ -25,9 +26,6 @@ pub record Walk (n : ℕ) (t : List ℕ) : Type 0 where
 
 -- ── what a reading that is no refusal says ──
 
-pub no-some {ℓ} : {X : Type ℓ} (gs : List Segment) → _≡_ {A = Read} none (some gs) → X
-no-some gs e = absurd (let z : _≡_ {A = ℕ} 0 1 = cc in omega arith)
-
 -- a segment was read, and others behind it
 pub record Behind (b : Bool) (next : Unit {0} → Read) (g : Segment) (gs : List Segment) : Type 0 where
   pub is : b ≡ true
@@ -37,11 +35,11 @@ pub record Behind (b : Bool) (next : Unit {0} → Read) (g : Segment) (gs : List
 
 pub behind : (b : Bool) (next : Unit {0} → Read) (g : Segment) (gs : List Segment) → onSegment b g next ≡ some gs → Behind b next g gs
 unfolding onSegment push
-behind false next g gs e = no-some gs e
+behind false next g gs e = absurd (none-some gs e)
 behind true next g gs e = go (next tt) refl e
   where
     go : (r : Read) → next tt ≡ r → push g r ≡ some gs → Behind true next g gs
-    go none q f = no-some gs f
+    go none q f = absurd (none-some gs f)
     go (some hs) q f = record { is = refl; others = hs; read = q; whole = cc }
 
 pub at-end : (b : Bool) (next : Unit {0} → Read) (gs : List Segment) → atLast b next ≡ some gs → (b ≡ true → length gs ≡ 0) × (b ≡ false → next tt ≡ some gs)
@@ -54,7 +52,7 @@ unfolding readData
 data-walked zero k s gs e =
     cases (isLast s)
     (λ h. let z = at-end (isLast s) (λ u. none) gs e .0 h in (subst (λ (n : ℕ). Walked n k s) (sym z) tt, omega arith))
-    (λ h. no-some gs (at-end (isLast s) (λ u. none) gs e .1 h))
+    (λ h. absurd (none-some gs (at-end (isLast s) (λ u. none) gs e .1 h)))
 data-walked (suc m) k s gs e =
     cases (isLast s)
     (λ h. let z = a .0 h in (subst (λ (n : ℕ). Walked n k s) (sym z) tt, omega arith))
@@ -112,16 +110,17 @@ short-head b n l next e = cases (leb n l) (λ h. leb-true n l h) (λ h. absurd (
     no true c h q = subst T (ap (λ (x : Bool). also x next) h) (subst T (sym q) tt)
     no false c h q = subst T (sym q) tt
 
-pub program-short : (k : ℕ) (s : List ℕ) → isProgram k s ≡ true → headLength s ≤ 4096
+pub program-short : (k : ℕ) (s : List ℕ) → isProgram k s ≡ true → headLength s ≤ programLimit
 unfolding isProgram
 program-short k s e =
-    short-head (isLine 4 s && eqb (byteOf s) 1 && eqb (byteOf (drop 2 s)) k) (headLength s) 4096 (λ u. isContent (framesFor (headLength s)) k 0 (headLength s) (drop 9 s)) e
+    short-head (isLine programHeadBytes s && eqb (byteOf s) 1 && eqb (byteOf (drop 2 s)) k) (headLength s) programLimit
+    (λ u. isContent (framesFor (headLength s)) k 0 (headLength s) (drop programLine s)) e
 
-pub data-short : (k : ℕ) (s : List ℕ) → isData k s ≡ true → headLength s ≤ 4096
+pub data-short : (k : ℕ) (s : List ℕ) → isData k s ≡ true → headLength s ≤ dataLimit
 unfolding isData
 data-short k s e =
-    short-head (isLine 8 s && eqb (byteOf s) 2 && eqb (byteOf (drop 2 s)) k && leb (headFrom s) (headTo s) && leb (headTo s) (headLength s)) (headLength s) 4096
-    (λ u. isContent (framesFor (headLength s)) k 0 (headLength s) (drop 17 s)) e
+    short-head (isLine dataHeadBytes s && eqb (byteOf s) 2 && eqb (byteOf (drop 2 s)) k && leb (headFrom s) (headTo s) && leb (headTo s) (headLength s)) (headLength s) dataLimit
+    (λ u. isContent (framesFor (headLength s)) k 0 (headLength s) (drop dataLine s)) e
 
 -- one segment on
 pub walked-on : (n k : ℕ) (s : List ℕ) → 0 < n → Walked n k s → (isData k s ≡ true) × Walked (n - 1) (k + 1) (afterData s)

@@ -13,8 +13,8 @@ use Rattle.base.specs.Lists.{All}
 use Rattle.base.specs.Numbers.{bytesOf}
 use Rattle.base.proofs.Lists.{all-take, all-drop}
 use Rattle.base.proofs.Numbers.{length-bytesOf, bytesOf-below}
-use Rattle.objtext.specs.Object.{Segment, program, cells, contentOf, Bytes, contentFrame, contentFrames, framesFor, headFrame, segmentFrames, objectFrames, hexDigit, hex, line, textOf, newline, objectText, Data, IsData, Object, IsObject}
-use Rattle.objtext.specs.Reader.{digitOf, byteOf, frontBytes, twoOf, isLine, contentLength, isContentFrame, isContent, contentAt, headLength, headFrom, headTo, isProgramHead, isDataHead, also, isProgram, programAt, afterProgram, isData, dataAt, afterData, isLast, Read, push, onSegment, atLast, readData, readObject}
+use Rattle.objtext.specs.Object.{Segment, program, cells, contentOf, Bytes, contentFrame, contentFrames, framesFor, headFrame, segmentFrames, objectFrames, hexDigit, hex, line, textOf, newline, objectText, Data, IsData, Object, IsObject, programLimit, dataLimit, contentLimit}
+use Rattle.objtext.specs.Reader.{digitOf, byteOf, frontBytes, twoOf, isLine, contentLength, isContentFrame, isContent, contentAt, headLength, headFrom, headTo, isProgramHead, isDataHead, also, isProgram, programAt, afterProgram, isData, dataAt, afterData, isLast, Read, push, onSegment, atLast, readData, readObject, frameLine, dataLine, programLine, lineLength, frameHeadBytes, bytesPlace}
 use Rattle.objtext.proofs.Lines.{byte-back, two-back, before, line-before, line-of, front-back, length-line}
 
 abbrev Byte : ℕ → Type 0
@@ -31,7 +31,8 @@ module _ (k o : ℕ) (bs s : List ℕ) (hk : k < 256) (ho : o < 65536) (hn : len
   frame-back : isContentFrame k o (length bs) (before (contentFrame k o bs) s) ≡ true
   unfolding isContentFrame bytesOf
   frame-back =
-      let b1 : isLine (5 + length bs) (before (contentFrame k o bs) s) ≡ true = line-of (5 + length bs) (contentFrame k o bs) s (omega arith) (omega arith, (hk, (omega arith, (omega arith, (hn, a))))) in
+      let b1 : isLine (5 + length bs) (before (contentFrame k o bs) s) ≡ true = line-of (5 + length bs) (contentFrame k o bs) s (omega arith)
+      (omega arith, (hk, (omega arith, (omega arith, (hn, a))))) in
       let b2 : twoOf (drop 4 (before (contentFrame k o bs) s)) ≡ o = two-back o (length bs ∷ bs) (newline ∷ s) ho in
       rw (
         b1,
@@ -44,13 +45,13 @@ module _ (k o : ℕ) (bs s : List ℕ) (hk : k < 256) (ho : o < 65536) (hn : len
         eq-eqb (length bs) (length bs) refl,
       )
 
-  frame-bytes : frontBytes (length bs) (drop 10 (before (contentFrame k o bs) s)) ≡ bs
+  frame-bytes : frontBytes (length bs) (drop bytesPlace (before (contentFrame k o bs) s)) ≡ bs
   unfolding bytesOf
   frame-bytes = front-back bs (newline ∷ s) a
 
-  frame-after : length bs ≡ 16 → drop 43 (line (contentFrame k o bs) ++ s) ≡ s
+  frame-after : length bs ≡ 16 → drop frameLine (line (contentFrame k o bs) ++ s) ≡ s
   unfolding bytesOf
-  frame-after e = drop-at (line (contentFrame k o bs)) s 43 (omega (arith, length-line (contentFrame k o bs)))
+  frame-after e = drop-at (line (contentFrame k o bs)) s frameLine (omega (arith, length-line (contentFrame k o bs)))
 
 -- what is asked of a segment's bytes from offset o on
 pub record Fits (m k o : ℕ) (bs : List ℕ) : Type 0 where
@@ -86,13 +87,13 @@ module _ (m k o : ℕ) (bs s : List ℕ) (f : Fits (suc m) k o bs) where
       let h = f .offset (omega arith) in
       rw (← taken) (frame-back k o (take 16 bs) s (f .number) (omega arith) (omega (arith, taken)) (all-take Byte 16 bs (f .bytes)))
 
-  first-bytes : frontBytes (min 16 (length bs)) (drop 10 (before (contentFrame k o (take 16 bs)) s)) ≡ take 16 bs
+  first-bytes : frontBytes (min 16 (length bs)) (drop bytesPlace (before (contentFrame k o (take 16 bs)) s)) ≡ take 16 bs
   first-bytes =
       let e = f .frames in
       let h = f .offset (omega arith) in
       rw (← taken) (frame-bytes k o (take 16 bs) s (f .number) (omega arith) (omega (arith, taken)) (all-take Byte 16 bs (f .bytes)))
 
-  others : 0 < m → drop 43 (before (contentFrame k o (take 16 bs)) s) ≡ s
+  others : 0 < m → drop frameLine (before (contentFrame k o (take 16 bs)) s) ≡ s
   others l =
       let e = f .frames in
       let h = f .offset (omega arith) in
@@ -113,7 +114,7 @@ content-back (suc m) k o bs s f =
     let u = framesText m k (o + 16) (drop 16 bs) s in
     let v = before (contentFrame k o (take 16 bs)) u in
     let ih : isContent m k (o + 16) (length bs - 16) u ≡ true = rw (← length-drop 16 bs) (content-back m k (o + 16) (drop 16 bs) s (fits-rest m k o bs f)) in
-    rw (frames-before m k o bs s, first-frame m k o bs u f) (only-frames m k (o + 16) (length bs - 16) (drop 43 v) u (others m k o bs u f) ih)
+    rw (frames-before m k o bs s, first-frame m k o bs u f) (only-frames m k (o + 16) (length bs - 16) (drop frameLine v) u (others m k o bs u f) ih)
 
 pub bytes-back : (m k o : ℕ) (bs s : List ℕ) → Fits m k o bs → contentAt m (length bs) (framesText m k o bs s) ≡ bs
 bytes-back zero k o [] s f = refl
@@ -122,12 +123,12 @@ bytes-back (suc m) k o bs s f =
     let u = framesText m k (o + 16) (drop 16 bs) s in
     let v = before (contentFrame k o (take 16 bs)) u in
     let ih : contentAt m (length bs - 16) u ≡ drop 16 bs = rw (← length-drop 16 bs) (bytes-back m k (o + 16) (drop 16 bs) s (fits-rest m k o bs f)) in
-    rw (frames-before m k o bs s, first-bytes m k o bs u f, only-bytes m (length bs - 16) (drop 43 v) u (others m k o bs u f), ih) (take-append-drop 16 bs)
+    rw (frames-before m k o bs s, first-bytes m k o bs u f, only-bytes m (length bs - 16) (drop frameLine v) u (others m k o bs u f), ih) (take-append-drop 16 bs)
 
 both-parts : (bs : List ℕ) → length (take 16 bs) + length (drop 16 bs) ≡ length bs
 both-parts bs = omega (arith, length-take 16 bs, length-drop 16 bs)
 
-frames-length : (m k o : ℕ) (bs : List ℕ) → length bs ≤ 16 * m → length (textOf (contentFrames m k o bs)) ≡ 2 * length bs + 11 * m
+frames-length : (m k o : ℕ) (bs : List ℕ) → length bs ≤ 16 * m → length (textOf (contentFrames m k o bs)) ≡ 2 * length bs + lineLength frameHeadBytes * m
 unfolding bytesOf
 frames-length zero k o bs h = omega arith
 frames-length (suc m) k o bs h =
@@ -143,7 +144,7 @@ length-frames k o bs = frames-length (framesFor (length bs)) k o bs (omega arith
 -- ── segments ──
 
 -- a segment's bytes in their frames, from offset 0 on
-segment-fits : (k : ℕ) (bs : List ℕ) → k < 256 → Bytes bs → length bs ≤ 4096 → Fits (framesFor (length bs)) k 0 bs
+segment-fits : (k : ℕ) (bs : List ℕ) → k < 256 → Bytes bs → length bs ≤ contentLimit → Fits (framesFor (length bs)) k 0 bs
 segment-fits k bs hk a h = record { bytes = a; number = hk; offset = λ z. omega arith; frames = refl }
 
 abbrev pub segmentText : ℕ → Segment → List ℕ → List ℕ
@@ -163,7 +164,7 @@ after-content k h g s e =
     (omega (arith, length-append (line (headFrame k g)) c, length-frames k 0 (contentOf g))))
 
 -- a program
-module _ (k : ℕ) (c s : List ℕ) (hk : k < 256) (a : Bytes c) (h : length c ≤ 4096) where
+module _ (k : ℕ) (c s : List ℕ) (hk : k < 256) (a : Bytes c) (h : length c ≤ programLimit) where
   program-length : headLength (segmentText k (program c) s) ≡ length c
   unfolding bytesOf
   program-length = two-back (length c) [] (newline ∷ framesText (framesFor (length c)) k 0 c s) (omega arith)
@@ -173,19 +174,19 @@ module _ (k : ℕ) (c s : List ℕ) (hk : k < 256) (a : Bytes c) (h : length c �
   program-head =
       let u = framesText (framesFor (length c)) k 0 c s in
       let l : isLine 4 (segmentText k (program c) s) ≡ true = line-of 4 (headFrame k (program c)) u refl (omega arith, (hk, (omega arith, (omega arith, tt)))) in
-      rw (l, byte-back 1 (drop 2 (segmentText k (program c) s)) (omega arith), byte-back k (drop 4 (segmentText k (program c) s)) hk, eq-eqb k k refl, program-length, le-leb (length c) 4096 h)
+      rw (l, byte-back 1 (drop 2 (segmentText k (program c) s)) (omega arith), byte-back k (drop 4 (segmentText k (program c) s)) hk, eq-eqb k k refl, program-length, le-leb (length c) programLimit h)
 
   pub is-program : isProgram k (segmentText k (program c) s) ≡ true
   unfolding isProgram bytesOf
-  is-program = rw (program-head, program-length) (content-back (framesFor (length c)) k 0 c s (segment-fits k c hk a h))
+  is-program = rw (program-head, program-length) (content-back (framesFor (length c)) k 0 c s (segment-fits k c hk a (omega arith)))
 
   pub the-program : programAt (segmentText k (program c) s) ≡ program c
   unfolding programAt bytesOf
-  the-program = rw program-length (ap program (bytes-back (framesFor (length c)) k 0 c s (segment-fits k c hk a h)))
+  the-program = rw program-length (ap program (bytes-back (framesFor (length c)) k 0 c s (segment-fits k c hk a (omega arith))))
 
   pub past-program : afterProgram (segmentText k (program c) s) ≡ s
   unfolding afterProgram bytesOf
-  past-program = rw program-length (after-content k 9 (program c) s refl)
+  past-program = rw program-length (after-content k programLine (program c) s refl)
 
 -- a data segment
 module _ (k : ℕ) (c : List ℕ) (from to : ℕ) (s : List ℕ) (hk : k < 256) (d : IsData c from to) where
@@ -218,20 +219,20 @@ module _ (k : ℕ) (c : List ℕ) (from to : ℕ) (s : List ℕ) (hk : k < 256) 
         data-to,
         le-leb from to (d .order),
         le-leb to (length c) (d .inside),
-        le-leb (length c) 4096 h,
+        le-leb (length c) dataLimit h,
       )
 
   pub is-data : isData k (segmentText k (cells c from to) s) ≡ true
   unfolding isData bytesOf
-  is-data = rw (data-head, data-length) (content-back (framesFor (length c)) k 0 c s (segment-fits k c hk (d .bytes) (d .short)))
+  is-data = rw (data-head, data-length) (content-back (framesFor (length c)) k 0 c s (segment-fits k c hk (d .bytes) (omega arith)))
 
   pub the-data : dataAt (segmentText k (cells c from to) s) ≡ cells c from to
   unfolding dataAt bytesOf
-  the-data = rw (data-length, data-from, data-to) (ap (λ (x : List ℕ). cells x from to) (bytes-back (framesFor (length c)) k 0 c s (segment-fits k c hk (d .bytes) (d .short))))
+  the-data = rw (data-length, data-from, data-to) (ap (λ (x : List ℕ). cells x from to) (bytes-back (framesFor (length c)) k 0 c s (segment-fits k c hk (d .bytes) (omega arith))))
 
   pub past-data : afterData (segmentText k (cells c from to) s) ≡ s
   unfolding afterData bytesOf
-  past-data = rw data-length (after-content k 17 (cells c from to) s refl)
+  past-data = rw data-length (after-content k dataLine (cells c from to) s refl)
 
   pub not-last : isLast (segmentText k (cells c from to) s) ≡ false
   unfolding isLast

@@ -1,7 +1,7 @@
 -- Document 01, "Object text": an object is the list of its segments, in number order from 0, and its text has a line for each frame.
 use mathlib.Core.Path.{_≡_}
 use mathlib.Core.List.{List, [], _∷_, _++_}
-use Prim.Native.Nat.{ℕ, zero, suc, _+_, _/_, _%_, _<_, _≤_}
+use Prim.Native.Nat.{ℕ, zero, suc, _+_, _/_, _%_, _<_, _≤_, max}
 use lib.ListN.{length, take, drop, getD}
 use Rattle.base.specs.Lists.{All}
 use Rattle.base.specs.Numbers.{bytesOf}
@@ -83,6 +83,10 @@ programLimit = 4096
 
 abbrev pub dataLimit : ℕ
 dataLimit = 4096
+
+-- of a content, whichever the kind of its segment
+abbrev pub contentLimit : ℕ
+contentLimit = max programLimit dataLimit
 
 -- "one to three data heads"
 abbrev pub mostData : ℕ

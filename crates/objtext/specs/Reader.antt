@@ -35,69 +35,120 @@ abbrev pub isLine : ℕ → List ℕ → Bool
 isLine zero s = eqb (getD s 0 0) newline
 isLine (suc n) s = ltb (byteOf s) 256 && isLine n (drop 2 s)
 
+-- ── where the parts of a line stand ──
+
+-- the characters of a line of n bytes: two a byte, and the newline
+abbrev pub lineLength : ℕ → ℕ
+lineLength n = 2 * n + 1
+
+-- "Program head: 01, number, length (2 bytes)"
+abbrev pub programHeadBytes : ℕ
+programHeadBytes = 4
+
+-- "Data head: 02, number, length, writable from, writable to"
+abbrev pub dataHeadBytes : ℕ
+dataHeadBytes = 8
+
+-- "Content: 00, number, offset (2 bytes), count, bytes": what stands before the bytes
+abbrev pub frameHeadBytes : ℕ
+frameHeadBytes = 5
+
+-- the number behind a line's first byte
+abbrev pub numberPlace : ℕ
+numberPlace = 2
+
+abbrev pub lengthPlace : ℕ
+lengthPlace = 4
+
+abbrev pub fromPlace : ℕ
+fromPlace = 8
+
+abbrev pub toPlace : ℕ
+toPlace = 12
+
+abbrev pub offsetPlace : ℕ
+offsetPlace = 4
+
+abbrev pub countPlace : ℕ
+countPlace = 8
+
+abbrev pub bytesPlace : ℕ
+bytesPlace = 2 * frameHeadBytes
+
+-- the lines of the heads and of a whole frame
+abbrev pub programLine : ℕ
+programLine = lineLength programHeadBytes
+
+abbrev pub dataLine : ℕ
+dataLine = lineLength dataHeadBytes
+
+abbrev pub frameLine : ℕ
+frameLine = lineLength (frameHeadBytes + frameBytes)
+
 -- ── content ──
 
--- the characters of n bytes of content: two a byte, and five bytes and a newline more a frame
+-- the characters of n bytes of content: two a byte, and for each frame a line's without its bytes
 abbrev pub contentLength : ℕ → ℕ
-contentLength n = 2 * n + 11 * framesFor n
+contentLength n = 2 * n + lineLength frameHeadBytes * framesFor n
 
 -- a content frame of n bytes for offset o of segment k
 unfoldable pub isContentFrame : ℕ → ℕ → ℕ → List ℕ → Bool
 isContentFrame k o n s =
-    isLine (5 + n) s && eqb (byteOf s) 0 && eqb (byteOf (drop 2 s)) k && eqb (twoOf (drop 4 s)) o && eqb (byteOf (drop 8 s)) n
+    isLine (frameHeadBytes + n) s && eqb (byteOf s) 0 && eqb (byteOf (drop numberPlace s)) k && eqb (twoOf (drop offsetPlace s)) o && eqb (byteOf (drop countPlace s)) n
 
--- m frames with the n bytes of segment k from offset o on; a whole frame takes 43 characters
+-- m frames with the n bytes of segment k from offset o on
 abbrev pub isContent : ℕ → ℕ → ℕ → ℕ → List ℕ → Bool
 isContent zero k o n s = true
-isContent (suc m) k o n s = isContentFrame k o (min frameBytes n) s && isContent m k (o + frameBytes) (n - frameBytes) (drop 43 s)
+isContent (suc m) k o n s = isContentFrame k o (min frameBytes n) s && isContent m k (o + frameBytes) (n - frameBytes) (drop frameLine s)
 
 abbrev pub contentAt : ℕ → ℕ → List ℕ → List ℕ
 contentAt zero n s = []
-contentAt (suc m) n s = frontBytes (min frameBytes n) (drop 10 s) ++ contentAt m (n - frameBytes) (drop 43 s)
+contentAt (suc m) n s = frontBytes (min frameBytes n) (drop bytesPlace s) ++ contentAt m (n - frameBytes) (drop frameLine s)
 
 -- ── segments ──
 
 -- the length that a head gives
 abbrev pub headLength : List ℕ → ℕ
-headLength s = twoOf (drop 4 s)
+headLength s = twoOf (drop lengthPlace s)
 
 abbrev pub isProgramHead : ℕ → List ℕ → Bool
-isProgramHead k s = isLine 4 s && eqb (byteOf s) 1 && eqb (byteOf (drop 2 s)) k && leb (headLength s) programLimit
+isProgramHead k s = isLine programHeadBytes s && eqb (byteOf s) 1 && eqb (byteOf (drop numberPlace s)) k && leb (headLength s) programLimit
 
 abbrev pub headFrom : List ℕ → ℕ
-headFrom s = twoOf (drop 8 s)
+headFrom s = twoOf (drop fromPlace s)
 
 abbrev pub headTo : List ℕ → ℕ
-headTo s = twoOf (drop 12 s)
+headTo s = twoOf (drop toPlace s)
 
 abbrev pub isDataHead : ℕ → List ℕ → Bool
 isDataHead k s =
-    isLine 8 s && eqb (byteOf s) 2 && eqb (byteOf (drop 2 s)) k && leb (headFrom s) (headTo s) && leb (headTo s) (headLength s) && leb (headLength s) dataLimit
+    isLine dataHeadBytes s && eqb (byteOf s) 2 && eqb (byteOf (drop numberPlace s)) k
+    && leb (headFrom s) (headTo s) && leb (headTo s) (headLength s) && leb (headLength s) dataLimit
 
 -- the second test only where the first is passed
 abbrev pub also : Bool → (Unit {0} → Bool) → Bool
 also true next = next tt
 also false next = false
 
--- the lines of segment k, a program: its head takes 9 characters
+-- the lines of segment k, a program
 unfoldable pub isProgram : ℕ → List ℕ → Bool
-isProgram k s = also (isProgramHead k s) (λ u. isContent (framesFor (headLength s)) k 0 (headLength s) (drop 9 s))
+isProgram k s = also (isProgramHead k s) (λ u. isContent (framesFor (headLength s)) k 0 (headLength s) (drop programLine s))
 
 unfoldable pub programAt : List ℕ → Segment
-programAt s = program (contentAt (framesFor (headLength s)) (headLength s) (drop 9 s))
+programAt s = program (contentAt (framesFor (headLength s)) (headLength s) (drop programLine s))
 
 unfoldable pub afterProgram : List ℕ → List ℕ
-afterProgram s = drop (9 + contentLength (headLength s)) s
+afterProgram s = drop (programLine + contentLength (headLength s)) s
 
--- the lines of segment k, of data: its head takes 17 characters
+-- the lines of segment k, of data
 unfoldable pub isData : ℕ → List ℕ → Bool
-isData k s = also (isDataHead k s) (λ u. isContent (framesFor (headLength s)) k 0 (headLength s) (drop 17 s))
+isData k s = also (isDataHead k s) (λ u. isContent (framesFor (headLength s)) k 0 (headLength s) (drop dataLine s))
 
 unfoldable pub dataAt : List ℕ → Segment
-dataAt s = cells (contentAt (framesFor (headLength s)) (headLength s) (drop 17 s)) (headFrom s) (headTo s)
+dataAt s = cells (contentAt (framesFor (headLength s)) (headLength s) (drop dataLine s)) (headFrom s) (headTo s)
 
 unfoldable pub afterData : List ℕ → List ℕ
-afterData s = drop (17 + contentLength (headLength s)) s
+afterData s = drop (dataLine + contentLength (headLength s)) s
 
 -- "last line FF", and nothing behind it
 unfoldable pub isLast : List ℕ → Bool

@@ -4,26 +4,49 @@ ghost use mathlib.Core.Bool.{true};
 ghost use Prim.Native.Nat.{_+_, _*_, _/_, _%_, _<_, _≤_};
 ghost use lib.ListN.{length, getD, drop};
 ghost use lib.Seq.{sets};
-ghost use Rattle.objtext.specs.Object.{framesFor};
-ghost use Rattle.objtext.specs.Reader.{digitOf, joinOf, byteOf, twoOf, isLine, contentLength, isContentFrame, isContent, contentAt, headLength, isProgram, isData, isLast, readAs, readObject};
+ghost use Rattle.objtext.specs.Object.{framesFor, programLimit, dataLimit, contentLimit};
+ghost use Rattle.objtext.specs.Reader.{digitOf, joinOf, byteOf, twoOf, isLine, programLine, dataLine, contentLength, isContentFrame, isContent, contentAt, headLength, isProgram, isData, isLast, readAs, readObject};
 use base::least;
 
-const NEWLINE: u8 = 10;
+pub const NEWLINE: u8 = 10;
 
-// "16 bytes a frame", and the characters of such a frame's line.
-const FRAME_BYTES: usize = 16;
+// "lengths at most 4,096".
+pub const PROGRAM_LIMIT: usize = 4096;
+
+pub const DATA_LIMIT: usize = 4096;
+
+// "16 bytes a frame", behind a head of five; the characters of the head, of a line without bytes, and of a whole frame's line.
+pub const FRAME_BYTES: usize = 16;
+
+const FRAME_HEAD_BYTES: usize = 5;
+
+pub const BYTES_PLACE: usize = 10;
+
+pub const FRAME_HEAD_LINE: usize = 11;
 
 const FRAME_LINE: usize = 43;
 
-// "lengths at most 4,096".
-const PROGRAM_LIMIT: usize = 4096;
+// The bytes of the heads, and the characters of their lines.
+const PROGRAM_HEAD_BYTES: usize = 4;
 
-const DATA_LIMIT: usize = 4096;
-
-// The characters of the heads' lines.
 pub const PROGRAM_HEAD: usize = 9;
 
+const DATA_HEAD_BYTES: usize = 8;
+
 pub const DATA_HEAD: usize = 17;
+
+// Where the parts of a line stand: the segment's number; of a head its length and what is writable; of a frame its offset and count.
+const NUMBER_PLACE: usize = 2;
+
+pub const LENGTH_PLACE: usize = 4;
+
+pub const FROM_PLACE: usize = 8;
+
+pub const TO_PLACE: usize = 12;
+
+const OFFSET_PLACE: usize = 4;
+
+const COUNT_PLACE: usize = 8;
 
 // One program and up to three data segments.
 const MOST_SEGMENTS: usize = 4;
@@ -98,17 +121,17 @@ fn is_content_frame(t: &[u8], i: usize, k: usize, o: usize, n: usize) -> bool
     requires { ⌜ (i < 700000) × (n ≤ 16) ⌝ }
     ensures { λ r. ⌜ r ≡ isContentFrame k o n (drop i (now (t .entry))) ⌝ }
 {
-    if is_line(t, i, 5 + n) {
+    if is_line(t, i, FRAME_HEAD_BYTES + n) {
         return (byte_at(t, i) == 0)
-            & (byte_at(t, i + 2) == k)
-            & (two_at(t, i + 4) == o)
-            & (byte_at(t, i + 8) == n);
+            & (byte_at(t, i + NUMBER_PLACE) == k)
+            & (two_at(t, i + OFFSET_PLACE) == o)
+            & (byte_at(t, i + COUNT_PLACE) == n);
     }
     false
 }
 
 fn is_content(t: &[u8], i: usize, k: usize, n: usize) -> bool
-    requires { ⌜ (i < 600000) × (n ≤ 4096) ⌝ }
+    requires { ⌜ (i < 600000) × (n ≤ contentLimit) ⌝ }
     ensures { λ r. ⌜ r ≡ isContent (framesFor n) k 0 n (drop i (now (t .entry))) ⌝ }
 {
     let mut frames = (n + 15) / FRAME_BYTES;
@@ -129,21 +152,24 @@ fn is_content(t: &[u8], i: usize, k: usize, n: usize) -> bool
 }
 
 pub fn content_length(n: usize) -> usize
-    requires { ⌜ n ≤ 4096 ⌝ }
-    ensures { λ r. ⌜ (r ≡ contentLength n) × (r ≤ 11008) ⌝ }
+    requires { ⌜ n ≤ contentLimit ⌝ }
+    ensures { λ r. ⌜ (r ≡ contentLength n) × (r ≤ contentLength contentLimit) ⌝ }
 {
-    2 * n + 11 * ((n + 15) / FRAME_BYTES)
+    2 * n + FRAME_HEAD_LINE * ((n + 15) / FRAME_BYTES)
 }
 
 fn is_program(t: &[u8], i: usize, k: usize) -> bool
     requires { ⌜ i < 500000 ⌝ }
-    ensures { λ r. ⌜ (r ≡ isProgram k (drop i (now (t .entry)))) × (r ≡ true → headLength (drop i (now (t .entry))) ≤ 4096) ⌝ }
+    ensures { λ r. ⌜ (r ≡ isProgram k (drop i (now (t .entry)))) × (r ≡ true → headLength (drop i (now (t .entry))) ≤ programLimit) ⌝ }
 {
-    let n = two_at(t, i + 4);
+    let n = two_at(t, i + LENGTH_PLACE);
     if PROGRAM_LIMIT < n {
         return false;
     }
-    if is_line(t, i, 4) & (byte_at(t, i) == 1) & (byte_at(t, i + 2) == k) {
+    if is_line(t, i, PROGRAM_HEAD_BYTES)
+        & (byte_at(t, i) == 1)
+        & (byte_at(t, i + NUMBER_PLACE) == k)
+    {
         return is_content(t, i + PROGRAM_HEAD, k, n);
     }
     false
@@ -151,17 +177,17 @@ fn is_program(t: &[u8], i: usize, k: usize) -> bool
 
 fn is_data(t: &[u8], i: usize, k: usize) -> bool
     requires { ⌜ i < 500000 ⌝ }
-    ensures { λ r. ⌜ (r ≡ isData k (drop i (now (t .entry)))) × (r ≡ true → headLength (drop i (now (t .entry))) ≤ 4096) ⌝ }
+    ensures { λ r. ⌜ (r ≡ isData k (drop i (now (t .entry)))) × (r ≡ true → headLength (drop i (now (t .entry))) ≤ dataLimit) ⌝ }
 {
-    let n = two_at(t, i + 4);
+    let n = two_at(t, i + LENGTH_PLACE);
     if DATA_LIMIT < n {
         return false;
     }
-    let from = two_at(t, i + 8);
-    let to = two_at(t, i + 12);
-    if is_line(t, i, 8)
+    let from = two_at(t, i + FROM_PLACE);
+    let to = two_at(t, i + TO_PLACE);
+    if is_line(t, i, DATA_HEAD_BYTES)
         & (byte_at(t, i) == 2)
-        & (byte_at(t, i + 2) == k)
+        & (byte_at(t, i + NUMBER_PLACE) == k)
         & (from <= to)
         & (to <= n)
     {
@@ -180,17 +206,17 @@ fn is_last(t: &[u8], i: usize) -> bool
 
 // The place behind the data segment whose head stands at a place.
 pub fn after_data(t: &[u8], i: usize) -> usize
-    requires { ⌜ (i < 500000) × (headLength (drop i (now t)) ≤ 4096) ⌝ }
-    ensures { λ r. ⌜ (r ≡ i + (17 + contentLength (headLength (drop i (now (t .entry)))))) × (r ≤ i + 11025) ⌝ }
+    requires { ⌜ (i < 500000) × (headLength (drop i (now t)) ≤ dataLimit) ⌝ }
+    ensures { λ r. ⌜ (r ≡ i + (dataLine + contentLength (headLength (drop i (now (t .entry)))))) × (r ≤ i + (dataLine + contentLength contentLimit)) ⌝ }
 {
-    i + (DATA_HEAD + content_length(two_at(t, i + 4)))
+    i + (DATA_HEAD + content_length(two_at(t, i + LENGTH_PLACE)))
 }
 
 pub fn after_program(t: &[u8]) -> usize
-    requires { ⌜ headLength (now t) ≤ 4096 ⌝ }
-    ensures { λ r. ⌜ (r ≡ 9 + contentLength (headLength (now (t .entry)))) × (r ≤ 11017) ⌝ }
+    requires { ⌜ headLength (now t) ≤ programLimit ⌝ }
+    ensures { λ r. ⌜ (r ≡ programLine + contentLength (headLength (now (t .entry)))) × (r ≤ programLine + contentLength contentLimit) ⌝ }
 {
-    PROGRAM_HEAD + content_length(two_at(t, 4))
+    PROGRAM_HEAD + content_length(two_at(t, LENGTH_PLACE))
 }
 
 // The number of segments, 0 where the text is not of the form.
@@ -224,14 +250,14 @@ pub fn read(t: &[u8]) -> usize
 
 // Lays the n bytes of the content whose frames stand at place i of the text from `at`.
 pub fn fill(t: &[u8], i: usize, n: usize, s: &mut [u8], at: usize)
-    requires { ⌜ (i < 500000) × (n ≤ 4096) × (at < 1000000) × (at + n ≤ length (now s)) ⌝ }
+    requires { ⌜ (i < 500000) × (n ≤ contentLimit) × (at < 1000000) × (at + n ≤ length (now s)) ⌝ }
     ensures { λ _. ⌜ now (s .exit) ≡ sets (now (s .entry)) at (contentAt (framesFor n) n (drop i (now (t .entry)))) ⌝ }
 {
     let mut j: usize = 0;
     while j < n {
         s[at + j] = (byte_at(
             t,
-            i + j / FRAME_BYTES * FRAME_LINE + 10 + j % FRAME_BYTES * 2,
+            i + j / FRAME_BYTES * FRAME_LINE + BYTES_PLACE + j % FRAME_BYTES * 2,
         )
             % 256) as u8;
         j += 1;

@@ -16,7 +16,8 @@ use Rattle.parse.specs.Programs.{Told, toldOf, Parsed}
 
 told : {ks : List ℕ} {i : ℕ} (before : List ℕ) {after : List ℕ} {r : Answer} {m : Result Statement} → Reads (Laid tapeStatement 0 before after) ks i r m → ((r .number ≡ 0 → ⊥) → r .value ≡ 0)
     → _≡_ {A = Told} (record { number = r .number; token = r .at; events = take (r .value) after }) (toldOf m)
-told before {after} {r} {m = ok x j} h z = let f : take (r .value) after ≡ tapeStatement x [] = sym (append-nil _) ∙ h .tells .2 [] in λ y. record { number = h .tells .0 y; token = h .tells .1 y; events = f y }
+told before {after} {r} {m = ok x j} h z = let f : take (r .value) after ≡ tapeStatement x [] = sym (append-nil _)
+    ∙ h .tells .2 [] in λ y. record { number = h .tells .0 y; token = h .tells .1 y; events = f y }
 told before {after} {m = bad n t} h z =
     let v = z (λ e. let l = h .tells .2 in let g = h .tells .0 in omega arith) in
     λ y. record { number = h .tells .0 y; token = h .tells .1 y; events = ap (λ (x : ℕ). take x after) v y }

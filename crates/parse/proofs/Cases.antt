@@ -42,16 +42,16 @@ tapes :
     ("BEGIN INTEGER A(5); R1 := A + 3; A := R1; END @" ∷ "BEGIN FOR R1 := NEG ABS A(4)(R2) STEP 1 UNTIL 9 DO IF < THEN L ELSE WHILE R1 = 5 DO GOTO X; END @" ∷
     "BEGIN ARRAY (8) SHORT INTEGER S, T(1)(2); INTEGER REGISTER N(3); SEGMENT BASE RC; PROCEDURE P(R5); R0 := S(R1); L: P; END @" ∷ [])
     ≡ map events
-    (((E.BLOCK, 0) ∷ (E.SINGLE-FULL, 0) ∷ (E.ITEM, 2) ∷ (E.VALUE, 4) ∷ (E.TARGET, 7) ∷ (E.FIRST, 9) ∷ (E.TERM + 4, 11) ∷ (E.TARGET, 13) ∷ (E.FIRST, 15) ∷ (E.END-BLOCK, 0) ∷ [])
-    ∷ ((E.BLOCK, 0) ∷ (E.CONTROL, 2) ∷ (E.NEG-ABS, 4) ∷ (E.FIRST + 3, 6) ∷ (E.LIMIT + 4, 16) ∷ (E.BARE, 19) ∷ (E.CALL, 21) ∷ (E.ELSE, 18) ∷ (
+    (((E.BLOCK, 0) ∷ (E.SINGLE-FULL, 0) ∷ (E.ITEM, 2) ∷ (E.VALUE, 4) ∷ (E.TARGET, 7) ∷ (E.FIRST, 9) ∷ (E.TERM + E.NUMBER, 11) ∷ (E.TARGET, 13) ∷ (E.FIRST, 15) ∷ (E.END-BLOCK, 0) ∷ [])
+    ∷ ((E.BLOCK, 0) ∷ (E.CONTROL, 2) ∷ (E.NEG-ABS, 4) ∷ (E.FIRST + E.SUBSCRIPTED-INDEXED, 6) ∷ (E.LIMIT + E.NUMBER, 16) ∷ (E.BARE, 19) ∷ (E.CALL, 21) ∷ (E.ELSE, 18) ∷ (
       E.WHILE,
       23,
-    ) ∷ (E.COMPARED + 4, 26) ∷ (E.GOTO, 29) ∷ (E.END-WHILE, 23)
+    ) ∷ (E.COMPARED + E.NUMBER, 26) ∷ (E.GOTO, 29) ∷ (E.END-WHILE, 23)
     ∷ (E.END-ELSE, 18) ∷ (E.END-FOR, 14) ∷ (E.END-BLOCK, 0) ∷ [])
     ∷ ((E.BLOCK, 0) ∷ (E.ARRAY-SHORT, 3) ∷ (E.ITEM, 7) ∷ (E.ITEM, 9) ∷ (E.VALUE, 11) ∷ (E.VALUE, 14) ∷ (E.REGISTER, 19) ∷ (E.BASE, 26) ∷ (
       E.PROCEDURE,
       29,
-    ) ∷ (E.TARGET, 34) ∷ (E.FIRST + 2, 36) ∷ (E.END-PROCEDURE, 29)
+    ) ∷ (E.TARGET, 34) ∷ (E.FIRST + E.INDEXED, 36) ∷ (E.END-PROCEDURE, 29)
     ∷ (E.LABEL, 41) ∷ (E.CALL, 43) ∷ (E.END-BLOCK, 0) ∷ [])
     ∷ [])
 unfolding sameBytes runLen numberFrom walk wordKind comment nameOrWord number begins sign lexeme nextStep nextToken readFrom tokensOf andThen look next want

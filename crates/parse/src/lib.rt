@@ -14,6 +14,7 @@ use readers::tokens::refused;
 use readers::tokens::wanted;
 use statements::statement;
 use token::kinds;
+use token_lists::TEXT_LIMIT;
 
 // "inside 64 such constructs"
 const NESTING: usize = 64;
@@ -97,8 +98,6 @@ fn answer_text(
 const SHORT: usize = 1024;
 
 const MIDDLING: usize = 8192;
-
-const TEXT_LIMIT: usize = 32768;
 
 fn short(src: &[u8]) -> Verdict
     requires { ⌜ length (now src) ≤ 1024 ⌝ }

@@ -85,7 +85,7 @@ pub fn operand(kinds: &[u8], i: usize, op: u32, tape: &mut [u32], p: usize) -> A
 {
     let k = kind_at(kinds, i);
     if k == kinds::NUMBER {
-        write(tape, p, op + 4, i);
+        write(tape, p, op + tape::NUMBER, i);
         return read(i + 1, p + 1);
     }
     if k == kinds::NAME {

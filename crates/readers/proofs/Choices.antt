@@ -12,7 +12,7 @@ use Rattle.base.specs.Choose.{if_then_else_}
 use Rattle.base.specs.Lists.{member}
 use Rattle.base.specs.Tables.{allBelow}
 use Rattle.base.proofs.Tables.{all-below}
-use Rattle.base.proofs.Tests.{never-true}
+use Rattle.base.proofs.Tests.{never-true, both}
 use Rattle.token.specs.Kinds as K
 use Rattle.grammar.specs.Tree.{Width, full, short, registers}
 use Rattle.grammar.specs.Reader.{ok, bad, andThen, look, next, wantOne}
@@ -46,10 +46,6 @@ same-test f g t k h = go (f k) (g k) (all-below 256 (λ k. if f k then g k else 
     go true false t = absurd t
     go false true t = absurd t
     go false false t = refl
-
-pub both : (a b : Bool) → (a && b) ≡ true → (a ≡ true) × (b ≡ true)
-both true b e = (refl, e)
-both false b e = never-true e
 
 pub either : {A : Type 0} (t : Bool) (a : A) → (if t then a else a) ≡ a
 either true a = refl

@@ -12,7 +12,8 @@ use borrow.Author.Tests.{eqb-true, eq-eqb, ne-eqb, le-leb, lt-leb, leb-true, leb
 use Rattle.base.specs.Choose.{choose, if_then_else_}
 use Rattle.base.specs.Lists.{member}
 use Rattle.base.proofs.Tests.{cases}
-use Rattle.grammar.specs.Tree.{Width, full, short}
+use Rattle.base.proofs.Numbers.{one-less}
+use Rattle.grammar.specs.Tree.{full, short}
 use Rattle.ledger.specs.Book.{Wide, Thin}
 use Rattle.static_rules.specs.Registers.{Registers, has, spares}
 use Rattle.static_rules.specs.Meaning.{Meaning, nothing, register, cell, routine, Based, Cell, elementSize, isFull}
@@ -67,13 +68,6 @@ bare-is shape t = go (eqb shape 1) (eqb shape 2) (eqb shape 3)
     go false false true = refl
     go false false false = refl
 
-pub size-is : (m : ℕ) (x : Bool) (e : ℕ) → x ≡ isShortIn m → e ≡ (if x then 2 else 4) → (e ≡ elementSize (widthIn m)) × ((2 ≤ e) × (e ≤ 4))
-size-is m x e q h = rw (← q) (go x h)
-  where
-    go : (x : Bool) → e ≡ (if x then 2 else 4) → (e ≡ elementSize (if x then short else full)) × ((2 ≤ e) × (e ≤ 4))
-    go true h = (h, (omega arith, omega arith))
-    go false h = (h, (omega arith, omega arith))
-
 -- a multiple of the size lies inside where so many elements stand before it
 within-is : (e v n : ℕ) → 0 < e → (eqb (v % e) 0 && ltb (v / e) n) ≡ (eqb (v % e) 0 && leb (v + e) (e * n))
 within-is e v n h = cases (eqb (v % e) 0) (λ z. rw z (go (eqb-true _ _ z))) (λ z. rw z)
@@ -96,9 +90,6 @@ inside-is m e v k q h r n b = rw (← q, ← r, within-is e v k (omega arith), b
         (λ x. let y = leb-false 2147483648 v x in rw (x, lt-ltb v 2147483648 (omega arith)))
 
 -- ── protected registers ──
-
-one-less : (n : ℕ) → suc n - 1 ≡ n
-one-less n = omega arith
 
 module _ (a : List ℕ) (r : ℕ) where
   kept-turn : (i : ℕ) → 0 < i → member r (stackOf a i) ≡ (eqb r (getD a (i - 1) 0) || member r (stackOf a (i - 1)))

@@ -1,16 +1,16 @@
 // Document 01, "Names, cells, protected registers": the rules on kinds, registers and values, refusals 8 to 12, one function each.
 ghost use mathlib.Core.Path.{_≡_};
 ghost use mathlib.Core.Bool.{Bool, not};
-ghost use Prim.Native.Nat.{ℕ, _+_, _-_, _≤_, _<_};
+ghost use Prim.Native.Nat.{ℕ, _+_, _-_, _<_};
 ghost use lib.ListN.{getD};
 ghost use Rattle.base.specs.Lists.{member};
 ghost use Rattle.ledger.specs.Book.{wideOf, thinOf};
 ghost use Rattle.scopes.specs.Broken.{unbroken, rule as ruleOf, broken as brokenOf, _⊕_};
 ghost use Rattle.static_rules.specs.Registers.{spares as sparesOf};
-ghost use Rattle.static_rules.specs.Meaning.{Based, cell, elementSize};
+ghost use Rattle.static_rules.specs.Meaning.{Based, cell};
 ghost use Rattle.static_rules.specs.Tables.{Tables, valueAt, meaningAt};
 ghost use Rattle.static_rules.specs.Rules.{isRegister, isZero, isShort, inside, isBare, shifts, fullOnly, writeRule, registerRule, zeroRule, indexRules, subscriptRules, placeBy, placeRules, operandRules, onlyRegister, shiftRules, noShort, productRules, termRules, callRules, baseRules};
-ghost use Rattle.tables.specs.Packed.{widthIn, cellIn, unpacked, setOf};
+ghost use Rattle.tables.specs.Packed.{cellIn, unpacked, setOf};
 ghost use Rattle.tables.specs.Stacks.{stackOf};
 ghost use Rattle.rules.specs.Parts.{subscriptAt, indexAt, designatorAt, operandAt, termAt};
 ghost use Rattle.rules.specs.Shows.{Listed};
@@ -25,6 +25,7 @@ use ledger::written;
 use scopes::Broken;
 use scopes::join;
 use scopes::rule;
+use tables::element_size;
 use tables::is_array;
 use tables::is_cell;
 use tables::is_long;
@@ -96,27 +97,20 @@ fn index_rules(shape: u32, wide: &[u64], thin: &[u16], t: usize) -> Broken
     requires { ⌜ t < 4294967296 ⌝ }
     ensures { λ x. ⌜ ((f : Tables) → Listed f (wideOf (now (wide .entry))) (thinOf (now (thin .entry))) → x ≡ indexRules f (indexAt shape t)) ⌝ }
 {
-    if shape == 2 {
+    if shape == tape::INDEXED {
         return used_register(wide, thin, t + 2);
     }
-    if shape == 3 {
+    if shape == tape::SUBSCRIPTED_INDEXED {
         return used_register(wide, thin, t + 5);
     }
     none()
-}
-
-// The size of a cell's elements.
-fn size(m: u64) -> u64
-    ensures { λ r. ⌜ (r ≡ elementSize (widthIn m)) × ((2 ≤ r) × (r ≤ 4)) ⌝ }
-{
-    if is_short(m) { 2 } else { 4 }
 }
 
 // "A subscript … is a multiple of the element size, and its element lies inside the array."; its 32 bits are read as signed.
 fn is_inside(m: u64, v: u64) -> bool
     ensures { λ r. ⌜ ((n : ℕ) (b : Based) → r ≡ inside (cellIn n m b) v) ⌝ }
 {
-    let e = size(m);
+    let e = element_size(m);
     let n = number(m);
     (v < 2147483648) & ((v % e == 0) & (v / e < n))
 }
@@ -127,7 +121,7 @@ fn subscript_rules(shape: u32, m: u64, wide: &[u64], t: usize) -> Broken
         ⌜ ((f : Tables) → f .values ≡ wideOf (now (wide .entry)) .values → (n : ℕ) (b : Based)
         → x ≡ subscriptRules f (cellIn n m b) (subscriptAt shape t)) ⌝ }
 {
-    if (shape == 1) | (shape == 3) {
+    if (shape == tape::SUBSCRIPTED) | (shape == tape::SUBSCRIPTED_INDEXED) {
         return rule(is_inside(m, value(wide, t + 2)), 11, t + 2);
     }
     none()
@@ -136,7 +130,8 @@ fn subscript_rules(shape: u32, m: u64, wide: &[u64], t: usize) -> Broken
 pub fn is_bare(shape: u32) -> bool
     ensures { λ r. ⌜ ((t : ℕ) → r ≡ isBare (subscriptAt shape t) (indexAt shape t)) ⌝ }
 {
-    !((shape == 1) | ((shape == 2) | (shape == 3)))
+    !((shape == tape::SUBSCRIPTED)
+        | ((shape == tape::INDEXED) | (shape == tape::SUBSCRIPTED_INDEXED)))
 }
 
 // "A subscript … belongs only to arrays (else 8 at the name before it)", and so does an index.
@@ -169,7 +164,7 @@ pub fn operand_rules(shape: u32, wide: &[u64], thin: &[u16], t: usize) -> Broken
     requires { ⌜ t < 4294967296 ⌝ }
     ensures { λ x. ⌜ ((f : Tables) → Listed f (wideOf (now (wide .entry))) (thinOf (now (thin .entry))) → x ≡ operandRules f (operandAt shape t)) ⌝ }
 {
-    if shape == 4 {
+    if shape == tape::NUMBER {
         return none();
     }
     place_rules(shape, wide, thin, t)
@@ -179,7 +174,7 @@ pub fn operand_rules(shape: u32, wide: &[u64], thin: &[u16], t: usize) -> Broken
 pub fn only_register(shape: u32, wide: &[u64], thin: &[u16], t: usize) -> Broken
     ensures { λ x. ⌜ ((f : Tables) → Listed f (wideOf (now (wide .entry))) (thinOf (now (thin .entry))) → x ≡ onlyRegister f (operandAt shape t)) ⌝ }
 {
-    if shape == 4 {
+    if shape == tape::NUMBER {
         return broken(8, t);
     }
     let m = meaning(wide, thin, t);
@@ -192,7 +187,7 @@ pub fn only_register(shape: u32, wide: &[u64], thin: &[u16], t: usize) -> Broken
 fn shift_rules(shape: u32, wide: &[u64], thin: &[u16], t: usize) -> Broken
     ensures { λ x. ⌜ ((f : Tables) → Listed f (wideOf (now (wide .entry))) (thinOf (now (thin .entry))) → x ≡ shiftRules f (operandAt shape t)) ⌝ }
 {
-    if shape == 4 {
+    if shape == tape::NUMBER {
         return rule(value(wide, t) <= 63, 11, t);
     }
     let only = only_register(shape, wide, thin, t);
@@ -202,7 +197,7 @@ fn shift_rules(shape: u32, wide: &[u64], thin: &[u16], t: usize) -> Broken
 fn no_short(shape: u32, wide: &[u64], thin: &[u16], t: usize) -> Broken
     ensures { λ x. ⌜ ((f : Tables) → Listed f (wideOf (now (wide .entry))) (thinOf (now (thin .entry))) → x ≡ noShort f (operandAt shape t)) ⌝ }
 {
-    if shape == 4 {
+    if shape == tape::NUMBER {
         return none();
     }
     let m = meaning(wide, thin, t);
@@ -215,7 +210,7 @@ fn product_rules(shape: u32, wide: &[u64], thin: &[u16], depth: usize, r: usize,
         ⌜ ((f : Tables) → Listed f (wideOf (now (wide .entry))) (thinOf (now (thin .entry)))
         → x ≡ productRules f (stackOf (wideOf (now (wide .entry)) .offsets) depth) r (termAt shape t)) ⌝ }
 {
-    if (shape == 4) | is_long(meaning(wide, thin, t)) {
+    if (shape == tape::NUMBER) | is_long(meaning(wide, thin, t)) {
         let operator = less(t, 1);
         let odd = rule(r % 2 == 1, 9, operator);
         return join(odd, write_rule(wide, depth, less(r, 1) as u64, operator));

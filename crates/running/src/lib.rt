@@ -5,7 +5,6 @@ ghost use Rattle.runner.specs.Numbers.{stopOf};
 use base::less;
 use runner::Stop;
 use runner::Verdict;
-use translate::Answer;
 
 const STORAGE: usize = 20480;
 
@@ -110,11 +109,11 @@ fn run_text(words: &[u8], w: words::Wish, name: &[u8], source: &[u8], object: &[
 
 fn run_source(words: &[u8], w: words::Wish, name: &[u8], text: &[u8]) -> u8 {
     let mut out = [0u8; files::OBJECT_ROOM];
-    let answer = translate::translate(text, &mut out);
-    match answer {
-        Answer::Accepted(n) => run_text(words, w, name, text, figures::front(&out, n)),
-        Answer::Refused(number, place) => saying::refuse(name, number, place, text),
+    let n = sources::object(name, text, &mut out);
+    if n == 0 {
+        return saying::REFUSED;
     }
+    run_text(words, w, name, text, figures::front(&out, n))
 }
 
 // An object text begins with a digit, as no program does.

@@ -1,5 +1,5 @@
 -- Document 01, "Numbers answered": broken rules, of which one is answered. Rules are judged over the whole text, and joined.
-use mathlib.Core.Bool.{Bool, true, false, _&&_, _||_}
+use mathlib.Core.Bool.{Bool, _&&_, _||_}
 use Prim.Native.Nat.{ℕ}
 use lib.Dec.{eqb, leb, ltb}
 use Rattle.base.specs.Choose.{if_then_else_}

@@ -1,7 +1,6 @@
 -- Document 01, "Names, cells, protected registers": the search for a name. Names are known by their keys; a block is the list of the tokens that declare its
 -- names, the newest first; blocks stand innermost first.
 use mathlib.Core.List.{List, [], _∷_, map}
-use mathlib.Core.Bool.{Bool, true, false}
 use Prim.Native.Nat.{ℕ}
 use lib.Dec.{eqb}
 use lib.ListN.{getD}

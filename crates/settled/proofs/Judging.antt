@@ -35,9 +35,9 @@ use Rattle.tables.specs.Packed.{meaningsOf}
 use Rattle.names.specs.Naming.{nameOp, beginning}
 use Rattle.names.specs.Flat.{namedIn}
 use Rattle.names.proofs.Trees.{named-program}
-use Rattle.labels.specs.Chains.{labelledIn}
-use Rattle.labels.specs.Labelling.{labelledAlong}
-use Rattle.labels.proofs.Trees.{labelled-program}
+use Rattle.names.specs.Chains.{labelledIn}
+use Rattle.names.specs.Labelling.{labelledAlong}
+use Rattle.names.proofs.labels.Trees.{labelled-program}
 use Rattle.meanings.specs.Along.{meanEvent}
 use Rattle.meanings.specs.Along as M
 use Rattle.meanings.specs.Flat.{meantOf, View, viewOf, changed, namedTo}
@@ -141,7 +141,8 @@ module _ (ts : List Token) (x : Statement) (kinds tape : List ℕ) (w₀ : Wide)
       unfolding meant
       tables =
           ap (λ (v : View). v .meant) e ∙ rw (t .values-are, t .tape-is, ek, ef, blank (w₀ .means) bm, blank (b₀ .opens) bo, blank (b₀ .written) bw)
-          (meant-text (kindsOf ts) (valuesOf ts) (named ts x .found) (w₀ .under) n (t .small) (early ts x (t .to) (t .program)) x firstToken (t .to) (t .program) (let a = inside ts x (t .to) (t .program) in let b = long in omega arith))
+          (meant-text (kindsOf ts) (valuesOf ts) (named ts x .found) (w₀ .under) n (t .small) (early ts x (t .to) (t .program)) x firstToken (t .to)
+          (t .program) (let a = inside ts x (t .to) (t .program) in let b = long in omega arith))
 
       means-are : meaningsOf (w₁ .means) (w₁ .under) ≡ meantIn ts x .means
       means-are = ap (λ (s : Meant). s .means) tables
@@ -196,7 +197,8 @@ module _ (ts : List Token) (x : Statement) (kinds tape : List ℕ) (w₀ : Wide)
               let f = few in
               let within = inside ts x (t .to) (t .program) in
               rw (t .tape-is, bl)
-              (layout-of-tree (w₁ .means) (w₁ .under) (kindsOf ts) (valuesOf ts) (named ts x .found) x firstToken (t .to) (t .program) (standard n) refl (t .to) known means-are N (length ts) within (omega arith))
+              (layout-of-tree (w₁ .means) (w₁ .under) (kindsOf ts) (valuesOf ts) (named ts x .found) x firstToken (t .to) (t .program) (standard n) refl
+              (t .to) known means-are N (length ts) within (omega arith))
 
           -- where nothing is broken
           right : r .broken .number ≡ 0 → laid ≡ exact

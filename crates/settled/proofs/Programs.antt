@@ -7,9 +7,10 @@ use lib.ListN.{length, take}
 use Rattle.token.specs.declared.Token.{Token}
 use Rattle.grammar.specs.Tree.{Statement}
 use Rattle.grammar.specs.Reader.{Result, ok}
-use Rattle.grammar.specs.Grammar.{program}
+use Rattle.grammar.specs.Grammar.{nesting, program}
 use Rattle.grammar.proofs.Theorems.{read-is-program, read-is-within, program-inside}
 use Rattle.tape.specs.Tape.{tapeStatement}
+use Rattle.ledger.specs.Book.{thinLimit}
 use Rattle.ledger.specs.Bounds.{Narrow, Nested}
 use Rattle.ledger.proofs.Bounds.{program-narrow, program-nested}
 use Rattle.scopes.specs.Search.{firstToken}
@@ -29,11 +30,11 @@ module _ (kinds tape : List ℕ) (p : P.Answer) (d : Parsed kinds firstToken tap
   tape-is = ap (λ (y : Told). y .events) (d .is) ∙ ap (λ (m : Result Statement). toldOf m .events) reads
 
   -- its tape fits the ledger and the stacks
-  pub tape-fits : length kinds ≤ 65536 → Narrow (take (p .value) tape) × Nested 64 0 0 (take (p .value) tape)
+  pub tape-fits : length kinds ≤ thinLimit → Narrow (take (p .value) tape) × Nested nesting 0 0 (take (p .value) tape)
   tape-fits h =
       let whole = read-is-program kinds firstToken tree (p .at) reads in
       let to = program-inside kinds firstToken tree (p .at) whole in
-      rw tape-is (program-narrow kinds tree firstToken (p .at) whole (omega arith), program-nested 64 tree (read-is-within kinds firstToken tree (p .at) reads))
+      rw tape-is (program-narrow kinds tree firstToken (p .at) whole (omega arith), program-nested nesting tree (read-is-within kinds firstToken tree (p .at) reads))
 
   pub text-is : (ts : List Token) (values : List ℕ) → kinds ≡ kindsOf ts → values ≡ valuesOf ts → Small ts → Text ts tree values (take (p .value) tape)
   text-is ts values ek ev small = record {

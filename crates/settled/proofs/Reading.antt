@@ -19,7 +19,7 @@ use Rattle.token.specs.declared.Tokens.the-variants as S
 use Rattle.token.proofs.Readings.{few-tokens, not-too-long, all-read-from, Reads, reads-start, reads-on, reads-last, reads-no, LaidOn, Answered, laid-on, laid-last, refused-inside, laid-no}
 use Rattle.ledger.specs.Book.{Wide, onWide, putValue}
 use Rattle.scopes.specs.Search.{inFront, firstToken}
-use Rattle.settled.specs.Texts.{allTokens, LaidBehind, ButValues, Behind, Fronted}
+use Rattle.settled.specs.Texts.{allTokens, LaidBehind, ButValues, Behind, Fronted, rowsFor}
 
 -- a text that is not too long is read from its start
 pub read-whole : (s : List ℕ) → length s ≤ TEXT-LIMIT → tokensOf s ≡ readFrom 0 0 s
@@ -160,7 +160,7 @@ fronted f old new new′ ts h en ef eb =
     both (u ∷ us) = ap (λ (l : List ℕ). f u ∷ l) (both us)
 
 pub fronted-all :
-    (src kinds kinds₁ kinds′ : List ℕ) (w w₁ w′ : Wide) (answer : Tokens) → length src + 18 ≤ length kinds → length src + 18 ≤ length (w .values)
+    (src kinds kinds₁ kinds′ : List ℕ) (w w₁ w′ : Wide) (answer : Tokens) → rowsFor (length src) ≤ length kinds → rowsFor (length src) ≤ length (w .values)
     → kinds₁ ≡ sets kinds 0 (map kindOf inFront) → w₁ ≡ onWide 0 (λ (l : List ℕ). sets l 0 (map valueOf inFront)) w → Behind src kinds₁ kinds′ w₁ w′ answer
     → Fronted src kinds′ (w′ .values) answer × ButValues w w′
 fronted-all src kinds kinds₁ kinds′ w w₁ w′ answer hk hv ek ew d = (
@@ -174,5 +174,5 @@ fronted-all src kinds kinds₁ kinds′ w w₁ w′ answer hk hv ek ew d = (
   d .same ∙ ap (onWide 0 (λ (l : List ℕ). w′ .values)) ew,
 )
   where
-    fits : (n : ℕ) → answer ≡ S.Read n → (N : ℕ) → length src + 18 ≤ N → firstToken + length (tokensOf src .tokens) ≤ N
+    fits : (n : ℕ) → answer ≡ S.Read n → (N : ℕ) → rowsFor (length src) ≤ N → firstToken + length (tokensOf src .tokens) ≤ N
     fits n e N h = let p = few-read src answer (d .is) n e in let q = count-is src answer (d .is) n e in omega arith

@@ -4,7 +4,7 @@ use mathlib.Core.List.{List, [], _++_, map}
 use Prim.Native.Nat.{ℕ, _+_, _*_, _/_, _≤_, _<_, min}
 use lib.ListN.{length, take, drop, getD, replicate}
 use Rattle.token.specs.Kinds as K
-use Rattle.token.specs.Text.{Reading, tokensOf}
+use Rattle.token.specs.Text.{tokensOf, TEXT-LIMIT}
 use Rattle.token.specs.Answers.{summaryOf, summed, laid, kindOf, valueOf}
 use Rattle.token.specs.declared.Token.{Token}
 use Rattle.token.specs.declared.Tokens.{Tokens}
@@ -12,18 +12,16 @@ use Rattle.token.specs.declared.Tokens.the-variants.{Read}
 use Rattle.grammar.specs.Tree.{Statement}
 use Rattle.grammar.specs.Derives.{isProgram}
 use Rattle.tape.specs.Tape.{tapeStatement}
-use Rattle.ledger.specs.Book.{Wide, Thin, onWide}
+use Rattle.ledger.specs.Book.{Wide, Thin, onWide, thinLimit}
 use Rattle.scopes.specs.declared.Broken.{Broken}
 use Rattle.scopes.specs.Broken.{_⊕_}
 use Rattle.scopes.specs.Search.{inFront, firstToken}
-use Rattle.scopes.specs.Names.{Named}
-use Rattle.scopes.specs.Labels.{Labelled}
 use Rattle.static_rules.specs.Meanings.{Meant}
 use Rattle.static_rules.specs.Tables.{Tables}
 use Rattle.static_rules.specs.Kinds.{rulesOf}
 use Rattle.tables.specs.Packed.{meaningsOf}
 use Rattle.translation.specs.Layout.{segmentLimit, placeCells, offsetOf}
-use Rattle.translation.specs.Translate.{kindsOf, valuesOf, placeAt, named, labelled, meant, tablesOf}
+use Rattle.translation.specs.Translate.{kindsOf, valuesOf, named, labelled, meant, tablesOf}
 use Rattle.settled.specs.declared.Judged.{Judged}
 
 -- ── the tokens ──
@@ -128,16 +126,28 @@ Zeros l = l ≡ replicate (length l) 0
 
 -- the rows of n tokens
 pub record Lent (n : ℕ) (wide thin : List ℕ) : Type 0 where
-  pub few : n ≤ 65536
+  pub few : n ≤ thinLimit
   pub wide-long : length wide ≡ 4 * n
   pub thin-long : length thin ≡ 4 * n
 
+-- lists with room for the rows of m tokens
+pub record Fits (m : ℕ) (kinds tape wide thin : List ℕ) : Type 0 where
+  pub few : m ≤ thinLimit
+  pub for-kinds : m ≤ length kinds
+  pub for-tape : m ≤ length tape
+  pub for-wide : 4 * m ≤ length wide
+  pub for-thin : 4 * m ≤ length thin
+
+-- beside a token at each byte: the end, and the names in front
+abbrev pub rowsFor : ℕ → ℕ
+rowsFor n = n + (firstToken + 1)
+
 -- what is lent for a text of n bytes
 pub record Rooms (n : ℕ) (kinds tape wide thin : List ℕ) : Type 0 where
-  pub short : n ≤ 32768
-  pub for-kinds : n + 18 ≤ length kinds
-  pub for-tape : n + 18 ≤ length tape
-  pub for-wide : 4 * (n + 18) ≤ length wide
-  pub for-thin : 4 * (n + 18) ≤ length thin
+  pub short : n ≤ TEXT-LIMIT
+  pub for-kinds : rowsFor n ≤ length kinds
+  pub for-tape : rowsFor n ≤ length tape
+  pub for-wide : 4 * rowsFor n ≤ length wide
+  pub for-thin : 4 * rowsFor n ≤ length thin
   pub no-wide : Zeros wide
   pub no-thin : Zeros thin

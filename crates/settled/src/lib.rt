@@ -6,13 +6,16 @@ ghost use Prim.Native.Nat.{_+_, _*_, _/_, _≤_, _<_};
 ghost use lib.ListN.{length, getD};
 ghost use lib.Seq.{sets};
 ghost use Rattle.token.specs.declared.Token.{Token};
-ghost use Rattle.token.specs.Text.{tokensOf};
+ghost use Rattle.token.specs.Text.{tokensOf, TEXT-LIMIT};
 ghost use Rattle.grammar.specs.Tree.{Statement};
-ghost use Rattle.scopes.specs.Search.{inFront};
-ghost use Rattle.ledger.specs.Book.{wideOf, thinOf, onWide};
+ghost use Rattle.grammar.specs.Grammar.{nesting};
+ghost use Rattle.scopes.specs.Search.{inFront, firstToken};
+ghost use Rattle.ledger.specs.Book.{wideOf, thinOf, onWide, thinLimit};
 ghost use Rattle.ledger.specs.Bounds.{Narrow, Nested};
+ghost use Rattle.translation.specs.Layout.{segmentLimit};
 ghost use Rattle.translation.specs.Translate.{kindsOf, valuesOf, named};
-ghost use Rattle.settled.specs.Texts.{allTokens, placesOf, Behind, Fronted, ButValues, Text, Blank, Bound, Cleared, endOf, Settled, Ended, Stays};
+ghost use Rattle.settled.specs.Texts.{allTokens, placesOf, rowsFor, Behind, Fronted, ButValues, Text, Blank, Bound, Cleared, endOf, Settled, Ended, Stays};
+use layout::SEGMENT_LIMIT;
 use ledger::clear_offsets;
 use ledger::clear_opens;
 use ledger::clear_written;
@@ -29,9 +32,15 @@ use token_lists::is_last;
 // The register names stand in front of the text's own tokens.
 pub const FIRST_TOKEN: usize = 17;
 
-const FRONT_KINDS: [u8; 17] = [0, 1, 1, 1, 1, 1, 1, 1, 1, 1, 1, 1, 1, 1, 1, 1, 1];
+// "source over 32,768 bytes".
+pub const TEXT_LIMIT: usize = 32768;
 
-const FRONT_KEYS: [u64; 17] = [
+// The rows that a text needs beside one for each byte: the names in front, and the end.
+pub const MORE_ROWS: usize = FIRST_TOKEN + 1;
+
+const FRONT_KINDS: [u8; FIRST_TOKEN] = [0, 1, 1, 1, 1, 1, 1, 1, 1, 1, 1, 1, 1, 1, 1, 1, 1];
+
+const FRONT_KEYS: [u64; FIRST_TOKEN] = [
     0,
     972,
     973,
@@ -52,8 +61,9 @@ const FRONT_KEYS: [u64; 17] = [
 ];
 
 fn put_front(kinds: &mut [u8], wide: &mut [u64])
-    requires { ⌜ 17 ≤ length (now kinds) ⌝ }
-    ensures { λ _. ⌜ (now (kinds .exit) ≡ sets (now (kinds .entry)) 0 (kindsOf inFront)) × (wideOf (now (wide .exit)) ≡ onWide 0 (λ values. sets values 0 (valuesOf inFront)) (wideOf (now (wide .entry)))) ⌝ }
+    requires { ⌜ firstToken ≤ length (now kinds) ⌝ }
+    ensures { λ _. ⌜ (now (kinds .exit) ≡ sets (now (kinds .entry)) 0 (kindsOf inFront))
+        × (wideOf (now (wide .exit)) ≡ onWide 0 (λ values. sets values 0 (valuesOf inFront)) (wideOf (now (wide .entry)))) ⌝ }
 {
     let mut t: usize = 0;
     while t < FIRST_TOKEN {
@@ -65,7 +75,7 @@ fn put_front(kinds: &mut [u8], wide: &mut [u64])
 
 // The text's own tokens, one after the other as far as a refusal.
 fn lay_tokens(src: &[u8], kinds: &mut [u8], wide: &mut [u64]) -> Tokens
-    requires { ⌜ (length (now src) ≤ 32768) × (length (now src) + 18 ≤ length (now kinds)) ⌝ }
+    requires { ⌜ (length (now src) ≤ TEXT-LIMIT) × (rowsFor (length (now src)) ≤ length (now kinds)) ⌝ }
     ensures { λ r. ⌜ Behind (now (src .entry)) (now (kinds .entry)) (now (kinds .exit)) (wideOf (now (wide .entry))) (wideOf (now (wide .exit))) r ⌝ }
 {
     let mut at: usize = 0;
@@ -90,7 +100,7 @@ fn lay_tokens(src: &[u8], kinds: &mut [u8], wide: &mut [u64]) -> Tokens
 }
 
 pub fn read(src: &[u8], kinds: &mut [u8], wide: &mut [u64]) -> Tokens
-    requires { ⌜ (length (now src) ≤ 32768) × (length (now src) + 18 ≤ length (now kinds)) × (4 * (length (now src) + 18) ≤ length (now wide)) ⌝ }
+    requires { ⌜ (length (now src) ≤ TEXT-LIMIT) × (rowsFor (length (now src)) ≤ length (now kinds)) × (4 * rowsFor (length (now src)) ≤ length (now wide)) ⌝ }
     ensures { λ r. ⌜ Fronted (now (src .entry)) (now (kinds .exit)) (wideOf (now (wide .exit)) .values) r × ButValues (wideOf (now (wide .entry))) (wideOf (now (wide .exit))) ⌝ }
 {
     put_front(kinds, wide);
@@ -142,18 +152,17 @@ pub fn place_of(src: &[u8], t: usize) -> usize
 
 // Which declaration each name and which label each GOTO means; the broken rules. Two columns are worked in, and left as zeros.
 pub fn bind(tape: &[u32], wide: &[u64], thin: &mut [u16]) -> Broken
-    requires { ⌜ Narrow (now tape) × (4 * (17 + length (now tape)) ≤ length (now thin)) × (length (now thin) ≤ 262144) × (length (now wide) ≤ length (now thin)) ⌝ }
-    ensures { λ r. ⌜ Cleared (now (thin .entry)) (thinOf (now (thin .exit))) × ((ts : List Token) (x : Statement) → Text ts x (wideOf (now (wide .entry)) .values) (now (tape .entry)) → Blank ts (thinOf (now (thin .entry)) .found) → Blank ts (thinOf (now (thin .entry)) .goes) → Bound ts x (thinOf (now (thin .exit))) r) ⌝ }
+    requires { ⌜ Narrow (now tape) × (4 * (firstToken + length (now tape)) ≤ length (now thin)) × (length (now thin) ≤ 4 * thinLimit) × (length (now wide) ≤ length (now thin)) ⌝ }
+    ensures { λ r. ⌜ Cleared (now (thin .entry)) (thinOf (now (thin .exit)))
+        × ((ts : List Token) (x : Statement) → Text ts x (wideOf (now (wide .entry)) .values) (now (tape .entry)) → Blank ts (thinOf (now (thin .entry)) .found)
+        → Blank ts (thinOf (now (thin .entry)) .goes) → Bound ts x (thinOf (now (thin .exit))) r) ⌝ }
 {
     let n = names::names(tape, wide, thin);
-    let l = labels::labels(tape, wide, thin);
+    let l = names::labels::labels(tape, wide, thin);
     clear_opens(thin);
     clear_written(thin);
     join(n.broken, l.broken)
 }
-
-// "A segment is at most 4,096 bytes".
-const SEGMENT_LIMIT: usize = 4096;
 
 // The broken rule that is answered, how many base declarations there are, and where the cells of segments 1 to 3 end.
 pub struct Judged {
@@ -166,7 +175,7 @@ pub struct Judged {
 
 // Layout leaves the ends of segments in the column of what procedures write.
 pub fn end_of(thin: &[u16], k: usize) -> usize
-    ensures { λ r. ⌜ (r ≡ endOf (thinOf (now (thin .entry)) .written) k) × (r ≤ 4096) ⌝ }
+    ensures { λ r. ⌜ (r ≡ endOf (thinOf (now (thin .entry)) .written) k) × (r ≤ segmentLimit) ⌝ }
 {
     let end = written(thin, k);
     if end < SEGMENT_LIMIT {
@@ -186,8 +195,12 @@ pub fn settle(
     thin: &mut [u16],
     others: Broken,
 ) -> Judged
-    requires { ⌜ Nested 64 0 0 (now tape) × (length (now tape) < 65534) × (4 * (length (now tape) + 2) ≤ length (now wide)) × (4 * (length (now tape) + 2) ≤ length (now thin)) ⌝ }
-    ensures { λ r. ⌜ Ended (thinOf (now (thin .exit)) .written) r × Stays (wideOf (now (wide .entry))) (wideOf (now (wide .exit))) (thinOf (now (thin .entry))) (thinOf (now (thin .exit))) × ((ts : List Token) (x : Statement) → Text ts x (wideOf (now (wide .entry)) .values) (now (tape .entry)) → now (kinds .entry) ≡ kindsOf ts → thinOf (now (thin .entry)) .found ≡ named ts x .found → Blank ts (wideOf (now (wide .entry)) .means) → Blank ts (thinOf (now (thin .entry)) .opens) → Blank ts (thinOf (now (thin .entry)) .written) → length (now (wide .entry)) / 4 ≡ length ts → Settled ts x (wideOf (now (wide .exit))) (thinOf (now (thin .exit))) others r) ⌝ }
+    requires { ⌜ Nested nesting 0 0 (now tape) × (length (now tape) + 2 < thinLimit) × (4 * (length (now tape) + 2) ≤ length (now wide)) × (4 * (length (now tape) + 2) ≤ length (now thin)) ⌝ }
+    ensures { λ r. ⌜ Ended (thinOf (now (thin .exit)) .written) r × Stays (wideOf (now (wide .entry))) (wideOf (now (wide .exit))) (thinOf (now (thin .entry)))
+        (thinOf (now (thin .exit))) × ((ts : List Token) (x : Statement) → Text ts x (wideOf (now (wide .entry)) .values) (now (tape .entry))
+        → now (kinds .entry) ≡ kindsOf ts → thinOf (now (thin .entry)) .found ≡ named ts x .found → Blank ts (wideOf (now (wide .entry)) .means)
+        → Blank ts (thinOf (now (thin .entry)) .opens) → Blank ts (thinOf (now (thin .entry)) .written) → length (now (wide .entry)) / 4 ≡ length ts
+        → Settled ts x (wideOf (now (wide .exit))) (thinOf (now (thin .exit))) others r) ⌝ }
 {
     let mut owners = [0u64; NESTING + 1];
     let mut outer = [0u64; NESTING + 1];

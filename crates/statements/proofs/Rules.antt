@@ -2,21 +2,22 @@
 use mathlib.Core.Path.{_≡_, refl, _∙_, sym, subst}
 use mathlib.Core.Bool.{Bool, true, false, not, _&&_}
 use mathlib.Core.List.{List, [], _∷_}
-use Prim.Native.Nat.{ℕ, zero, suc, suc-le-suc, _+_, _-_, _<_}
+use Prim.Native.Nat.{ℕ, zero, suc, _+_, _-_, _<_}
 use native.Mathlib.Omega.{arith}
 use borrow.Author.Tests.{ne-eqb, eqb-true}
 use lib.Dec.{eqb}
 use lib.ListN.{getD, length}
 use Rattle.base.specs.Choose.{if_then_else_}
 use Rattle.base.specs.Lists.{member}
-use Rattle.base.proofs.Tests.{cases}
+use Rattle.base.proofs.Tests.{cases, both}
 use Rattle.token.specs.Kinds as K
 use Rattle.grammar.specs.Tree.{Statement, while, for, item}
 use Rattle.grammar.specs.Reader.{Result, ok, bad, Reader, andThen, look, next, want, refuse}
 use Rattle.grammar.specs.Grammar.{openers, afterName, statementOf, itemsOf, ifOf, constructOf, statement, procedureOf}
+use Rattle.grammar.proofs.Tests.{real}
 use Rattle.readers.specs.Reads.{Kind}
 use Rattle.phrases.specs.Parts.{headOf, controlOf, limitOf, procedureHead}
-use Rattle.readers.proofs.Choices.{among, both}
+use Rattle.readers.proofs.Choices.{among}
 use Rattle.statements.specs.Parts.{ifPart, whilePart, forPart}
 
 -- ── readers regrouped ──
@@ -88,13 +89,8 @@ unfolding statement statementOf andThen look next
 named zero ks i e = rw e
 named (suc room) ks i e = rw e
 
-in-text : (ks : List ℕ) (i k : ℕ) → getD ks i 0 ≡ suc k → i < length ks
-in-text [] i k e = omega arith
-in-text (x ∷ xs) zero k e = omega arith
-in-text (x ∷ xs) (suc i) k e = suc-le-suc (in-text xs i k e)
-
 pub else-inside : (ks : List ℕ) (i k : ℕ) {b : Bool} → b ≡ (eqb (getD ks i 0) K.ELSE && not (member k (K.IF ∷ K.WHILE ∷ K.FOR ∷ []))) → b ≡ true → i < length ks
-else-inside ks i k e f = in-text ks i 6 (eqb-true _ _ (both (eqb (getD ks i 0) K.ELSE) (not (member k (K.IF ∷ K.WHILE ∷ K.FOR ∷ []))) (sym e ∙ f) .0))
+else-inside ks i k e f = real ks i K.ELSE (omega arith) (eqb-true _ _ (both (eqb (getD ks i 0) K.ELSE) (not (member k (K.IF ∷ K.WHILE ∷ K.FOR ∷ []))) (sym e ∙ f) .0))
 
 module _ (ks : List ℕ) (i : ℕ) {b : Bool} (e : b ≡ (eqb (getD ks i 0) K.NAME && eqb (getD ks (i + 1) 0) K.COLON)) where
   pub label-kinds : b ≡ true → (getD ks i 0 ≡ K.NAME) × (getD ks (i + 1) 0 ≡ K.COLON)
@@ -103,7 +99,7 @@ module _ (ks : List ℕ) (i : ℕ) {b : Bool} (e : b ≡ (eqb (getD ks i 0) K.NA
       (eqb-true _ _ g, eqb-true _ _ h)
 
   pub label-inside : b ≡ true → i + 1 < length ks
-  label-inside f = in-text ks (i + 1) 47 (label-kinds f .1)
+  label-inside f = real ks (i + 1) K.COLON (omega arith) (label-kinds f .1)
 
   pub item-is : (room f : ℕ) → b ≡ false → (getD ks i 0 ≡ K.END → ⊥)
       → andThen (statement room ks i) (λ s j. andThen (want K.SEMICOLON ks j) (λ _ o. andThen (itemsOf (statement room) f ks o) (λ is q. ok (item s is) q))) ≡ itemsOf (statement room) (suc f) ks i

@@ -133,7 +133,8 @@ fn procedure(kinds: &[u8], i: usize, room: usize, tape: &mut [u32], p: usize) ->
 // What follows the BEGIN at the token t.
 fn body(kinds: &[u8], i: usize, t: usize, room: usize, tape: &mut [u32], p: usize) -> Answer
     requires { ⌜ Ready (now kinds) (now tape) i p × (t < length (now kinds)) ⌝ }
-    ensures { λ r. ⌜ Wrote (tapeBlock tapeBody t) (now (kinds .entry)) i p (now (tape .entry)) (now (tape .exit)) r (G.fuelled (G.bodyOf (G.statement room) (G.procedureOf room)) (now (kinds .entry)) i) ⌝ }
+    ensures { λ r. ⌜ Wrote (tapeBlock tapeBody t) (now (kinds .entry)) i p (now (tape .entry)) (now (tape .exit)) r
+        (G.fuelled (G.bodyOf (G.statement room) (G.procedureOf room)) (now (kinds .entry)) i) ⌝ }
 {
     let mut at = i;
     let mut q = p;

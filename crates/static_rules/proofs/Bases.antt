@@ -2,7 +2,7 @@
 -- never more than events.
 use mathlib.Core.Path.{_≡_, _∙_}
 use mathlib.Core.List.{List, [], _∷_}
-use Prim.Native.Nat.{ℕ, zero, suc, _+_, _<_, _≤_}
+use Prim.Native.Nat.{ℕ, _+_, _<_, _≤_}
 use native.Mathlib.Omega.{arith}
 use lib.Dec.{leb}
 use lib.ListN.{getD, length}
@@ -20,12 +20,6 @@ use Rattle.static_rules.proofs.Heeds.{Alike, Heeds, enters, names, adds
 use Rattle.static_rules.proofs.Lengths.{event-long}
 use Rattle.static_rules.proofs.Stays.{stays-text}
 use Rattle.static_rules.proofs.Unbroken.{Unbroken}
-
--- a token that has a kind is one of the text
-pub in-text : (l : List ℕ) (n k : ℕ) → getD l n 0 ≡ suc k → n < length l
-in-text [] n k e = absurd (let z : _≡_ {A = ℕ} 0 (suc k) = e in omega arith)
-in-text (x ∷ l) zero k e = omega arith
-in-text (x ∷ l) (suc n) k e = let h = in-text l n k e in omega arith
 
 module _ (f : Tables) where
   -- "12: … a third base declaration"

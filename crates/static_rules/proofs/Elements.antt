@@ -7,7 +7,7 @@ use native.Mathlib.Omega.{arith}
 use lib.Dec.{eqb, leb, leb·zero}
 use borrow.Author.Tests.{eqb-true, leb-true, leb-false, lt-leb}
 use Rattle.base.specs.Choose.{if_then_else_}
-use Rattle.base.proofs.Tests.{never-true, cases}
+use Rattle.base.proofs.Tests.{cases, both}
 use Rattle.grammar.specs.Tree.{Width, full, short}
 use Rattle.static_rules.specs.Meaning.{Cell, elementSize}
 use Rattle.static_rules.specs.Rules.{negative, inRange, inside, fitsWidth}
@@ -19,10 +19,6 @@ size-cases short = inr refl
 pub size-positive : (w : Width) → 0 < elementSize w
 size-positive full = omega arith
 size-positive short = omega arith
-
-both : (a b : Bool) → (a && b) ≡ true → (a ≡ true) × (b ≡ true)
-both true b h = (refl, h)
-both false b h = never-true h
 
 -- "is a multiple of the element size, and its element lies inside the array"
 pub inside-is : (c : Cell) (v : ℕ) → inside c v ≡ true → (v % elementSize (c .width) ≡ 0) × (v + elementSize (c .width) ≤ elementSize (c .width) * c .elements)

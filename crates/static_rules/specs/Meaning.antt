@@ -5,7 +5,7 @@ use Prim.Native.Nat.{ℕ}
 use lib.Dec.{eqb}
 use lib.ListN.{getD}
 use Rattle.token.specs.Kinds as K
-use Rattle.grammar.specs.Tree.{Designator, Operand, number, place, Term, Width, full, short}
+use Rattle.grammar.specs.Tree.{Operand, number, place, Term, Width, full, short}
 
 -- "Cells take the next multiple of their size (4, or 2 for short)."
 abbrev pub elementSize : Width → ℕ

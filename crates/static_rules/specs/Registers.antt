@@ -6,7 +6,6 @@ use Prim.Native.Nat.{ℕ}
 use lib.Dec.{eqb}
 use lib.ListN.{getD}
 use Rattle.base.specs.Choose.{if_then_else_}
-use Rattle.base.specs.Lists.{member}
 
 abbrev pub Registers : Type 0
 Registers = List ℕ

@@ -6,10 +6,8 @@ use native.Mathlib.Omega.{arith}
 use native.Mathlib.Numerals.{add-one}
 use lib.ListN.{getD, set, length}
 use lib.Seq.{getD-set-same, getD-set-other}
+use Rattle.base.proofs.Numbers.{one-less}
 use Rattle.tables.specs.Stacks.{stackOf, top, under}
-
-one-less : (n : ℕ) → suc n - 1 ≡ n
-one-less n = omega arith
 
 module _ (a : List ℕ) where
   pub top-none : (d : ℕ) → d ≡ 0 → 0 ≡ top (stackOf a d)

@@ -1,10 +1,11 @@
 // What names mean and which registers procedures write, in arrays of numbers by token.
 ghost use mathlib.Core.Path.{_≡_};
-ghost use Prim.Native.Nat.{_+_, _-_, _<_};
+ghost use Prim.Native.Nat.{_+_, _-_, _≤_, _<_};
 ghost use lib.ListN.{getD, length};
 ghost use Rattle.base.specs.Choose.{if_then_else_};
+ghost use Rattle.static_rules.specs.Meaning.{elementSize};
 ghost use Rattle.static_rules.specs.Registers.{noRegisters, addRegister, union, has as hasOf};
-ghost use Rattle.tables.specs.Packed.{low, packed as packedOf, numberIn, isRegisterIn, isRoutineIn, isArrayIn, isCellIn, isShortIn, registerIn, longIn, packedAt, setOf, setsOf, grown};
+ghost use Rattle.tables.specs.Packed.{low, packed as packedOf, numberIn, isRegisterIn, isRoutineIn, isArrayIn, isCellIn, isShortIn, widthIn, registerIn, longIn, packedAt, setOf, setsOf, grown};
 ghost use Rattle.tables.specs.Stacks.{stackOf, top as topOf};
 use arrays::get;
 use arrays::key;
@@ -63,6 +64,16 @@ pub fn is_short(m: u64) -> bool
     ensures { λ r. ⌜ r ≡ isShortIn m ⌝ }
 {
     m / SORTS % 2 == 1
+}
+
+// "(4, or 2 for short)".
+pub fn element_size(m: u64) -> u64
+    ensures { λ r. ⌜ (r ≡ elementSize (widthIn m)) × (2 ≤ r) × (r ≤ 4) ⌝ }
+{
+    if is_short(m) {
+        return 2;
+    }
+    4
 }
 
 // The register that a packed meaning is, or 0.

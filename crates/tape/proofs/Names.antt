@@ -66,7 +66,7 @@ module _ (op : ℕ) (before : ℕ → List ℕ) (u : Uses op before) where
   used-shape n (some s) (some x) h = rw (h .1) (u n .3)
 
   -- and with a number
-  used-operand : ((t : ℕ) → usesAt (op + 4) t ≡ before t ++ []) → (kinds : List ℕ) (a : Operand) (i j : ℕ) → isOperand kinds a i j
+  used-operand : ((t : ℕ) → usesAt (op + E.NUMBER) t ≡ before t ++ []) → (kinds : List ℕ) (a : Operand) (i j : ℕ) → isOperand kinds a i j
       → usesAt (op + operandShape a) (headOf a) ≡ before (headOf a) ++ operandNames a
   unfolding isOperand designatorPinned
   used-operand v kinds (number t) i j h = v t

@@ -1,4 +1,5 @@
--- The events of a tape, as numbers below EVENTS. To those of designators (TARGET, CONTROL) and operands (FIRST, TERM, COMPARED, LIMIT) their shape is added.
+-- The events of a tape, as numbers below EVENTS. To those of designators (TARGET, CONTROL) and operands (FIRST, TERM, COMPARED, LIMIT) their shape is added, to those of
+-- cells (SINGLE-FULL, ARRAY-FULL) their width.
 use Prim.Native.Nat.{ℕ}
 
 abbrev pub EVENTS : ℕ
@@ -100,3 +101,28 @@ CALL = 51
 
 abbrev pub GOTO : ℕ
 GOTO = 52
+
+-- ── the width of cells ──
+
+abbrev pub FULL : ℕ
+FULL = 0
+
+abbrev pub SHORT : ℕ
+SHORT = 1
+
+-- ── the shape of a designator: name, name(number), name(name), name(number)(name); and of an operand that is a number ──
+
+abbrev pub ALONE : ℕ
+ALONE = 0
+
+abbrev pub SUBSCRIPTED : ℕ
+SUBSCRIPTED = 1
+
+abbrev pub INDEXED : ℕ
+INDEXED = 2
+
+abbrev pub SUBSCRIPTED-INDEXED : ℕ
+SUBSCRIPTED-INDEXED = 3
+
+abbrev pub NUMBER : ℕ
+NUMBER = 4

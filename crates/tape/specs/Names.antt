@@ -14,23 +14,23 @@ declaring op = eqb op E.REGISTER || (eqb op E.ITEM || eqb op E.PROCEDURE)
 abbrev pub declaresAt : ℕ → ℕ → List ℕ
 declaresAt op t = if declaring op then t ∷ [] else []
 
--- how the name at an event's token is used: alone, with a subscript, with an index, with both; 4 where no name stands there or its event uses none
+-- the shape of the name at an event's token; NUMBER where no name stands there or its event uses none
 unfoldable pub shapeAt : ℕ → ℕ
 shapeAt op =
-    if eqb op E.BASE then 0 else
-    if eqb op E.CALL then 0 else
-    if ltb op E.TARGET then 4 else
+    if eqb op E.BASE then E.ALONE else
+    if eqb op E.CALL then E.ALONE else
+    if ltb op E.TARGET then E.NUMBER else
     if ltb op E.ABS then (op - E.TARGET) % 4 else
-    if ltb op E.FIRST then 4 else
+    if ltb op E.FIRST then E.NUMBER else
     if ltb op E.BARE then (op - E.FIRST) % 5 else
-    4
+    E.NUMBER
 
 -- how far behind its name an index stands: name(name), name(number)(name)
 abbrev pub indexAfter : ℕ → ℕ
-indexAfter shape = if eqb shape 2 then 2 else 5
+indexAfter shape = if eqb shape E.INDEXED then 2 else 5
 
 abbrev pub placeAt : ℕ → ℕ → List ℕ
-placeAt shape t = if ltb 3 shape then [] else if ltb shape 2 then t ∷ [] else t ∷ (t + indexAfter shape) ∷ []
+placeAt shape t = if ltb E.SUBSCRIPTED-INDEXED shape then [] else if ltb shape E.INDEXED then t ∷ [] else t ∷ (t + indexAfter shape) ∷ []
 
 -- the register that stands before or behind an event's token: a procedure's return register, or what a condition compares
 abbrev pub registerAt : ℕ → ℕ → List ℕ

@@ -1,6 +1,6 @@
 -- What the number of an event says: the layer of events that it is of, its family, and its form. Who reads a tape asks these and never compares numbers by order, so
 -- that a new event may have any number that is free.
-use Prim.Native.Nat.{ℕ, _+_, _-_, _%_}
+use Prim.Native.Nat.{ℕ, _-_, _%_}
 use lib.Dec.{eqb, ltb}
 use Rattle.base.specs.Choose.{if_then_else_}
 use Rattle.tape.specs.Events as E
@@ -29,9 +29,9 @@ layerAt op =
     if ltb op E.LABEL then EDGE else
     if eqb op E.LABEL then ROUTE else
     if ltb op E.WHILE then PHRASE else
-    if ltb op E.CALL then MARK else
     if eqb op E.CALL then PHRASE else
-    ROUTE
+    if eqb op E.GOTO then ROUTE else
+    MARK
 
 -- ── families: numbers that differ in their form alone ──
 

@@ -11,12 +11,11 @@ event op token = token * E.EVENTS + op % E.EVENTS
 
 -- ── designators and operands ──
 
--- a designator's shape: 0 name, 1 name(number), 2 name(name), 3 name(number)(name)
 abbrev pub shapeBy : Option ℕ → Option ℕ → ℕ
-shapeBy none none = 0
-shapeBy (some s) none = 1
-shapeBy none (some x) = 2
-shapeBy (some s) (some x) = 3
+shapeBy none none = E.ALONE
+shapeBy (some s) none = E.SUBSCRIPTED
+shapeBy none (some x) = E.INDEXED
+shapeBy (some s) (some x) = E.SUBSCRIPTED-INDEXED
 
 abbrev pub shape : Designator → ℕ
 shape d = shapeBy (d .subscript) (d .index)
@@ -24,9 +23,8 @@ shape d = shapeBy (d .subscript) (d .index)
 unfoldable pub tapeDesignator : ℕ → Designator → List ℕ → List ℕ
 tapeDesignator op d k = event (op + shape d) (d .name) ∷ k
 
--- a number's shape is 4
 unfoldable pub tapeOperand : ℕ → Operand → List ℕ → List ℕ
-tapeOperand op (number t) k = event (op + 4) t ∷ k
+tapeOperand op (number t) k = event (op + E.NUMBER) t ∷ k
 tapeOperand op (place d) k = tapeDesignator op d k
 
 -- ── conditions and assignments ──
@@ -65,8 +63,8 @@ abbrev pub tapeRegister : Register → List ℕ → List ℕ
 tapeRegister r k = event E.REGISTER (r .name) ∷ k
 
 abbrev pub widthOf : Width → ℕ
-widthOf full = 0
-widthOf short = 1
+widthOf full = E.FULL
+widthOf short = E.SHORT
 
 -- what the cells that follow are
 abbrev pub cellsEvent : Option ℕ → Width → ℕ

@@ -1,8 +1,8 @@
 -- The tape of events: a number for each, made of the event's family, its form and the token that it stands for.
 use mathlib.Core.List.{List, map}
-use mathlib.Core.Option.{Option, none, some}
+use mathlib.Core.Option.{none, some}
 use Prim.Native.Nat.{ℕ, _+_}
-use Rattle.grammar.specs.Tree.{Designator, Operand, number, place, Sign, plain, abs, neg, negAbs, Condition, compared, bare, Width}
+use Rattle.grammar.specs.Tree.{Designator, Operand, number, place, Sign, plain, abs, neg, negAbs, Condition, compared, bare}
 use Rattle.grammar.specs.Pinned.{headOf}
 use Rattle.grammar.specs.Events.{Edge, opened, closed, entered, left, Route, labelled, sent, Entry, named, celled, itemed, valued, based, Phrase, aimed, driven, signed, given, joined, tested, limited, called, Mark, looped, otherwise, endedIf, endedElse, endedWhile, endedFor, Event, edge, route, entry, phrase, mark}
 use Rattle.tape.specs.Events as E
@@ -42,7 +42,7 @@ entryCode (based n) = alone E.BASE n
 
 -- a number's shape is 4
 abbrev pub operandShape : Operand → ℕ
-operandShape (number t) = 4
+operandShape (number t) = E.NUMBER
 operandShape (place d) = shape d
 
 abbrev pub designatorCode : ℕ → Designator → Code

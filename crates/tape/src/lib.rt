@@ -67,6 +67,20 @@ pub const CALL: u32 = 51;
 
 pub const GOTO: u32 = 52;
 
+// The width of cells.
+pub const SHORT: u32 = 1;
+
+// The shapes of designators and operands: name, name(number), name(name), name(number)(name), number.
+pub const ALONE: u32 = 0;
+
+pub const SUBSCRIPTED: u32 = 1;
+
+pub const INDEXED: u32 = 2;
+
+pub const SUBSCRIPTED_INDEXED: u32 = 3;
+
+pub const NUMBER: u32 = 4;
+
 // How many numbers of events a tape has room for.
 pub const EVENTS: u32 = 128;
 
@@ -114,13 +128,13 @@ pub fn layer(op: u32) -> u32
     if op < WHILE {
         return PHRASE;
     }
-    if op < CALL {
-        return MARK;
-    }
     if op == CALL {
         return PHRASE;
     }
-    ROUTE
+    if op == GOTO {
+        return ROUTE;
+    }
+    MARK
 }
 
 // The width of cells, the shape of a designator or an operand; 0 for all other events.
@@ -162,27 +176,27 @@ pub fn declares(op: u32) -> bool
     (op == REGISTER) | ((op == ITEM) | (op == PROCEDURE))
 }
 
-// How the name at its token is used: alone, with a subscript, with an index, with both; 4 where no name stands there or it uses none.
+// The shape of the name at its token; NUMBER where no name stands there or it uses none.
 pub fn shape(op: u32) -> u32
     ensures { λ r. ⌜ r ≡ shapeAt op ⌝ }
 {
     if op == BASE {
-        return 0;
+        return ALONE;
     }
     if op == CALL {
-        return 0;
+        return ALONE;
     }
     if op < TARGET {
-        return 4;
+        return NUMBER;
     }
     if op < ABS {
         return (op - TARGET) % 4;
     }
     if op < FIRST {
-        return 4;
+        return NUMBER;
     }
     if op < BARE {
         return (op - FIRST) % 5;
     }
-    4
+    NUMBER
 }

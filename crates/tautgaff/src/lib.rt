@@ -1,18 +1,14 @@
 // The command: its words to an exit status.
-use translate::Answer;
 
 // ── translate ──
 
 fn translate_text(name: &[u8], text: &[u8], object: &[u8]) -> u8 {
     let mut out = [0u8; files::OBJECT_ROOM];
-    let answer = translate::translate(text, &mut out);
-    match answer {
-        Answer::Accepted(n) => saying::said(
-            files::store(object, figures::front(&out, n)),
-            saying::DONE,
-        ),
-        Answer::Refused(number, place) => saying::refuse(name, number, place, text),
+    let n = sources::object(name, text, &mut out);
+    if n == 0 {
+        return saying::REFUSED;
     }
+    saying::said(files::store(object, figures::front(&out, n)), saying::DONE)
 }
 
 fn translate_file(name: &[u8], object: &[u8]) -> u8 {
@@ -26,28 +22,13 @@ fn translate_file(name: &[u8], object: &[u8]) -> u8 {
 
 // ── check ──
 
-fn tell_accepted(name: &[u8], size: usize) -> u8 {
-    let mut out = [0u8; saying::MESSAGE_ROOM];
-    let n = messages::accepted(&mut out, name, size);
-    saying::said(files::print(figures::front(&out, n)), saying::DONE)
-}
-
-fn check_text(name: &[u8], text: &[u8]) -> u8 {
-    let mut out = [0u8; files::OBJECT_ROOM];
-    let answer = translate::translate(text, &mut out);
-    match answer {
-        Answer::Accepted(n) => tell_accepted(name, n),
-        Answer::Refused(number, place) => saying::tell_refusal(name, number, place, text),
-    }
-}
-
 fn check_file(name: &[u8]) -> u8 {
     let mut source = [0u8; files::SOURCE_ROOM];
     let got = files::load(name, &mut source);
     if got.failed {
         return saying::WRONG;
     }
-    check_text(name, figures::front(&source, got.size))
+    sources::check(name, figures::front(&source, got.size))
 }
 
 fn check_files(words: &[u8]) -> u8 {

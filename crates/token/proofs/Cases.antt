@@ -1,10 +1,11 @@
 -- Worked texts, by computing the definition: refusals with their places, then whole lists of tokens. Assumes nothing.
-use Prim.Native.Nat.{ℕ, _+_}
+use Prim.Native.Nat.{ℕ}
 use Prim.Native.String.{String}
 use mathlib.Core.Path.{_≡_, refl}
+use mathlib.Core.Bool.{Bool, true, _&&_, not}
 use mathlib.Core.List.{List, [], _∷_, _++_, map}
-use lib.Dec.{T, eqb}
-use Rattle.base.specs.Tables.{every}
+use lib.Dec.{T}
+use Rattle.base.specs.Lists.{member}
 use Rattle.base.specs.Text.{bytes, sameBytes}
 use Rattle.base.specs.Runs.{runLen}
 use Rattle.base.specs.Numbers.{numberFrom}
@@ -37,6 +38,10 @@ read :
 unfolding sameBytes runLen numberFrom walk wordKind comment nameOrWord number begins sign lexeme nextStep nextToken readFrom tokensOf
 read = refl
 
--- the kinds of the words and signs are 3, 4, 5 and so on: no two share one
-kinds-rise : T (every (λ i w. eqb (w .0) (i + 3)) 0 (K.words ++ K.signs))
-kinds-rise = tt
+-- no two words or signs share a kind, and none has that of the end of the text, of a name or of a number
+abbrev allDiffer : List ℕ → Bool
+allDiffer [] = true
+allDiffer (k ∷ ks) = not (member k ks) && allDiffer ks
+
+kinds-differ : T (allDiffer (K.END-OF-TEXT ∷ K.NAME ∷ K.NUMBER ∷ map (λ w. w .0) (K.words ++ K.signs)))
+kinds-differ = tt

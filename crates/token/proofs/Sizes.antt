@@ -15,7 +15,7 @@ use Rattle.base.specs.Tables.{every}
 use Rattle.base.proofs.Runs.{run-le, run-pos}
 use Rattle.base.proofs.Tests.{cases, never-true, and-left, and-right}
 use Rattle.token.specs.Kinds as K
-use Rattle.token.specs.Text.{separates, isCapital, isDigit, isHexadecimal, inName, digitOf, wordKind, comment, nameOrWord, number, plain, negated, begins, sign, lexeme}
+use Rattle.token.specs.Text.{separates, isCapital, isDigit, isHexadecimal, inName, digitOf, wordKind, comment, nameOrWord, number, plain, negated, begins, sign, lexeme, inComment, mostDecimal, mostNegated, mostHexadecimal}
 use Rattle.token.specs.declared.Lexeme.{Lexeme}
 use Rattle.token.specs.declared.Lexeme.the-variants.{Gap, Token, NoToken, OutOfRange}
 
@@ -34,7 +34,7 @@ module _ (s : List ℕ) (some : 0 < length s) where
   comment-sized : (n : ℕ) → Sized s (comment n s)
   unfolding comment
   comment-sized n =
-      cases (ltb (n + runLen (λ b. not (eqb b 59)) (drop n s)) (length s))
+      cases (ltb (n + runLen inComment (drop n s)) (length s))
       (λ e. rw e (omega (arith, ltb-true)))
       (λ e. rw e (omega arith))
 
@@ -87,7 +87,7 @@ lexeme-sized s h =
     let b = getD s 0 0 in
     cases (separates b) (λ e. rw e (record { some = run-pos separates s h e; fits = run-le separates s })) λ e₁.
     cases (isCapital b) (λ e. rw (e₁, e) (name-sized s h e)) λ e₂.
-    cases (isDigit b) (λ e. rw (e₁, e₂, e) (number-sized s h isDigit 10 2147483647 plain 0 (omega arith))) λ e₃.
-    cases (eqb b 95) (λ e. rw (e₁, e₂, e₃, e) (number-sized s h isDigit 10 2147483648 negated 1 (omega arith))) λ e₄.
-    cases (eqb b 35) (λ e. rw (e₁, e₂, e₃, e₄, e) (number-sized s h isHexadecimal 16 4294967295 plain 1 (omega arith))) λ e₅.
+    cases (isDigit b) (λ e. rw (e₁, e₂, e) (number-sized s h isDigit 10 mostDecimal plain 0 (omega arith))) λ e₃.
+    cases (eqb b 95) (λ e. rw (e₁, e₂, e₃, e) (number-sized s h isDigit 10 mostNegated negated 1 (omega arith))) λ e₄.
+    cases (eqb b 35) (λ e. rw (e₁, e₂, e₃, e₄, e) (number-sized s h isHexadecimal 16 mostHexadecimal plain 1 (omega arith))) λ e₅.
     rw (e₁, e₂, e₃, e₄, e₅) (sign-sized s h K.signs 0 tt)

@@ -15,7 +15,7 @@ use Rattle.base.specs.Numbers.{numberFrom}
 use Rattle.base.specs.Walk.{walk}
 use Rattle.base.proofs.Tests.{cases}
 use Rattle.token.specs.Kinds as K
-use Rattle.token.specs.Text.{separates, isCapital, isDigit, isHexadecimal, inName, digitOf, wordKind, keyOf, comment, nameOrWord, number, plain, negated, begins, sign, lexeme, token, Outcome, read, refused, nextStep, nextToken, isLast, readBy, readFrom, TEXT-LIMIT, tokensOf}
+use Rattle.token.specs.Text.{separates, isCapital, isDigit, isHexadecimal, inName, digitOf, wordKind, keyOf, comment, nameOrWord, number, plain, negated, begins, sign, lexeme, token, Outcome, read, refused, nextStep, nextToken, isLast, readBy, readFrom, TEXT-LIMIT, tokensOf, inComment, mostDecimal, mostNegated, mostHexadecimal}
 use Rattle.token.specs.Answers.{kindOf, valueOf}
 use Rattle.token.specs.declared.Token.{Token}
 use Rattle.token.specs.declared.Lexeme.{Lexeme}
@@ -38,7 +38,7 @@ LexemeFits L.OutOfRange = Unit {0}
 
 comment-fits : (n : ℕ) (s : List ℕ) → LexemeFits (comment n s)
 unfolding comment
-comment-fits n s = cases (ltb (n + runLen (λ b. not (eqb b 59)) (drop n s)) (length s)) (λ e. rw e tt) (λ e. rw e tt)
+comment-fits n s = cases (ltb (n + runLen inComment (drop n s)) (length s)) (λ e. rw e tt) (λ e. rw e tt)
 
 name-fits : (s : List ℕ) → LexemeFits (nameOrWord s)
 unfolding nameOrWord
@@ -71,9 +71,9 @@ lexeme-fits s =
     let b = getD s 0 0 in
     cases (separates b) (λ e. rw e tt) λ e₁.
     cases (isCapital b) (λ e. rw (e₁, e) (name-fits s)) λ e₂.
-    cases (isDigit b) (λ e. rw (e₁, e₂, e) (number-fits isDigit 10 2147483647 plain 0 s (λ v h. omega arith))) λ e₃.
-    cases (eqb b 95) (λ e. rw (e₁, e₂, e₃, e) (number-fits isDigit 10 2147483648 negated 1 (drop 1 s) (λ v h. omega arith))) λ e₄.
-    cases (eqb b 35) (λ e. rw (e₁, e₂, e₃, e₄, e) (number-fits isHexadecimal 16 4294967295 plain 1 (drop 1 s) (λ v h. omega arith))) λ e₅.
+    cases (isDigit b) (λ e. rw (e₁, e₂, e) (number-fits isDigit 10 mostDecimal plain 0 s (λ v h. omega arith))) λ e₃.
+    cases (eqb b 95) (λ e. rw (e₁, e₂, e₃, e) (number-fits isDigit 10 mostNegated negated 1 (drop 1 s) (λ v h. omega arith))) λ e₄.
+    cases (eqb b 35) (λ e. rw (e₁, e₂, e₃, e₄, e) (number-fits isHexadecimal 16 mostHexadecimal plain 1 (drop 1 s) (λ v h. omega arith))) λ e₅.
     rw (e₁, e₂, e₃, e₄, e₅) (sign-fits K.signs s)
 
 -- ── the next token, and all of them ──

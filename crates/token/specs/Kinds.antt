@@ -1,4 +1,5 @@
--- The kinds of tokens, as numbers: 0 the end of the text, 1 a name, 2 a number; then the reserved words, then the signs, both in the paper's order.
+-- The kinds of tokens, as numbers: 0 the end of the text, 1 a name, 2 a number; from 3 the reserved words, from 64 the signs, both in the paper's order. No two share one
+-- (proofs/Cases, `kinds-differ`). Between and behind them is room: a further word takes a free number below 64, as the scanner's table has them, anything else any that is free.
 use Prim.Native.Nat.{ℕ}
 use Prim.Native.String.{String}
 use mathlib.Core.List.{List, [], _∷_}
@@ -106,58 +107,58 @@ abbrev pub OVERFLOW : ℕ
 OVERFLOW = 33
 
 abbrev pub BECOMES : ℕ
-BECOMES = 34
+BECOMES = 64
 
 abbrev pub AT-MOST : ℕ
-AT-MOST = 35
+AT-MOST = 65
 
 abbrev pub AT-LEAST : ℕ
-AT-LEAST = 36
+AT-LEAST = 66
 
 abbrev pub UNEQUAL : ℕ
-UNEQUAL = 37
+UNEQUAL = 67
 
 abbrev pub ADD-LOGICAL : ℕ
-ADD-LOGICAL = 38
+ADD-LOGICAL = 68
 
 abbrev pub SUBTRACT-LOGICAL : ℕ
-SUBTRACT-LOGICAL = 39
+SUBTRACT-LOGICAL = 69
 
 abbrev pub PLUS : ℕ
-PLUS = 40
+PLUS = 70
 
 abbrev pub MINUS : ℕ
-MINUS = 41
+MINUS = 71
 
 abbrev pub TIMES : ℕ
-TIMES = 42
+TIMES = 72
 
 abbrev pub EQUAL : ℕ
-EQUAL = 43
+EQUAL = 73
 
 abbrev pub LESS : ℕ
-LESS = 44
+LESS = 74
 
 abbrev pub MORE : ℕ
-MORE = 45
+MORE = 75
 
 abbrev pub COMMA : ℕ
-COMMA = 46
+COMMA = 76
 
 abbrev pub SEMICOLON : ℕ
-SEMICOLON = 47
+SEMICOLON = 77
 
 abbrev pub COLON : ℕ
-COLON = 48
+COLON = 78
 
 abbrev pub OPEN : ℕ
-OPEN = 49
+OPEN = 79
 
 abbrev pub CLOSE : ℕ
-CLOSE = 50
+CLOSE = 80
 
 abbrev pub AT : ℕ
-AT = 51
+AT = 81
 
 -- "Reserved, compared whole: BEGIN END IF THEN ELSE WHILE DO FOR STEP UNTIL GOTO NULL COMMENT INTEGER LOGICAL SHORT ARRAY REGISTER SEGMENT BASE
 -- PROCEDURE AND OR XOR ABS NEG SHLL SHRL SHLA SHRA OVERFLOW."

@@ -47,10 +47,14 @@ unfoldable pub wordKind : List (ℕ × String) → List ℕ → ℕ
 wordKind [] name = K.NAME
 wordKind (w ∷ ws) name = elim (sameBytes name (bytes (w .1))) [ true ↦ w .0 | false ↦ wordKind ws name ]
 
--- "COMMENT opens a comment that ends at the next `;` and may hold any byte." Its word has n bytes; "unclosed comment: its first byte"
+-- "COMMENT opens a comment that ends at the next `;` and may hold any byte."
+abbrev pub inComment : ℕ → Bool
+inComment b = not (eqb b (code ";"))
+
+-- its word has n bytes; "unclosed comment: its first byte"
 unfoldable pub comment : ℕ → List ℕ → Lexeme
 comment n s =
-    let m : ℕ = n + runLen (λ b. not (eqb b (code ";"))) (drop n s) in
+    let m : ℕ = n + runLen inComment (drop n s) in
     if ltb m (length s) then Gap (m + 1) else NoToken
 
 unfoldable pub nameOrWord : List ℕ → Lexeme
@@ -67,6 +71,18 @@ number inside base most bits mark s =
     let v : ℕ = numberFrom digitOf base 0 (take n s) in
     if eqb n 0 then NoToken else
     if ltb most v then OutOfRange else Token K.NUMBER (bits v) (mark + n)
+
+-- "decimal 0 to 2147483647"
+abbrev pub mostDecimal : ℕ
+mostDecimal = 2147483647
+
+-- "with `_` directly in front, `_0` to `_2147483648`"
+abbrev pub mostNegated : ℕ
+mostNegated = 2147483648
+
+-- "hexadecimal digits with a value below 2^32"
+abbrev pub mostHexadecimal : ℕ
+mostHexadecimal = 4294967295
 
 abbrev pub plain : ℕ → ℕ
 plain v = v
@@ -93,9 +109,9 @@ lexeme s =
     let b : ℕ = getD s 0 0 in
     if separates b then Gap (runLen separates s) else
     if isCapital b then nameOrWord s else
-    if isDigit b then number isDigit 10 2147483647 plain 0 s else
-    if eqb b (code "_") then number isDigit 10 2147483648 negated 1 (drop 1 s) else
-    if eqb b (code "#") then number isHexadecimal 16 4294967295 plain 1 (drop 1 s) else
+    if isDigit b then number isDigit 10 mostDecimal plain 0 s else
+    if eqb b (code "_") then number isDigit 10 mostNegated negated 1 (drop 1 s) else
+    if eqb b (code "#") then number isHexadecimal 16 mostHexadecimal plain 1 (drop 1 s) else
     sign K.signs s
 
 -- a token: its kind; its value, which is a number's 32 bits and a name's key, and 0 for any other; and its place, "the offset of the first byte"

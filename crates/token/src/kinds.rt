@@ -67,38 +67,38 @@ pub const SHRA: u8 = 32;
 
 pub const OVERFLOW: u8 = 33;
 
-pub const BECOMES: u8 = 34;
+pub const BECOMES: u8 = 64;
 
-pub const AT_MOST: u8 = 35;
+pub const AT_MOST: u8 = 65;
 
-pub const AT_LEAST: u8 = 36;
+pub const AT_LEAST: u8 = 66;
 
-pub const UNEQUAL: u8 = 37;
+pub const UNEQUAL: u8 = 67;
 
-pub const ADD_LOGICAL: u8 = 38;
+pub const ADD_LOGICAL: u8 = 68;
 
-pub const SUBTRACT_LOGICAL: u8 = 39;
+pub const SUBTRACT_LOGICAL: u8 = 69;
 
-pub const PLUS: u8 = 40;
+pub const PLUS: u8 = 70;
 
-pub const MINUS: u8 = 41;
+pub const MINUS: u8 = 71;
 
-pub const TIMES: u8 = 42;
+pub const TIMES: u8 = 72;
 
-pub const EQUAL: u8 = 43;
+pub const EQUAL: u8 = 73;
 
-pub const LESS: u8 = 44;
+pub const LESS: u8 = 74;
 
-pub const MORE: u8 = 45;
+pub const MORE: u8 = 75;
 
-pub const COMMA: u8 = 46;
+pub const COMMA: u8 = 76;
 
-pub const SEMICOLON: u8 = 47;
+pub const SEMICOLON: u8 = 77;
 
-pub const COLON: u8 = 48;
+pub const COLON: u8 = 78;
 
-pub const OPEN: u8 = 49;
+pub const OPEN: u8 = 79;
 
-pub const CLOSE: u8 = 50;
+pub const CLOSE: u8 = 80;
 
-pub const AT: u8 = 51;
+pub const AT: u8 = 81;

@@ -10,7 +10,8 @@ use token::Next;
 use token::Tokens;
 use token::kinds;
 
-const TEXT_LIMIT: usize = 32768;
+// "source over 32,768 bytes".
+pub const TEXT_LIMIT: usize = 32768;
 
 pub fn is_last(kind: u8) -> bool
     ensures { λ r. ⌜ r ≡ T.isLast kind ⌝ }
@@ -55,7 +56,8 @@ fn room_in(kinds: &[u8], values: &[u64], places: &[u32]) -> usize
 
 // The tokens of a text into lent lists, in one pass: those before a refusal are laid.
 pub fn read_tokens(src: &[u8], kinds: &mut [u8], values: &mut [u64], places: &mut [u32]) -> Tokens
-    ensures { λ r. ⌜ Laid (readInto (room (now (kinds .entry)) (now (values .entry)) (now (places .entry))) (now (src .entry))) (now (kinds .entry)) (now (values .entry)) (now (places .entry)) (now (kinds .exit)) (now (values .exit)) (now (places .exit)) r ⌝ }
+    ensures { λ r. ⌜ Laid (readInto (room (now (kinds .entry)) (now (values .entry)) (now (places .entry))) (now (src .entry))) (now (kinds .entry))
+        (now (values .entry)) (now (places .entry)) (now (kinds .exit)) (now (values .exit)) (now (places .exit)) r ⌝ }
 {
     if TEXT_LIMIT < src.len() {
         return Tokens::TooLong;
@@ -93,7 +95,8 @@ pub fn check_text(src: &[u8]) -> Tokens
 
 // The tokens of a text into lent lists, which a refusal leaves as they are.
 pub fn tokens_of(src: &[u8], kinds: &mut [u8], values: &mut [u64], places: &mut [u32]) -> Tokens
-    ensures { λ r. ⌜ Laid (tokensInto (room (now (kinds .entry)) (now (values .entry)) (now (places .entry))) (now (src .entry))) (now (kinds .entry)) (now (values .entry)) (now (places .entry)) (now (kinds .exit)) (now (values .exit)) (now (places .exit)) r ⌝ }
+    ensures { λ r. ⌜ Laid (tokensInto (room (now (kinds .entry)) (now (values .entry)) (now (places .entry))) (now (src .entry))) (now (kinds .entry))
+        (now (values .entry)) (now (places .entry)) (now (kinds .exit)) (now (values .exit)) (now (places .exit)) r ⌝ }
 {
     let checked = check_text(src);
     match checked {

@@ -1,25 +1,25 @@
 // Document 01, "Numbers answered": the translation of a text into a buffer, the groups of refusals in order. Nothing is written to the buffer before every
 // refusal is decided.
 ghost use mathlib.Core.Path.{_≡_};
-ghost use Prim.Native.Nat.{_+_, _≤_};
-ghost use lib.ListN.{length};
-ghost use Rattle.token.specs.Text.{tokensOf};
-ghost use Rattle.grammar.specs.Tree.{Statement};
-ghost use Rattle.grammar.specs.Grammar.{program};
+ghost use Prim.Native.Nat.{_+_, _*_, _≤_};
+ghost use lib.ListN.{length, take};
+ghost use Rattle.token.specs.Text.{tokensOf, TEXT-LIMIT};
+ghost use Rattle.grammar.specs.Grammar.{nesting};
 ghost use Rattle.scopes.specs.Search.{firstToken};
 ghost use Rattle.ledger.specs.Book.{wideOf, thinOf};
 ghost use Rattle.ledger.specs.Bounds.{Narrow, Nested};
-ghost use Rattle.translation.specs.Translate.{kindsOf, valuesOf, inRoom, make, onRules, afterTokens, translate as translation};
-ghost use Rattle.settled.specs.Texts.{allTokens, Small, Text, Blanks, Lent, Rooms};
+ghost use Rattle.translation.specs.Translate.{translate as translation};
+ghost use Rattle.settled.specs.Texts.{Lent, Fits, Rooms};
 ghost use Rattle.made.specs.Answers.{Gives, outcome, defined};
+ghost use Rattle.translate.specs.Groups.{OnTokens, OnTape};
+ghost use Rattle.translate.specs.Sizes as S;
 use ledger::clear_written;
 pub use made::Answer;
 use settled::FIRST_TOKEN;
+use settled::MORE_ROWS;
+use settled::TEXT_LIMIT;
 use settled::place_of;
 use token::Tokens;
-
-// "source over 32,768 bytes".
-const TEXT_LIMIT: usize = 32768;
 
 // ── the groups ──
 
@@ -32,8 +32,9 @@ fn translate_tape(
     thin: &mut [u16],
     out: &mut [u8],
 ) -> Answer
-    requires { ⌜ (tokensOf (now src) .number ≡ 0) × (17 + length (now tape) ≤ length (now kinds)) × Narrow (now tape) × Nested 64 0 0 (now tape) × Lent (length (now kinds)) (now wide) (now thin) ⌝ }
-    ensures { λ r. ⌜ (let ts = allTokens (now (src .entry)) in (x : Statement) → Text ts x (wideOf (now (wide .entry)) .values) (now (tape .entry)) → now (kinds .entry) ≡ kindsOf ts → Blanks ts (wideOf (now (wide .entry))) (thinOf (now (thin .entry))) → Gives (inRoom (length (now (out .entry))) (onRules ts (make ts x))) (now (out .entry)) (now (out .exit)) r) ⌝ }
+    requires { ⌜ (tokensOf (now src) .number ≡ 0) × (firstToken + length (now tape) ≤ length (now kinds)) × Narrow (now tape) × Nested nesting 0 0 (now tape)
+        × Lent (length (now kinds)) (now wide) (now thin) ⌝ }
+    ensures { λ r. ⌜ OnTape (now (src .entry)) (now (kinds .entry)) (wideOf (now (wide .entry))) (thinOf (now (thin .entry))) (now (out .entry)) (now (out .exit)) r (now (tape .entry)) ⌝ }
 {
     let others = settled::bind(tape, wide, thin);
     let s = settled::settle(tape, kinds, wide, thin, others);
@@ -56,8 +57,8 @@ fn translate_tokens(
     thin: &mut [u16],
     out: &mut [u8],
 ) -> Answer
-    requires { ⌜ (tokensOf (now src) .number ≡ 0) × (17 ≤ length (now kinds)) × (length (now tape) ≡ length (now kinds)) × Lent (length (now kinds)) (now wide) (now thin) ⌝ }
-    ensures { λ r. ⌜ (let ts = allTokens (now (src .entry)) in now (kinds .entry) ≡ kindsOf ts → wideOf (now (wide .entry)) .values ≡ valuesOf ts → Small ts → Blanks ts (wideOf (now (wide .entry))) (thinOf (now (thin .entry))) → Gives (inRoom (length (now (out .entry))) (afterTokens ts (program (now (kinds .entry)) firstToken))) (now (out .entry)) (now (out .exit)) r) ⌝ }
+    requires { ⌜ (tokensOf (now src) .number ≡ 0) × (firstToken ≤ length (now kinds)) × (length (now tape) ≡ length (now kinds)) × Lent (length (now kinds)) (now wide) (now thin) ⌝ }
+    ensures { λ r. ⌜ OnTokens (now (src .entry)) (now (kinds .entry)) (wideOf (now (wide .entry))) (thinOf (now (thin .entry))) (now (out .entry)) (now (out .exit)) r ⌝ }
 {
     let p = parse::program(kinds, FIRST_TOKEN, tape);
     let number = p.number;
@@ -69,7 +70,33 @@ fn translate_tokens(
     translate_tape(src, &tape[..size], kinds, wide, thin, out)
 }
 
-// The text: 1 to 3, then the rest, in lists with room for any text of its length, cut to its tokens.
+// The lists cut to n tokens and the names in front of them.
+fn translate_read(
+    src: &[u8],
+    n: usize,
+    kinds: &[u8],
+    tape: &mut [u32],
+    wide: &mut [u64],
+    thin: &mut [u16],
+    out: &mut [u8],
+) -> Answer
+    requires { ⌜ (tokensOf (now src) .number ≡ 0) × Fits (firstToken + n) (now kinds) (now tape) (now wide) (now thin) ⌝ }
+    ensures { λ r. ⌜ (let m = firstToken + n in OnTokens (now (src .entry)) (take m (now (kinds .entry))) (wideOf (take (4 * m) (now (wide .entry))))
+        (thinOf (take (4 * m) (now (thin .entry)))) (now (out .entry)) (now (out .exit)) r) ⌝ }
+{
+    let m = FIRST_TOKEN + n;
+    let rows = 4 * m;
+    translate_tokens(
+        src,
+        &kinds[..m],
+        &mut tape[..m],
+        &mut wide[..rows],
+        &mut thin[..rows],
+        out,
+    )
+}
+
+// The text: 1 to 3, then the rest, in lists with room for any text of its length.
 fn translate_in(
     src: &[u8],
     kinds: &mut [u8],
@@ -83,18 +110,7 @@ fn translate_in(
 {
     let tokens = settled::read(src, kinds, wide);
     match tokens {
-        Tokens::Read(n) => {
-            let m = FIRST_TOKEN + n;
-            let rows = 4 * m;
-            translate_tokens(
-                src,
-                &kinds[..m],
-                &mut tape[..m],
-                &mut wide[..rows],
-                &mut thin[..rows],
-                out,
-            )
-        }
+        Tokens::Read(n) => translate_read(src, n, kinds, tape, wide, thin, out),
         Tokens::TooLong => Answer::Refused(1, TEXT_LIMIT),
         Tokens::NoToken(place) => Answer::Refused(2, place),
         Tokens::OutOfRange(place) => Answer::Refused(3, place),
@@ -108,46 +124,43 @@ const SHORT: usize = 1024;
 
 const MIDDLING: usize = 8192;
 
-// Beside a token at each byte: the end, and the names in front.
-const MORE: usize = 18;
-
 fn short(src: &[u8], out: &mut [u8]) -> Answer
-    requires { ⌜ length (now src) ≤ 1024 ⌝ }
+    requires { ⌜ length (now src) ≤ S.SHORT ⌝ }
     ensures { λ r. ⌜ Gives (translation (now (src .entry)) (length (now (out .entry)))) (now (out .entry)) (now (out .exit)) r ⌝ }
 {
-    let mut kinds = [0u8; SHORT + MORE];
-    let mut tape = [0u32; SHORT + MORE];
-    let mut wide = [0u64; 4 * (SHORT + MORE)];
-    let mut thin = [0u16; 4 * (SHORT + MORE)];
+    let mut kinds = [0u8; SHORT + MORE_ROWS];
+    let mut tape = [0u32; SHORT + MORE_ROWS];
+    let mut wide = [0u64; 4 * (SHORT + MORE_ROWS)];
+    let mut thin = [0u16; 4 * (SHORT + MORE_ROWS)];
     translate_in(src, &mut kinds, &mut tape, &mut wide, &mut thin, out)
 }
 
 fn middling(src: &[u8], out: &mut [u8]) -> Answer
-    requires { ⌜ length (now src) ≤ 8192 ⌝ }
+    requires { ⌜ length (now src) ≤ S.MIDDLING ⌝ }
     ensures { λ r. ⌜ Gives (translation (now (src .entry)) (length (now (out .entry)))) (now (out .entry)) (now (out .exit)) r ⌝ }
 {
-    let mut kinds = [0u8; MIDDLING + MORE];
-    let mut tape = [0u32; MIDDLING + MORE];
-    let mut wide = [0u64; 4 * (MIDDLING + MORE)];
-    let mut thin = [0u16; 4 * (MIDDLING + MORE)];
+    let mut kinds = [0u8; MIDDLING + MORE_ROWS];
+    let mut tape = [0u32; MIDDLING + MORE_ROWS];
+    let mut wide = [0u64; 4 * (MIDDLING + MORE_ROWS)];
+    let mut thin = [0u16; 4 * (MIDDLING + MORE_ROWS)];
     translate_in(src, &mut kinds, &mut tape, &mut wide, &mut thin, out)
 }
 
 fn long(src: &[u8], out: &mut [u8]) -> Answer
-    requires { ⌜ length (now src) ≤ 32768 ⌝ }
+    requires { ⌜ length (now src) ≤ TEXT-LIMIT ⌝ }
     ensures { λ r. ⌜ Gives (translation (now (src .entry)) (length (now (out .entry)))) (now (out .entry)) (now (out .exit)) r ⌝ }
 {
-    let mut kinds = [0u8; TEXT_LIMIT + MORE];
-    let mut tape = [0u32; TEXT_LIMIT + MORE];
-    let mut wide = [0u64; 4 * (TEXT_LIMIT + MORE)];
-    let mut thin = [0u16; 4 * (TEXT_LIMIT + MORE)];
+    let mut kinds = [0u8; TEXT_LIMIT + MORE_ROWS];
+    let mut tape = [0u32; TEXT_LIMIT + MORE_ROWS];
+    let mut wide = [0u64; 4 * (TEXT_LIMIT + MORE_ROWS)];
+    let mut thin = [0u16; 4 * (TEXT_LIMIT + MORE_ROWS)];
     translate_in(src, &mut kinds, &mut tape, &mut wide, &mut thin, out)
 }
 
 // By length. A function that calls itself takes none with large arrays into its own frame: so each of the three has a frame of its own, and a short text
 // needs little stack.
 fn sized(src: &[u8], out: &mut [u8]) -> Answer
-    requires { ⌜ length (now src) ≤ 32768 ⌝ }
+    requires { ⌜ length (now src) ≤ TEXT-LIMIT ⌝ }
     ensures { λ r. ⌜ Gives (translation (now (src .entry)) (length (now (out .entry)))) (now (out .entry)) (now (out .exit)) r ⌝ }
 {
     if src.len() <= SHORT {

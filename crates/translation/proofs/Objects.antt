@@ -1,14 +1,13 @@
 -- What is accepted is an object: bytes in every segment, the program and one to three data segments within their limits.
 use mathlib.Core.Path.{_≡_, refl, sym, ap, subst, _∙_}
-use mathlib.Core.Logic.{_⊎_, inl, inr}
-use mathlib.Core.List.{List, [], _∷_, _++_, map}
+use mathlib.Core.List.{List, [], _∷_, _++_}
 use mathlib.Core.Bool.{Bool, true, false}
 use mathlib.Core.Option.{some}
 use Prim.Native.Nat.{ℕ, zero, suc, _+_, _*_, _-_, _<_, _≤_}
 use native.Mathlib.Omega.{arith}
 use lib.ListN.{length, getD, replicate, length-replicate, length-append}
 use Rattle.base.specs.Lists.{_∈_, All}
-use Rattle.base.proofs.Lists.{all-both, all-getD, all-in}
+use Rattle.base.proofs.Lists.{all-both, all-getD, all-in, map-in}
 use Rattle.token.specs.declared.Token.{Token}
 use Rattle.token.specs.Text.{tokensOf}
 use Rattle.grammar.specs.Tree.{Width, full, Statement}
@@ -52,12 +51,6 @@ use Rattle.translation.proofs.Emitted.{core-ready}
 use Rattle.translation.proofs.Images.{Fitting, placed-bytes, first-data, data-from, length-data}
 use Rattle.translation.proofs.Tables.{length-map}
 use Rattle.translation.proofs.Answers.{Accepted}
-
--- what is in a list of parts is a part of something in the list
-map-in : (c : Cell) (ds : List Filled) → c ∈ map (λ (d : Filled). d .cell) ds → (d : Filled) × (d ∈ ds) × (c ≡ d .cell)
-map-in c [] h = absurd h
-map-in c (d ∷ ds) (inl e) = (d, inl refl, e)
-map-in c (d ∷ ds) (inr h) = let r = map-in c ds h in (r .0, inr (r .1), r .2)
 
 -- a text of tokens ts that is the program x up to token j, with no rule broken
 module _ (ts : List Token) (x : Statement) (j : ℕ) (front : firstToken ≤ length ts) (read : isProgram (kindsOf ts) x firstToken j) (quiet : make ts x .broken .number ≡ 0) where
@@ -121,7 +114,7 @@ module _ (ts : List Token) (x : Statement) (j : ℕ) (front : firstToken ≤ len
   unfolding layout
   within t c e =
       let h = all-getD (Held (m .cells)) (m .means) (getD (n .found) t 0) nothing (known .held) tt in
-      let r = map-in c (m .cells) (subst (λ (k : Meaning). Held (m .cells) k) e h) in
+      let r = map-in (λ (d : Filled). d .cell) c (m .cells) (subst (λ (k : Meaning). Held (m .cells) k) e h) in
       subst (λ (k : Cell). (v : ℕ) → v + elementSize (k .width) ≤ elementSize (k .width) * k .elements → offsetOf (y .placed) (k .name) + v < segmentLimit) (sym (r .2)) (λ v g. at (r .0) (r .1) v g)
     where
       at : (d : Filled) → d ∈ m .cells → (v : ℕ) → v + elementSize (d .cell .width) ≤ elementSize (d .cell .width) * d .cell .elements

@@ -4,9 +4,11 @@ use mathlib.Core.List.{List, [], _∷_, map}
 use Prim.Native.Nat.{ℕ, zero, suc, _<_, _≤_}
 use native.Mathlib.Omega.{arith}
 use lib.ListN.{length, replicate, length-replicate}
+use Rattle.token.specs.Kinds as K
 use Rattle.token.specs.declared.Token.{Token}
 use Rattle.grammar.specs.Tree.{Statement}
 use Rattle.grammar.specs.Derives.{isStatement, isProgram}
+use Rattle.grammar.proofs.Tests.{real}
 use Rattle.grammar.proofs.Theorems.{read-is-program, program-inside}
 use Rattle.grammar.specs.Events.{eventsOf}
 use Rattle.grammar.specs.Places.{Along}
@@ -14,7 +16,6 @@ use Rattle.grammar.proofs.Texts.{program-text}
 use Rattle.scopes.specs.Search.{firstToken}
 use Rattle.scopes.specs.Found.{Found, Led}
 use Rattle.scopes.proofs.Finding.{finding, leading}
-use Rattle.static_rules.proofs.Bases.{in-text}
 use Rattle.translation.specs.Translate.{kindsOf, valuesOf, named, labelled}
 use Rattle.translation.proofs.Answers.{Accepted}
 
@@ -44,7 +45,7 @@ pub accepted-derived : (source object : List ℕ) (a : Accepted source object) �
 unfolding isProgram
 accepted-derived source object a =
     let p = read-is-program (kindsOf (a .tokens)) firstToken (a .tree) (a .next) (a .read) in
-    let h = in-text (kindsOf (a .tokens)) (p .0) 50 (p .2 .0) in
+    let h = real (kindsOf (a .tokens)) (p .0) K.AT (omega arith) (p .2 .0) in
     let e = length-map (λ (t : Token). t .kind) (a .tokens) in
     record { to = p .0; derived = p .1 .1; inside = omega arith }
 

@@ -3,7 +3,6 @@
 use mathlib.Core.List.{List, [], _∷_, _++_}
 use Prim.Native.Nat.{ℕ, _+_, _*_, _/_, _%_}
 use Rattle.base.specs.Runs.{indexOf}
-use Rattle.static_rules.specs.Meaning.{Cell, Based}
 use Rattle.static_rules.specs.Meanings.{dataBase}
 use Rattle.translation.specs.Instructions.{Datum, element, literal, entry, Instruction, rr, rx, shift, branch, link, stop, branchOp, linkOp, stopOp}
 use Rattle.translation.specs.Layout.{Layout, offsetOf}

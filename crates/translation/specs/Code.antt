@@ -1,6 +1,5 @@
 -- Document 01, "Code": the instructions of a text in order, with the addresses of branches. Labels and procedures are in force by scope.
 use mathlib.Core.List.{List, [], _∷_, _++_}
-use mathlib.Core.Bool.{Bool, true, false}
 use Prim.Native.Nat.{ℕ, _+_}
 use lib.Dec.{eqb}
 use Rattle.base.specs.Choose.{if_then_else_}

@@ -1,6 +1,5 @@
 -- Document 01, "Code": the statements of a text with their names found: the instructions of assignments and conditions, and the shape around them.
 use mathlib.Core.List.{List, [], _∷_, _++_}
-use mathlib.Core.Bool.{Bool, true, false, _&&_}
 use mathlib.Core.Option.{Option, none, some}
 use Prim.Native.Nat.{ℕ, _-_}
 use lib.Dec.{eqb}
@@ -9,11 +8,11 @@ use Rattle.base.specs.Choose.{if_then_else_}
 use Rattle.base.specs.Lists.{member}
 use Rattle.token.specs.Kinds as K
 use Rattle.grammar.specs.Tree as T
-use Rattle.grammar.specs.Tree.{Designator, Operand, number, place, Sign, plain, abs, neg, negAbs, Term, Assignment, Condition, compared, bare, Width, full, short, Statement, Body, Items}
-use Rattle.static_rules.specs.Meaning.{Meaning, nothing, register, cell, routine, Cell, byTarget, registerOf, longOperand}
+use Rattle.grammar.specs.Tree.{Designator, Operand, number, place, Sign, plain, abs, neg, negAbs, Term, Assignment, Condition, compared, bare, Width, full, Statement, Body, Items}
+use Rattle.static_rules.specs.Meaning.{Meaning, nothing, register, cell, routine, byTarget, registerOf, longOperand}
 use Rattle.static_rules.specs.Tables.{Tables, kindAt, valueAt, meaningAt}
 use Rattle.static_rules.specs.Rules.{negative, shifts}
-use Rattle.translation.specs.Instructions.{Datum, element, literal, entry, Instruction, rr, rx, shift, opcode, rowOf, loadRow, compareRow, timesRow, storeRow, column, absOp, negOp, negAbsOp, shiftCode, falseMask}
+use Rattle.translation.specs.Instructions.{Datum, element, literal, Instruction, rr, rx, shift, opcode, rowOf, loadRow, compareRow, timesRow, storeRow, column, absOp, negOp, negAbsOp, shiftCode, falseMask}
 
 -- a label or a procedure is known by the token of its name
 pub data Core : Type 0 where

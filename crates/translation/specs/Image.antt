@@ -1,9 +1,8 @@
 -- Document 01, "Names, cells, protected registers": the bytes of the data segments, and the segments of a program in number order.
 use mathlib.Core.List.{List, [], _∷_, _++_}
-use mathlib.Core.Bool.{Bool, true, false}
-use Prim.Native.Nat.{ℕ, zero, suc, _+_, _*_}
+use Prim.Native.Nat.{ℕ, zero, suc, _+_}
 use lib.Dec.{eqb}
-use lib.ListN.{length, replicate, getD}
+use lib.ListN.{length, replicate}
 use lib.Seq.{sets}
 use Rattle.base.specs.Choose.{if_then_else_}
 use Rattle.base.specs.Numbers.{bytesOf}

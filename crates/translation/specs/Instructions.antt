@@ -1,9 +1,8 @@
 -- Document 01, "Code": instructions, each with the operand that the text names, and the tables of opcodes and masks. An operand has no offset before layout.
 use mathlib.Core.List.{List, [], _∷_, _++_}
-use mathlib.Core.Bool.{Bool, true, false}
 use Prim.Native.Nat.{ℕ, _+_}
 use lib.ListN.{getD}
-use Rattle.base.specs.Runs.{runLen, indexOf}
+use Rattle.base.specs.Runs.{indexOf}
 use Rattle.token.specs.Kinds as K
 use Rattle.grammar.specs.Tree.{Width, full, short}
 use Rattle.grammar.specs.Grammar.{relations}

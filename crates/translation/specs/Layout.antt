@@ -1,7 +1,6 @@
 -- Document 01, "Names, cells, protected registers": where cells and literals stand in their segments, and refusal 12 of a cell. Offsets begin here.
 use mathlib.Core.List.{List, [], _∷_, _++_}
-use mathlib.Core.Bool.{Bool, true, false}
-use Prim.Native.Nat.{ℕ, zero, suc, _+_, _*_, _-_, _/_}
+use Prim.Native.Nat.{ℕ, _+_, _*_, _-_, _/_}
 use lib.Dec.{eqb, leb}
 use lib.ListN.{getD, set, length, replicate}
 use Rattle.base.specs.Choose.{if_then_else_}
@@ -10,7 +9,7 @@ use Rattle.base.specs.Numbers.{bytesOf}
 use Rattle.scopes.specs.declared.Broken.{Broken}
 use Rattle.scopes.specs.Broken.{unbroken, rule, _⊕_}
 use Rattle.grammar.specs.Tree.{Width}
-use Rattle.static_rules.specs.Meaning.{Cell, Based, elementSize}
+use Rattle.static_rules.specs.Meaning.{Cell, elementSize}
 use Rattle.static_rules.specs.Meanings.{Filled}
 use Rattle.translation.specs.Instructions.{Datum, element, literal, entry, Instruction, rr, rx, shift, branch, link, stop}
 

@@ -1,6 +1,5 @@
 -- Document 01, "Numbers answered": the whole translation, a function of the source and the buffer's room. "Groups in order: 1; 2, 3; 4, 5; 6 to 13; 14; 15; 16."
-use mathlib.Core.List.{List, [], _∷_, _++_, map}
-use mathlib.Core.Bool.{Bool, true, false}
+use mathlib.Core.List.{List, _++_, map}
 use Prim.Native.Nat.{ℕ, zero, suc, _-_}
 use lib.Dec.{ltb}
 use lib.ListN.{length, drop, getD, replicate}
@@ -19,7 +18,7 @@ use Rattle.scopes.specs.Labels.{Labelled, labelProgram}
 use Rattle.static_rules.specs.Meanings.{Meant, meanProgram, standard}
 use Rattle.static_rules.specs.Tables.{Tables}
 use Rattle.static_rules.specs.Kinds.{rulesOf}
-use Rattle.objtext.specs.Object.{Segment, objectText}
+use Rattle.objtext.specs.Object.{objectText}
 use Rattle.translation.specs.Instructions.{Instruction, sizes}
 use Rattle.translation.specs.Core.{coreStatement}
 use Rattle.translation.specs.Code.{instructions}

@@ -2,11 +2,10 @@
 -- definition.
 use mathlib.Core.Path.{_≡_, refl}
 use mathlib.Core.List.{List, [], _∷_, _++_, map}
-use mathlib.Core.Bool.{Bool, true, false}
 use Prim.Native.Nat.{ℕ, zero, suc, _+_, _*_}
 use Prim.Native.String.{String}
 use lib.Dec.{eqb}
-use lib.ListN.{replicate, length}
+use lib.ListN.{replicate}
 use Rattle.base.specs.Choose.{if_then_else_}
 use Rattle.base.specs.Text.{bytes, sameBytes}
 use Rattle.base.specs.Runs.{runLen}

@@ -6,9 +6,9 @@
 --     help [COMMAND|NUMBER]
 -- Each word is ended by a zero byte and named by its number, counted from 0. A word that begins with `-` and has more than that one byte is an option.
 use Prim.Native.Nat.{ℕ, zero, suc, _+_, _-_, _^_}
-use mathlib.Core.Bool.{Bool, true, false, _&&_, _||_, not}
-use mathlib.Core.List.{List, [], _∷_}
-use lib.Dec.{eqb, ltb, leb}
+use mathlib.Core.Bool.{Bool, true, _&&_}
+use mathlib.Core.List.{List}
+use lib.Dec.{eqb, ltb}
 use lib.ListN.{length, getD}
 use Rattle.base.specs.Choose.{choose}
 use Rattle.base.specs.Text.{bytes, sameBytes}

@@ -42,8 +42,13 @@ loop-less c = search needs
 
 loop-again : tie.Need-loop-again Inv-loop μ-loop
 loop-again c =
-    let l = c .before .before .before .loop in
-    (search needs, search needs, byte-on (l .inv .2) (search needs) (search needs), load-turn _ (l .i) (l .left) (l .v) (c .wide .result) (l .inv .3) (search needs) (search needs) (search needs))
+    let at-loop = c .before .before .before in
+    let l = at-loop .loop in (
+      search needs,
+      search needs,
+      byte-on (l .inv .2) (search needs) (search needs),
+      load-turn _ (l .i) (l .left) (l .v) (c .wide .result) (l .inv .3) (search needs) (search needs) (search needs),
+    )
 
 cast-result : tie.Need-cast-result Inv-loop μ-loop
 cast-result c = omega (arith, fewer-bytes 4 (c .before .loop .inv .2) (search needs))

@@ -15,8 +15,8 @@ returns : tie.Need-returns
 unfolding markAfter
 returns c = rw (eq-eqb _ _ (c .before .before .before .before .if1 .taken)) (c .before .before .put-mark .ensures)
 
-put-mark-requires-2 : tie.Need-put-mark-requires-2
-put-mark-requires-2 c κs = search needs
+mark-limit-requires : tie.Need-mark-limit-requires
+mark-limit-requires c κs = search needs
 
 same-length-2 : tie.Need-same-length-2
 same-length-2 c = search needs
@@ -24,13 +24,13 @@ same-length-2 c = search needs
 returns-2 : tie.Need-returns-2
 unfolding markAfter
 returns-2 c =
-    rw (ne-eqb _ _ (c .before .before .before .before .before .if1 .left), eq-eqb _ _ (c .before .before .before .before .if2 .taken)) (c .before .before .put-mark2 .ensures)
+    rw (ne-eqb _ _ (c .before .before .before .before .before .if1 .left), eq-eqb _ _ (c .before .before .before .before .if2 .taken)) (c .before .before .mark-limit .ensures)
 
 add-put-mark : tie.Need-add-put-mark
 add-put-mark c = search needs
 
-put-mark-requires-3 : tie.Need-put-mark-requires-3
-put-mark-requires-3 c κs = search needs
+put-mark-requires-2 : tie.Need-put-mark-requires-2
+put-mark-requires-2 c κs = search needs
 
 same-length-3 : tie.Need-same-length-3
 same-length-3 c = search needs
@@ -43,10 +43,10 @@ returns-3 c =
       ne-eqb _ _ (c .before .before .before .before .before .if2 .left),
       eq-eqb _ _ (c .before .before .before .before .if3 .taken),
     )
-    (c .before .before .put-mark3 .ensures)
+    (c .before .before .put-mark2 .ensures)
 
-mark-limit-requires : tie.Need-mark-limit-requires
-mark-limit-requires c κs = search needs
+mark-closing-requires : tie.Need-mark-closing-requires
+mark-closing-requires c κs = search needs
 
 same-length-4 : tie.Need-same-length-4
 same-length-4 c = search needs
@@ -55,53 +55,13 @@ returns-4 : tie.Need-returns-4
 unfolding markAfter
 returns-4 c =
     rw (
-      ne-eqb _ _ (c .before .before .before .before .before .before .before .if1 .left),
-      ne-eqb _ _ (c .before .before .before .before .before .before .if2 .left),
-      ne-eqb _ _ (c .before .before .before .before .before .if3 .left),
-      eq-eqb _ _ (c .before .before .before .before .if4 .taken),
-    )
-    (c .before .before .mark-limit .ensures)
-
-add-put-mark-2 : tie.Need-add-put-mark-2
-add-put-mark-2 c = search needs
-
-put-mark-requires-4 : tie.Need-put-mark-requires-4
-put-mark-requires-4 c κs = search needs
-
-same-length-5 : tie.Need-same-length-5
-same-length-5 c = search needs
-
-returns-5 : tie.Need-returns-5
-unfolding markAfter
-returns-5 c =
-    rw (
-      ne-eqb _ _ (c .before .before .before .before .before .before .before .before .if1 .left),
-      ne-eqb _ _ (c .before .before .before .before .before .before .before .if2 .left),
-      ne-eqb _ _ (c .before .before .before .before .before .before .if3 .left),
-      ne-eqb _ _ (c .before .before .before .before .before .if4 .left),
-      eq-eqb _ _ (c .before .before .before .before .if5 .taken),
-    )
-    (c .before .before .put-mark4 .ensures)
-
-mark-closing-requires : tie.Need-mark-closing-requires
-mark-closing-requires c κs = search needs
-
-same-length-6 : tie.Need-same-length-6
-same-length-6 c = search needs
-
-returns-6 : tie.Need-returns-6
-unfolding markAfter
-returns-6 c =
-    rw (
-      ne-eqb _ _ (c .before .before .before .before .before .before .before .before .if1 .left),
-      ne-eqb _ _ (c .before .before .before .before .before .before .before .if2 .left),
-      ne-eqb _ _ (c .before .before .before .before .before .before .if3 .left),
-      ne-eqb _ _ (c .before .before .before .before .before .if4 .left),
-      ne-eqb _ _ (c .before .before .before .before .if5 .left),
+      ne-eqb _ _ (c .before .before .before .before .before .before .if1 .left),
+      ne-eqb _ _ (c .before .before .before .before .before .if2 .left),
+      ne-eqb _ _ (c .before .before .before .before .if3 .left),
     )
     (c .before .before .mark-closing .ensures)
 
 pub mark-after-spec : {M : Type 1} → statement M
 mark-after-spec = tie.close
-    (tie.spec put-mark-requires same-length returns put-mark-requires-2 same-length-2 returns-2 add-put-mark put-mark-requires-3 same-length-3 returns-3
-    mark-limit-requires same-length-4 returns-4 add-put-mark-2 put-mark-requires-4 same-length-5 returns-5 mark-closing-requires same-length-6 returns-6)
+    (tie.spec put-mark-requires same-length returns mark-limit-requires same-length-2 returns-2 add-put-mark put-mark-requires-2 same-length-3 returns-3
+    mark-closing-requires same-length-4 returns-4)

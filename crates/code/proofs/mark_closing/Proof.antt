@@ -5,8 +5,8 @@ use Rattle.code.specs.Places.{markClosing}
 use Rattle.code.proofs.mark_closing.Statement.{statement}
 use Rattle.code.proofs.mark_closing.Tie as tie
 
-before-requires : tie.Need-before-requires
-before-requires c κs = search needs
+less-requires : tie.Need-less-requires
+less-requires c κs = search needs
 
 put-mark-requires : tie.Need-put-mark-requires
 put-mark-requires c κs = search needs
@@ -16,7 +16,7 @@ same-length c = search needs
 
 returns : tie.Need-returns
 unfolding markClosing
-returns c = rw (eq-eqb _ _ (c .before .before .before .before .before .if1 .taken), ← (c .before .before .before .before2 .ensures)) (c .before .before .put-mark .ensures)
+returns c = rw (eq-eqb _ _ (c .before .before .before .before .before .if1 .taken), ← (c .before .before .before .less .ensures)) (c .before .before .put-mark .ensures)
 
 add-put-mark : tie.Need-add-put-mark
 add-put-mark c = search needs
@@ -29,8 +29,7 @@ same-length-2 c = search needs
 
 returns-2 : tie.Need-returns-2
 unfolding markClosing
-returns-2 c =
-    rw (ne-eqb _ _ (c .before .before .before .before .before .if1 .left), eq-eqb _ _ (c .before .before .before .before .if2 .taken)) (c .before .before .put-mark2 .ensures)
+returns-2 c = rw (ne-eqb _ _ (c .before .before .before .before .before .if1 .left), c .before .before .before .before .if2 .taken) (c .before .before .put-mark2 .ensures)
 
 put-mark-requires-3 : tie.Need-put-mark-requires-3
 put-mark-requires-3 c κs = search needs
@@ -41,60 +40,14 @@ same-length-3 c = search needs
 returns-3 : tie.Need-returns-3
 unfolding markClosing
 returns-3 c =
-    rw (
-      ne-eqb _ _ (c .before .before .before .before .before .before .if1 .left),
-      ne-eqb _ _ (c .before .before .before .before .before .if2 .left),
-      eq-eqb _ _ (c .before .before .before .before .if3 .taken),
-    )
+    rw (ne-eqb _ _ (c .before .before .before .before .before .before .if1 .left), c .before .before .before .before .before .if2 .left, c .before .before .before .before .if3 .taken)
     (c .before .before .put-mark3 .ensures)
-
-put-mark-requires-4 : tie.Need-put-mark-requires-4
-put-mark-requires-4 c κs = search needs
-
-same-length-4 : tie.Need-same-length-4
-same-length-4 c = search needs
 
 returns-4 : tie.Need-returns-4
 unfolding markClosing
-returns-4 c =
-    rw (
-      ne-eqb _ _ (c .before .before .before .before .before .before .before .if1 .left),
-      ne-eqb _ _ (c .before .before .before .before .before .before .if2 .left),
-      ne-eqb _ _ (c .before .before .before .before .before .if3 .left),
-      eq-eqb _ _ (c .before .before .before .before .if4 .taken),
-    )
-    (c .before .before .put-mark4 .ensures)
-
-put-mark-requires-5 : tie.Need-put-mark-requires-5
-put-mark-requires-5 c κs = search needs
-
-same-length-5 : tie.Need-same-length-5
-same-length-5 c = search needs
-
-returns-5 : tie.Need-returns-5
-unfolding markClosing
-returns-5 c =
-    rw (
-      ne-eqb _ _ (c .before .before .before .before .before .before .before .before .if1 .left),
-      ne-eqb _ _ (c .before .before .before .before .before .before .before .if2 .left),
-      ne-eqb _ _ (c .before .before .before .before .before .before .if3 .left),
-      ne-eqb _ _ (c .before .before .before .before .before .if4 .left),
-      eq-eqb _ _ (c .before .before .before .before .if5 .taken),
-    )
-    (c .before .before .put-mark5 .ensures)
-
-returns-6 : tie.Need-returns-6
-unfolding markClosing
-returns-6 c =
-    rw (
-      ne-eqb _ _ (c .before .before .before .before .if1 .left),
-      ne-eqb _ _ (c .before .before .before .if2 .left),
-      ne-eqb _ _ (c .before .before .if3 .left),
-      ne-eqb _ _ (c .before .if4 .left),
-      ne-eqb _ _ (c .if5 .left),
-    )
+returns-4 c = rw (ne-eqb _ _ (c .before .before .if1 .left), c .before .if2 .left, c .if3 .left)
 
 pub mark-closing-spec : {M : Type 1} → statement M
 mark-closing-spec = tie.close
-    (tie.spec before-requires put-mark-requires same-length returns add-put-mark put-mark-requires-2 same-length-2 returns-2 put-mark-requires-3 same-length-3
-    returns-3 put-mark-requires-4 same-length-4 returns-4 put-mark-requires-5 same-length-5 returns-5 returns-6)
+    (tie.spec less-requires put-mark-requires same-length returns add-put-mark put-mark-requires-2 same-length-2 returns-2 put-mark-requires-3 same-length-3 returns-3
+    returns-4)

@@ -1,7 +1,7 @@
 -- `places` is the pass. The invariant: the pass over what is left makes the whole, the other columns are as they were, and an event takes eight bytes at most. Assumes nothing.
 use Rattle.code.proofs.Placing.{Same, places-turn}
 use Rattle.code.specs.Places.{kept, Placing, placingOf, placesAlong, onMarks, placeStep, placesIn}
-use Rattle.emit.proofs.Knowing.{codes-known, written-known}
+use Rattle.emit.specs.declared.Emitted.{Emitted}
 use Rattle.ledger.specs.Book.{wideOf, thinOf}
 use Rattle.tape.proofs.Pass.{pass-end}
 use Rattle.tape.specs.Pass.{pass}
@@ -37,85 +37,55 @@ op-requires c κs = search needs
 token-requires : tie.Need-token-requires Inv-loop μ-loop
 token-requires c κs = search needs
 
-family-requires : tie.Need-family-requires Inv-loop μ-loop
-family-requires c κs = search needs
-
-form-requires : tie.Need-form-requires Inv-loop μ-loop
-form-requires c κs = search needs
-
-operand-requires : tie.Need-operand-requires Inv-loop μ-loop
-operand-requires c κs = c .before .before .before .token .ensures .1
-
-register-at-requires : tie.Need-register-at-requires Inv-loop μ-loop
-register-at-requires c κs = c .before .before .before .before .before .token .ensures .1
-
-goal-at-requires : tie.Need-goal-at-requires Inv-loop μ-loop
-goal-at-requires c κs = search needs
-
-codes-of-requires : tie.Need-codes-of-requires Inv-loop μ-loop
-codes-of-requires c κs =
-    let at-goal-at = c .before in
-    let at-token = at-goal-at .before .before .before .before .before .before .before .before in
-    (at-token .token .ensures .1, at-goal-at .goal-at .ensures .1)
+event-requires : tie.Need-event-requires Inv-loop μ-loop
+event-requires c κs = search needs
 
 size-requires : tie.Need-size-requires Inv-loop μ-loop
 size-requires c κs = search needs
 
 add-q : tie.Need-add-q Inv-loop μ-loop
 add-q c =
-    let at-loop-test = c .before .before .before .before .before .before .before .before .before .before .before .before .before .before in
+    let at-loop-test = c .before .before .before .before .before .before in
     let at-loop = at-loop-test .before in
     let start = at-loop .before .before .before .before .before in
     let b = at-loop .loop .inv .1 in let h = at-loop-test .loop-test .taken in let n = start .pre in omega (arith, c .size .ensures .1)
 
-mark-after-requires : tie.Need-mark-after-requires Inv-loop μ-loop
-mark-after-requires c κs =
-    let at-token = c .before .before .before .before .before .before .before .before .before .before .before .before in
-    (at-token .token .ensures .1, omega arith, omega arith)
+family-requires : tie.Need-family-requires Inv-loop μ-loop
+family-requires c κs = search needs
 
-written-after-requires : tie.Need-written-after-requires Inv-loop μ-loop
-written-after-requires c κs = search needs
+mark-after-requires : tie.Need-mark-after-requires Inv-loop μ-loop
+mark-after-requires c κs = (c .before .before .before .before .before .token .ensures .1, omega arith, omega arith)
 
 add-i : tie.Need-add-i Inv-loop μ-loop
-add-i c =
-    let back = c .before .before .before .before .before .before .before .before .before .before .before .before .before .before .before in
-    let at-loop-test = back .before .before .before .before in
-    let start = at-loop-test .before .before .before .before .before .before in
-    let h = at-loop-test .loop-test .taken in let n = start .pre in omega arith
+add-i c = search needs
 
 loop-less : tie.Need-loop-less Inv-loop μ-loop
-loop-less c =
-    let back = c .before .before .before .before .before .before .before .before .before .before .before .before .before .before .before in
-    let at-loop-test = back .before .before .before .before in
-    let h = at-loop-test .loop-test .taken in omega arith
+loop-less c = search needs
 
 loop-again : tie.Need-loop-again Inv-loop μ-loop
 unfolding kept
 loop-again c =
     let at-mark-after = c .before .before .before in
-    let at-size = at-mark-after .before .before in
-    let at-codes-of = at-size .before in
-    let at-goal-at = at-codes-of .before .before in
-    let at-register-at = at-goal-at .before .before in
-    let at-operand = at-register-at .before .before in
-    let at-form = at-operand .before in
-    let at-family = at-form .before .before in
-    let at-token = at-family .before in
+    let at-family = at-mark-after .before .before in
+    let at-size = at-family .before in
+    let at-event = at-size .before in
+    let at-token = at-event .before .before in
     let at-op = at-token .before in
     let at-loop-test = at-op .before .before in
     let at-loop = at-loop-test .before in
     let start = at-loop .before .before .before .before .before in
-    let a = start .args in let l = at-loop .loop in let op = at-op .op in let t = at-token .token in let f = at-family .family .ensures in let s = at-form .form
-    .ensures .0 in let u = at-operand .operand .ensures in let r = at-register-at .register-at .ensures in let h = at-loop-test .loop-test .taken in let codes =
-    codes-known (a .kinds .now) (wideOf (a .wide .now)) (thinOf (l .thin)) (op .result) (t .result) (l .w) f s u r (at-goal-at .goal-at .ensures .0)
-    (at-codes-of .codes-of .ensures) in let written = written-known (a .kinds .now) (wideOf (a .wide .now)) (thinOf (l .thin)) (op .result) (t .result) (l .w) f
-    s u r (c .written-after .ensures) in let turn = places-turn (a .kinds .now) (a .tape .now) (wideOf (a .wide .now)) (thinOf (a .thin .now)) (thinOf (l
-    .thin)) _ (l .i) (op .result) (t .result) (l .p) _ (l .w) _ _ (l .inv .3) h (op .ensures .0) (t .ensures .0) codes (at-size .size .ensures .0) (rw f at
-    (at-mark-after .mark-after .ensures)) written (l .inv .4) in (
+    let a = start .args in
+    let l = at-loop .loop in
+    let op = at-op .op in
+    let t = at-token .token in
+    let codes = ap (λ (e : Emitted). e .codes) (at-event .event .ensures) in
+    let written = ap (λ (e : Emitted). e .writing) (at-event .event .ensures) in
+    let marked = rw (at-family .family .ensures) at (at-mark-after .mark-after .ensures) in
+    let turn = places-turn (a .kinds .now) (a .tape .now) (wideOf (a .wide .now)) (thinOf (a .thin .now)) (thinOf (l .thin)) _ (l .i) (op .result) (t .result) (l .p) _ (l .w) _ _ (l .inv .3)
+    (at-loop-test .loop-test .taken) (op .ensures .0) (t .ensures .0) codes (at-size .size .ensures .0) marked written (l .inv .4) in (
       omega arith,
       omega (arith, l .inv .1, at-size .size .ensures .1),
-      at-mark-after .mark-after
-          .kept .1 .1 .1 .1 .1 .0 ∙ l .inv .2,
+      at-mark-after .mark-after .kept .1 .1 .1 .1 .1 .0 ∙ l .inv .2,
       turn .0,
       turn .1,
     )
@@ -145,16 +115,11 @@ places-spec =
     shared-slice-read-e
     op-requires
     token-requires
-    family-requires
-    form-requires
-    operand-requires
-    register-at-requires
-    goal-at-requires
-    codes-of-requires
+    event-requires
     size-requires
     add-q
+    family-requires
     mark-after-requires
-    written-after-requires
     add-i
     loop-less
     loop-again

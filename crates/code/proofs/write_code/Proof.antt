@@ -4,13 +4,13 @@ use Rattle.code.proofs.Holding.{Coded, holds-first, tape-turn, tape-end
 use Rattle.code.specs.Places.{noWriting}
 use Rattle.code.specs.Coding.{laidOf, codingOf, codeStep}
 use Rattle.ledger.specs.Book.{wideOf, thinOf}
-use Rattle.emit.proofs.Knowing.{codes-known, written-known}
+use Rattle.emit.specs.declared.Emitted.{Emitted}
 use Rattle.tape.specs.Pass.{pass}
 use lib.ListN.{length, drop}
 use native.Mathlib.Omega.{arith}
-use mathlib.Core.Path.{_≡_, refl, sym, _∙_}
+use mathlib.Core.Path.{_≡_, refl, sym, ap, _∙_}
 use mathlib.Core.List.{[]}
-use Prim.Native.Nat.{_+_, _-_, _*_, _≤_}
+use Prim.Native.Nat.{_-_, _*_, _≤_}
 use borrow.Author.Needs.{needs}
 use Rattle.code.proofs.write_code.Statement.{statement}
 use Rattle.code.proofs.write_code.Tie as tie
@@ -54,27 +54,12 @@ op-requires c κs = search needs
 token-requires : tie.Need-token-requires Inv-loop μ-loop
 token-requires c κs = search needs
 
-family-requires : tie.Need-family-requires Inv-loop μ-loop
-family-requires c κs = search needs
-
-form-requires : tie.Need-form-requires Inv-loop μ-loop
-form-requires c κs = search needs
-
-operand-requires : tie.Need-operand-requires Inv-loop μ-loop
-operand-requires c κs = c .before .before .token .ensures .1
-
-register-at-requires : tie.Need-register-at-requires Inv-loop μ-loop
-register-at-requires c κs = c .before .before .before .token .ensures .1
-
-goal-at-requires : tie.Need-goal-at-requires Inv-loop μ-loop
-goal-at-requires c κs = search needs
-
-codes-of-requires : tie.Need-codes-of-requires Inv-loop μ-loop
-codes-of-requires c κs = (c .before .before .before .before .before .token .ensures .1, c .goal-at .ensures .1)
+event-requires : tie.Need-event-requires Inv-loop μ-loop
+event-requires c κs = search needs
 
 lay-codes-requires : tie.Need-lay-codes-requires Inv-loop μ-loop
 lay-codes-requires c κs =
-    let at-loop-test = c .before .before .before .before .before .before .before .before .before .before .before in
+    let at-loop-test = c .before .before .before .before .before .before in
     let at-loop = at-loop-test .before in
     let start = at-loop .before .before .before .before .before .before .before in
     let l = at-loop .loop .inv in let h = at-loop-test .loop-test .taken in let n = start .pre in (
@@ -84,51 +69,38 @@ lay-codes-requires c κs =
       omega (arith, l .1, n .0),
     )
 
-written-after-requires : tie.Need-written-after-requires Inv-loop μ-loop
-written-after-requires c κs = search needs
-
 add-i : tie.Need-add-i Inv-loop μ-loop
-add-i c =
-    let back = c .before .before .before .before .before .before .before .before .before .before .before .before .before .before .before in
-    let at-loop-test = back .before .before in
-    let start = at-loop-test .before .before .before .before .before .before .before .before in
-    let h = at-loop-test .loop-test .taken in let n = start .pre .0 in omega arith
+add-i c = search needs
 
 loop-less : tie.Need-loop-less Inv-loop μ-loop
-loop-less c =
-    let back = c .before .before .before .before .before .before .before .before .before .before .before .before .before .before .before in
-    let at-loop-test = back .before .before in
-    let h = at-loop-test .loop-test .taken in omega arith
+loop-less c = search needs
 
 loop-again : tie.Need-loop-again Inv-loop μ-loop
 loop-again c =
     let at-lay-codes = c .before .before .before .before .before in
-    let at-codes-of = at-lay-codes .before .before .before in
-    let at-goal-at = at-codes-of .before in
-    let at-register-at = at-goal-at .before in
-    let at-operand = at-register-at .before in
-    let at-form = at-operand .before in
-    let at-family = at-form .before in
-    let at-token = at-family .before in
+    let at-event = at-lay-codes .before .before .before in
+    let at-token = at-event .before in
     let at-op = at-token .before in
     let at-loop-test = at-op .before .before in
     let at-loop = at-loop-test .before in
     let start = at-loop .before .before .before .before .before .before .before in
-    let a = start .args in let l = at-loop .loop in let h = at-loop-test .loop-test .taken in let op = at-op .op in let t = at-token .token in let f = at-family
-    .family .ensures in let s = at-form .form .ensures .0 in let u = at-operand .operand .ensures in let r = at-register-at .register-at .ensures in let codes =
-    codes-known (a .kinds .now) (wideOf (a .wide .now)) (thinOf (a .thin .now)) (op .result) (t .result) (l .w) f s u r (at-goal-at .goal-at .ensures .0)
-    (at-codes-of .codes-of .ensures) in let written = written-known (a .kinds .now) (wideOf (a .wide .now)) (thinOf (a .thin .now)) (op .result) (t .result) (l
-    .w) f s u r (c .written-after .ensures) in let laid = at-lay-codes .lay-codes in let len : length (l .literals) ≡ length (a .literals .now) = l .inv .5 in (
+    let a = start .args in
+    let l = at-loop .loop in
+    let h = at-loop-test .loop-test .taken in
+    let op = at-op .op in
+    let t = at-token .token in
+    let codes = ap (λ (e : Emitted). e .codes) (at-event .event .ensures) in
+    let written = ap (λ (e : Emitted). e .writing) (at-event .event .ensures) in
+    let laid = at-lay-codes .lay-codes in
+    let len : length (l .literals) ≡ length (a .literals .now) = l .inv .5 in (
       omega arith,
       omega (arith, l .inv .1, laid .ensures .3),
       omega (arith, l .inv .2, laid .ensures .1),
       omega (arith, len, laid .ensures .2),
-      laid .kept .0 ∙ l
-          .inv .4,
+      laid .kept .0 ∙ l .inv .4,
       laid .kept .1 .0 ∙ len,
-      tape-turn (a .start) (length (a .literals .now)) (a .kinds .now) (wideOf (a .wide .now)) (thinOf (a .thin .now)) (a .tape
-          .now) (l .i) (op .result) (t .result) _ _ _ _ _ _ _ _ (at-codes-of .codes-of .result) (l .w) _ _ h (op .ensures .0) (t .ensures .0) codes written len (laid
-          .ensures .0) (l .inv .6),
+      tape-turn (a .start) (length (a .literals .now)) (a .kinds .now) (wideOf (a .wide .now)) (thinOf (a .thin .now)) (a .tape .now) (l .i) (op .result) (t .result) _ _ _ _ _ _ _ _
+          (at-event .event .result .codes) (l .w) _ _ h (op .ensures .0) (t .ensures .0) codes written len (laid .ensures .0) (l .inv .6),
     )
 
 stop-requires : tie.Need-stop-requires Inv-loop μ-loop
@@ -184,14 +156,8 @@ write-code-spec =
     shared-slice-read-e
     op-requires
     token-requires
-    family-requires
-    form-requires
-    operand-requires
-    register-at-requires
-    goal-at-requires
-    codes-of-requires
+    event-requires
     lay-codes-requires
-    written-after-requires
     add-i
     loop-less
     loop-again

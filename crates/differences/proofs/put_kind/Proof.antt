@@ -32,8 +32,14 @@ same-length c = search needs
 returns : tie.Need-returns
 unfolding lineKind kinds
 returns c =
-    called (rw (c .before .before .before .before .before .before .before .before .before .before .before .digit-of .ensures .0, c .before .before .before .before .before .before .before .before .before .before .before .before .byte .ensures, c .before .before .before .before .before .before .before .kind-of .ensures, c .before .before .before .before .before .before .before .before .byte2 .ensures))
-    (two (c .before .before .before .before .before .before .put-phrase .ensures) (c .before .before .put-offset .ensures))
+    let at-put-offset = c .before .before in
+    let at-put-phrase = at-put-offset .before .before .before .before in
+    let at-kind-of = at-put-phrase .before in
+    let at-byte2 = at-kind-of .before in
+    let at-digit-of = at-byte2 .before .before .before in
+    let at-byte = at-digit-of .before in
+    called (rw (at-digit-of .digit-of .ensures .0, at-byte .byte .ensures, at-kind-of .kind-of .ensures, at-byte2 .byte2 .ensures))
+    (two (at-put-phrase .put-phrase .ensures) (at-put-offset .put-offset .ensures))
 
 pub put-kind-spec : {M : Type 1} → statement M
 put-kind-spec =

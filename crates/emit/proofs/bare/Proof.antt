@@ -10,8 +10,8 @@ kind-requires c κs = search needs
 false-mask-requires : tie.Need-false-mask-requires
 false-mask-requires c κs = search needs
 
-before-requires : tie.Need-before-requires
-before-requires c κs = search needs
+less-requires : tie.Need-less-requires
+less-requires c κs = search needs
 
 mark-requires : tie.Need-mark-requires
 mark-requires c κs = search needs
@@ -25,7 +25,7 @@ returns c =
     rw (
       ← (c .before .before .before .before .kind .ensures),
       ← (c .before .before .before .false-mask .ensures .0),
-      ← (c .before .before .before2 .ensures),
+      ← (c .before .before .less .ensures),
       ← (c .before .mark .ensures .0),
       ← (c .branch .ensures),
     )
@@ -36,7 +36,7 @@ bare-spec =
     (tie.spec
     kind-requires
     false-mask-requires
-    before-requires
+    less-requires
     mark-requires
     branch-requires
     returns)

@@ -12,8 +12,8 @@ returns : tie.Need-returns
 unfolding codesOf
 returns c = rw (eq-eqb _ _ (c .before .if1 .taken)) (c .first .ensures)
 
-before-requires : tie.Need-before-requires
-before-requires c κs = search needs
+less-requires : tie.Need-less-requires
+less-requires c κs = search needs
 
 kind-requires : tie.Need-kind-requires
 kind-requires c κs = search needs
@@ -27,7 +27,7 @@ returns-2 c =
     rw (
       ne-eqb _ _ (c .before .before .before .before .if1 .left),
       eq-eqb _ _ (c .before .before .before .if2 .taken),
-      ← (c .before .before .before2 .ensures),
+      ← (c .before .before .less .ensures),
       ← (c .before .kind .ensures),
     )
     (c .next .ensures)
@@ -102,5 +102,5 @@ returns-7 c =
 
 pub codes-of-spec : {M : Type 1} → statement M
 codes-of-spec = tie.close
-    (tie.spec first-requires returns before-requires kind-requires next-requires returns-2 compared-requires returns-3 limit-requires returns-4 bare-requires
+    (tie.spec first-requires returns less-requires kind-requires next-requires returns-2 compared-requires returns-3 limit-requires returns-4 bare-requires
     returns-5 step-requires returns-6 others-requires returns-7)

@@ -4,8 +4,8 @@ use Rattle.emit.specs.Events.{comparedCodes}
 use Rattle.emit.proofs.compared.Statement.{statement}
 use Rattle.emit.proofs.compared.Tie as tie
 
-before-requires : tie.Need-before-requires
-before-requires c κs = search needs
+less-requires : tie.Need-less-requires
+less-requires c κs = search needs
 
 kind-requires : tie.Need-kind-requires
 kind-requires c κs = search needs
@@ -13,8 +13,8 @@ kind-requires c κs = search needs
 false-mask-requires : tie.Need-false-mask-requires
 false-mask-requires c κs = search needs
 
-before-requires-2 : tie.Need-before-requires-2
-before-requires-2 c κs = search needs
+less-requires-2 : tie.Need-less-requires-2
+less-requires-2 c κs = search needs
 
 mark-requires : tie.Need-mark-requires
 mark-requires c κs = search needs
@@ -29,14 +29,14 @@ returns : tie.Need-returns
 unfolding comparedCodes
 returns c =
     rw (
-      ← (c .before .before .before .before .before .before .before2 .ensures),
+      ← (c .before .before .before .before .before .before .less .ensures),
       ← (c .before .before .before .before .before .kind .ensures),
       ← (c .before .before .before .before .false-mask .ensures .0),
-      ← (c .before .before .before .before3 .ensures),
+      ← (c .before .before .before .less2 .ensures),
       ← (c .before .before .mark .ensures .0),
       ← (c .before .branch .ensures),
     )
     (c .apply-then .ensures)
 
 pub compared-spec : {M : Type 1} → statement M
-compared-spec = tie.close (tie.spec before-requires kind-requires false-mask-requires before-requires-2 mark-requires branch-requires apply-then-requires returns)
+compared-spec = tie.close (tie.spec less-requires kind-requires false-mask-requires less-requires-2 mark-requires branch-requires apply-then-requires returns)

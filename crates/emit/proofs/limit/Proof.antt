@@ -4,8 +4,8 @@ use Rattle.emit.specs.Events.{limitCodes}
 use Rattle.emit.proofs.limit.Statement.{statement}
 use Rattle.emit.proofs.limit.Tie as tie
 
-before-requires : tie.Need-before-requires
-before-requires c κs = search needs
+less-requires : tie.Need-less-requires
+less-requires c κs = search needs
 
 value-requires : tie.Need-value-requires
 value-requires c κs = search needs
@@ -16,8 +16,8 @@ exit-mask-requires c κs = search needs
 held-requires : tie.Need-held-requires
 held-requires c κs = search needs
 
-before-requires-2 : tie.Need-before-requires-2
-before-requires-2 c κs = search needs
+less-requires-2 : tie.Need-less-requires-2
+less-requires-2 c κs = search needs
 
 mark-requires : tie.Need-mark-requires
 mark-requires c κs = search needs
@@ -32,11 +32,11 @@ returns : tie.Need-returns
 unfolding limitCodes
 returns c =
     rw (
-      ← (c .before .before .before .before .before .before .before .before2 .ensures),
+      ← (c .before .before .before .before .before .before .before .less .ensures),
       ← (c .before .before .before .before .before .before .value .ensures),
       ← (c .before .before .before .before .before .exit-mask .ensures),
       ← (c .before .before .before .before .held .ensures),
-      ← (c .before .before .before .before3 .ensures),
+      ← (c .before .before .before .less2 .ensures),
       ← (c .before .before .mark .ensures .0),
       ← (c .before .branch .ensures),
     )
@@ -46,11 +46,11 @@ pub limit-spec : {M : Type 1} → statement M
 limit-spec =
     tie.close
     (tie.spec
-    before-requires
+    less-requires
     value-requires
     exit-mask-requires
     held-requires
-    before-requires-2
+    less-requires-2
     mark-requires
     branch-requires
     apply-then-requires

@@ -12,31 +12,32 @@ returns : tie.Need-returns
 unfolding otherCodes
 returns c = rw (eq-eqb _ _ (c .before .if1 .taken), ← (c .base .ensures))
 
-add-mark : tie.Need-add-mark
-add-mark c = search needs
+returns-2 : tie.Need-returns-2
+unfolding otherCodes
+returns-2 c = rw (ne-eqb _ _ (c .before .if1 .left), eq-eqb _ _ (c .if2 .taken))
 
 mark-requires : tie.Need-mark-requires
 mark-requires c κs = search needs
 
-branch-requires : tie.Need-branch-requires
-branch-requires c κs = search needs
-
-returns-2 : tie.Need-returns-2
-unfolding otherCodes
-returns-2 c = rw (ne-eqb _ _ (c .before .before .before .if1 .left), eq-eqb _ _ (c .before .before .if2 .taken), ← (c .before .mark .ensures .0), ← (c .branch .ensures))
+link-requires : tie.Need-link-requires
+link-requires c κs = search needs
 
 returns-3 : tie.Need-returns-3
 unfolding otherCodes
-returns-3 c = rw (ne-eqb _ _ (c .before .before .if1 .left), ne-eqb _ _ (c .before .if2 .left), eq-eqb _ _ (c .if3 .taken))
-
-add-mark-2 : tie.Need-add-mark-2
-add-mark-2 c = search needs
+returns-3 c =
+    rw (
+      ne-eqb _ _ (c .before .before .before .before .if1 .left),
+      ne-eqb _ _ (c .before .before .before .if2 .left),
+      eq-eqb _ _ (c .before .before .if3 .taken),
+      ← (c .before .mark .ensures .0),
+      ← (c .link .ensures),
+    )
 
 mark-requires-2 : tie.Need-mark-requires-2
 mark-requires-2 c κs = search needs
 
-branch-requires-2 : tie.Need-branch-requires-2
-branch-requires-2 c κs = search needs
+branch-requires : tie.Need-branch-requires
+branch-requires c κs = search needs
 
 returns-4 : tie.Need-returns-4
 unfolding otherCodes
@@ -47,17 +48,17 @@ returns-4 c =
       ne-eqb _ _ (c .before .before .before .if3 .left),
       eq-eqb _ _ (c .before .before .if4 .taken),
       ← (c .before .mark2 .ensures .0),
-      ← (c .branch2 .ensures),
+      ← (c .branch .ensures),
     )
 
-add-mark-3 : tie.Need-add-mark-3
-add-mark-3 c = search needs
+add-mark : tie.Need-add-mark
+add-mark c = search needs
 
 mark-requires-3 : tie.Need-mark-requires-3
 mark-requires-3 c κs = search needs
 
-branch-requires-3 : tie.Need-branch-requires-3
-branch-requires-3 c κs = search needs
+branch-requires-2 : tie.Need-branch-requires-2
+branch-requires-2 c κs = search needs
 
 returns-5 : tie.Need-returns-5
 unfolding otherCodes
@@ -67,66 +68,23 @@ returns-5 c =
       ne-eqb _ _ (c .before .before .before .before .before .if2 .left),
       ne-eqb _ _ (c .before .before .before .before .if3 .left),
       ne-eqb _ _ (c .before .before .before .if4 .left),
-      eq-eqb _ _ (c .before .before .if5 .taken),
+      c .before .before .if5 .taken,
       ← (c .before .mark3 .ensures .0),
-      ← (c .branch3 .ensures),
+      ← (c .branch2 .ensures),
     )
-
-mark-requires-4 : tie.Need-mark-requires-4
-mark-requires-4 c κs = search needs
-
-link-requires : tie.Need-link-requires
-link-requires c κs = search needs
 
 returns-6 : tie.Need-returns-6
 unfolding otherCodes
 returns-6 c =
     rw (
-      ne-eqb _ _ (c .before .before .before .before .before .before .before .if1 .left),
-      ne-eqb _ _ (c .before .before .before .before .before .before .if2 .left),
-      ne-eqb _ _ (c .before .before .before .before .before .if3 .left),
-      ne-eqb _ _ (c .before .before .before .before .if4 .left),
-      ne-eqb _ _ (c .before .before .before .if5 .left),
-      eq-eqb _ _ (c .before .before .if6 .taken),
-      ← (c .before .mark4 .ensures .0),
-      ← (c .link .ensures),
-    )
-
-mark-requires-5 : tie.Need-mark-requires-5
-mark-requires-5 c κs = search needs
-
-branch-requires-4 : tie.Need-branch-requires-4
-branch-requires-4 c κs = search needs
-
-returns-7 : tie.Need-returns-7
-unfolding otherCodes
-returns-7 c =
-    rw (
-      ne-eqb _ _ (c .before .before .before .before .before .before .before .before .if1 .left),
-      ne-eqb _ _ (c .before .before .before .before .before .before .before .if2 .left),
-      ne-eqb _ _ (c .before .before .before .before .before .before .if3 .left),
-      ne-eqb _ _ (c .before .before .before .before .before .if4 .left),
-      ne-eqb _ _ (c .before .before .before .before .if5 .left),
-      ne-eqb _ _ (c .before .before .before .if6 .left),
-      eq-eqb _ _ (c .before .before .if7 .taken),
-      ← (c .before .mark5 .ensures .0),
-      ← (c .branch4 .ensures),
-    )
-
-returns-8 : tie.Need-returns-8
-unfolding otherCodes
-returns-8 c =
-    rw (
-      ne-eqb _ _ (c .before .before .before .before .before .before .if1 .left),
-      ne-eqb _ _ (c .before .before .before .before .before .if2 .left),
-      ne-eqb _ _ (c .before .before .before .before .if3 .left),
-      ne-eqb _ _ (c .before .before .before .if4 .left),
-      ne-eqb _ _ (c .before .before .if5 .left),
-      ne-eqb _ _ (c .before .if6 .left),
-      ne-eqb _ _ (c .if7 .left),
+      ne-eqb _ _ (c .before .before .before .before .if1 .left),
+      ne-eqb _ _ (c .before .before .before .if2 .left),
+      ne-eqb _ _ (c .before .before .if3 .left),
+      ne-eqb _ _ (c .before .if4 .left),
+      c .if5 .left,
     )
 
 pub others-spec : {M : Type 1} → statement M
 others-spec = tie.close
-    (tie.spec base-requires returns add-mark mark-requires branch-requires returns-2 returns-3 add-mark-2 mark-requires-2 branch-requires-2 returns-4
-    add-mark-3 mark-requires-3 branch-requires-3 returns-5 mark-requires-4 link-requires returns-6 mark-requires-5 branch-requires-4 returns-7 returns-8)
+    (tie.spec base-requires returns returns-2 mark-requires link-requires returns-3 mark-requires-2 branch-requires returns-4 add-mark mark-requires-3
+    branch-requires-2 returns-5 returns-6)

@@ -8,16 +8,16 @@ use Rattle.emit.proofs.product_register.Tie as tie
 is-long-requires : tie.Need-is-long-requires
 is-long-requires c κs = search needs
 
-less-requires : tie.Need-less-requires
-less-requires c κs = search needs
+lower-requires : tie.Need-lower-requires
+lower-requires c κs = search needs
 
 returns : tie.Need-returns
 unfolding productRegister
-returns c = rw (told (c .before .before .is-long .ensures) (c .before .if1 .taken)) (c .less .ensures)
+returns c = rw (told (c .before .before .is-long .ensures) (c .before .if1 .taken)) (c .lower .ensures)
 
 returns-2 : tie.Need-returns-2
 unfolding productRegister
 returns-2 c = rw (told (c .before .is-long .ensures) (c .if1 .left))
 
 pub product-register-spec : {M : Type 1} → statement M
-product-register-spec = tie.close (tie.spec is-long-requires less-requires returns returns-2)
+product-register-spec = tie.close (tie.spec is-long-requires lower-requires returns returns-2)

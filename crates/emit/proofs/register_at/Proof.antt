@@ -18,8 +18,8 @@ returns : tie.Need-returns
 unfolding registerAt
 returns c = rw (eq-eqb _ _ (c .before .before .if1 .taken), ← (c .before .meaning .ensures)) (c .register .ensures .0)
 
-before-requires : tie.Need-before-requires
-before-requires c κs = search needs
+less-requires : tie.Need-less-requires
+less-requires c κs = search needs
 
 meaning-requires-2 : tie.Need-meaning-requires-2
 meaning-requires-2 c κs = search needs
@@ -33,7 +33,7 @@ returns-2 c =
     rw (
       ne-eqb _ _ (c .before .before .before .before .if1 .left),
       eq-eqb _ _ (c .before .before .before .if2 .taken),
-      ← (c .before .before .before2 .ensures),
+      ← (c .before .before .less .ensures),
       ← (c .before .meaning2 .ensures),
     )
     (c .register2 .ensures .0)
@@ -74,5 +74,5 @@ returns-4 c =
 
 pub register-at-spec : {M : Type 1} → statement M
 register-at-spec = tie.close
-    (tie.spec add-meaning meaning-requires register-requires returns before-requires meaning-requires-2 register-requires-2 returns-2 meaning-requires-3
+    (tie.spec add-meaning meaning-requires register-requires returns less-requires meaning-requires-2 register-requires-2 returns-2 meaning-requires-3
     return-register-requires returns-3 meaning-requires-4 register-requires-3 returns-4)

@@ -18,47 +18,11 @@ signing-requires c κs = search needs
 
 returns-3 : tie.Need-returns-3
 unfolding writtenAfter
-returns-3 c = rw (ne-eqb _ _ (c .before .before .before .if1 .left), ne-eqb _ _ (c .before .before .if2 .left), eq-eqb _ _ (c .before .if3 .taken)) (c .signing .ensures)
-
-signing-requires-2 : tie.Need-signing-requires-2
-signing-requires-2 c κs = search needs
+returns-3 c = rw (ne-eqb _ _ (c .before .before .before .if1 .left), ne-eqb _ _ (c .before .before .if2 .left), c .before .if3 .taken) (c .signing .ensures)
 
 returns-4 : tie.Need-returns-4
 unfolding writtenAfter
-returns-4 c =
-    rw (
-      ne-eqb _ _ (c .before .before .before .before .if1 .left),
-      ne-eqb _ _ (c .before .before .before .if2 .left),
-      ne-eqb _ _ (c .before .before .if3 .left),
-      eq-eqb _ _ (c .before .if4 .taken),
-    )
-    (c .signing2 .ensures)
-
-signing-requires-3 : tie.Need-signing-requires-3
-signing-requires-3 c κs = search needs
-
-returns-5 : tie.Need-returns-5
-unfolding writtenAfter
-returns-5 c =
-    rw (
-      ne-eqb _ _ (c .before .before .before .before .before .if1 .left),
-      ne-eqb _ _ (c .before .before .before .before .if2 .left),
-      ne-eqb _ _ (c .before .before .before .if3 .left),
-      ne-eqb _ _ (c .before .before .if4 .left),
-      eq-eqb _ _ (c .before .if5 .taken),
-    )
-    (c .signing3 .ensures)
-
-returns-6 : tie.Need-returns-6
-unfolding writtenAfter
-returns-6 c =
-    rw (
-      ne-eqb _ _ (c .before .before .before .before .if1 .left),
-      ne-eqb _ _ (c .before .before .before .if2 .left),
-      ne-eqb _ _ (c .before .before .if3 .left),
-      ne-eqb _ _ (c .before .if4 .left),
-      ne-eqb _ _ (c .if5 .left),
-    )
+returns-4 c = rw (ne-eqb _ _ (c .before .before .if1 .left), ne-eqb _ _ (c .before .if2 .left), c .if3 .left)
 
 pub written-after-spec : {M : Type 1} → statement M
-written-after-spec = tie.close (tie.spec returns returns-2 signing-requires returns-3 signing-requires-2 returns-4 signing-requires-3 returns-5 returns-6)
+written-after-spec = tie.close (tie.spec returns returns-2 signing-requires returns-3 returns-4)

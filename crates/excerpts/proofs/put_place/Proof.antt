@@ -31,7 +31,14 @@ same-length c = search needs
 
 returns : tie.Need-returns
 unfolding placeText
-returns c = two (two (two (two (c .before .before .before .before .before .before .before .before .before .before .before .before .before .before .before .before .before .before .before .before .put-all .ensures) (c .before .before .before .before .before .before .before .before .before .before .before .before .before .before .before .put-all2 .ensures)) (c .before .before .before .before .before .before .before .before .before .before .before .put-decimal .ensures)) (c .before .before .before .before .before .before .put-all3 .ensures)) (c .before .before .put-decimal2 .ensures)
+returns c =
+    let at-put-decimal2 = c .before .before in
+    let at-put-all3 = at-put-decimal2 .before .before .before .before in
+    let at-put-decimal = at-put-all3 .before .before .before .before .before in
+    let at-put-all2 = at-put-decimal .before .before .before .before in
+    let at-put-all = at-put-all2 .before .before .before .before .before in
+    two (two (two (two (at-put-all .put-all .ensures) (at-put-all2 .put-all2 .ensures)) (at-put-decimal .put-decimal .ensures))
+    (at-put-all3 .put-all3 .ensures)) (at-put-decimal2 .put-decimal2 .ensures)
 
 pub put-place-spec : {M : Type 1} → statement M
 put-place-spec =

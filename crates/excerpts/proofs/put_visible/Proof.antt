@@ -52,7 +52,9 @@ same-length : tie.Need-same-length Inv-loop μ-loop
 same-length c = search needs
 
 returns : tie.Need-returns Inv-loop μ-loop
-returns c = called (ap visibles (take-all (c .before .loop .i) (c .before .before .before .before .args .line .now) (c .loop-test .left))) (c .before .loop .inv .2)
+returns c =
+    let start = c .before .before .before .before in
+    called (ap visibles (take-all (c .before .loop .i) (start .args .line .now) (c .loop-test .left))) (c .before .loop .inv .2)
 
 pub put-visible-spec : {M : Type 1} → statement M
 put-visible-spec =

@@ -10,7 +10,9 @@ front-requires : tie.Need-front-requires
 front-requires c κs = search needs
 
 since-newline-requires : tie.Need-since-newline-requires
-since-newline-requires c κs = omega (arith, c .before .before .pre, ap length (c .front .ensures), length-take (c .before .before .args .place) (c .before .before .args .text .now))
+since-newline-requires c κs =
+    let start = c .before .before in
+    omega (arith, start .pre, ap length (c .front .ensures), length-take (start .args .place) (start .args .text .now))
 
 returns : tie.Need-returns
 returns c = (

@@ -39,7 +39,9 @@ loop-again c = (
 )
 
 returns : tie.Need-returns Inv-loop μ-loop
-returns c = (since-end (c .before .before .before .args .s .now) (c .before .loop .i) (c .before .loop .k) (c .before .loop .inv .2) (c .loop-test .left), search needs)
+returns c =
+    let start = c .before .before .before in
+    (since-end (start .args .s .now) (c .before .loop .i) (c .before .loop .k) (c .before .loop .inv .2) (c .loop-test .left), search needs)
 
 pub since-newline-spec : {M : Type 1} → statement M
 since-newline-spec =

@@ -26,16 +26,29 @@ digit-of-requires : tie.Need-digit-of-requires Inv-loop μ-loop
 digit-of-requires c κs = search needs
 
 returns : tie.Need-returns Inv-loop μ-loop
-returns c = digits-none _ _ _ _ _ (c .before .before .before .before .loop .inv .2) (c .before .before .before .loop-test .taken) (rw (← c .before .digit-of .ensures .0) (search tests))
+returns c =
+    let at-loop-test = c .before .before .before in
+    let at-loop = at-loop-test .before in
+    digits-none _ _ _ _ _ (at-loop .loop .inv .2) (at-loop-test .loop-test .taken) (rw (← c .before .digit-of .ensures .0) (search tests))
 
 mul-next : tie.Need-mul-next Inv-loop μ-loop
-mul-next c = record { fits = omega (arith, below-product (c .before .before .before .before .loop .inv .1) (c .before .before .before .before .before .before .pre .1) (c .before .before .before .before .before .before .pre .0) (c .before .digit-of .ensures .1)) }
+mul-next c =
+    let at-loop = c .before .before .before .before in
+    let start = at-loop .before .before in
+    record { fits = omega (arith, below-product (at-loop .loop .inv .1) (start .pre .1) (start .pre .0) (c .before .digit-of .ensures .1)) }
 
 add-next : tie.Need-add-next Inv-loop μ-loop
-add-next c = record { fits = omega (arith, below-product (c .before .before .before .before .loop .inv .1) (c .before .before .before .before .before .before .pre .1) (c .before .before .before .before .before .before .pre .0) (c .before .digit-of .ensures .1)) }
+add-next c =
+    let at-loop = c .before .before .before .before in
+    let start = at-loop .before .before in
+    record { fits = omega (arith, below-product (at-loop .loop .inv .1) (start .pre .1) (start .pre .0) (c .before .digit-of .ensures .1)) }
 
 returns-2 : tie.Need-returns-2 Inv-loop μ-loop
-returns-2 c = digits-past _ _ _ _ _ (c .before .before .before .before .before .loop .inv .2) (c .before .before .before .before .loop-test .taken) (rw (← c .before .before .digit-of .ensures .0) (search tests)) (rw (← c .before .before .digit-of .ensures .0) (search tests))
+returns-2 c =
+    let at-digit-of = c .before .before in
+    let at-loop-test = at-digit-of .before .before in
+    let at-loop = at-loop-test .before in
+    digits-past _ _ _ _ _ (at-loop .loop .inv .2) (at-loop-test .loop-test .taken) (rw (← at-digit-of .digit-of .ensures .0) (search tests)) (rw (← at-digit-of .digit-of .ensures .0) (search tests))
 
 add-i : tie.Need-add-i Inv-loop μ-loop
 add-i c = search needs
@@ -44,7 +57,16 @@ loop-less : tie.Need-loop-less Inv-loop μ-loop
 loop-less c = search needs
 
 loop-again : tie.Need-loop-again Inv-loop μ-loop
-loop-again c = (search needs, search needs, rw (c .before .before .digit-of .ensures .0) (digits-on _ _ _ _ _ (c .before .before .before .before .before .loop .inv .2) (c .before .before .before .before .loop-test .taken) (rw (← c .before .before .digit-of .ensures .0) (search tests)) (rw (← c .before .before .digit-of .ensures .0) (search tests))))
+loop-again c =
+    let at-digit-of = c .before .before in
+    let at-loop-test = at-digit-of .before .before in
+    let at-loop = at-loop-test .before in (
+      search needs,
+      search needs,
+      rw (at-digit-of .digit-of .ensures .0)
+          (digits-on _ _ _ _ _ (at-loop .loop .inv .2) (at-loop-test .loop-test .taken) (rw (← at-digit-of .digit-of .ensures .0) (search tests))
+          (rw (← at-digit-of .digit-of .ensures .0) (search tests))),
+    )
 
 cast-t12 : tie.Need-cast-t12 Inv-loop μ-loop
 cast-t12 c = search needs

@@ -56,7 +56,10 @@ whole-number-requires-3 : tie.Need-whole-number-requires-3
 whole-number-requires-3 c κs = search needs
 
 returns-4 : tie.Need-returns-4
-returns-4 c = rw (c .whole-number3 .ensures, ne-eqb _ _ (c .before .before .before .before .if1 .left), ne-eqb _ _ (c .before .before .if2 .left), c .before .if3 .left)
+returns-4 c =
+    let at-if2 = c .before .before in
+    let at-if1 = at-if2 .before .before in
+    rw (c .whole-number3 .ensures, ne-eqb _ _ (at-if1 .if1 .left), ne-eqb _ _ (at-if2 .if2 .left), c .before .if3 .left)
 
 pub number-spec : {M : Type 1} → statement M
 number-spec =

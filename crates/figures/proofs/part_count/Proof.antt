@@ -33,13 +33,15 @@ loop-less : tie.Need-loop-less Inv-loop μ-loop
 loop-less c = search needs
 
 loop-again : tie.Need-loop-again Inv-loop μ-loop
-loop-again c = (
-  search needs,
-  search needs,
-  rw (c .one-if .ensures .0)
-      (count-on (c .before .before .before .before .before .args .sep) (c .before .before .before .before .before .args .s .now)
-      (c .before .before .before .loop .i) (c .before .before .before .loop .n) (c .before .before .loop-test .taken) (c .before .before .before .loop .inv .2)),
-)
+loop-again c =
+    let at-loop-test = c .before .before in
+    let at-loop = at-loop-test .before in
+    let start = at-loop .before .before in (
+      search needs,
+      search needs,
+      rw (c .one-if .ensures .0) (count-on (start .args .sep) (start .args .s .now) (at-loop .loop .i) (at-loop .loop .n)
+          (at-loop-test .loop-test .taken) (at-loop .loop .inv .2)),
+    )
 
 returns : tie.Need-returns Inv-loop μ-loop
 returns c = (

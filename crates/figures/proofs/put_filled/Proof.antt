@@ -35,14 +35,16 @@ loop-less : tie.Need-loop-less Inv-loop μ-loop
 loop-less c = search needs
 
 loop-again : tie.Need-loop-again Inv-loop μ-loop
-loop-again c = (
-  search needs,
-  search needs,
-  called (filled-on (c .before .before .before .before .before .before .before .before .before .args .n)
-      (c .before .before .before .before .before .before .before .before .before .args .phrase .now) (c .before .before .before .before .before .before .loop .i)
-      (c .before .before .before .before .before .loop-test .taken))
-      (two (c .before .before .before .before .before .before .loop .inv .2) (c .before .before .put-shown .ensures)),
-)
+loop-again c =
+    let at-put-shown = c .before .before in
+    let at-loop-test = at-put-shown .before .before .before in
+    let at-loop = at-loop-test .before in
+    let start = at-loop .before .before .before in (
+      search needs,
+      search needs,
+      called (filled-on (start .args .n) (start .args .phrase .now) (at-loop .loop .i) (at-loop-test .loop-test .taken))
+          (two (at-loop .loop .inv .2) (at-put-shown .put-shown .ensures)),
+    )
 
 same-length : tie.Need-same-length Inv-loop μ-loop
 same-length c = search needs

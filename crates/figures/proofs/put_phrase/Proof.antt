@@ -16,7 +16,11 @@ same-length : tie.Need-same-length
 same-length c = search needs
 
 returns : tie.Need-returns
-returns c = called (ap (filled (c .before .before .before .before .before .before .before .args .n)) (c .before .before .before .part .ensures)) (c .before .before .put-filled .ensures)
+returns c =
+    let at-put-filled = c .before .before in
+    let at-part = at-put-filled .before in
+    let start = at-part .before .before .before .before in
+    called (ap (filled (start .args .n)) (at-part .part .ensures)) (at-put-filled .put-filled .ensures)
 
 pub put-phrase-spec : {M : Type 1} → statement M
 put-phrase-spec = tie.close (tie.spec part-requires put-filled-requires same-length returns)

@@ -39,7 +39,9 @@ same-length : tie.Need-same-length Inv-loop μ-loop
 same-length c = search needs
 
 returns : tie.Need-returns Inv-loop μ-loop
-returns c = counted (c .before .before .before .args .n) (c .before .before .before .args .b) (c .loop-test .left) (c .before .loop .inv .0) (c .before .loop .inv .2)
+returns c =
+    let start = c .before .before .before in
+    counted (start .args .n) (start .args .b) (c .loop-test .left) (c .before .loop .inv .0) (c .before .loop .inv .2)
 
 pub put-times-spec : {M : Type 1} → statement M
 put-times-spec =

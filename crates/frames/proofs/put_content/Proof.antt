@@ -20,7 +20,9 @@ abbrev μ-loop : tie.MeasureT-loop
 μ-loop out₀ at k content o₀ p₀ out o p = length content - o
 
 loop-holds : tie.Need-loop-holds Inv-loop μ-loop
-loop-holds c = (search needs, search needs, search needs, content-start _ (c .before .before .args .at) (c .before .before .args .k) (c .before .before .args .content .now))
+loop-holds c =
+    let start = c .before .before in
+    (search needs, search needs, search needs, content-start _ (start .args .at) (start .args .k) (start .args .content .now))
 
 add-least : tie.Need-add-least Inv-loop μ-loop
 add-least c = search needs

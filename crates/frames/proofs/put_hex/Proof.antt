@@ -59,15 +59,16 @@ loop-less : tie.Need-loop-less Inv-loop μ-loop
 loop-less c = search needs
 
 loop-again : tie.Need-loop-again Inv-loop μ-loop
-loop-again c = (
-  search needs,
-  search needs,
-  hex-on (c .before .before .before .before .before .loop .out)
-      (c .before .before .before .before .before .before .before .before .args .at)
-      (c .before .before .before .before .before .before .before .before .args .bytes .now) (c .before .before .before .before .before .loop .i)
-      (c .before .before .wide .result) _ _ (c .before .before .before .before .loop-test .taken) (c .before .before .wide .ensures .0) (c .before .digit .ensures)
-      (c .digit2 .ensures) (c .before .before .before .before .before .loop .inv .2),
-)
+loop-again c =
+    let at-wide = c .before .before in
+    let at-loop-test = at-wide .before .before in
+    let at-loop = at-loop-test .before in
+    let start = at-loop .before .before .before in (
+      search needs,
+      search needs,
+      hex-on (at-loop .loop .out) (start .args .at) (start .args .bytes .now) (at-loop .loop .i) (at-wide .wide .result) _ _
+          (at-loop-test .loop-test .taken) (at-wide .wide .ensures .0) (c .before .digit .ensures) (c .digit2 .ensures) (at-loop .loop .inv .2),
+    )
 
 same-length : tie.Need-same-length Inv-loop μ-loop
 same-length c = search needs

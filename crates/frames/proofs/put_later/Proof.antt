@@ -29,19 +29,13 @@ same-length : tie.Need-same-length
 same-length c = search needs
 
 returns-2 : tie.Need-returns-2
-returns-2 c = (
-  omega (
-    arith,
-    one-length (c .before .before .before .before .before .before .before .before .before .args .bases)
-        (length (c .before .before .before .before .before .before .before .before .before .args .second .now))
-        (length (c .before .before .before .before .before .before .before .before .before .args .third .now)) (c .if2 .taken),
-  ),
-  one-laid (c .before .before .before .before .before .before .before .before .before .args .second .now)
-      (c .before .before .before .before .before .before .before .before .before .args .third .now)
-      (c .before .before .before .before .before .before .before .before .before .args .out .now) _
-      (c .before .before .before .before .before .before .before .before .before .args .at)
-      (c .before .before .before .before .before .before .before .before .before .args .bases) (c .if2 .taken) (c .before .before .before .put-data .ensures .1),
-)
+returns-2 c =
+    let at-put-data = c .before .before .before in
+    let start = at-put-data .before .before .before .before .before .before in (
+      omega (arith, one-length (start .args .bases) (length (start .args .second .now)) (length (start .args .third .now)) (c .if2 .taken)),
+      one-laid (start .args .second .now) (start .args .third .now) (start .args .out .now) _ (start .args .at) (start .args .bases) (c .if2 .taken)
+          (at-put-data .put-data .ensures .1),
+    )
 
 put-data-requires-2 : tie.Need-put-data-requires-2
 put-data-requires-2 c κs = omega (
@@ -56,7 +50,21 @@ same-length-2 : tie.Need-same-length-2
 same-length-2 c = search needs
 
 returns-3 : tie.Need-returns-3
-returns-3 c = (omega (arith, two-length (c .before .before .before .before .before .before .before .before .before .before .before .before .before .args .bases) (length (c .before .before .before .before .before .before .before .before .before .before .before .before .before .args .second .now)) (length (c .before .before .before .before .before .before .before .before .before .before .before .before .before .args .third .now)) (c .before .before .before .before .before .before .before .before .before .if1 .left) (c .before .before .before .before .if2 .left)), two-laid (c .before .before .before .before .before .before .before .before .before .before .before .before .before .args .second .now) (c .before .before .before .before .before .before .before .before .before .before .before .before .before .args .third .now) (c .before .before .before .before .before .before .before .before .before .before .before .before .before .args .out .now) _ _ (c .before .before .before .before .before .before .before .before .before .before .before .before .before .args .at) (c .before .before .before .before .before .before .before .before .before .before .before .before .before .args .bases) (c .before .before .before .before .before .before .before .before .before .if1 .left) (c .before .before .before .before .if2 .left) (c .before .before .before .before .before .before .before .put-data .ensures .1) (rw (c .before .before .before .before .before .before .before .put-data .ensures .0) at (c .before .before .put-data2 .ensures .1)))
+returns-3 c =
+    let at-put-data2 = c .before .before in
+    let at-if2 = at-put-data2 .before .before in
+    let at-put-data = at-if2 .before .before .before in
+    let at-if1 = at-put-data .before .before in
+    let start = at-if1 .before .before .before .before in (
+      omega (
+        arith,
+        two-length (start .args .bases) (length (start .args .second .now)) (length (start .args .third .now)) (at-if1 .if1 .left)
+            (at-if2 .if2 .left),
+      ),
+      two-laid (start .args .second .now) (start .args .third .now) (start .args .out .now) _ _ (start .args .at) (start .args .bases)
+          (at-if1 .if1 .left) (at-if2 .if2 .left) (at-put-data .put-data .ensures .1)
+          (rw (at-put-data .put-data .ensures .0) at (at-put-data2 .put-data2 .ensures .1)),
+    )
 
 pub put-later-spec : {M : Type 1} → statement M
 put-later-spec =

@@ -20,7 +20,10 @@ same-length : tie.Need-same-length
 same-length c = search needs
 
 returns : tie.Need-returns
-returns c = line-laid _ _ (c .before .before .before .before .before .before .args .at) (c .before .before .before .before .before .before .args .frame .now) (c .before .before .put-hex .ensures)
+returns c =
+    let at-put-hex = c .before .before in
+    let start = at-put-hex .before .before .before .before in
+    line-laid _ _ (start .args .at) (start .args .frame .now) (at-put-hex .put-hex .ensures)
 
 pub put-line-spec : {M : Type 1} → statement M
 put-line-spec =

@@ -28,7 +28,16 @@ same-length : tie.Need-same-length
 same-length c = search needs
 
 returns : tie.Need-returns
-returns c = object-laid (c .before .before .before .before .before .before .before .before .before .before .before .before .before .before .before .before .before .before .before .before .before .before .args .code .now) (c .before .before .before .before .before .before .before .before .before .before .before .before .before .before .before .before .before .before .before .before .before .before .args .first .now) (c .before .before .before .before .before .before .before .before .before .before .before .before .before .before .before .before .before .before .before .before .before .before .args .to) (c .before .before .before .before .before .before .before .before .before .before .before .before .before .before .before .before .before .before .before .before .before .before .args .bases) (c .before .before .before .before .before .before .before .before .before .before .before .before .before .before .before .before .before .before .before .before .before .before .args .second .now) (c .before .before .before .before .before .before .before .before .before .before .before .before .before .before .before .before .before .before .before .before .before .before .args .third .now) (c .before .before .before .before .before .before .before .before .before .before .before .before .before .before .before .before .before .before .before .before .before .before .args .out .now) _ _ _ _ (c .before .before .before .before .before .before .before .before .before .before .before .before .before .before .before .put-program .result) (c .before .before .before .before .before .before .before .before .before .before .before .put-data .result) (c .before .before .before .before .before .before .before .put-later .result) (c .before .before .before .before .before .before .before .before .before .before .before .before .before .before .before .put-program .ensures .0) (c .before .before .before .before .before .before .before .before .before .before .before .put-data .ensures .0) (c .before .before .before .before .before .before .before .put-later .ensures .0) (c .before .before .before .before .before .before .before .before .before .before .before .before .before .before .before .put-program .ensures .1) (c .before .before .before .before .before .before .before .before .before .before .before .put-data .ensures .1) (c .before .before .before .before .before .before .before .put-later .ensures .1) (c .before .before .put-line .ensures)
+returns c =
+    let at-put-line = c .before .before in
+    let at-put-later = at-put-line .before .before .before .before .before in
+    let at-put-data = at-put-later .before .before .before .before in
+    let at-put-program = at-put-data .before .before .before .before in
+    let start = at-put-program .before .before .before .before .before .before .before in
+    object-laid (start .args .code .now) (start .args .first .now) (start .args .to) (start .args .bases) (start .args .second .now) (start .args .third .now)
+    (start .args .out .now) _ _ _ _ (at-put-program .put-program .result) (at-put-data .put-data .result) (at-put-later .put-later .result)
+    (at-put-program .put-program .ensures .0) (at-put-data .put-data .ensures .0) (at-put-later .put-later .ensures .0)
+    (at-put-program .put-program .ensures .1) (at-put-data .put-data .ensures .1) (at-put-later .put-later .ensures .1) (at-put-line .put-line .ensures)
 
 pub write-object-spec : {M : Type 1} → statement M
 write-object-spec =

@@ -24,7 +24,10 @@ returns-2 : tie.Need-returns-2
 returns-2 c = answers.aimed-cell _ (sym (c .before .is-cell .ensures) ∙ c .if2 .taken)
 
 returns-3 : tie.Need-returns-3
-returns-3 c = answers.aimed-nowhere _ (sym (c .before .before .before .is-register .ensures) ∙ c .before .before .if1 .left) (sym (c .before .is-cell .ensures) ∙ c .if2 .left)
+returns-3 c =
+    let at-if1 = c .before .before in
+    let at-is-register = at-if1 .before in
+    answers.aimed-nowhere _ (sym (at-is-register .is-register .ensures) ∙ at-if1 .if1 .left) (sym (c .before .is-cell .ensures) ∙ c .if2 .left)
 
 pub aim-of-spec : {M : Type 1} → statement M
 aim-of-spec = tie.close (tie.spec is-register-requires number-requires add-result returns is-cell-requires returns-2 returns-3)

@@ -15,7 +15,10 @@ register-target-requires : tie.Need-register-target-requires
 register-target-requires c κs = search needs
 
 returns : tie.Need-returns
-returns c = λ f s. answers.aims-register s _ _ (c .before .before .before .meaning .ensures) _ _ (sym (c .before .before .is-register .ensures) ∙ c .before .if1 .taken) (c .register-target .ensures)
+returns c =
+    let at-is-register = c .before .before in
+    let at-meaning = at-is-register .before in
+    λ f s. answers.aims-register s _ _ (at-meaning .meaning .ensures) _ _ (sym (at-is-register .is-register .ensures) ∙ c .before .if1 .taken) (c .register-target .ensures)
 
 is-cell-requires : tie.Need-is-cell-requires
 is-cell-requires c κs = search needs
@@ -31,10 +34,13 @@ broken-requires : tie.Need-broken-requires
 broken-requires c κs = search needs
 
 returns-3 : tie.Need-returns-3
-returns-3 c = λ f s.
-    answers.aims-nowhere s _ _ (c .before .before .before .before .before .meaning .ensures) _ _
-    (sym (c .before .before .before .before .is-register .ensures) ∙ c .before .before .before .if1 .left) (sym (c .before .before .is-cell .ensures) ∙ c .before .if2 .left)
-    (c .broken .ensures)
+returns-3 c =
+    let at-is-cell = c .before .before in
+    let at-if1 = at-is-cell .before in
+    let at-is-register = at-if1 .before in
+    let at-meaning = at-is-register .before in
+    λ f s. answers.aims-nowhere s _ _ (at-meaning .meaning .ensures) _ _ (sym (at-is-register .is-register .ensures) ∙ at-if1 .if1 .left)
+    (sym (at-is-cell .is-cell .ensures) ∙ c .before .if2 .left) (c .broken .ensures)
 
 pub aim-rules-spec : {M : Type 1} → statement M
 aim-rules-spec =

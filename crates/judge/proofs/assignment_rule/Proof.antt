@@ -1,4 +1,5 @@
 -- The rules of the parts of an assignment: the family says which part, the form how its designator or operand is written.
+use Rattle.tape.specs.Events as E
 use Rattle.judge.specs.Along.{assignmentRule}
 use borrow.Author.Tests.{eq-eqb, ne-eqb}
 use borrow.Author.Needs.{needs}
@@ -17,7 +18,7 @@ aim-rules-requires c κs = search needs
 returns : tie.Need-returns
 unfolding assignmentRule
 returns c = λ f s.
-    rw (← (c .before .before .before .family .ensures), eq-eqb _ 13 (c .before .if1 .taken), ← (c .before .before .form .ensures .0))
+    rw (← (c .before .before .before .family .ensures), eq-eqb _ E.TARGET (c .before .if1 .taken), ← (c .before .before .form .ensures .0))
     (c .aim-rules .ensures f (s .listed))
 
 control-rules-requires : tie.Need-control-rules-requires
@@ -28,8 +29,8 @@ unfolding assignmentRule
 returns-2 c = λ f s.
     rw (
       ← (c .before .before .before .before .family .ensures),
-      ne-eqb _ 13 (c .before .before .if1 .left),
-      eq-eqb _ 17 (c .before .if2 .taken),
+      ne-eqb _ E.TARGET (c .before .before .if1 .left),
+      eq-eqb _ E.CONTROL (c .before .if2 .taken),
       ←
           (c .before .before .before .form .ensures .0),
     ) (c .control-rules .ensures f (s .listed))
@@ -42,10 +43,10 @@ unfolding assignmentRule
 returns-3 c = λ f s.
     rw (
       ← (c .before .before .before .before .before .family .ensures),
-      ne-eqb _ 13 (c .before .before .before .if1 .left),
-      ne-eqb _ 17
+      ne-eqb _ E.TARGET (c .before .before .before .if1 .left),
+      ne-eqb _ E.CONTROL
           (c .before .before .if2 .left),
-      eq-eqb _ 24 (c .before .if3 .taken),
+      eq-eqb _ E.FIRST (c .before .if3 .taken),
       ← (c .before .before .before .before .form .ensures .0),
     )
     (c .first-rules .ensures f (s .listed))
@@ -58,11 +59,11 @@ unfolding assignmentRule
 returns-4 c = λ f s.
     rw (
       ← (c .before .before .before .before .before .before .family .ensures),
-      ne-eqb _ 13 (c .before .before .before .before .if1 .left),
-      ne-eqb _ 17
+      ne-eqb _ E.TARGET (c .before .before .before .before .if1 .left),
+      ne-eqb _ E.CONTROL
           (c .before .before .before .if2 .left),
-      ne-eqb _ 24 (c .before .before .if3 .left),
-      eq-eqb _ 29 (c .before .if4 .taken),
+      ne-eqb _ E.FIRST (c .before .before .if3 .left),
+      eq-eqb _ E.TERM (c .before .if4 .taken),
       ←
           (c .before .before .before .before .before .form .ensures .0),
     )
@@ -76,12 +77,12 @@ unfolding assignmentRule
 returns-5 c = λ f s.
     rw (
       ← (c .before .before .before .before .before .before .before .family .ensures),
-      ne-eqb _ 13
+      ne-eqb _ E.TARGET
           (c .before .before .before .before .before .if1 .left),
-      ne-eqb _ 17 (c .before .before .before .before .if2 .left),
-      ne-eqb _ 24
+      ne-eqb _ E.CONTROL (c .before .before .before .before .if2 .left),
+      ne-eqb _ E.FIRST
           (c .before .before .before .if3 .left),
-      ne-eqb _ 29 (c .before .before .if4 .left),
+      ne-eqb _ E.TERM (c .before .before .if4 .left),
       c .before .if5 .taken,
     ) (c .sign-rule .ensures)
 
@@ -93,12 +94,12 @@ unfolding assignmentRule
 returns-6 c = λ f s.
     rw (
       ← (c .before .before .before .before .before .before .before .family .ensures),
-      ne-eqb _ 13
+      ne-eqb _ E.TARGET
           (c .before .before .before .before .before .if1 .left),
-      ne-eqb _ 17 (c .before .before .before .before .if2 .left),
-      ne-eqb _ 24
+      ne-eqb _ E.CONTROL (c .before .before .before .before .if2 .left),
+      ne-eqb _ E.FIRST
           (c .before .before .before .if3 .left),
-      ne-eqb _ 29 (c .before .before .if4 .left),
+      ne-eqb _ E.TERM (c .before .before .if4 .left),
       c .before .if5 .left,
     ) (c .none .ensures)
 

@@ -1,4 +1,5 @@
 -- What the cells that follow are, and for how many values the last has room: the family says whether an array, the form how wide.
+use Rattle.tape.specs.Events as E
 use Rattle.judge.specs.Along.{cellsAfter}
 use Rattle.tape.specs.Numbers.{formAt}
 use borrow.Author.Tests.{eq-eqb, ne-eqb}
@@ -14,7 +15,7 @@ form-requires c κs = search needs
 
 returns : tie.Need-returns
 unfolding cellsAfter
-returns c = λ f v. rw (← (c .before .before .family .ensures), eq-eqb _ 3 (c .if1 .taken), ← (c .before .form .ensures .0))
+returns c = λ f v. rw (← (c .before .before .family .ensures), eq-eqb _ E.SINGLE-FULL (c .if1 .taken), ← (c .before .form .ensures .0))
 
 value-requires : tie.Need-value-requires
 value-requires c κs = search needs
@@ -24,8 +25,8 @@ unfolding cellsAfter
 returns-2 c = λ f v.
     rw (
       ← (c .before .before .before .before .family .ensures),
-      ne-eqb _ 3 (c .before .before .if1 .left),
-      eq-eqb _ 5 (c .before .if2 .taken),
+      ne-eqb _ E.SINGLE-FULL (c .before .before .if1 .left),
+      eq-eqb _ E.ARRAY-FULL (c .before .if2 .taken),
       ←
           (c .before .before .before .form .ensures .0),
       v,
@@ -48,11 +49,11 @@ unfolding cellsAfter
 returns-5 c = λ f v.
     rw (
       ← (c .before .before .before .before .before .family .ensures),
-      ne-eqb _ 3 (c .before .before .before .if1 .left),
-      ne-eqb _ 5
+      ne-eqb _ E.SINGLE-FULL (c .before .before .before .if1 .left),
+      ne-eqb _ E.ARRAY-FULL
           (c .before .before .if2 .left),
-      ne-eqb _ 7 (c .before .if3 .left),
-      ne-eqb _ 8 (c .if4 .left),
+      ne-eqb _ E.ITEM (c .before .if3 .left),
+      ne-eqb _ E.VALUE (c .if4 .left),
     )
 
 pub cells-after-spec : {M : Type 1} → statement M

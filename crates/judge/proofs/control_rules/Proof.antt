@@ -22,7 +22,10 @@ broken-requires : tie.Need-broken-requires
 broken-requires c κs = search needs
 
 returns-2 : tie.Need-returns-2
-returns-2 c = λ f s. answers.control-nothing s _ _ (c .before .before .before .meaning .ensures) _ _ (sym (c .before .before .is-register .ensures) ∙ c .before .if1 .left) (c .broken .ensures)
+returns-2 c =
+    let at-is-register = c .before .before in
+    let at-meaning = at-is-register .before in
+    λ f s. answers.control-nothing s _ _ (at-meaning .meaning .ensures) _ _ (sym (at-is-register .is-register .ensures) ∙ c .before .if1 .left) (c .broken .ensures)
 
 pub control-rules-spec : {M : Type 1} → statement M
 control-rules-spec =

@@ -1,4 +1,5 @@
 -- The rules of the parts of declarations, each by its own test.
+use Rattle.tape.specs.Events as E
 use Rattle.judge.specs.Along.{declarationRule}
 use Rattle.tape.specs.Numbers.{formAt}
 use borrow.Author.Tests.{eq-eqb, ne-eqb}
@@ -35,9 +36,9 @@ returns-2 : tie.Need-returns-2
 unfolding declarationRule
 returns-2 c = λ f s.
     rw (
-      ne-eqb _ 2 (c .before .before .before .if1 .left),
+      ne-eqb _ E.REGISTER (c .before .before .before .if1 .left),
       ← (c .before .before .before .before .family .ensures),
-      eq-eqb _ 5
+      eq-eqb _ E.ARRAY-FULL
           (c .before .before .if2 .taken),
       s .values-is,
       ← (c .before .value2 .ensures),
@@ -77,12 +78,12 @@ returns-6 : tie.Need-returns-6
 unfolding declarationRule
 returns-6 c = λ f s.
     rw (
-      ne-eqb _ 2 (c .before .before .before .before .before .if1 .left),
+      ne-eqb _ E.REGISTER (c .before .before .before .before .before .if1 .left),
       ← (c .before .before .before .before .before .before .family .ensures),
-      ne-eqb _ 5 (c .before .before .before .before .if2 .left),
-      ne-eqb _ 8 (c .before .before .before .if3 .left),
-      ne-eqb _ 9 (c .before .before .if4 .left),
-      ne-eqb _ 10 (c .before .if5 .left),
+      ne-eqb _ E.ARRAY-FULL (c .before .before .before .before .if2 .left),
+      ne-eqb _ E.VALUE (c .before .before .before .if3 .left),
+      ne-eqb _ E.BASE (c .before .before .if4 .left),
+      ne-eqb _ E.PROCEDURE (c .before .if5 .left),
     )
     (c .none .ensures)
 

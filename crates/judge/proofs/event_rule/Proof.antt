@@ -1,4 +1,5 @@
 -- Phrases are parts of statements; all other events that are judged are parts of declarations.
+use Rattle.tape.specs.Numbers.{PHRASE}
 use Rattle.judge.specs.Along.{eventRule}
 use borrow.Author.Tests.{eq-eqb, ne-eqb}
 use borrow.Author.Needs.{needs}
@@ -14,14 +15,14 @@ statement-rule-requires c κs = search needs
 returns : tie.Need-returns
 unfolding eventRule
 returns c = λ f s.
-    rw (← (c .before .before .layer .ensures), eq-eqb _ 3 (c .before .if1 .taken)) (c .statement-rule .ensures f s)
+    rw (← (c .before .before .layer .ensures), eq-eqb _ PHRASE (c .before .if1 .taken)) (c .statement-rule .ensures f s)
 
 declaration-rule-requires : tie.Need-declaration-rule-requires
 declaration-rule-requires c κs = search needs
 
 returns-2 : tie.Need-returns-2
 unfolding eventRule
-returns-2 c = λ f s. rw (← (c .before .before .layer .ensures), ne-eqb _ 3 (c .before .if1 .left)) (c .declaration-rule .ensures f (s .listed))
+returns-2 c = λ f s. rw (← (c .before .before .layer .ensures), ne-eqb _ PHRASE (c .before .if1 .left)) (c .declaration-rule .ensures f (s .listed))
 
 pub event-rule-spec : {M : Type 1} → statement M
 event-rule-spec = tie.close (tie.spec layer-requires statement-rule-requires returns declaration-rule-requires returns-2)

@@ -1,4 +1,5 @@
 -- Five events move the protected registers; each move by its callee, and the other columns stay.
+use Rattle.tape.specs.Events as E
 use Rattle.judge.proofs.Moves.{stays-same}
 use Prim.Native.Nat.{_+_}
 use Rattle.judge.specs.Along.{heldAfter}
@@ -96,12 +97,12 @@ unfolding heldAfter
 returns-6 c = (
   (λ f s.
       rw (
-        ne-eqb _ 0 (c .before .before .before .before .if1 .left),
-        ne-eqb _ 1 (c .before .before .before .if2 .left),
-        ne-eqb _ 9
+        ne-eqb _ E.BLOCK (c .before .before .before .before .if1 .left),
+        ne-eqb _ E.END-BLOCK (c .before .before .before .if2 .left),
+        ne-eqb _ E.BASE
             (c .before .before .if3 .left),
-        ne-eqb _ 10 (c .before .if4 .left),
-        ne-eqb _ 11 (c .if5 .left),
+        ne-eqb _ E.PROCEDURE (c .before .if4 .left),
+        ne-eqb _ E.END-PROCEDURE (c .if5 .left),
       )
       (record { is = refl; deep = omega arith })),
   stays-same _,

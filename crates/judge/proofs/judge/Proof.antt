@@ -67,28 +67,29 @@ target-after-requires c κs = search needs
 
 add-i : tie.Need-add-i Inv-loop μ-loop
 add-i c =
-    let g = c .before .before .before .before .before .before .before .before .before .before .before .before .before .before .before .before .before .before .loop .inv .0 in
-    let h = c .before .before .before .before .before .before .before .before .before .before .before .before .before .before .before .before .before .loop-test .taken in
-    omega (arith, g .small, h)
+    let at-loop-test = c .before .before .before .before .before .before .before .before .before .before .before .before .before .before .before .before .before in
+    let at-loop = at-loop-test .before in
+    let g = at-loop .loop .inv .0 in let h = at-loop-test .loop-test .taken in omega (arith, g .small, h)
 
 loop-less : tie.Need-loop-less Inv-loop μ-loop
 loop-less c =
-    let h = c .before .before .before .before .before .before .before .before .before .before .before .before .before .before .before .before .before .loop-test .taken in
-    omega (arith, h)
+    let at-loop-test = c .before .before .before .before .before .before .before .before .before .before .before .before .before .before .before .before .before in
+    let h = at-loop-test .loop-test .taken in omega (arith, h)
 
 loop-again : tie.Need-loop-again Inv-loop μ-loop
 loop-again c =
-    let before = c .before .before .before .before .before .before .before .before .before .before .before .before .before .before .before .before .before .before .loop .inv in
-    let held = c .before .before .before .before .before .before .before .before .held-after in
-    let wides = held .kept .1 .1 .0 in
-    let countings = held .kept .1 .1 .1 .1 .0 in (
-      going-on _ _ _ _ _ (before .0)
-          (c .before .before .before .before .before .before .before .before .before .before .before .before .before .before .before .before .before .loop-test .taken) _ _
-          (c .before .before .before .before .before .before .before .before .before .before .before .before .before .before .before .op .ensures .0)
-          (c .before .before .before .before .before .before .before .before .before .before .before .before .before .before .token .ensures .0)
-          (c .before .before .before .before .before .before .before .before .before .before .before .before .event-rule .ensures)
-          (c .before .before .before .before .before .before .before .before .before .before .before .join .ensures)
-          (held .ensures .0) (held .ensures .1) (c .before .before .cells-after .ensures) (c .target-after .ensures) wides countings,
+    let at-cells-after = c .before .before in
+    let at-held-after = at-cells-after .before .before .before .before .before .before in
+    let at-join = at-held-after .before .before .before in
+    let at-event-rule = at-join .before in
+    let at-token = at-event-rule .before .before in
+    let at-op = at-token .before in
+    let at-loop-test = at-op .before .before in
+    let at-loop = at-loop-test .before in
+    let before = at-loop .loop .inv in let held = at-held-after .held-after in let wides = held .kept .1 .1 .0 in let countings = held .kept .1 .1 .1 .1 .0 in (
+      going-on _ _ _ _ _ (before .0) (at-loop-test .loop-test .taken) _ _ (at-op .op .ensures .0) (at-token .token .ensures .0)
+          (at-event-rule .event-rule .ensures) (at-join .join .ensures) (held .ensures .0) (held .ensures .1) (at-cells-after .cells-after .ensures)
+          (c .target-after .ensures) wides countings,
       (wides ∙ before .1 .0, countings ∙ before .1 .1),
     )
 

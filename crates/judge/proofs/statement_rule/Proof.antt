@@ -1,4 +1,5 @@
 -- The rules of conditions, limits and calls; all other phrases are parts of assignments.
+use Rattle.tape.specs.Events as E
 use Rattle.judge.specs.Along.{statementRule}
 use Rattle.tape.specs.Numbers.{formAt}
 use borrow.Author.Tests.{eq-eqb, ne-eqb}
@@ -18,7 +19,7 @@ compared-rules-requires c κs = search needs
 returns : tie.Need-returns
 unfolding statementRule
 returns c = λ f s.
-    rw (← (c .before .before .before .family .ensures), eq-eqb _ 34 (c .before .before .if1 .taken), ← (c .before .form .ensures .0))
+    rw (← (c .before .before .before .family .ensures), eq-eqb _ E.COMPARED (c .before .before .if1 .taken), ← (c .before .form .ensures .0))
     (c .compared-rules .ensures f (s .listed))
 
 form-requires-2 : tie.Need-form-requires-2
@@ -32,8 +33,8 @@ unfolding statementRule
 returns-2 c = λ f s.
     rw (
       ← (c .before .before .before .before .family .ensures),
-      ne-eqb _ 34 (c .before .before .before .if1 .left),
-      eq-eqb _ 39
+      ne-eqb _ E.COMPARED (c .before .before .before .if1 .left),
+      eq-eqb _ E.LIMIT
           (c .before .before .if2 .taken),
       ← (c .before .form2 .ensures .0),
     ) (c .operand-rules .ensures f (s .listed))
@@ -53,10 +54,10 @@ unfolding statementRule
 returns-4 c = λ f s.
     rw (
       ← (c .before .before .before .before .family .ensures),
-      ne-eqb _ 34 (c .before .before .before .if1 .left),
-      ne-eqb _ 39
+      ne-eqb _ E.COMPARED (c .before .before .before .if1 .left),
+      ne-eqb _ E.LIMIT
           (c .before .before .if2 .left),
-      ne-eqb _ 51 (c .before .if3 .left),
+      ne-eqb _ E.CALL (c .before .if3 .left),
     ) (c .assignment-rule .ensures f s)
 
 pub statement-rule-spec : {M : Type 1} → statement M

@@ -46,7 +46,9 @@ same-length : tie.Need-same-length Inv-loop μ-loop
 same-length c = search needs
 
 returns : tie.Need-returns Inv-loop μ-loop
-returns c = store-end (c .before .loop .s) (c .before .before .before .args .at) (c .before .loop .left) (c .before .loop .rest) (c .loop-test .left) (c .before .loop .inv .2)
+returns c =
+    let start = c .before .before .before in
+    store-end (c .before .loop .s) (start .args .at) (c .before .loop .left) (c .before .loop .rest) (c .loop-test .left) (c .before .loop .inv .2)
 
 pub lay-spec : {M : Type 1} → statement M
 lay-spec =

@@ -64,7 +64,10 @@ same-length : tie.Need-same-length Inv-loop μ-loop
 same-length c = c .before .loop .inv .1
 
 same-length-2 : tie.Need-same-length-2 Inv-loop μ-loop
-same-length-2 c = c .before .loop .inv .2 ∙ (c .before .before .before .before .put-written .kept .0 ∙ c .before .before .before .before .before .before .before .before .clear-written .kept .0)
+same-length-2 c =
+    let at-put-written = c .before .before .before .before in
+    let at-clear-written = at-put-written .before .before .before .before in
+    c .before .loop .inv .2 ∙ (at-put-written .put-written .kept .0 ∙ at-clear-written .clear-written .kept .0)
 
 returns : tie.Need-returns Inv-loop μ-loop
 returns c = going-end _ _ (c .before .loop .inv .0) (c .loop-test .left)

@@ -62,7 +62,21 @@ same-length-2 : tie.Need-same-length-2
 same-length-2 c = search needs
 
 returns : tie.Need-returns
-returns c = place-is (wideOf (c .before .before .before .before .before .before .before .before .before .before .before .before .before .before .before .before .before .before .before .before .before .before .args .wide .now)) (thinOf (c .before .before .before .before .before .before .before .before .before .before .before .before .before .before .before .before .before .before .before .before .before .before .args .thin .now)) (c .before .before .before .before .before .before .before .before .before .before .before .before .before .before .before .before .before .before .before .before .before .before .args .t) (c .before .before .before .before .before .before .before .before .before .before .before .before .before .before .before .before .before .before .before .before .before .before .args .broken) (c .before .before .before .before .before .before .before .before .before .before .before .before .before .before .before .before .before .before .mean .ensures) (c .before .before .before .before .before .before .before .before .before .before .before .before .before .before .before .before .before .element-size .ensures .0) (c .before .before .before .before .before .before .before .before .before .before .before .before .before .before .before .segment .ensures .0) (c .before .before .before .before .before .before .before .before .before .before .before .before .before .written .ensures .0) (c .before .before .before .before .before .before .before .before .before .before .before .before .round-up .ensures .0) (c .before .before .before .before .before .before .before .before .before .before .before .number .ensures .0) (c .before .before .before .before .before .before .before .before .before .put-offset .ensures) (c .before .before .before .before .before .cap .ensures .0) (c .before .before .before .before .put-written .ensures) (c .before .rule .ensures) (c .join .ensures)
+returns c =
+    let at-put-written = c .before .before .before .before in
+    let at-cap = at-put-written .before in
+    let at-put-offset = at-cap .before .before .before .before in
+    let at-number = at-put-offset .before .before in
+    let at-round-up = at-number .before in
+    let at-written = at-round-up .before in
+    let at-segment = at-written .before .before in
+    let at-element-size = at-segment .before .before in
+    let at-mean = at-element-size .before in
+    let start = at-mean .before .before .before .before in
+    place-is (wideOf (start .args .wide .now)) (thinOf (start .args .thin .now)) (start .args .t) (start .args .broken) (at-mean .mean .ensures)
+    (at-element-size .element-size .ensures .0) (at-segment .segment .ensures .0) (at-written .written .ensures .0) (at-round-up .round-up .ensures .0)
+    (at-number .number .ensures .0) (at-put-offset .put-offset .ensures) (at-cap .cap .ensures .0) (at-put-written .put-written .ensures)
+    (c .before .rule .ensures) (c .join .ensures)
 
 pub place-cell-spec : {M : Type 1} → statement M
 place-cell-spec =

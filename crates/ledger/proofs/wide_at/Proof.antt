@@ -19,7 +19,9 @@ shared-slice-read-result : tie.Need-shared-slice-read-result
 shared-slice-read-result c = search needs
 
 returns : tie.Need-returns
-returns c = wide-read (c .before .before .args .wide .now) (c .before .before .args .t) (c .before .before .args .column) (c .before .before .pre) (c .before .if1 .taken)
+returns c =
+    let start = c .before .before in
+    wide-read (start .args .wide .now) (start .args .t) (start .args .column) (start .pre) (c .before .if1 .taken)
 
 returns-2 : tie.Need-returns-2
 returns-2 c = wide-past (c .before .args .wide .now) (c .before .args .t) (c .before .args .column) (c .if1 .left)

@@ -1,6 +1,8 @@
 -- `make` places branches, lays the program and its literals, and delivers where both fit their segments. Assumes nothing.
 use Rattle.made.proofs.Delivering.{zeros-long, cut-long}
 use Rattle.made.proofs.Making.{long-program, long-literals, all-made}
+use Rattle.translation.specs.Layout.{segmentLimit}
+use Rattle.made.specs.Making.{literalRoom}
 use Rattle.ledger.specs.Book.{wideOf, thinOf}
 use lib.ListN.{length-take, length-replicate}
 use mathlib.Core.Path.{_∙_}
@@ -36,7 +38,7 @@ returns c =
     let start = at-round-up .before .before .before .before .before .before in
     λ ends w. long-program (start .args .kinds .now) (wideOf (start .args .wide .now)) (thinOf (start .args .thin .now)) _ ends (start .args .tape .now) _ _ _ _
     _ _ _ _ (w .cells-is) (at-round-up .round-up .ensures .0) (at-places .places .ensures .1) (at-write-code .write-code .ensures .0) (length-replicate {A = ℕ}
-    1025 0) (at-write-code .write-code .kept .1 .1 .1 .1 .1 .1 .0) _ (c .if1 .taken)
+    literalRoom 0) (at-write-code .write-code .kept .1 .1 .1 .1 .1 .1 .0) _ (c .if1 .taken)
 
 mul-if2 : tie.Need-mul-if2
 mul-if2 c = search needs
@@ -46,7 +48,7 @@ add-if2 c =
     let at-write-code = c .before .before .before in
     let at-round-up = at-write-code .before .before .before .before .before .before .before .before in
     let start = at-round-up .before .before .before .before .before .before in
-    omega (arith, at-write-code .write-code .ensures .0 .inside, length-replicate {A = ℕ} 1025 0, at-round-up .round-up .ensures .1, start .pre .1)
+    omega (arith, at-write-code .write-code .ensures .0 .inside, length-replicate {A = ℕ} literalRoom 0, at-round-up .round-up .ensures .1, start .pre .1)
 
 same-length-2 : tie.Need-same-length-2
 same-length-2 c = search needs
@@ -60,7 +62,7 @@ returns-2 c =
     let start = at-round-up .before .before .before .before .before .before in
     λ ends w. long-literals (start .args .kinds .now) (wideOf (start .args .wide .now)) (thinOf (start .args .thin .now)) _ ends (start .args .tape .now) _ _ _
     _ _ _ _ _ (w .cells-is) (at-round-up .round-up .ensures .0) (at-places .places .ensures .1) (at-write-code .write-code .ensures .0) (length-replicate {A =
-    ℕ} 1025 0) (at-write-code .write-code .kept .1 .1 .1 .1 .1 .1 .0) _ (at-if1 .if1 .left) (c .if2 .taken)
+    ℕ} literalRoom 0) (at-write-code .write-code .kept .1 .1 .1 .1 .1 .1 .0) _ (at-if1 .if1 .left) (c .if2 .taken)
 
 array-share-prefix-image : tie.Need-array-share-prefix-image
 array-share-prefix-image c = search needs
@@ -69,7 +71,7 @@ slice-aggregate-deliver : tie.Need-slice-aggregate-deliver
 slice-aggregate-deliver c =
     let at-if1 = c .before .before in
     let at-write-code = at-if1 .before .before .before in
-    cut-long _ 4096 _ (at-if1 .if1 .left) (at-write-code .write-code .kept .1 .1 .1 .1 .1 .0 ∙ zeros-long)
+    cut-long _ segmentLimit _ (at-if1 .if1 .left) (at-write-code .write-code .kept .1 .1 .1 .1 .1 .0 ∙ zeros-long)
 
 array-share-prefix-literals : tie.Need-array-share-prefix-literals
 array-share-prefix-literals c = search needs
@@ -77,8 +79,8 @@ array-share-prefix-literals c = search needs
 slice-aggregate-deliver-2 : tie.Need-slice-aggregate-deliver-2
 slice-aggregate-deliver-2 c =
     let at-write-code = c .before .before .before .before .before .before in
-    cut-long _ 1025 _ (omega (arith, at-write-code .write-code .ensures .0 .inside, length-replicate {A = ℕ} 1025 0)) (at-write-code .write-code .kept .1 .1 .1
-    .1 .1 .1 .0 ∙ length-replicate {A = ℕ} 1025 0)
+    cut-long _ literalRoom _ (omega (arith, at-write-code .write-code .ensures .0 .inside, length-replicate {A = ℕ} literalRoom 0)) (at-write-code .write-code .kept .1 .1 .1
+    .1 .1 .1 .0 ∙ length-replicate {A = ℕ} literalRoom 0)
 
 deliver-requires : tie.Need-deliver-requires
 deliver-requires c κs =
@@ -88,7 +90,7 @@ deliver-requires c κs =
     let start = at-write-code .before .before .before .before .before .before .before .before .before .before .before .before .before .before in (
       omega (
         arith,
-        cut-long (at-write-code .write-code .result .length) 4096 (at-write-code .write-code .last .1 .1 .1 .1 .1 .0) (at-if1 .if1 .left)
+        cut-long (at-write-code .write-code .result .length) segmentLimit (at-write-code .write-code .last .1 .1 .1 .1 .1 .0) (at-if1 .if1 .left)
             (at-write-code .write-code .kept .1 .1 .1 .1 .1 .0 ∙ zeros-long),
         at-if1 .if1 .left,
       ),
@@ -119,7 +121,7 @@ returns-3 c =
     let at-round-up = at-places .before .before in
     let start = at-round-up .before .before .before .before .before .before in
     λ ends w. all-made (start .args .kinds .now) (wideOf (start .args .wide .now)) (thinOf (start .args .thin .now)) _ ends (start .args .tape .now) _ _ _ _ _ _
-    _ _ (w .cells-is) (at-round-up .round-up .ensures .0) (at-places .places .ensures .1) (at-write-code .write-code .ensures .0) (length-replicate {A = ℕ} 1025
+    _ _ (w .cells-is) (at-round-up .round-up .ensures .0) (at-places .places .ensures .1) (at-write-code .write-code .ensures .0) (length-replicate {A = ℕ} literalRoom
     0) (at-write-code .write-code .kept .1 .1 .1 .1 .1 .1 .0) _ _ _ (at-if1 .if1 .left) (at-if2 .if2 .left) (at-deliver .deliver .ensures ends w)
 
 pub make-spec : {M : Type 1} → statement M

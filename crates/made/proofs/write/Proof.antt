@@ -2,6 +2,7 @@
 use Rattle.made.proofs.Delivering.{zeros-long, cut-long, write-fits, written}
 use mathlib.Core.Path.{_∙_}
 use native.Mathlib.Omega.{arith}
+use Rattle.translation.specs.Layout.{segmentLimit}
 use Rattle.ledger.specs.Book.{wideOf}
 use borrow.Author.Needs.{needs}
 use Rattle.made.proofs.write.Statement.{statement}
@@ -43,7 +44,7 @@ slice-aggregate-write-object c =
     let at-lay-literals = c .before .before .before .before .before .before .before .before .before in
     let at-fill = at-lay-literals .before .before .before in
     let start = at-fill .before .before .before .before .before .before .before in
-    cut-long _ 4096 _ (start .pre .2) (at-lay-literals .lay-literals .kept .0 ∙ (at-fill .fill .kept .1 .1 .1 .0 ∙ zeros-long))
+    cut-long _ segmentLimit _ (start .pre .2) (at-lay-literals .lay-literals .kept .0 ∙ (at-fill .fill .kept .1 .1 .1 .0 ∙ zeros-long))
 
 array-share-prefix-second : tie.Need-array-share-prefix-second
 array-share-prefix-second c =
@@ -55,7 +56,7 @@ slice-aggregate-write-object-2 : tie.Need-slice-aggregate-write-object-2
 slice-aggregate-write-object-2 c =
     let at-fill2 = c .before .before .before .before .before .before .before in
     let start = at-fill2 .before .before .before .before .before .before .before .before .before .before .before .before .before in
-    cut-long _ 4096 _ (start .pre .3) (at-fill2 .fill2 .kept .1 .1 .1 .0 ∙ zeros-long)
+    cut-long _ segmentLimit _ (start .pre .3) (at-fill2 .fill2 .kept .1 .1 .1 .0 ∙ zeros-long)
 
 array-share-prefix-third : tie.Need-array-share-prefix-third
 array-share-prefix-third c =
@@ -69,7 +70,7 @@ slice-aggregate-write-object-3 c =
     let at-fill3 = c .before .before .before .before .before in
     let back = at-fill3 .before .before .before .before .before .before .before .before .before .before .before .before .before .before .before in
     let start = back .before in
-    cut-long _ 4096 _ (start .pre .4) (at-fill3 .fill3 .kept .1 .1 .1 .0 ∙ zeros-long)
+    cut-long _ segmentLimit _ (start .pre .4) (at-fill3 .fill3 .kept .1 .1 .1 .0 ∙ zeros-long)
 
 write-object-requires : tie.Need-write-object-requires
 write-object-requires c κs =
@@ -82,10 +83,10 @@ write-object-requires c κs =
     .args .out .now) (start .args .s .bases) (start .args .last) (start .args .s .two) (start .args .s .three) (
       start .pre .0,
       cut-long (start .args .last)
-          4096 _ (start .pre .2) (at-lay-literals .lay-literals .kept .0 ∙ (at-fill .fill .kept .1 .1 .1 .0 ∙ zeros-long)),
-      cut-long (start .args .s .two) 4096 _
+          segmentLimit _ (start .pre .2) (at-lay-literals .lay-literals .kept .0 ∙ (at-fill .fill .kept .1 .1 .1 .0 ∙ zeros-long)),
+      cut-long (start .args .s .two) segmentLimit _
           (start .pre .3) (at-fill2 .fill2 .kept .1 .1 .1 .0 ∙ zeros-long),
-      cut-long (start .args .s .three) 4096 _ (start .pre .4) (at-fill3 .fill3 .kept .1 .1 .1 .0
+      cut-long (start .args .s .three) segmentLimit _ (start .pre .4) (at-fill3 .fill3 .kept .1 .1 .1 .0
           ∙ zeros-long),
     ) (start .pre .2, start .pre .3, start .pre .4) (start .pre .5)
 

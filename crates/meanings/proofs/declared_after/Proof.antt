@@ -1,6 +1,7 @@
 -- What a declaration makes its name mean: one law for each return. Assumes nothing.
 use native.Mathlib.Omega.{arith}
 use denote.Ref.{now}
+use Rattle.tape.specs.Events as E
 use Rattle.meanings.proofs.Views as views
 use Rattle.ledger.specs.Book.{wideOf, thinOf}
 use Rattle.meanings.specs.Along.{declaredAfter}
@@ -79,7 +80,10 @@ same-length-4 c = search needs
 
 returns-3 : tie.Need-returns-3
 unfolding declaredAfter
-returns-3 c = (rw (c .before .before .before .before .before .if3 .taken) (c .before .before .open-base .ensures .0), omega (arith, c .before .before .open-base .ensures .1))
+returns-3 c =
+    let at-open-base = c .before .before in
+    let at-if3 = at-open-base .before .before .before in
+    (rw (at-if3 .if3 .taken) (at-open-base .open-base .ensures .0), omega (arith, at-open-base .open-base .ensures .1))
 
 declare-routine-requires : tie.Need-declare-routine-requires
 declare-routine-requires c κs = search needs
@@ -106,21 +110,23 @@ same-length-7 c = search needs
 
 returns-5 : tie.Need-returns-5
 unfolding declaredAfter
-returns-5 c = (
-  rw (c .before .before .before .before .if5 .taken)
-      (c .before .before .write-text .ensures (wideOf (now (c .before .before .before .before .before .before .before .before .before .before .before .args .wide))) (c .before .before .before .before .before .before .before .before .before .before .before .args .bases)),
-  omega arith,
-)
+returns-5 c =
+    let at-write-text = c .before .before in
+    let at-if5 = at-write-text .before .before in
+    let start = at-if5 .before .before .before .before .before .before .before in (
+      rw (at-if5 .if5 .taken) (at-write-text .write-text .ensures (wideOf (now (start .args .wide))) (start .args .bases)),
+      omega arith,
+    )
 
 returns-6 : tie.Need-returns-6
 unfolding declaredAfter
 returns-6 c = (
   rw (
-    ne-eqb _ 2 (c .before .before .before .before .if1 .left),
-    ne-eqb _ 7 (c .before .before .before .if2 .left),
-    ne-eqb _ 9 (c .before .before .if3 .left),
-    ne-eqb _ 10 (c .before .if4 .left),
-    ne-eqb _ 11 (c .if5 .left),
+    ne-eqb _ E.REGISTER (c .before .before .before .before .if1 .left),
+    ne-eqb _ E.ITEM (c .before .before .before .if2 .left),
+    ne-eqb _ E.BASE (c .before .before .if3 .left),
+    ne-eqb _ E.PROCEDURE (c .before .if4 .left),
+    ne-eqb _ E.END-PROCEDURE (c .if5 .left),
   ),
   omega arith,
 )

@@ -1,5 +1,6 @@
 -- What the cells that follow are: the family says whether an array, the form how wide.
 use borrow.Author.Tests.{eq-eqb, ne-eqb}
+use Rattle.tape.specs.Events as E
 use Rattle.meanings.specs.Along.{formAfter}
 use borrow.Author.Needs.{needs}
 use Rattle.meanings.proofs.form_after.Statement.{statement}
@@ -19,7 +20,10 @@ packed-requires c κs = search needs
 
 returns : tie.Need-returns
 unfolding formAfter
-returns c = rw (← (c .before .before .before .family .ensures), eq-eqb _ 3 (c .before .if1 .taken), ← (c .before .before .form .ensures .0)) (c .packed .ensures)
+returns c =
+    let at-form = c .before .before in
+    let at-family = at-form .before in
+    rw (← (at-family .family .ensures), eq-eqb _ E.SINGLE-FULL (c .before .if1 .taken), ← (at-form .form .ensures .0)) (c .packed .ensures)
 
 value-requires : tie.Need-value-requires
 value-requires c κs = search needs
@@ -31,15 +35,15 @@ returns-2 : tie.Need-returns-2
 unfolding formAfter
 returns-2 c = rw (
   ← (c .before .before .before .before .before .family .ensures),
-  ne-eqb _ 3 (c .before .before .before .if1 .left),
-  eq-eqb _ 5 (c .before .before .if2 .taken),
+  ne-eqb _ E.SINGLE-FULL (c .before .before .before .if1 .left),
+  eq-eqb _ E.ARRAY-FULL (c .before .before .if2 .taken),
   ← (c .before .before .before .before .form .ensures .0),
   ← (c .before .value .ensures),
 ) (c .packed2 .ensures)
 
 returns-3 : tie.Need-returns-3
 unfolding formAfter
-returns-3 c = rw (← (c .before .before .before .family .ensures), ne-eqb _ 3 (c .before .if1 .left), ne-eqb _ 5 (c .if2 .left))
+returns-3 c = rw (← (c .before .before .before .family .ensures), ne-eqb _ E.SINGLE-FULL (c .before .if1 .left), ne-eqb _ E.ARRAY-FULL (c .if2 .left))
 
 pub form-after-spec : {M : Type 1} → statement M
 form-after-spec =

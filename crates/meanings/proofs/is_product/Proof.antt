@@ -22,7 +22,14 @@ is-long-requires : tie.Need-is-long-requires
 is-long-requires c κs = search needs
 
 returns : tie.Need-returns
-returns c = λ under. let args = c .before .before .before .before .before .before .before .before .args in changes.product-at (thinOf (now (args .thin)) .found) (wideOf (now (args .wide)) .means) under (args .t) (now (args .kinds)) (args .op) _ _ _ _ _ (c .before .before .form .ensures .0) (c .before .before .before .before .less .ensures) (c .before .before .before .kind .ensures) (c .before .meaning .ensures) (c .is-long .ensures)
+returns c =
+    let at-form = c .before .before in
+    let at-kind = at-form .before in
+    let at-less = at-kind .before in
+    let start = at-less .before .before .before .before in
+    λ under. let args = start .args in changes.product-at (thinOf (now (args .thin)) .found) (wideOf (now (args .wide)) .means) under (args .t)
+    (now (args .kinds)) (args .op) _ _ _ _ _ (at-form .form .ensures .0) (at-less .less .ensures) (at-kind .kind .ensures) (c .before .meaning .ensures)
+    (c .is-long .ensures)
 
 pub is-product-spec : {M : Type 1} → statement M
 is-product-spec =

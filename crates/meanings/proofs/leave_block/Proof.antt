@@ -12,7 +12,9 @@ less-requires : tie.Need-less-requires
 less-requires c κs = search needs
 
 returns : tie.Need-returns
-returns c = λ owners. moves.left-block owners (now (c .before .before .before .args .outer)) (c .before .before .before .args .s) _ _ (c .before .top .ensures) (c .less .ensures)
+returns c =
+    let start = c .before .before .before in
+    λ owners. moves.left-block owners (now (start .args .outer)) (start .args .s) _ _ (c .before .top .ensures) (c .less .ensures)
 
 pub leave-block-spec : {M : Type 1} → statement M
 leave-block-spec = tie.close (tie.spec top-requires less-requires returns)

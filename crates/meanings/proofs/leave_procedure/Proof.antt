@@ -12,7 +12,9 @@ less-requires : tie.Need-less-requires
 less-requires c κs = search needs
 
 returns : tie.Need-returns
-returns c = λ outer. moves.left-procedure (now (c .before .before .before .args .owners)) outer (c .before .before .before .args .s) _ _ (c .before .top .ensures) (c .less .ensures)
+returns c =
+    let start = c .before .before .before in
+    λ outer. moves.left-procedure (now (start .args .owners)) outer (start .args .s) _ _ (c .before .top .ensures) (c .less .ensures)
 
 pub leave-procedure-spec : {M : Type 1} → statement M
 leave-procedure-spec = tie.close (tie.spec top-requires less-requires returns)

@@ -54,7 +54,10 @@ token-requires : tie.Need-token-requires Inv-loop μ-loop
 token-requires c κs = search needs
 
 within-after-requires : tie.Need-within-after-requires Inv-loop μ-loop
-within-after-requires c κs = (let g = c .before .before .before .before .before .before .before .before .loop .inv .0 in let (a, b) = room-for-one _ _ _ g in (a, (b, omega (arith, g .few, g .room .small, c .before .before .before .before .before .before .before .loop-test .taken))))
+within-after-requires c κs =
+    let at-loop-test = c .before .before .before .before .before .before .before in
+    let at-loop = at-loop-test .before in
+    (let g = at-loop .loop .inv .0 in let (a, b) = room-for-one _ _ _ g in (a, (b, omega (arith, g .few, g .room .small, at-loop-test .loop-test .taken))))
 
 form-after-requires : tie.Need-form-after-requires Inv-loop μ-loop
 form-after-requires c κs = search needs
@@ -63,19 +66,50 @@ target-after-requires : tie.Need-target-after-requires Inv-loop μ-loop
 target-after-requires c κs = search needs
 
 declared-after-requires : tie.Need-declared-after-requires Inv-loop μ-loop
-declared-after-requires c κs = (let g = c .before .before .before .before .before .before .before .before .before .before .before .before .before .before .before .before .before .before .before .before .loop .inv .0 in let r = g .room in let h = c .before .before .before .before .before .before .before .before .before .before .before .before .before .before .before .before .before .before .before .loop-test .taken in (omega (arith, c .before .before .before .before .before .before .before .before .before .before .before .before .before .before .before .before .token .ensures .1), omega (arith, g .few, r .small, h)))
+declared-after-requires c κs =
+    let at-token = c .before .before .before .before .before .before .before .before .before .before .before .before .before .before .before .before in
+    let at-loop-test = at-token .before .before .before in
+    let at-loop = at-loop-test .before in
+    (let g = at-loop .loop .inv .0 in let r = g .room in let h = at-loop-test .loop-test .taken in (omega (arith, at-token .token .ensures .1), omega (arith, g .few, r .small, h)))
 
 written-after-requires : tie.Need-written-after-requires Inv-loop μ-loop
 written-after-requires c κs = search needs
 
 add-i : tie.Need-add-i Inv-loop μ-loop
-add-i c = omega (arith, c .before .before .before .before .before .before .before .before .before .before .before .before .before .before .before .before .before .before .before .before .before .before .before .before .before .before .before .before .before .before .loop .inv .0 .room .small, c .before .before .before .before .before .before .before .before .before .before .before .before .before .before .before .before .before .before .before .before .before .before .before .before .before .before .before .before .before .loop-test .taken)
+add-i c =
+    let at-loop-test = c .before .before .before .before .before .before .before .before .before .before .before .before .before .before .before .before .before
+    .before .before .before .before .before .before .before .before .before .before .before .before in
+    let at-loop = at-loop-test .before in
+    omega (arith, at-loop .loop .inv .0 .room .small, at-loop-test .loop-test .taken)
 
 loop-less : tie.Need-loop-less Inv-loop μ-loop
-loop-less c = omega (arith, c .before .before .before .before .before .before .before .before .before .before .before .before .before .before .before .before .before .before .before .before .before .before .before .before .before .before .before .before .before .loop-test .taken)
+loop-less c =
+    let at-loop-test = c .before .before .before .before .before .before .before .before .before .before .before .before .before .before .before .before .before
+    .before .before .before .before .before .before .before .before .before .before .before .before in
+    omega (arith, at-loop-test .loop-test .taken)
 
 loop-again : tie.Need-loop-again Inv-loop μ-loop
-loop-again c = (going-on _ _ _ (c .before .before .before .before .before .before .before .before .before .before .before .before .before .before .before .before .before .before .before .before .before .before .before .before .before .before .before .before .before .before .loop .inv .0) _ _ _ (c .before .before .before .before .before .before .before .before .before .before .before .before .before .before .before .before .before .before .before .before .before .before .before .before .before .before .before .before .before .loop-test .taken) (c .before .before .before .before .before .before .before .before .before .before .before .before .before .before .before .before .before .before .before .before .before .before .before .before .before .before .before .op .ensures .0) (c .before .before .before .before .before .before .before .before .before .before .before .before .before .before .before .before .before .before .before .before .before .before .before .before .before .before .token .ensures .0) (c .before .before .before .before .before .before .before .before .before .before .before .before .before .before .before .before .before .before .before .before .before .within-after .ensures) (c .before .before .before .before .before .before .before .before .before .before .before .before .before .before .before .form-after .ensures) (c .before .before .before .before .before .before .before .before .before .before .before .before .target-after .ensures) (c .before .before .before .before .before .before .before .before .before .declared-after .ensures .0) (c .before .before .before .before .before .before .before .before .before .declared-after .ensures .1) (c .before .before .written-after .ensures) (c .before .before .before .before .before .before .before .before .before .before .before .before .before .before .before .before .before .before .before .before .before .within-after .kept .1 .1 .1 .1 .1 .0) (c .before .before .before .before .before .before .before .before .before .before .before .before .before .before .before .before .before .before .before .before .before .within-after .kept .1 .1 .1 .1 .1 .1 .0), (let s = c .before .before .before .before .before .before .before .before .before .before .before .before .before .before .before .before .before .before .before .before .before .before .before .before .before .before .before .before .before .before .loop .inv .1 in record { same-wide = c .before .before .before .before .before .before .before .before .before .declared-after .kept .1 .1 .0 ∙ s .same-wide; same-thin = c .before .before .written-after .kept .1 .1 .1 .1 .0 ∙ (c .before .before .before .before .before .before .before .before .before .declared-after .kept .1 .1 .1 .0 ∙ s .same-thin); same-owners = c .before .before .before .before .before .before .before .before .before .before .before .before .before .before .before .before .before .before .before .before .before .within-after .kept .1 .1 .1 .1 .1 .0 ∙ s .same-owners; same-outer = c .before .before .before .before .before .before .before .before .before .before .before .before .before .before .before .before .before .before .before .before .before .within-after .kept .1 .1 .1 .1 .1 .1 .0 ∙ s .same-outer }))
+loop-again c =
+    let at-written-after = c .before .before in
+    let at-declared-after = at-written-after .before .before .before .before .before .before .before in
+    let at-target-after = at-declared-after .before .before .before in
+    let at-form-after = at-target-after .before .before .before in
+    let at-within-after = at-form-after .before .before .before .before .before .before in
+    let at-token = at-within-after .before .before .before .before .before in
+    let at-op = at-token .before in
+    let at-loop-test = at-op .before .before in
+    let at-loop = at-loop-test .before in (
+      going-on _ _ _ (at-loop .loop .inv .0) _ _ _ (at-loop-test .loop-test .taken) (at-op .op .ensures .0) (at-token .token .ensures .0)
+          (at-within-after .within-after .ensures) (at-form-after .form-after .ensures) (at-target-after .target-after .ensures)
+          (at-declared-after .declared-after .ensures .0) (at-declared-after .declared-after .ensures .1) (at-written-after .written-after .ensures)
+          (at-within-after .within-after .kept .1 .1 .1 .1 .1 .0) (at-within-after .within-after .kept .1 .1 .1 .1 .1 .1 .0),
+      (let s = at-loop .loop .inv .1 in record {
+        same-wide = at-declared-after .declared-after .kept .1 .1 .0 ∙ s .same-wide;
+        same-thin = at-written-after .written-after .kept .1 .1 .1 .1 .0 ∙ (at-declared-after .declared-after .kept .1 .1 .1 .0 ∙ s .same-thin);
+        same-owners = at-within-after .within-after .kept .1 .1 .1 .1 .1 .0 ∙ s .same-owners;
+        same-outer = at-within-after .within-after .kept .1 .1 .1 .1 .1 .1 .0 ∙ s .same-outer;
+      }),
+    )
 
 same-length : tie.Need-same-length Inv-loop μ-loop
 same-length c = c .before .loop .inv .1 .same-wide ∙ c .before .before .before .before .name-registers .kept .0

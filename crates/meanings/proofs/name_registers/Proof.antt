@@ -53,7 +53,9 @@ same-length : tie.Need-same-length Inv-loop μ-loop
 same-length c = search needs
 
 returns : tie.Need-returns Inv-loop μ-loop
-returns c = c .before .loop .inv .1 .0 ∙ ap (λ (n : ℕ). namedTo n (wideOf (now (c .before .before .before .args .wide)))) (omega (arith, c .before .loop .inv .0, c .loop-test .left))
+returns c =
+    let start = c .before .before .before in
+    c .before .loop .inv .1 .0 ∙ ap (λ (n : ℕ). namedTo n (wideOf (now (start .args .wide)))) (omega (arith, c .before .loop .inv .0, c .loop-test .left))
 
 pub name-registers-spec : {M : Type 1} → statement M
 name-registers-spec =

@@ -33,24 +33,20 @@ same-length : tie.Need-same-length
 same-length c = search needs
 
 returns : tie.Need-returns
-returns c = (
-  c .before .before .write .ensures (wideOf
-      (now (c .before .before .before .before .before .before .before .before .before .before .before .before .before .args .wide)))
-      (c .before .before .before .before .before .before .before .before .before .before .before .before .before .args .bases + 1)
-      ∙ (ap (λ (b : Thin). changed (write (c .before .before .before .before .before .before .before .before .before .before .before .before .before .args .own)
-      (c .before .before .before .register .result)) (viewOf
-      (wideOf (now (c .before .before .before .before .before .before .before .before .before .before .before .before .before .args .wide))) b
-      (c .before .before .before .before .before .before .before .before .before .before .before .before .before .args .bases + 1)))
-      (c .before .before .before .before .before .before .before .before .before .put-opens .ensures)
-      ∙ views.base-opened (wideOf (now (c .before .before .before .before .before .before .before .before .before .before .before .before .before .args .wide)))
-      (thinOf (now (c .before .before .before .before .before .before .before .before .before .before .before .before .before .args .thin)))
-      (c .before .before .before .before .before .before .before .before .before .before .before .before .before .args .bases)
-      (c .before .before .before .before .before .before .before .before .before .before .before .before .before .args .own)
-      (c .before .before .before .before .before .before .before .before .before .before .before .before .before .args .t) _ _
-      (c .before .before .before .before .meaning .ensures ∙ ap (λ (b : Thin).
-      packedAt (b .found) (wideOf (now (c .before .before .before .before .before .before .before .before .before .before .before .before .before .args .wide)) .means) (c .before .before .before .before .before .before .before .before .before .before .before .before .before .args .t)) (c .before .before .before .before .before .before .before .before .before .put-opens .ensures)) (c .before .before .before .register .ensures .0)),
-  refl,
-)
+returns c =
+    let at-write = c .before .before in
+    let at-register = at-write .before in
+    let at-meaning = at-register .before in
+    let at-put-opens = at-meaning .before .before .before .before .before in
+    let start = at-put-opens .before .before .before .before in (
+      at-write .write .ensures (wideOf (now (start .args .wide))) (start .args .bases + 1)
+          ∙ (ap (λ (b : Thin). changed (write (start .args .own) (at-register .register .result))
+          (viewOf (wideOf (now (start .args .wide))) b (start .args .bases + 1))) (at-put-opens .put-opens .ensures)
+          ∙ views.base-opened (wideOf (now (start .args .wide))) (thinOf (now (start .args .thin))) (start .args .bases) (start .args .own) (start .args .t) _ _
+          (at-meaning .meaning .ensures ∙ ap (λ (b : Thin). packedAt (b .found) (wideOf (now (start .args .wide)) .means) (start .args .t))
+          (at-put-opens .put-opens .ensures)) (at-register .register .ensures .0)),
+      refl,
+    )
 
 pub open-base-spec : {M : Type 1} → statement M
 open-base-spec =

@@ -18,7 +18,13 @@ target-of-requires c κs = search needs
 
 returns : tie.Need-returns
 unfolding targetAfter
-returns c = λ under. let args = c .before .before .before .before .before .before .args in rw (← (c .before .before .before .family .ensures), c .before .before .if1 .taken) (changes.target-at (thinOf (now (args .thin)) .found) (wideOf (now (args .wide)) .means) under (args .t) _ _ (c .before .meaning .ensures) (c .target-of .ensures))
+returns c =
+    let at-if1 = c .before .before in
+    let at-family = at-if1 .before in
+    let start = at-family .before .before .before in
+    λ under. let args = start .args in rw (← (at-family .family .ensures), at-if1 .if1 .taken)
+    (changes.target-at (thinOf (now (args .thin)) .found) (wideOf (now (args .wide)) .means) under (args .t) _ _ (c .before .meaning .ensures)
+    (c .target-of .ensures))
 
 returns-2 : tie.Need-returns-2
 unfolding targetAfter

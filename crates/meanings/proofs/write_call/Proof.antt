@@ -31,8 +31,19 @@ same-length : tie.Need-same-length
 same-length c = search needs
 
 returns : tie.Need-returns
-returns c = λ n. c .before .before .write-text .ensures
-    (wideOf (now (c .before .before .before .before .before .before .before .before .before .before .before .before .before .before .before .before .args .wide))) n ∙ (ap (changed (writeText (c .before .before .before .before .before .before .before .before .before .before .before .before .before .before .before .before .args .own) (c .before .before .before .before .before .before .before .before .before .before .before .before .found .result))) (c .before .before .before .before .before .before .write .ensures (wideOf (now (c .before .before .before .before .before .before .before .before .before .before .before .before .before .before .before .before .args .wide))) n) ∙ views.call-written (wideOf (now (c .before .before .before .before .before .before .before .before .before .before .before .before .before .before .before .before .args .wide))) (thinOf (now (c .before .before .before .before .before .before .before .before .before .before .before .before .before .before .before .before .args .thin))) n (c .before .before .before .before .before .before .before .before .before .before .before .before .before .before .before .before .args .own) (c .before .before .before .before .before .before .before .before .before .before .before .before .before .before .before .before .args .t) _ _ _ (c .before .before .before .before .before .before .before .before .before .before .before .before .found .ensures .0) (c .before .before .before .before .before .before .before .before .before .before .before .mean .ensures) (sym (c .before .before .before .before .before .before .before .before .before .before .is-routine .ensures) ∙ c .before .before .before .before .before .before .before .before .before .if1 .taken) (c .before .before .before .before .before .before .before .number .ensures .0))
+returns c =
+    let at-write-text = c .before .before in
+    let at-write = at-write-text .before .before .before .before in
+    let at-number = at-write .before in
+    let at-if1 = at-number .before .before in
+    let at-is-routine = at-if1 .before in
+    let at-mean = at-is-routine .before in
+    let at-found = at-mean .before in
+    let start = at-found .before .before .before .before in
+    λ n. at-write-text .write-text .ensures (wideOf (now (start .args .wide))) n
+    ∙ (ap (changed (writeText (start .args .own) (at-found .found .result))) (at-write .write .ensures (wideOf (now (start .args .wide))) n)
+    ∙ views.call-written (wideOf (now (start .args .wide))) (thinOf (now (start .args .thin))) n (start .args .own) (start .args .t) _ _ _
+    (at-found .found .ensures .0) (at-mean .mean .ensures) (sym (at-is-routine .is-routine .ensures) ∙ at-if1 .if1 .taken) (at-number .number .ensures .0))
 
 same-length-2 : tie.Need-same-length-2
 same-length-2 c = search needs

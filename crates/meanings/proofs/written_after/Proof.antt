@@ -1,6 +1,7 @@
 -- A target is written, a product the register below it, and by a call all that the called text writes.
 use denote.Ref.{now}
 use borrow.Author.Tests.{eq-eqb, ne-eqb}
+use Rattle.tape.specs.Events as E
 use Rattle.tape.specs.Numbers.{formAt}
 use Rattle.meanings.specs.Along.{writtenAfter}
 use Rattle.ledger.specs.Book.{wideOf}
@@ -36,7 +37,7 @@ unfolding writtenAfter
 returns-2 c = λ n. rw (
   ← (c .before .before .before .before .before .before .family .ensures),
   c .before .before .before .before .before .if1 .left,
-  eq-eqb _ 29 (c .before .before .before .before .if2 .taken),
+  eq-eqb _ E.TERM (c .before .before .before .before .if2 .taken),
 ) (c .before .before .write-product .ensures n)
 
 write-call-requires : tie.Need-write-call-requires
@@ -51,7 +52,10 @@ returns-3 c = λ n. rw (c .before .before .before .before .if3 .taken) (c .befor
 
 returns-4 : tie.Need-returns-4
 unfolding writtenAfter
-returns-4 c = λ n. rw (← (c .before .before .before .family .ensures), c .before .before .if1 .left, ne-eqb _ 29 (c .before .if2 .left), ne-eqb _ 51 (c .if3 .left))
+returns-4 c =
+    let at-if1 = c .before .before in
+    let at-family = at-if1 .before in
+    λ n. rw (← (at-family .family .ensures), at-if1 .if1 .left, ne-eqb _ E.TERM (c .before .if2 .left), ne-eqb _ E.CALL (c .if3 .left))
 
 pub written-after-spec : {M : Type 1} → statement M
 written-after-spec =

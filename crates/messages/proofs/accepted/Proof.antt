@@ -26,7 +26,12 @@ same-length : tie.Need-same-length
 same-length c = search needs
 
 returns : tie.Need-returns
-returns c = into (two (two (two (c .before .before .before .before .before .before .before .before .before .before .before .before .before .before .before .before .put-all .ensures) (c .before .before .before .before .before .before .before .before .before .before .before .put-all2 .ensures)) (c .before .before .before .before .before .before .before .put-decimal .ensures)) (c .before .before .put-all3 .ensures))
+returns c =
+    let at-put-all3 = c .before .before in
+    let at-put-decimal = at-put-all3 .before .before .before .before .before in
+    let at-put-all2 = at-put-decimal .before .before .before .before in
+    let at-put-all = at-put-all2 .before .before .before .before .before in
+    into (two (two (two (at-put-all .put-all .ensures) (at-put-all2 .put-all2 .ensures)) (at-put-decimal .put-decimal .ensures)) (at-put-all3 .put-all3 .ensures))
 
 pub accepted-spec : {M : Type 1} → statement M
 accepted-spec =

@@ -28,7 +28,12 @@ same-length c = search needs
 
 returns : tie.Need-returns
 unfolding caretText
-returns c = two (two (two (c .before .before .before .before .before .before .before .before .before .before .before .before .before .before .before .before .put-times .ensures) (c .before .before .before .before .before .before .before .before .before .before .before .before .put-times2 .ensures)) (c .before .before .before .before .before .before .before .put-phrase .ensures)) (c .before .before .put-all .ensures)
+returns c =
+    let at-put-all = c .before .before in
+    let at-put-phrase = at-put-all .before .before .before .before .before in
+    let at-put-times2 = at-put-phrase .before .before .before .before .before in
+    let at-put-times = at-put-times2 .before .before .before .before in
+    two (two (two (at-put-times .put-times .ensures) (at-put-times2 .put-times2 .ensures)) (at-put-phrase .put-phrase .ensures)) (at-put-all .put-all .ensures)
 
 pub put-carets-spec : {M : Type 1} → statement M
 put-carets-spec =

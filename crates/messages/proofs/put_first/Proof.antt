@@ -29,7 +29,15 @@ same-length c = search needs
 
 returns : tie.Need-returns
 unfolding firstLine
-returns c = renamed (two (c .before .before .before .before .before .before .put-place .ensures) (c .before .before .put-head .ensures)) (rw (c .before .before .before .before .before .before .before .before .before .before .before .line-of .ensures, c .before .before .before .before .before .before .before .before .before .before .column-of .ensures, c .before .before .before .before .before .before .before .before .before .headline-at .ensures, c .before .before .before .before .before .before .before .before .figure-at .ensures))
+returns c =
+    let at-put-head = c .before .before in
+    let at-put-place = at-put-head .before .before .before .before in
+    let at-figure-at = at-put-place .before .before in
+    let at-headline-at = at-figure-at .before in
+    let at-column-of = at-headline-at .before in
+    let at-line-of = at-column-of .before in
+    renamed (two (at-put-place .put-place .ensures) (at-put-head .put-head .ensures))
+    (rw (at-line-of .line-of .ensures, at-column-of .column-of .ensures, at-headline-at .headline-at .ensures, at-figure-at .figure-at .ensures))
 
 pub put-first-spec : {M : Type 1} → statement M
 put-first-spec =

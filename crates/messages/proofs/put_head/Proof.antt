@@ -37,7 +37,13 @@ same-length c = search needs
 
 returns : tie.Need-returns
 unfolding headText
-returns c = two (two (two (two (c .before .before .before .before .before .before .before .before .before .before .before .before .before .before .before .before .before .before .before .before .before .put-all .ensures) (c .before .before .before .before .before .before .before .before .before .before .before .before .before .before .before .before .before .put-decimal .ensures)) (c .before .before .before .before .before .before .before .before .before .before .before .before .put-all2 .ensures)) (c .before .before .before .before .before .before .before .put-phrase .ensures)) (c .before .before .put-all3 .ensures)
+returns c =
+    let at-put-all3 = c .before .before in
+    let at-put-phrase = at-put-all3 .before .before .before .before .before in
+    let at-put-all2 = at-put-phrase .before .before .before .before .before in
+    let at-put-decimal = at-put-all2 .before .before .before .before .before in
+    let at-put-all = at-put-decimal .before .before .before .before in
+    two (two (two (two (at-put-all .put-all .ensures) (at-put-decimal .put-decimal .ensures)) (at-put-all2 .put-all2 .ensures)) (at-put-phrase .put-phrase .ensures)) (at-put-all3 .put-all3 .ensures)
 
 pub put-head-spec : {M : Type 1} → statement M
 put-head-spec =

@@ -55,14 +55,17 @@ same-length-3 : tie.Need-same-length-3
 same-length-3 c = search needs
 
 returns-3 : tie.Need-returns-3
-returns-3 c = (
-  after-enter _ _ (thinOf (c .before .before .before .before .before .before .before .before .before .args .thin .now))
-      (c .before .before .before .before .before .before .before .before .before .args .b) (c .before .before .before .before .before .before .before .if1 .left)
-      (c .before .before .before .before .before .before .if2 .left)
-      (told (c .before .before .before .before .before .declares .ensures) (c .before .before .before .before .if3 .taken))
-      (c .before .before .enter-name .ensures .0),
-  c .before .before .enter-name .ensures .1,
-)
+returns-3 c =
+    let at-enter-name = c .before .before in
+    let at-if3 = at-enter-name .before .before in
+    let at-declares = at-if3 .before in
+    let at-if2 = at-declares .before in
+    let at-if1 = at-if2 .before in
+    let start = at-if1 .before .before in (
+      after-enter _ _ (thinOf (start .args .thin .now)) (start .args .b) (at-if1 .if1 .left) (at-if2 .if2 .left)
+          (told (at-declares .declares .ensures) (at-if3 .if3 .taken)) (at-enter-name .enter-name .ensures .0),
+      at-enter-name .enter-name .ensures .1,
+    )
 
 returns-4 : tie.Need-returns-4
 returns-4 c = (

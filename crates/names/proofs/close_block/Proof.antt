@@ -18,7 +18,9 @@ sub-t6 : tie.Need-sub-t6
 sub-t6 c = search needs
 
 returns-2 : tie.Need-returns-2
-returns-2 c = closed (thinOf (c .before .before .before .args .thin .now)) (c .before .before .before .args .b) _ (c .before .before .before .pre) (c .before .if1 .left) (c .written .ensures .0)
+returns-2 c =
+    let start = c .before .before .before in
+    closed (thinOf (start .args .thin .now)) (start .args .b) _ (start .pre) (c .before .if1 .left) (c .written .ensures .0)
 
 pub close-block-spec : {M : Type 1} → statement M
 close-block-spec = tie.close (tie.spec returns sub-written written-requires sub-t6 returns-2)

@@ -14,39 +14,16 @@ innermost-start-requires c κs = search needs
 in-block-requires : tie.Need-in-block-requires
 in-block-requires c κs = search needs
 
-rule-requires : tie.Need-rule-requires
-rule-requires c κs = search needs
-
-rule-requires-2 : tie.Need-rule-requires-2
-rule-requires-2 c κs = search needs
-
-add-t13 : tie.Need-add-t13
-add-t13 c = search needs
-
-join-requires : tie.Need-join-requires
-join-requires c κs = search needs
-
-join-requires-2 : tie.Need-join-requires-2
-join-requires-2 c κs = search needs
+entered-requires : tie.Need-entered-requires
+entered-requires c κs = search needs
 
 returns : tie.Need-returns
-returns c = declared _ (thinOf (c .before .before .before .before .before .before .before .before .before .before .args .thin .now))
-    (c .before .before .before .before .before .before .before .before .before .before .args .b) _
-    (c .before .before .before .before .before .before .before .before .before .before .args .n) _ _ _ _ _ _ _
-    (c .before .before .before .before .before .before .value .ensures) (c .before .before .before .before .before .innermost-start .ensures)
-    (c .before .before .before .before .in-block .ensures) (c .before .before .before .rule .ensures) (c .before .before .rule2 .ensures)
-    (c .before .join .ensures) (c .join2 .ensures)
+returns c =
+    let at-innermost-start = c .before .before in
+    let at-value = at-innermost-start .before in
+    let start = at-value .before .before .before in
+    declared _ (thinOf (start .args .thin .now)) (start .args .b) _ (start .args .n) _ _ _ _ (at-value .value .ensures)
+    (at-innermost-start .innermost-start .ensures) (c .before .in-block .ensures) (c .entered .ensures)
 
 pub declare-name-spec : {M : Type 1} → statement M
-declare-name-spec =
-    tie.close
-    (tie.spec
-    value-requires
-    innermost-start-requires
-    in-block-requires
-    rule-requires
-    rule-requires-2
-    add-t13
-    join-requires
-    join-requires-2
-    returns)
+declare-name-spec = tie.close (tie.spec value-requires innermost-start-requires in-block-requires entered-requires returns)

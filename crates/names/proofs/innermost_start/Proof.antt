@@ -15,7 +15,9 @@ written-requires : tie.Need-written-requires
 written-requires c κs = search needs
 
 returns-2 : tie.Need-returns-2
-returns-2 c = innermost-some (thinOf (c .before .before .before .args .thin .now)) (c .before .before .before .args .b) _ (c .before .if1 .left) (c .written .ensures .0)
+returns-2 c =
+    let start = c .before .before .before in
+    innermost-some (thinOf (start .args .thin .now)) (start .args .b) _ (c .before .if1 .left) (c .written .ensures .0)
 
 pub innermost-start-spec : {M : Type 1} → statement M
 innermost-start-spec = tie.close (tie.spec returns sub-written written-requires returns-2)

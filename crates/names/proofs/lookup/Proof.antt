@@ -36,7 +36,9 @@ written-requires : tie.Need-written-requires Inv-loop μ-loop Inv-search μ-sear
 written-requires c κs = search needs
 
 loop-holds : tie.Need-loop-holds Inv-loop μ-loop Inv-search μ-search
-loop-holds c = (c .before .before .search .inv .0, c .before .before .search .inv .1 ∙ find-in _ _ _ _ (c .before .before .search .left) _ _ (c .before .search-test .taken) (c .written .ensures .0))
+loop-holds c =
+    let at-search = c .before .before in
+    (at-search .search .inv .0, at-search .search .inv .1 ∙ find-in _ _ _ _ (at-search .search .left) _ _ (c .before .search-test .taken) (c .written .ensures .0))
 
 sub-j : tie.Need-sub-j Inv-loop μ-loop Inv-search μ-search
 sub-j c = omega arith

@@ -35,7 +35,11 @@ token-requires : tie.Need-token-requires Inv-loop μ-loop
 token-requires c κs = search needs
 
 declare-at-requires : tie.Need-declare-at-requires Inv-loop μ-loop
-declare-at-requires c κs = (let f = c .before .before .before .before .before .loop .inv .few in omega (arith, c .before .before .before .before .loop-test .taken, c .before .before .before .before .before .before .before .before .before .before .before .before .before .pre .1 .0, c .before .before .before .before .before .before .before .before .before .before .before .before .before .pre .1 .1))
+declare-at-requires c κs =
+    let at-loop-test = c .before .before .before .before in
+    let at-loop = at-loop-test .before in
+    let start = at-loop .before .before .before .before .before .before .before .before in
+    (let f = at-loop .loop .inv .few in omega (arith, at-loop-test .loop-test .taken, start .pre .1 .0, start .pre .1 .1))
 
 blocks-after-requires : tie.Need-blocks-after-requires Inv-loop μ-loop
 blocks-after-requires c κs = (
@@ -59,12 +63,15 @@ use-at-requires : tie.Need-use-at-requires Inv-loop μ-loop
 use-at-requires c κs = omega (arith, c .before .before .before .before .before .before .before .token .ensures .1)
 
 add-i : tie.Need-add-i Inv-loop μ-loop
-add-i c = omega (
-  arith,
-  c .before .before .before .before .before .before .before .before .before .before .before .before .before .loop-test .taken,
-  c .before .before .before .before .before .before .before .before .before .before .before .before .before .before .before .before .before .before .before .before .before .before .pre .1 .0,
-  c .before .before .before .before .before .before .before .before .before .before .before .before .before .before .before .before .before .before .before .before .before .before .pre .1 .1,
-)
+add-i c =
+    let at-loop-test = c .before .before .before .before .before .before .before .before .before .before .before .before .before in
+    let start = at-loop-test .before .before .before .before .before .before .before .before .before in
+    omega (
+      arith,
+      at-loop-test .loop-test .taken,
+      start .pre .1 .0,
+      start .pre .1 .1,
+    )
 
 loop-less : tie.Need-loop-less Inv-loop μ-loop
 loop-less c = omega (arith, c .before .before .before .before .before .before .before .before .before .before .before .before .before .loop-test .taken)

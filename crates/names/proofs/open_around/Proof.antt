@@ -28,7 +28,17 @@ loop-holds c = (
 )
 
 enter-name-requires : tie.Need-enter-name-requires Inv-loop μ-loop
-enter-name-requires c κs = (let k = c .before .before .loop .inv .0 .count in (c .before .before .loop .inv .0 .rising, (omega (arith, thin-length 2 (c .before .before .loop .thin), c .before .before .loop .inv .1, c .before .before .before .before .before .open-block .kept .0, c .before .before .before .before .before .before .before .before .pre), (omega arith, omega arith))))
+enter-name-requires c κs =
+    let at-loop = c .before .before in
+    let at-open-block = at-loop .before .before .before in
+    let start = at-open-block .before .before .before in
+    (let k = at-loop .loop .inv .0 .count in (
+      at-loop .loop .inv .0 .rising,
+      (
+        omega (arith, thin-length 2 (at-loop .loop .thin), at-loop .loop .inv .1, at-open-block .open-block .kept .0, start .pre),
+        (omega arith, omega arith),
+      ),
+    ))
 
 sub-t : tie.Need-sub-t Inv-loop μ-loop
 sub-t c = omega arith
@@ -48,7 +58,9 @@ same-length : tie.Need-same-length Inv-loop μ-loop
 same-length c = c .before .loop .inv .1 ∙ c .before .before .before .before .open-block .kept .0
 
 returns : tie.Need-returns Inv-loop μ-loop
-returns c = (entering-end (c .before .loop .inv .0) (c .loop-test .left), stays-on (c .before .before .before .before .open-block .ensures .1) (c .before .loop .inv .0 .stays))
+returns c =
+    let at-open-block = c .before .before .before .before in
+    (entering-end (c .before .loop .inv .0) (c .loop-test .left), stays-on (at-open-block .open-block .ensures .1) (c .before .loop .inv .0 .stays))
 
 pub open-around-spec : {M : Type 1} → statement M
 open-around-spec =

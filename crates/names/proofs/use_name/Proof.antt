@@ -14,30 +14,18 @@ lookup-requires c κs = search needs
 put-found-requires : tie.Need-put-found-requires
 put-found-requires c κs = search needs
 
-rule-requires : tie.Need-rule-requires
-rule-requires c κs = search needs
-
-join-requires : tie.Need-join-requires
-join-requires c κs = search needs
+sought-requires : tie.Need-sought-requires
+sought-requires c κs = search needs
 
 same-length : tie.Need-same-length
 same-length c = search needs
 
 returns : tie.Need-returns
-returns c = used _ (thinOf (c .before .before .before .before .before .before .before .before .before .before .before .before .args .thin .now))
-    (c .before .before .before .before .before .before .before .before .before .before .before .before .args .b) _
-    (c .before .before .before .before .before .before .before .before .before .before .before .before .args .n) _ _ _ _ _
-    (c .before .before .before .before .before .before .before .value .ensures) (c .before .before .before .before .before .before .lookup .ensures .0)
-    (c .before .before .before .before .put-found .ensures) (c .before .rule .ensures) (c .join .ensures)
+returns c = used _ (thinOf (c .before .before .before .before .before .before .before .before .before .before .args .thin .now))
+    (c .before .before .before .before .before .before .before .before .before .before .args .b) _
+    (c .before .before .before .before .before .before .before .before .before .before .args .n) _ _ _ _
+    (c .before .before .before .before .before .before .value .ensures) (c .before .before .before .before .before .lookup .ensures .0)
+    (c .before .before .before .put-found .ensures) (c .sought .ensures)
 
 pub use-name-spec : {M : Type 1} → statement M
-use-name-spec =
-    tie.close
-    (tie.spec
-    value-requires
-    lookup-requires
-    put-found-requires
-    rule-requires
-    join-requires
-    same-length
-    returns)
+use-name-spec = tie.close (tie.spec value-requires lookup-requires put-found-requires sought-requires same-length returns)

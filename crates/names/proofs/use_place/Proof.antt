@@ -1,4 +1,5 @@
 -- `use_place` uses a name, and its index, by the shape. Assumes nothing.
+use Rattle.tape.specs.Events as E
 use Rattle.names.specs.Flat.{Searching, naming}
 use Rattle.scopes.specs.Names.{useName}
 use Rattle.ledger.specs.Book.{wideOf}
@@ -12,7 +13,7 @@ use Rattle.names.proofs.use_place.Tie as tie
 
 returns : tie.Need-returns
 unfolding usePlace
-returns c = rw (lt-ltb 3 _ (c .if1 .taken))
+returns c = rw (lt-ltb E.SUBSCRIPTED-INDEXED _ (c .if1 .taken))
 
 use-name-requires : tie.Need-use-name-requires
 use-name-requires c κs = search needs
@@ -22,7 +23,10 @@ same-length c = search needs
 
 returns-2 : tie.Need-returns-2
 unfolding usePlace
-returns-2 c = rw (le-ltb 3 _ (c .before .before .before .before .before .if1 .left), lt-ltb _ 2 (c .if2 .taken)) (c .before .before .before .use-name .ensures)
+returns-2 c =
+    let at-use-name = c .before .before .before in
+    let at-if1 = at-use-name .before .before in
+    rw (le-ltb E.SUBSCRIPTED-INDEXED _ (at-if1 .if1 .left), lt-ltb _ E.INDEXED (c .if2 .taken)) (at-use-name .use-name .ensures)
 
 add-use-name : tie.Need-add-use-name
 add-use-name c = search needs
@@ -36,9 +40,9 @@ same-length-2 c = search needs
 returns-3 : tie.Need-returns-3
 unfolding usePlace
 returns-3 c = rw (
-  le-ltb 3 _ (c .before .before .before .before .before .before .before .before .before .before .if1 .left),
-  le-ltb _ 2 (c .before .before .before .before .before .if2 .left),
-  eq-eqb _ 2 (c .before .before .before .before .if3 .taken),
+  le-ltb E.SUBSCRIPTED-INDEXED _ (c .before .before .before .before .before .before .before .before .before .before .if1 .left),
+  le-ltb _ E.INDEXED (c .before .before .before .before .before .if2 .left),
+  eq-eqb _ E.INDEXED (c .before .before .before .before .if3 .taken),
 ) (c .before .before .use-name2 .ensures
     ∙ ap (λ (s : Searching). naming (c .before .before .before .before .before .before .before .before .before .before .before .before .before .args .b)
     (useName (wideOf (c .before .before .before .before .before .before .before .before .before .before .before .before .before .args .wide .now) .values)
@@ -57,9 +61,9 @@ same-length-3 c = search needs
 returns-4 : tie.Need-returns-4
 unfolding usePlace
 returns-4 c = rw (
-  le-ltb 3 _ (c .before .before .before .before .before .before .before .before .before .before .if1 .left),
-  le-ltb _ 2 (c .before .before .before .before .before .if2 .left),
-  ne-eqb _ 2 (c .before .before .before .before .if3 .left),
+  le-ltb E.SUBSCRIPTED-INDEXED _ (c .before .before .before .before .before .before .before .before .before .before .if1 .left),
+  le-ltb _ E.INDEXED (c .before .before .before .before .before .if2 .left),
+  ne-eqb _ E.INDEXED (c .before .before .before .before .if3 .left),
 ) (c .before .before .use-name3 .ensures
     ∙ ap (λ (s : Searching). naming (c .before .before .before .before .before .before .before .before .before .before .before .before .before .args .b)
     (useName (wideOf (c .before .before .before .before .before .before .before .before .before .before .before .before .before .args .wide .now) .values)

@@ -1,4 +1,5 @@
 -- `use_register` uses the register that stands before or behind the event's token. Assumes nothing.
+use Rattle.tape.specs.Events as E
 use Rattle.names.specs.Naming.{useRegister}
 use Rattle.base.proofs.Tests.{same, other}
 use borrow.Author.Tests.{eq-eqb, ne-eqb}
@@ -22,8 +23,8 @@ returns c = rw (c .before .before .before .before .if1 .taken) (c .before .befor
 family-requires : tie.Need-family-requires
 family-requires c κs = search needs
 
-two-before-requires : tie.Need-two-before-requires
-two-before-requires c κs = search needs
+less-requires : tie.Need-less-requires
+less-requires c κs = search needs
 
 use-name-requires-2 : tie.Need-use-name-requires-2
 use-name-requires-2 c κs = search needs
@@ -34,14 +35,14 @@ same-length-2 c = search needs
 returns-2 : tie.Need-returns-2
 unfolding useRegister
 returns-2 c = rw (
-  ne-eqb _ 10 (c .before .before .before .before .before .before .before .if1 .left),
-  eq-eqb _ 34 (same (c .before .before .before .before .before .before .family .ensures) (c .before .before .before .before .before .if2 .taken)),
-  ← (c .before .before .before .two-before .ensures),
+  ne-eqb _ E.PROCEDURE (c .before .before .before .before .before .before .before .if1 .left),
+  eq-eqb _ E.COMPARED (same (c .before .before .before .before .before .before .family .ensures) (c .before .before .before .before .before .if2 .taken)),
+  ← (c .before .before .before .less .ensures),
 ) (c .before .before .use-name2 .ensures)
 
 returns-3 : tie.Need-returns-3
 unfolding useRegister
-returns-3 c = rw (ne-eqb _ 10 (c .before .before .if1 .left), ne-eqb _ 34 (other (c .before .family .ensures) (c .if2 .left)))
+returns-3 c = rw (ne-eqb _ E.PROCEDURE (c .before .before .if1 .left), ne-eqb _ E.COMPARED (other (c .before .family .ensures) (c .if2 .left)))
 
 pub use-register-spec : {M : Type 1} → statement M
 use-register-spec =
@@ -52,7 +53,7 @@ use-register-spec =
     same-length
     returns
     family-requires
-    two-before-requires
+    less-requires
     use-name-requires-2
     same-length-2
     returns-2

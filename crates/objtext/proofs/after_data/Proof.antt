@@ -21,7 +21,9 @@ add-result-2 : tie.Need-add-result-2
 add-result-2 c = search needs
 
 returns : tie.Need-returns
-returns c = (rw (c .content-length .ensures .0, c .before .two-at .ensures .0, length-place (c .before .before .before .args .t .now) (c .before .before .before .args .i)), search needs)
+returns c =
+    let start = c .before .before .before in
+    (rw (c .content-length .ensures .0, c .before .two-at .ensures .0, length-place (start .args .t .now) (start .args .i)), search needs)
 
 pub after-data-spec : {M : Type 1} → statement M
 after-data-spec =

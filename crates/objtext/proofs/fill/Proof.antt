@@ -18,7 +18,9 @@ abbrev μ-loop : tie.MeasureT-loop
 μ-loop t i n s₀ at j₀ s j = n - j
 
 loop-holds : tie.Need-loop-holds Inv-loop μ-loop
-loop-holds c = (search needs, search needs, fill-start (c .before .before .args .t .now) (c .before .before .args .i) (c .before .before .args .n) _ (c .before .before .args .at))
+loop-holds c =
+    let start = c .before .before in
+    (search needs, search needs, fill-start (start .args .t .now) (start .args .i) (start .args .n) _ (start .args .at))
 
 mul-byte-at : tie.Need-mul-byte-at Inv-loop μ-loop
 mul-byte-at c = search needs

@@ -6,13 +6,13 @@ use borrow.Author.Needs.{needs}
 use Rattle.base.proofs.Tests.{told, not-true, not-false}
 use Rattle.objtext.proofs.Places.{frame-on, frame-stop, frame-end}
 use Rattle.objtext.specs.Object.{framesFor}
-use Rattle.objtext.specs.Reader.{isContent}
+use Rattle.objtext.specs.Reader.{isContent, frameLine}
 use Rattle.objtext.proofs.is_content.Statement.{statement}
 use Rattle.objtext.proofs.is_content.Tie as tie
 
 abbrev Inv-loop : tie.InvT-loop
 Inv-loop t i k n frames₀ at₀ o₀ left₀ frames at o left =
-    (left ≤ n) × (at + 43 * frames ≡ i + 43 * framesFor n) × (o + 16 * frames ≡ 16 * framesFor n)
+    (left ≤ n) × (at + frameLine * frames ≡ i + frameLine * framesFor n) × (o + 16 * frames ≡ 16 * framesFor n)
     × (isContent frames k o left (drop at t) ≡ isContent (framesFor n) k 0 n (drop i t))
 
 abbrev μ-loop : tie.MeasureT-loop

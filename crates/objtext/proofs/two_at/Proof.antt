@@ -20,7 +20,9 @@ add-result : tie.Need-add-result
 add-result c = search needs
 
 returns : tie.Need-returns
-returns c = (rw (c .before .byte-at .ensures .0, c .byte-at2 .ensures .0) (two-place (c .before .before .before .args .t .now) (c .before .before .before .args .i)), search needs)
+returns c =
+    let start = c .before .before .before in
+    (rw (c .before .byte-at .ensures .0, c .byte-at2 .ensures .0) (two-place (start .args .t .now) (start .args .i)), search needs)
 
 pub two-at-spec : {M : Type 1} → statement M
 two-at-spec =

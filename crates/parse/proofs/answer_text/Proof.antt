@@ -13,7 +13,11 @@ enum-known-read : tie.Need-enum-known-read
 enum-known-read c = search needs
 
 answer-tokens-requires : tie.Need-answer-tokens-requires
-answer-tokens-requires c κs = let h = few (now (c .before .before .before .before .before .before .before .before .before .before .before .before .before .before .before .before .before .before .before .before .before .args .src)) (c .before .before .before .before .before .before .before .before .before .before .before .before .read-tokens .ensures) (search needs) (c .before .before .before .before .read .given .1) in let few-bytes = h .0 in let few-in-all = h .1 in search needs
+answer-tokens-requires c κs =
+    let at-read = c .before .before .before .before in
+    let at-read-tokens = at-read .before .before .before .before .before .before .before .before in
+    let start = at-read-tokens .before .before .before .before .before .before .before .before .before in
+    let h = few (now (start .args .src)) (at-read-tokens .read-tokens .ensures) (search needs) (at-read .read .given .1) in let few-bytes = h .0 in let few-in-all = h .1 in search needs
 
 enum-told : tie.Need-enum-told
 enum-told c = search needs
@@ -40,7 +44,12 @@ same-length-4 : tie.Need-same-length-4
 same-length-4 c = search needs
 
 returns : tie.Need-returns
-returns c = judged-read (now (c .before .before .before .before .before .before .before .before .before .before .before .before .before .before .before .before .before .before .before .before .before .before .before .before .args .src)) (c .before .before .before .before .before .before .before .before .before .before .before .before .before .before .before .read-tokens .ensures) (search needs) (c .before .before .before .before .before .before .before .read .given .1) (search needs) (search needs) (c .before .before .answer-tokens .ensures)
+returns c =
+    let at-answer-tokens = c .before .before in
+    let at-read = at-answer-tokens .before .before .before .before .before in
+    let at-read-tokens = at-read .before .before .before .before .before .before .before .before in
+    let start = at-read-tokens .before .before .before .before .before .before .before .before .before in
+    judged-read (now (start .args .src)) (at-read-tokens .read-tokens .ensures) (search needs) (at-read .read .given .1) (search needs) (search needs) (at-answer-tokens .answer-tokens .ensures)
 
 same-length-5 : tie.Need-same-length-5
 same-length-5 c = search needs
@@ -52,7 +61,10 @@ same-length-7 : tie.Need-same-length-7
 same-length-7 c = search needs
 
 returns-2 : tie.Need-returns-2
-returns-2 c = judged-refused (now (c .before .before .before .before .before .before .before .before .before .before .before .before .before .before .before .before .before .args .src)) (c .before .before .before .before .before .before .before .before .read-tokens .ensures) (search needs) 0 (c .enum-told .given .1) refl
+returns-2 c =
+    let at-read-tokens = c .before .before .before .before .before .before .before .before in
+    let start = at-read-tokens .before .before .before .before .before .before .before .before .before in
+    judged-refused (now (start .args .src)) (at-read-tokens .read-tokens .ensures) (search needs) 0 (c .enum-told .given .1) refl
 
 same-length-8 : tie.Need-same-length-8
 same-length-8 c = search needs
@@ -64,7 +76,10 @@ same-length-10 : tie.Need-same-length-10
 same-length-10 c = search needs
 
 returns-3 : tie.Need-returns-3
-returns-3 c = judged-refused (now (c .before .before .before .before .before .before .before .before .before .before .before .before .before .before .before .before .before .before .args .src)) (c .before .before .before .before .before .before .before .before .before .read-tokens .ensures) (search needs) 1 (c .before .read2 .given .1) refl
+returns-3 c =
+    let at-read-tokens = c .before .before .before .before .before .before .before .before .before in
+    let start = at-read-tokens .before .before .before .before .before .before .before .before .before in
+    judged-refused (now (start .args .src)) (at-read-tokens .read-tokens .ensures) (search needs) 1 (c .before .read2 .given .1) refl
 
 same-length-11 : tie.Need-same-length-11
 same-length-11 c = search needs
@@ -76,7 +91,10 @@ same-length-13 : tie.Need-same-length-13
 same-length-13 c = search needs
 
 returns-4 : tie.Need-returns-4
-returns-4 c = judged-refused (now (c .before .before .before .before .before .before .before .before .before .before .before .before .before .before .before .before .before .before .args .src)) (c .before .before .before .before .before .before .before .before .before .read-tokens .ensures) (search needs) 2 (c .before .read3 .given .1) refl
+returns-4 c =
+    let at-read-tokens = c .before .before .before .before .before .before .before .before .before in
+    let start = at-read-tokens .before .before .before .before .before .before .before .before .before in
+    judged-refused (now (start .args .src)) (at-read-tokens .read-tokens .ensures) (search needs) 2 (c .before .read3 .given .1) refl
 
 same-length-14 : tie.Need-same-length-14
 same-length-14 c = search needs
@@ -88,7 +106,10 @@ same-length-16 : tie.Need-same-length-16
 same-length-16 c = search needs
 
 returns-5 : tie.Need-returns-5
-returns-5 c = absurd (some-room (now (c .before .before .before .before .before .before .before .before .before .before .before .before .before .before .before .before .before .before .args .src)) (c .before .before .before .before .before .before .before .before .before .read-tokens .ensures) (search needs) (c .before .read4 .given .1))
+returns-5 c =
+    let at-read-tokens = c .before .before .before .before .before .before .before .before .before in
+    let start = at-read-tokens .before .before .before .before .before .before .before .before .before in
+    absurd (some-room (now (start .args .src)) (at-read-tokens .read-tokens .ensures) (search needs) (c .before .read4 .given .1))
 
 pub answer-text-spec : {M : Type 1} → statement M
 answer-text-spec =

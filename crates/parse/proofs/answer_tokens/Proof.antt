@@ -12,7 +12,9 @@ slice-aggregate-program : tie.Need-slice-aggregate-program
 slice-aggregate-program c = omega (arith, length-take (c .before .before .before .before .args .n) (now (c .before .before .before .before .args .kinds)))
 
 program-requires : tie.Need-program-requires
-program-requires c κs = omega (arith, length-take (c .before .before .before .before .before .args .n) (now (c .before .before .before .before .before .args .kinds)))
+program-requires c κs =
+    let start = c .before .before .before .before .before in
+    omega (arith, length-take (start .args .n) (now (start .args .kinds)))
 
 same-length : tie.Need-same-length
 same-length c = search needs

@@ -50,7 +50,8 @@ same-length c = search needs
 
 returns : tie.Need-returns Inv-loop μ-loop
 returns c =
-    called (ap (registersText 0) (take-all (c .before .loop .i) (c .before .before .before .before .args .regs .now) (c .loop-test .left))) (c .before .loop .inv .2)
+    let start = c .before .before .before .before in
+    called (ap (registersText 0) (take-all (c .before .loop .i) (start .args .regs .now) (c .loop-test .left))) (c .before .loop .inv .2)
 
 pub put-registers-spec : {M : Type 1} → statement M
 put-registers-spec =

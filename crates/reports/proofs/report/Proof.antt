@@ -44,8 +44,13 @@ same-length c = search needs
 returns : tie.Need-returns
 unfolding reportText stops codes
 returns c =
-    into
-    (two (two (two (two (c .before .before .before .before .before .before .before .before .before .before .before .before .before .before .before .before .before .before .before .before .before .before .put-told .ensures) (c .before .before .before .before .before .before .before .before .before .before .before .before .before .before .before .before .before .put-figure .ensures)) (c .before .before .before .before .before .before .before .before .before .before .before .before .put-figure2 .ensures)) (c .before .before .before .before .before .before .put-told2 .ensures)) (c .before .before .put-registers .ensures))
+    let at-put-registers = c .before .before in
+    let at-put-told2 = at-put-registers .before .before .before .before in
+    let at-put-figure2 = at-put-told2 .before .before .before .before .before .before in
+    let at-put-figure = at-put-figure2 .before .before .before .before .before in
+    let at-put-told = at-put-figure .before .before .before .before .before in
+    into (two (two (two (two (at-put-told .put-told .ensures) (at-put-figure .put-figure .ensures)) (at-put-figure2 .put-figure2 .ensures))
+    (at-put-told2 .put-told2 .ensures)) (at-put-registers .put-registers .ensures))
 
 pub report-spec : {M : Type 1} → statement M
 report-spec =

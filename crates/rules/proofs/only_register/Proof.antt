@@ -25,9 +25,11 @@ rule-requires : tie.Need-rule-requires
 rule-requires c κs = search needs
 
 returns-2 : tie.Need-returns-2
-returns-2 c = λ f s.
-    answers.one-register s _ _ (c .before .before .before .meaning .ensures) _ (c .before .before .before .before .if1 .left) (c .before .before .is-register .ensures)
-    (c .before .is-bare .ensures) (c .rule .ensures)
+returns-2 c =
+    let at-is-register = c .before .before in
+    let at-meaning = at-is-register .before in
+    let at-if1 = at-meaning .before in
+    λ f s. answers.one-register s _ _ (at-meaning .meaning .ensures) _ (at-if1 .if1 .left) (at-is-register .is-register .ensures) (c .before .is-bare .ensures) (c .rule .ensures)
 
 pub only-register-spec : {M : Type 1} → statement M
 only-register-spec =

@@ -36,10 +36,13 @@ broken-requires : tie.Need-broken-requires
 broken-requires c κs = search needs
 
 returns-3 : tie.Need-returns-3
-returns-3 c = λ f s.
-    answers.placed-nowhere s _ _ (c .before .before .before .before .before .meaning .ensures) _
-    (sym (c .before .before .before .before .is-register .ensures) ∙ c .before .before .before .if1 .left) (sym (c .before .before .is-cell .ensures) ∙ c .before .if2 .left)
-    (c .broken .ensures)
+returns-3 c =
+    let at-is-cell = c .before .before in
+    let at-if1 = at-is-cell .before in
+    let at-is-register = at-if1 .before in
+    let at-meaning = at-is-register .before in
+    λ f s. answers.placed-nowhere s _ _ (at-meaning .meaning .ensures) _ (sym (at-is-register .is-register .ensures) ∙ at-if1 .if1 .left)
+    (sym (at-is-cell .is-cell .ensures) ∙ c .before .if2 .left) (c .broken .ensures)
 
 pub place-rules-spec : {M : Type 1} → statement M
 place-rules-spec =

@@ -37,11 +37,15 @@ add-t11 c = search needs
 
 returns : tie.Need-returns
 unfolding comment
-returns c = rw (ran (c .before .before .before .before .args .n) (now (c .before .before .before .before .args .s)) (c .before .run .ensures .is)) (search tests)
+returns c =
+    let start = c .before .before .before .before in
+    rw (ran (start .args .n) (now (start .args .s)) (c .before .run .ensures .is)) (search tests)
 
 returns-2 : tie.Need-returns-2
 unfolding comment
-returns-2 c = rw (ran (c .before .before .before .before .args .n) (now (c .before .before .before .before .args .s)) (c .before .run .ensures .is)) (search tests)
+returns-2 c =
+    let start = c .before .before .before .before in
+    rw (ran (start .args .n) (now (start .args .s)) (c .before .run .ensures .is)) (search tests)
 
 pub comment-spec : {M : Type 1} → statement M
 comment-spec =

@@ -37,10 +37,16 @@ returns : tie.Need-returns Inv-loop μ-loop
 returns c = record { size = run-stop _ _ _ (search needs) (rw (← c .before .digit .ensures .0) (search tests)) (search needs); value = search needs; fits = search needs }
 
 mul-cap : tie.Need-mul-cap Inv-loop μ-loop
-mul-cap c = omega (arith, mul-le-mul-left (c .before .before .before .before .loop .v) (c .before .before .before .before .before .before .pre), c .before .before .before .before .loop .inv .2)
+mul-cap c =
+    let at-loop = c .before .before .before .before in
+    let start = at-loop .before .before in
+    omega (arith, mul-le-mul-left (at-loop .loop .v) (start .pre), at-loop .loop .inv .2)
 
 add-cap : tie.Need-add-cap Inv-loop μ-loop
-add-cap c = omega (arith, mul-le-mul-left (c .before .before .before .before .loop .v) (c .before .before .before .before .before .before .pre), c .before .before .before .before .loop .inv .2)
+add-cap c =
+    let at-loop = c .before .before .before .before in
+    let start = at-loop .before .before in
+    omega (arith, mul-le-mul-left (at-loop .loop .v) (start .pre), at-loop .loop .inv .2)
 
 cap-requires : tie.Need-cap-requires Inv-loop μ-loop
 cap-requires c κs = search needs

@@ -53,9 +53,15 @@ number-requires-2 c κs = search needs
 
 returns-4 : tie.Need-returns-4
 unfolding lexeme
-returns-4 c = let s = now (c .before .before .before .before .before .before .before .before .args .s) in
-    rw (c .before .before .before .before .before .if1 .left, c .before .before .before .before .if2 .left, c .before .before .before .if3 .left, eq-eqb _ _ (c .before .before .if4 .taken))
-    (c .number2 .ensures ∙ ap (λ (t : List ℕ). number (inBase 10) 10 2147483648 negated 1 t) (to-end s 1) ∙ ap (λ (p : ℕ → Bool). number p 10 2147483648 negated 1 (drop 1 s)) decimal)
+returns-4 c =
+    let at-if4 = c .before .before in
+    let at-if3 = at-if4 .before in
+    let at-if2 = at-if3 .before in
+    let at-if1 = at-if2 .before in
+    let start = at-if1 .before .before .before in
+    let s = now (start .args .s) in rw (at-if1 .if1 .left, at-if2 .if2 .left, at-if3 .if3 .left, eq-eqb _ _ (at-if4 .if4 .taken))
+    (c .number2 .ensures ∙ ap (λ (t : List ℕ). number (inBase 10) 10 2147483648 negated 1 t) (to-end s 1)
+    ∙ ap (λ (p : ℕ → Bool). number p 10 2147483648 negated 1 (drop 1 s)) decimal)
 
 sub-number-2 : tie.Need-sub-number-2
 sub-number-2 c = search needs
@@ -71,15 +77,21 @@ number-requires-3 c κs = search needs
 
 returns-5 : tie.Need-returns-5
 unfolding lexeme
-returns-5 c = let s = now (c .before .before .before .before .before .before .before .before .before .args .s) in
-    rw (
-      c .before .before .before .before .before .before .if1 .left,
-      c .before .before .before .before .before .if2 .left,
-      c .before .before .before .before .if3 .left,
-      ne-eqb _ _ (c .before .before .before .if4 .left),
-      eq-eqb _ _ (c .before .before .if5 .taken),
-    )
-    (c .number3 .ensures ∙ ap (λ (t : List ℕ). number (inBase 16) 16 4294967295 plain 1 t) (to-end s 1) ∙ ap (λ (p : ℕ → Bool). number p 16 4294967295 plain 1 (drop 1 s)) hexadecimal)
+returns-5 c =
+    let at-if5 = c .before .before in
+    let at-if4 = at-if5 .before in
+    let at-if3 = at-if4 .before in
+    let at-if2 = at-if3 .before in
+    let at-if1 = at-if2 .before in
+    let start = at-if1 .before .before .before in
+    let s = now (start .args .s) in rw (
+      at-if1 .if1 .left,
+      at-if2 .if2 .left,
+      at-if3 .if3 .left,
+      ne-eqb _ _ (at-if4 .if4 .left),
+      eq-eqb _ _ (at-if5 .if5 .taken),
+    ) (c .number3 .ensures ∙ ap (λ (t : List ℕ). number (inBase 16) 16 4294967295 plain 1 t) (to-end s 1)
+    ∙ ap (λ (p : ℕ → Bool). number p 16 4294967295 plain 1 (drop 1 s)) hexadecimal)
 
 sign-requires : tie.Need-sign-requires
 sign-requires c κs = search needs

@@ -27,10 +27,16 @@ returns c = short-name (now (c .before .before .before .before .before .args .s)
     (c .before .before .before .least .ensures) (c .before .digits .ensures) (c .if1 .taken)
 
 sub-digits : tie.Need-sub-digits
-sub-digits c = omega (arith, c .before .digits .ensures .fits, length-take (c .before .before .before .least .result) (now (c .before .before .before .before .before .args .s)))
+sub-digits c =
+    let at-least = c .before .before .before in
+    let start = at-least .before .before in
+    omega (arith, c .before .digits .ensures .fits, length-take (at-least .least .result) (now (start .args .s)))
 
 part-digits-start : tie.Need-part-digits-start
-part-digits-start c = omega (arith, c .before .digits .ensures .fits, length-take (c .before .before .before .least .result) (now (c .before .before .before .before .before .args .s)))
+part-digits-start c =
+    let at-least = c .before .before .before in
+    let start = at-least .before .before in
+    omega (arith, c .before .digits .ensures .fits, length-take (at-least .least .result) (now (start .args .s)))
 
 part-digits-end : tie.Need-part-digits-end
 part-digits-end c = search needs

@@ -19,18 +19,41 @@ comment-requires c κs = search needs
 
 returns : tie.Need-returns
 unfolding nameOrWord
-returns c = let n = c .before .before .before .name in
-    rw (← n .ensures .size, kind-of (now (c .before .before .before .before .before .args .s)) (n .result) (c .before .before .word .result) (c .before .before .before .before .before .pre .0) (c .before .before .before .before .before .pre .1) (n .ensures) (c .before .before .word .ensures), eq-eqb (c .before .before .word .result) 15 (c .before .if1 .taken)) (c .comment .ensures)
+returns c =
+    let at-word = c .before .before in
+    let at-name = at-word .before in
+    let start = at-name .before .before in
+    let n = at-name .name in rw (
+      ← n .ensures .size,
+      kind-of (now (start .args .s)) (n .result) (at-word .word .result) (start .pre .0) (start .pre .1)
+          (n .ensures) (at-word .word .ensures),
+      eq-eqb (at-word .word .result) 15 (c .before .if1 .taken),
+    ) (c .comment .ensures)
 
 returns-2 : tie.Need-returns-2
 unfolding nameOrWord
-returns-2 c = let n = c .before .before .before .name in
-    rw (← n .ensures .size, kind-of (now (c .before .before .before .before .before .args .s)) (n .result) (c .before .before .word .result) (c .before .before .before .before .before .pre .0) (c .before .before .before .before .before .pre .1) (n .ensures) (c .before .before .word .ensures), ← n .ensures .value) (search tests)
+returns-2 c =
+    let at-word = c .before .before in
+    let at-name = at-word .before in
+    let start = at-name .before .before in
+    let n = at-name .name in rw (
+      ← n .ensures .size,
+      kind-of (now (start .args .s)) (n .result) (at-word .word .result) (start .pre .0) (start .pre .1)
+          (n .ensures) (at-word .word .ensures),
+      ← n .ensures .value,
+    ) (search tests)
 
 returns-3 : tie.Need-returns-3
 unfolding nameOrWord
-returns-3 c = let n = c .before .before .before .name in
-    rw (← n .ensures .size, kind-of (now (c .before .before .before .before .before .args .s)) (n .result) (c .before .before .word .result) (c .before .before .before .before .before .pre .0) (c .before .before .before .before .before .pre .1) (n .ensures) (c .before .before .word .ensures)) (search tests)
+returns-3 c =
+    let at-word = c .before .before in
+    let at-name = at-word .before in
+    let start = at-name .before .before in
+    let n = at-name .name in rw (
+      ← n .ensures .size,
+      kind-of (now (start .args .s)) (n .result) (at-word .word .result) (start .pre .0) (start .pre .1)
+          (n .ensures) (at-word .word .ensures),
+    ) (search tests)
 
 pub name-or-word-spec : {M : Type 1} → statement M
 name-or-word-spec =

@@ -31,7 +31,10 @@ part-front-end : tie.Need-part-front-end Inv-loop μ-loop
 part-front-end c = search needs
 
 front-requires : tie.Need-front-requires Inv-loop μ-loop
-front-requires c κs = let s = now (c .before .before .before .before .args .s) in rw (to-end s (c .before .before .loop .at)) (omega (arith, length-drop (c .before .before .loop .at) s))
+front-requires c κs =
+    let at-loop = c .before .before in
+    let start = at-loop .before .before in
+    let s = now (start .args .s) in rw (to-end s (at-loop .loop .at)) (omega (arith, length-drop (at-loop .loop .at) s))
 
 enum-known-l : tie.Need-enum-known-l Inv-loop μ-loop
 enum-known-l c = search needs
@@ -94,7 +97,13 @@ enum-told-2 : tie.Need-enum-told-2 Inv-loop μ-loop
 enum-told-2 c = search needs
 
 returns-3 : tie.Need-returns-3 Inv-loop μ-loop
-returns-3 c = sym (c .before .before .before .before .before .loop .inv .1 ∙ out-of-range (now (c .before .before .before .before .before .before .before .args .s)) (c .before .before .before .before .before .loop .at) (c .before .before .front .result) (c .before .before .before .before .loop-test .taken) (c .before .before .front .ensures) (c .enum-told2 .given .1))
+returns-3 c =
+    let at-front = c .before .before in
+    let at-loop-test = at-front .before .before in
+    let at-loop = at-loop-test .before in
+    let start = at-loop .before .before in
+    sym (at-loop .loop .inv .1 ∙ out-of-range (now (start .args .s)) (at-loop .loop .at) (at-front .front .result) (at-loop-test .loop-test .taken)
+    (at-front .front .ensures) (c .enum-told2 .given .1))
 
 returns-4 : tie.Need-returns-4 Inv-loop μ-loop
 returns-4 c = sym (c .before .loop .inv .1 ∙ at-end _ _ (search needs))

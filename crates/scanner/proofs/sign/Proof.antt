@@ -44,7 +44,9 @@ returns-3 c = one (now (c .before .before .before .args .s)) 42 (search needs) (
 
 returns-4 : tie.Need-returns-4
 unfolding sign begins
-returns-4 c = c .two-or .ensures ∙ two (now (c .before .before .before .before .args .s)) 43 43 K.ADD-LOGICAL (Token K.PLUS 0 1) (search needs) (sym (c .before .match .keys4)) refl (λ t. refl) (λ y t e. rw (e, sign))
+returns-4 c =
+    let start = c .before .before .before .before in
+    c .two-or .ensures ∙ two (now (start .args .s)) 43 43 K.ADD-LOGICAL (Token K.PLUS 0 1) (search needs) (sym (c .before .match .keys4)) refl (λ t. refl) (λ y t e. rw (e, sign))
 
 returns-5 : tie.Need-returns-5
 unfolding sign begins
@@ -52,11 +54,15 @@ returns-5 c = one (now (c .before .before .before .args .s)) 44 (search needs) (
 
 returns-6 : tie.Need-returns-6
 unfolding sign begins
-returns-6 c = c .two-or2 .ensures ∙ two (now (c .before .before .before .before .args .s)) 45 45 K.SUBTRACT-LOGICAL (Token K.MINUS 0 1) (search needs) (sym (c .before .match .keys6)) refl (λ t. refl) (λ y t e. rw (e, sign))
+returns-6 c =
+    let start = c .before .before .before .before in
+    c .two-or2 .ensures ∙ two (now (start .args .s)) 45 45 K.SUBTRACT-LOGICAL (Token K.MINUS 0 1) (search needs) (sym (c .before .match .keys6)) refl (λ t. refl) (λ y t e. rw (e, sign))
 
 returns-7 : tie.Need-returns-7
 unfolding sign begins
-returns-7 c = c .two-or3 .ensures ∙ two (now (c .before .before .before .before .args .s)) 58 61 K.BECOMES (Token K.COLON 0 1) (search needs) (sym (c .before .match .keys7)) refl (λ t. refl) (λ y t e. rw (e, sign))
+returns-7 c =
+    let start = c .before .before .before .before in
+    c .two-or3 .ensures ∙ two (now (start .args .s)) 58 61 K.BECOMES (Token K.COLON 0 1) (search needs) (sym (c .before .match .keys7)) refl (λ t. refl) (λ y t e. rw (e, sign))
 
 returns-8 : tie.Need-returns-8
 unfolding sign begins
@@ -64,7 +70,9 @@ returns-8 c = one (now (c .before .before .before .args .s)) 59 (search needs) (
 
 returns-9 : tie.Need-returns-9
 unfolding sign begins
-returns-9 c = c .two-or4 .ensures ∙ two (now (c .before .before .before .before .args .s)) 60 61 K.AT-MOST (Token K.LESS 0 1) (search needs) (sym (c .before .match .keys9)) refl (λ t. refl) (λ y t e. rw (e, sign))
+returns-9 c =
+    let start = c .before .before .before .before in
+    c .two-or4 .ensures ∙ two (now (start .args .s)) 60 61 K.AT-MOST (Token K.LESS 0 1) (search needs) (sym (c .before .match .keys9)) refl (λ t. refl) (λ y t e. rw (e, sign))
 
 returns-10 : tie.Need-returns-10
 unfolding sign begins
@@ -72,7 +80,9 @@ returns-10 c = one (now (c .before .before .before .args .s)) 61 (search needs) 
 
 returns-11 : tie.Need-returns-11
 unfolding sign begins
-returns-11 c = c .two-or5 .ensures ∙ two (now (c .before .before .before .before .args .s)) 62 61 K.AT-LEAST (Token K.MORE 0 1) (search needs) (sym (c .before .match .keys11)) refl (λ t. refl) (λ y t e. rw (e, sign))
+returns-11 c =
+    let start = c .before .before .before .before in
+    c .two-or5 .ensures ∙ two (now (start .args .s)) 62 61 K.AT-LEAST (Token K.MORE 0 1) (search needs) (sym (c .before .match .keys11)) refl (λ t. refl) (λ y t e. rw (e, sign))
 
 returns-12 : tie.Need-returns-12
 unfolding sign begins
@@ -80,10 +90,16 @@ returns-12 c = one (now (c .before .before .before .args .s)) 64 (search needs) 
 
 returns-13 : tie.Need-returns-13
 unfolding sign begins
-returns-13 c = c .two-or6 .ensures ∙ two (now (c .before .before .before .before .args .s)) 94 61 K.UNEQUAL NoToken (search needs) (sym (c .before .match .keys13)) refl (λ t. refl) (λ y t e. rw (e, sign))
+returns-13 c =
+    let start = c .before .before .before .before in
+    c .two-or6 .ensures ∙ two (now (start .args .s)) 94 61 K.UNEQUAL NoToken (search needs) (sym (c .before .match .keys13)) refl (λ t. refl) (λ y t e. rw (e, sign))
 
 returns-14 : tie.Need-returns-14
-returns-14 c = let q = c .match .rest in none (now (c .before .before .before .args .s)) (search needs) (q .0 .0 .0 .0 .0 .0 .0 .0 .0 .0 .0 .0 .1) (q .0 .0 .0 .0 .0 .0 .0 .0 .0 .0 .0 .1) (q .0 .0 .0 .0 .0 .0 .0 .0 .0 .0 .1) (q .0 .0 .0 .0 .0 .0 .0 .0 .0 .1) (q .0 .0 .0 .0 .0 .0 .0 .0 .1) (q .0 .0 .0 .0 .0 .0 .0 .1) (q .0 .0 .0 .0 .0 .0 .1) (q .0 .0 .0 .0 .0 .1) (q .0 .0 .0 .0 .1) (q .0 .0 .0 .1) (q .0 .0 .1) (q .0 .1) (q .1)
+returns-14 c =
+    let start = c .before .before .before in
+    let q = c .match .rest in none (now (start .args .s)) (search needs) (q .0 .0 .0 .0 .0 .0 .0 .0 .0 .0 .0 .0 .1) (q .0 .0 .0 .0 .0 .0 .0 .0 .0 .0 .0 .1)
+    (q .0 .0 .0 .0 .0 .0 .0 .0 .0 .0 .1) (q .0 .0 .0 .0 .0 .0 .0 .0 .0 .1) (q .0 .0 .0 .0 .0 .0 .0 .0 .1) (q .0 .0 .0 .0 .0 .0 .0 .1)
+    (q .0 .0 .0 .0 .0 .0 .1) (q .0 .0 .0 .0 .0 .1) (q .0 .0 .0 .0 .1) (q .0 .0 .0 .1) (q .0 .0 .1) (q .0 .1) (q .1)
 
 pub sign-spec : {M : Type 1} → statement M
 sign-spec =

@@ -8,6 +8,7 @@ use Rattle.scanner.specs.Inner.{keyKind}
 use Rattle.scanner.proofs.word.Statement.{statement}
 use Rattle.scanner.proofs.word.Tie as tie
 
+-- `WORDS` of the code, as `build/words` makes it
 slots : List ℕ
 slots = 2599819994320 ∷ 1225623491 ∷ 883288 ∷ 43611015 ∷ 49834765 ∷ 85081182 ∷ 1 ∷ 85067357 ∷ 42437 ∷ 3295988556 ∷ 33740694 ∷ 31497 ∷ 3492157576 ∷ 1 ∷ 1 ∷ 1 ∷
     4652580649483927 ∷ 57049 ∷ 3020246200145 ∷ 1 ∷ 1 ∷ 1 ∷ 856603 ∷ 1941020 ∷ 124743218865185 ∷ 1 ∷ 1301194 ∷ 1157840531 ∷ 86046795 ∷ 1 ∷ 3062688338 ∷ 71215694 ∷
@@ -24,11 +25,11 @@ cast-result c = search needs
 
 returns : tie.Need-returns
 unfolding slots keyKind numberFrom
-returns c = hit slots (c .before .args .key) tt (search needs) (c .if1 .taken)
+returns c = hit slots 131 44 (c .before .args .key) (c .if1 .taken) tt (search needs)
 
 returns-2 : tie.Need-returns-2
 unfolding slots keyKind numberFrom
-returns-2 c = miss slots (c .before .args .key) tt (c .if1 .left)
+returns-2 c = miss slots 131 44 (c .before .args .key) (c .if1 .left) tt
 
 pub word-spec : {M : Type 1} → statement M
 word-spec = tie.close (tie.spec mul-w array-read-w cast-result returns returns-2)

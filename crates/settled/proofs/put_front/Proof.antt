@@ -1,7 +1,7 @@
 -- `put_front` copies the names in front. The invariant: what is left of them, laid from the place reached, makes the whole. Assumes nothing.
 use Rattle.settled.proofs.Laying.{lay-turn, lay-end, values-turn, values-end, front-key}
 use Rattle.translation.specs.Translate.{kindsOf, valuesOf}
-use Rattle.scopes.specs.Search.{inFront}
+use Rattle.scopes.specs.Search.{inFront, firstToken}
 use Rattle.ledger.specs.Book.{wideOf, onWide}
 use lib.Seq.{sets}
 use lib.ListN.{length, drop}
@@ -15,11 +15,11 @@ use Rattle.settled.proofs.put_front.Statement.{statement}
 use Rattle.settled.proofs.put_front.Tie as tie
 
 abbrev Inv-loop : tie.InvT-loop
-Inv-loop kinds₀ wide₀ t₀ kinds wide t = (t ≤ 17) × (length kinds ≡ length kinds₀) × (length wide ≡ length wide₀) × (sets kinds t (drop t (kindsOf inFront)) ≡ sets kinds₀ 0 (kindsOf inFront))
+Inv-loop kinds₀ wide₀ t₀ kinds wide t = (t ≤ firstToken) × (length kinds ≡ length kinds₀) × (length wide ≡ length wide₀) × (sets kinds t (drop t (kindsOf inFront)) ≡ sets kinds₀ 0 (kindsOf inFront))
     × (onWide 0 (λ (l : List ℕ). sets l t (drop t (valuesOf inFront))) (wideOf wide) ≡ onWide 0 (λ (l : List ℕ). sets l 0 (valuesOf inFront)) (wideOf wide₀))
 
 abbrev μ-loop : tie.MeasureT-loop
-μ-loop kinds₀ wide₀ t₀ kinds wide t = 17 - t
+μ-loop kinds₀ wide₀ t₀ kinds wide t = firstToken - t
 
 loop-holds : tie.Need-loop-holds Inv-loop μ-loop
 loop-holds c = (search needs, refl, refl, refl, refl)

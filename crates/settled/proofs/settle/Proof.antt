@@ -19,7 +19,7 @@ slice-aggregate-meanings-2 c = search needs
 meanings-requires : tie.Need-meanings-requires
 meanings-requires c κs =
     let start = c .before .before .before .before .before .before .before .before in
-    record { small = start .pre .1; nested = start .pre .0; deep = omega arith; wide = omega arith }
+    record { small = omega (arith, start .pre .1); nested = start .pre .0; deep = omega arith; wide = omega arith }
 
 slice-aggregate-judge : tie.Need-slice-aggregate-judge
 slice-aggregate-judge c = search needs

@@ -349,7 +349,24 @@ body-same-length-5 t c = search needs
 
 body-returns-5 : (t : ℕ) → body-lts.Need-returns-5 (body-calls t) (body-at t) body.Post body-Inv-loop body-μ-loop
 unfolding bodyOf andThen look
-body-returns-5 t c = record { read = leaves (c .before .before .before .before .before .before .before .before .before .before .before .before .before .loop .inv) (λ f. rw (among declarators (c .before .before .before .before .before .before .before .before .before .before .before .before .kind-at .ensures) (c .before .before .before .before .before .before .before .before .before .before .before .declares .ensures) (c .before .before .before .before .before .before .before .before .before .before .if1 .left), eq-eqb _ _ (same (c .before .before .before .before .before .before .before .before .before .before .before .before .kind-at .ensures .is) (c .before .before .before .before .before .before .before .before .before .if4 .left))) (goes _ (c .before .before .before .before .before .before .before .procedure .ensures .read) (c .before .before .before .if5 .left) (λ d w. stops _ (c .before .before .wanted2 .ensures .read) (c .if6 .taken)))); low = search needs }
+body-returns-5 t c =
+    let at-wanted2 = c .before .before in
+    let at-if5 = at-wanted2 .before in
+    let at-procedure = at-if5 .before .before .before .before in
+    let at-if4 = at-procedure .before .before in
+    let at-if1 = at-if4 .before in
+    let at-declares = at-if1 .before in
+    let at-kind-at = at-declares .before in
+    let at-loop = at-kind-at .before in
+    record {
+      read = leaves (at-loop .loop .inv)
+          (λ f. rw (
+            among declarators (at-kind-at .kind-at .ensures) (at-declares .declares .ensures) (at-if1 .if1 .left),
+            eq-eqb _ _ (same (at-kind-at .kind-at .ensures .is) (at-if4 .if4 .left)),
+          )
+          (goes _ (at-procedure .procedure .ensures .read) (at-if5 .if5 .left) (λ d w. stops _ (at-wanted2 .wanted2 .ensures .read) (c .if6 .taken))));
+      low = search needs;
+    }
 
 body-loop-less-2 : (t : ℕ) → body-lts.Need-loop-less-2 (body-calls t) (body-at t) body.Post body-Inv-loop body-μ-loop
 body-loop-less-2 t c = search needs
@@ -393,11 +410,16 @@ for-do-same-length-2 : (t : ℕ) → for-do-lts.Need-same-length-2 (for-do-calls
 for-do-same-length-2 t c = search needs
 
 for-do-returns-2 : (t : ℕ) → for-do-lts.Need-returns-2 (for-do-calls t) (for-do-at t) for-do.Post
-for-do-returns-2 t c = record {
-  read = since (omega arith)
-      (along (for-parts (G.statement (c .before .before .before .before .before .before .before .before .before .before .before .before .before .before .args .room)) (c .before .before .before .before .before .before .before .before .before .before .before .before .before .before .args .i) _ _) (goes _ (c .before .before .before .before .before .before .before .before .before .before .control .ensures .0 .read) (c .before .before .before .before .before .before .if1 .left) (λ a w. stops _ (c .before .before .before .before .limit .ensures .0 .read) (c .if2 .taken))));
-  low = search needs;
-}
+for-do-returns-2 t c =
+    let at-limit = c .before .before .before .before in
+    let at-if1 = at-limit .before .before in
+    let at-control = at-if1 .before .before .before .before in
+    let start = at-control .before .before .before .before in
+    record {
+      read = since (omega arith) (along (for-parts (G.statement (start .args .room)) (start .args .i) _ _)
+          (goes _ (at-control .control .ensures .0 .read) (at-if1 .if1 .left) (λ a w. stops _ (at-limit .limit .ensures .0 .read) (c .if2 .taken))));
+      low = search needs;
+    }
 
 for-do-statement-requires : (t : ℕ) → for-do-lts.Need-statement-requires (for-do-calls t) (for-do-at t) for-do.Post
 for-do-statement-requires t c κs = search needs
@@ -406,23 +428,64 @@ for-do-same-length-3 : (t : ℕ) → for-do-lts.Need-same-length-3 (for-do-calls
 for-do-same-length-3 t c = search needs
 
 for-do-returns-3 : (t : ℕ) → for-do-lts.Need-returns-3 (for-do-calls t) (for-do-at t) for-do.Post
-for-do-returns-3 t c = record { read = since (omega arith) (along (for-parts (G.statement (c .before .before .before .before .before .before .before .before .before .before .before .before .before .before .before .before .before .before .before .before .args .room)) (c .before .before .before .before .before .before .before .before .before .before .before .before .before .before .before .before .before .before .before .before .args .i) _ _) (goes _ (c .before .before .before .before .before .before .before .before .before .before .before .before .before .before .before .before .control .ensures .0 .read) (c .before .before .before .before .before .before .before .before .before .before .before .before .if1 .left) (λ a w. goes _ (c .before .before .before .before .before .before .before .before .before .before .limit .ensures .0 .read) (c .before .before .before .before .before .before .if2 .left) (λ l x. stops _ (c .before .before .before .before .statement .ensures .read) (c .if3 .taken))))); low = let o = c .before .before .before .before .before .before .before .before .before .before .before .before .before .before .before .before .before .before .before .before .pre in let a = c .before .before .before .before .before .before .before .before .before .before .before .before .before .before .before .before .control in let l = c .before .before .before .before .before .before .before .before .before .before .limit in let s = c .before .before .before .before .statement in omega arith }
+for-do-returns-3 t c =
+    let at-statement = c .before .before .before .before in
+    let at-if2 = at-statement .before .before in
+    let at-limit = at-if2 .before .before .before .before in
+    let at-if1 = at-limit .before .before in
+    let at-control = at-if1 .before .before .before .before in
+    let start = at-control .before .before .before .before in
+    record {
+      read = since (omega arith) (along (for-parts (G.statement (start .args .room)) (start .args .i) _ _)
+          (goes _ (at-control .control .ensures .0 .read) (at-if1 .if1 .left)
+          (λ a w. goes _ (at-limit .limit .ensures .0 .read) (at-if2 .if2 .left) (λ l x. stops _ (at-statement .statement .ensures .read) (c .if3 .taken)))));
+      low = let o = start .pre in let a = at-control .control in let l = at-limit .limit in let s = at-statement .statement in omega arith;
+    }
 
 for-do-write-requires : (t : ℕ) → for-do-lts.Need-write-requires (for-do-calls t) (for-do-at t) for-do.Post
-for-do-write-requires t c κs = let o = c .before .before .before .before .before .before .before .before .before .before .before .before .before .before .before .before .before .before .before .before .before .pre in let a = c .before .before .before .before .before .before .before .before .before .before .before .before .before .before .before .before .before .control in let l = c .before .before .before .before .before .before .before .before .before .before .before .limit in let s = c .before .before .before .before .before .statement in omega arith
+for-do-write-requires t c κs = let o = c .before .before .before .before .before .before .before .before .before .before .before .before .before .before .before
+    .before .before .before .before .before .before .pre in let a = c .before .before .before .before .before .before .before .before .before .before .before
+    .before .before .before .before .before .before .control in let l = c .before .before .before .before .before .before .before .before .before .before
+    .before .limit in let s = c .before .before .before .before .before .statement in omega arith
 
 for-do-add-read : (t : ℕ) → for-do-lts.Need-add-read (for-do-calls t) (for-do-at t) for-do.Post
-for-do-add-read t c = let o = c .before .before .before .before .before .before .before .before .before .before .before .before .before .before .before .before .before .before .before .before .before .before .before .before .before .pre in let a = c .before .before .before .before .before .before .before .before .before .before .before .before .before .before .before .before .before .before .before .before .before .control in let l = c .before .before .before .before .before .before .before .before .before .before .before .before .before .before .before .limit in let s = c .before .before .before .before .before .before .before .before .before .statement in omega arith
+for-do-add-read t c =
+    let at-statement = c .before .before .before .before .before .before .before .before .before in
+    let at-limit = at-statement .before .before .before .before .before .before in
+    let at-control = at-limit .before .before .before .before .before .before in
+    let start = at-control .before .before .before .before in
+    let o = start .pre in let a = at-control .control in let l = at-limit .limit in let s = at-statement .statement in omega arith
 
 for-do-read-requires : (t : ℕ) → for-do-lts.Need-read-requires (for-do-calls t) (for-do-at t) for-do.Post
 for-do-read-requires t c κs = search needs
 
 for-do-same-length-4 : (t : ℕ) → for-do-lts.Need-same-length-4 (for-do-calls t) (for-do-at t) for-do.Post
-for-do-same-length-4 t c = let x = c .before .before .before .before .write in let o = c .before .before .before .before .before .before .before .before .before .before .before .before .before .before .before .before .before .before .before .before .before .before .before .before .before .before .pre in let a = c .before .before .before .before .before .before .before .before .before .before .before .before .before .before .before .before .before .before .before .before .before .before .control in let l = c .before .before .before .before .before .before .before .before .before .before .before .before .before .before .before .before .limit in let s = c .before .before .before .before .before .before .before .before .before .before .statement in omega arith
+for-do-same-length-4 t c = let x = c .before .before .before .before .write in let o = c .before .before .before .before .before .before .before .before .before
+    .before .before .before .before .before .before .before .before .before .before .before .before .before .before .before .before .before .pre in let a = c
+    .before .before .before .before .before .before .before .before .before .before .before .before .before .before .before .before .before .before .before
+    .before .before .before .control in let l = c .before .before .before .before .before .before .before .before .before .before .before .before .before
+    .before .before .before .limit in let s = c .before .before .before .before .before .before .before .before .before .before .statement in omega arith
 
 for-do-returns-4 : (t : ℕ) → for-do-lts.Need-returns-4 (for-do-calls t) (for-do-at t) for-do.Post
 unfolding tapeStatement
-for-do-returns-4 t c = record { read = since (omega arith) (along (for-parts (G.statement (c .before .before .before .before .before .before .before .before .before .before .before .before .before .before .before .before .before .before .before .before .before .before .before .before .before .before .args .room)) (c .before .before .before .before .before .before .before .before .before .before .before .before .before .before .before .before .before .before .before .before .before .before .before .before .before .before .args .i) _ _) (goes _ (c .before .before .before .before .before .before .before .before .before .before .before .before .before .before .before .before .before .before .before .before .before .before .control .ensures .0 .read) (c .before .before .before .before .before .before .before .before .before .before .before .before .before .before .before .before .before .before .if1 .left) (λ a w. goes _ (c .before .before .before .before .before .before .before .before .before .before .before .before .before .before .before .before .limit .ensures .0 .read) (c .before .before .before .before .before .before .before .before .before .before .before .before .if2 .left) (λ l x. goes _ (c .before .before .before .before .before .before .before .before .before .before .statement .ensures .read) (c .before .before .before .before .before .before .if3 .left) (λ s y. done (c .read .ensures) (omega arith) (omega arith) (λ k. c .before .before .before .before .write .ensures k ∙ (y _ ∙ (x _ ∙ w _)))))))); low = let x = c .read .ensures in let o = c .before .before .before .before .before .before .before .before .before .before .before .before .before .before .before .before .before .before .before .before .before .before .before .before .before .before .pre in let a = c .before .before .before .before .before .before .before .before .before .before .before .before .before .before .before .before .before .before .before .before .before .before .control in let l = c .before .before .before .before .before .before .before .before .before .before .before .before .before .before .before .before .limit in let s = c .before .before .before .before .before .before .before .before .before .before .statement in omega arith }
+for-do-returns-4 t c =
+    let at-write = c .before .before .before .before in
+    let at-if3 = at-write .before .before in
+    let at-statement = at-if3 .before .before .before .before in
+    let at-if2 = at-statement .before .before in
+    let at-limit = at-if2 .before .before .before .before in
+    let at-if1 = at-limit .before .before in
+    let at-control = at-if1 .before .before .before .before in
+    let start = at-control .before .before .before .before in
+    record {
+      read = since (omega arith) (along (for-parts (G.statement (start .args .room)) (start .args .i) _ _)
+          (goes _ (at-control .control .ensures .0 .read) (at-if1 .if1 .left)
+          (λ a w. goes _ (at-limit .limit .ensures .0 .read) (at-if2 .if2 .left)
+          (λ l x. goes _ (at-statement .statement .ensures .read) (at-if3 .if3 .left)
+          (λ s y. done (c .read .ensures) (omega arith) (omega arith) (λ k. at-write .write .ensures k ∙ (y _ ∙ (x _ ∙ w _))))))));
+      low = let x = c .read .ensures in let o = start .pre in let a = at-control .control in let l = at-limit .limit in let s = at-statement .statement in
+          omega arith;
+    }
 
 if-then-add-head : (t : ℕ) → if-then-lts.Need-add-head (if-then-calls t) (if-then-at t) if-then.Post
 if-then-add-head t c = search needs
@@ -453,51 +516,166 @@ if-then-same-length-2 t c = search needs
 
 if-then-returns-2 : (t : ℕ) → if-then-lts.Need-returns-2 (if-then-calls t) (if-then-at t) if-then.Post
 unfolding ifOf andThen look
-if-then-returns-2 t c = record { read = since (omega arith) (along (if-parts (G.statement (c .before .before .before .before .before .before .before .before .before .before .before .before .before .before .before .args .room)) (c .before .before .before .before .before .before .before .before .before .before .before .before .before .before .before .args .i) _ _) (goes _ (c .before .before .before .before .before .before .before .before .before .before .before .head .ensures .0 .read) (c .before .before .before .before .before .before .before .if1 .left) (λ h w. stops _ (c .before .before .before .before .statement .ensures .read) (c .if2 .taken)))); low = let o = c .before .before .before .before .before .before .before .before .before .before .before .before .before .before .before .pre in let h = c .before .before .before .before .before .before .before .before .before .before .before .head in let s = c .before .before .before .before .statement in omega arith }
+if-then-returns-2 t c =
+    let at-statement = c .before .before .before .before in
+    let at-if1 = at-statement .before .before .before in
+    let at-head = at-if1 .before .before .before .before in
+    let start = at-head .before .before .before .before in
+    record {
+      read = since (omega arith) (along (if-parts (G.statement (start .args .room)) (start .args .i) _ _)
+          (goes _ (at-head .head .ensures .0 .read) (at-if1 .if1 .left) (λ h w. stops _ (at-statement .statement .ensures .read) (c .if2 .taken))));
+      low = let o = start .pre in let h = at-head .head in let s = at-statement .statement in omega arith;
+    }
 
 if-then-has-else-requires : (t : ℕ) → if-then-lts.Need-has-else-requires (if-then-calls t) (if-then-at t) if-then.Post
 if-then-has-else-requires t c κs = search needs
 
 if-then-write-requires : (t : ℕ) → if-then-lts.Need-write-requires (if-then-calls t) (if-then-at t) if-then.Post
-if-then-write-requires t c κs = let o = c .before .before .before .before .before .before .before .before .before .before .before .before .before .before .before .before .before .before .pre in let h = c .before .before .before .before .before .before .before .before .before .before .before .before .before .before .head in let s = c .before .before .before .before .before .before .before .statement in omega arith
+if-then-write-requires t c κs =
+    let at-statement = c .before .before .before .before .before .before .before in
+    let at-head = at-statement .before .before .before .before .before .before .before in
+    let start = at-head .before .before .before .before in
+    let o = start .pre in let h = at-head .head in let s = at-statement .statement in omega arith
 
 if-then-add-statement : (t : ℕ) → if-then-lts.Need-add-statement (if-then-calls t) (if-then-at t) if-then.Post
-if-then-add-statement t c = let o = c .before .before .before .before .before .before .before .before .before .before .before .before .before .before .before .before .before .before .before .before .before .before .pre in let h = c .before .before .before .before .before .before .before .before .before .before .before .before .before .before .before .before .before .before .head in let s = c .before .before .before .before .before .before .before .before .before .before .before .statement in omega arith
+if-then-add-statement t c =
+    let at-statement = c .before .before .before .before .before .before .before .before .before .before .before in
+    let at-head = at-statement .before .before .before .before .before .before .before in
+    let start = at-head .before .before .before .before in
+    let o = start .pre in let h = at-head .head in let s = at-statement .statement in omega arith
 
 if-then-add-statement-2 : (t : ℕ) → if-then-lts.Need-add-statement-2 (if-then-calls t) (if-then-at t) if-then.Post
-if-then-add-statement-2 t c = let o = c .before .before .before .before .before .before .before .before .before .before .before .before .before .before .before .before .before .before .before .before .before .before .before .before .pre in let h = c .before .before .before .before .before .before .before .before .before .before .before .before .before .before .before .before .before .before .before .before .head in let s = c .before .before .before .before .before .before .before .before .before .before .before .before .before .statement in omega arith
+if-then-add-statement-2 t c =
+    let at-statement = c .before .before .before .before .before .before .before .before .before .before .before .before .before in
+    let at-head = at-statement .before .before .before .before .before .before .before in
+    let start = at-head .before .before .before .before in
+    let o = start .pre in let h = at-head .head in let s = at-statement .statement in omega arith
 
 if-then-statement-requires-2 : (t : ℕ) → if-then-lts.Need-statement-requires-2 (if-then-calls t) (if-then-at t) if-then.Post
-if-then-statement-requires-2 t c κs = let x = else-inside (now (c .before .before .before .before .before .before .before .before .before .before .before .before .before .before .before .before .before .before .before .before .before .before .before .before .args .kinds)) (c .before .before .before .before .before .before .before .before .before .before .before .before .before .statement .result .at) (c .before .before .before .before .before .before .before .before .before .before .before .before .before .before .before .kind-at .result) (c .before .before .before .before .before .before .before .before .has-else .ensures) (c .before .before .before .before .before .before .before .if3 .taken) in let o = c .before .before .before .before .before .before .before .before .before .before .before .before .before .before .before .before .before .before .before .before .before .before .before .before .pre in let h = c .before .before .before .before .before .before .before .before .before .before .before .before .before .before .before .before .before .before .before .before .head in let s = c .before .before .before .before .before .before .before .before .before .before .before .before .before .statement in let w = c .before .before .before .before .before .write in omega arith
+if-then-statement-requires-2 t c κs = let x = else-inside
+    (now (c .before .before .before .before .before .before .before .before .before .before .before .before .before .before .before .before .before .before
+    .before .before .before .before .before .before .args .kinds))
+    (c .before .before .before .before .before .before .before .before .before .before .before .before .before .statement .result .at)
+    (c .before .before .before .before .before .before .before .before .before .before .before .before .before .before .before .kind-at .result)
+    (c .before .before .before .before .before .before .before .before .has-else .ensures)
+    (c .before .before .before .before .before .before .before .if3 .taken) in let o = c .before .before .before .before .before .before .before .before .before
+    .before .before .before .before .before .before .before .before .before .before .before .before .before .before .before .pre in let h = c .before .before
+    .before .before .before .before .before .before .before .before .before .before .before .before .before .before .before .before .before .before .head in let
+    s = c .before .before .before .before .before .before .before .before .before .before .before .before .before .statement in let w = c .before .before
+    .before .before .before .write in omega arith
 
 if-then-same-length-3 : (t : ℕ) → if-then-lts.Need-same-length-3 (if-then-calls t) (if-then-at t) if-then.Post
-if-then-same-length-3 t c = let o = c .before .before .before .before .before .before .before .before .before .before .before .before .before .before .before .before .before .before .before .before .before .before .before .before .before .before .before .before .before .pre in let h = c .before .before .before .before .before .before .before .before .before .before .before .before .before .before .before .before .before .before .before .before .before .before .before .before .before .head in let s = c .before .before .before .before .before .before .before .before .before .before .before .before .before .before .before .before .before .before .statement in let w = c .before .before .before .before .before .before .before .before .before .before .write in let u = c .before .before .before .before .statement2 in omega arith
+if-then-same-length-3 t c = let o = c .before .before .before .before .before .before .before .before .before .before .before .before .before .before .before
+    .before .before .before .before .before .before .before .before .before .before .before .before .before .before .pre in let h = c .before .before .before
+    .before .before .before .before .before .before .before .before .before .before .before .before .before .before .before .before .before .before .before
+    .before .before .before .head in let s = c .before .before .before .before .before .before .before .before .before .before .before .before .before .before
+    .before .before .before .before .statement in let w = c .before .before .before .before .before .before .before .before .before .before .write in let u = c
+    .before .before .before .before .statement2 in omega arith
 
 if-then-returns-3 : (t : ℕ) → if-then-lts.Need-returns-3 (if-then-calls t) (if-then-at t) if-then.Post
 unfolding ifOf andThen look next
-if-then-returns-3 t c = record { read = since (omega arith) (along (if-parts (G.statement (c .before .before .before .before .before .before .before .before .before .before .before .before .before .before .before .before .before .before .before .before .before .before .before .before .before .before .before .before .before .args .room)) (c .before .before .before .before .before .before .before .before .before .before .before .before .before .before .before .before .before .before .before .before .before .before .before .before .before .before .before .before .before .args .i) _ _) (goes _ (c .before .before .before .before .before .before .before .before .before .before .before .before .before .before .before .before .before .before .before .before .before .before .before .before .before .head .ensures .0 .read) (c .before .before .before .before .before .before .before .before .before .before .before .before .before .before .before .before .before .before .before .before .before .if1 .left) (λ h w. goes _ (c .before .before .before .before .before .before .before .before .before .before .before .before .before .before .before .before .before .before .statement .ensures .read) (c .before .before .before .before .before .before .before .before .before .before .before .before .before .before .if2 .left) (λ s y. rw (← (c .before .before .before .before .before .before .before .before .before .before .before .before .before .before .before .before .before .before .before .before .kind-at .ensures .is), ← (c .before .before .before .before .before .before .before .before .before .before .before .before .before .has-else .ensures), c .before .before .before .before .before .before .before .before .before .before .before .before .if3 .taken) (since (omega arith) (stops _ (c .before .before .before .before .statement2 .ensures .read) (c .if4 .taken))))))); low = let o = c .before .before .before .before .before .before .before .before .before .before .before .before .before .before .before .before .before .before .before .before .before .before .before .before .before .before .before .before .before .pre in let h = c .before .before .before .before .before .before .before .before .before .before .before .before .before .before .before .before .before .before .before .before .before .before .before .before .before .head in let s = c .before .before .before .before .before .before .before .before .before .before .before .before .before .before .before .before .before .before .statement in let w = c .before .before .before .before .before .before .before .before .before .before .write in let u = c .before .before .before .before .statement2 in omega arith }
+if-then-returns-3 t c =
+    let at-statement2 = c .before .before .before .before in
+    let at-write = at-statement2 .before .before .before .before .before .before in
+    let at-if3 = at-write .before .before in
+    let at-has-else = at-if3 .before in
+    let at-if2 = at-has-else .before in
+    let at-statement = at-if2 .before .before .before .before in
+    let at-kind-at = at-statement .before .before in
+    let at-if1 = at-kind-at .before in
+    let at-head = at-if1 .before .before .before .before in
+    let start = at-head .before .before .before .before in
+    record {
+      read = since (omega arith) (along (if-parts (G.statement (start .args .room)) (start .args .i) _ _)
+          (goes _ (at-head .head .ensures .0 .read) (at-if1 .if1 .left)
+          (λ h w. goes _ (at-statement .statement .ensures .read) (at-if2 .if2 .left)
+          (λ s y. rw (← (at-kind-at .kind-at .ensures .is), ← (at-has-else .has-else .ensures), at-if3 .if3 .taken)
+          (since (omega arith) (stops _ (at-statement2 .statement2 .ensures .read) (c .if4 .taken)))))));
+      low = let o = start .pre in let h = at-head .head in let s = at-statement .statement in let w = at-write .write in let u = at-statement2 .statement2 in
+          omega arith;
+    }
 
 if-then-write-requires-2 : (t : ℕ) → if-then-lts.Need-write-requires-2 (if-then-calls t) (if-then-at t) if-then.Post
-if-then-write-requires-2 t c κs = let o = c .before .before .before .before .before .before .before .before .before .before .before .before .before .before .before .before .before .before .before .before .before .before .before .before .before .before .before .before .before .before .pre in let h = c .before .before .before .before .before .before .before .before .before .before .before .before .before .before .before .before .before .before .before .before .before .before .before .before .before .before .head in let s = c .before .before .before .before .before .before .before .before .before .before .before .before .before .before .before .before .before .before .before .statement in let w = c .before .before .before .before .before .before .before .before .before .before .before .write in let u = c .before .before .before .before .before .statement2 in omega arith
+if-then-write-requires-2 t c κs = let o = c .before .before .before .before .before .before .before .before .before .before .before .before .before .before
+    .before .before .before .before .before .before .before .before .before .before .before .before .before .before .before .before .pre in let h = c .before
+    .before .before .before .before .before .before .before .before .before .before .before .before .before .before .before .before .before .before .before
+    .before .before .before .before .before .before .head in let s = c .before .before .before .before .before .before .before .before .before .before .before
+    .before .before .before .before .before .before .before .before .statement in let w = c .before .before .before .before .before .before .before .before
+    .before .before .before .write in let u = c .before .before .before .before .before .statement2 in omega arith
 
 if-then-add-read : (t : ℕ) → if-then-lts.Need-add-read (if-then-calls t) (if-then-at t) if-then.Post
-if-then-add-read t c = let o = c .before .before .before .before .before .before .before .before .before .before .before .before .before .before .before .before .before .before .before .before .before .before .before .before .before .before .before .before .before .before .before .before .before .before .pre in let h = c .before .before .before .before .before .before .before .before .before .before .before .before .before .before .before .before .before .before .before .before .before .before .before .before .before .before .before .before .before .before .head in let s = c .before .before .before .before .before .before .before .before .before .before .before .before .before .before .before .before .before .before .before .before .before .before .before .statement in let w = c .before .before .before .before .before .before .before .before .before .before .before .before .before .before .before .write in let u = c .before .before .before .before .before .before .before .before .before .statement2 in omega arith
+if-then-add-read t c =
+    let at-statement2 = c .before .before .before .before .before .before .before .before .before in
+    let at-write = at-statement2 .before .before .before .before .before .before in
+    let at-statement = at-write .before .before .before .before .before .before .before .before in
+    let at-head = at-statement .before .before .before .before .before .before .before in
+    let start = at-head .before .before .before .before in
+    let o = start .pre in let h = at-head .head in let s = at-statement .statement in let w = at-write .write in let u = at-statement2 .statement2 in omega arith
 
 if-then-read-requires : (t : ℕ) → if-then-lts.Need-read-requires (if-then-calls t) (if-then-at t) if-then.Post
 if-then-read-requires t c κs = search needs
 
 if-then-same-length-4 : (t : ℕ) → if-then-lts.Need-same-length-4 (if-then-calls t) (if-then-at t) if-then.Post
-if-then-same-length-4 t c = let x = c .before .before .before .before .write2 in let o = c .before .before .before .before .before .before .before .before .before .before .before .before .before .before .before .before .before .before .before .before .before .before .before .before .before .before .before .before .before .before .before .before .before .before .before .pre in let h = c .before .before .before .before .before .before .before .before .before .before .before .before .before .before .before .before .before .before .before .before .before .before .before .before .before .before .before .before .before .before .before .head in let s = c .before .before .before .before .before .before .before .before .before .before .before .before .before .before .before .before .before .before .before .before .before .before .before .before .statement in let w = c .before .before .before .before .before .before .before .before .before .before .before .before .before .before .before .before .write in let u = c .before .before .before .before .before .before .before .before .before .before .statement2 in omega arith
+if-then-same-length-4 t c = let x = c .before .before .before .before .write2 in let o = c .before .before .before .before .before .before .before .before
+    .before .before .before .before .before .before .before .before .before .before .before .before .before .before .before .before .before .before .before
+    .before .before .before .before .before .before .before .before .pre in let h = c .before .before .before .before .before .before .before .before .before
+    .before .before .before .before .before .before .before .before .before .before .before .before .before .before .before .before .before .before .before
+    .before .before .before .head in let s = c .before .before .before .before .before .before .before .before .before .before .before .before .before .before
+    .before .before .before .before .before .before .before .before .before .before .statement in let w = c .before .before .before .before .before .before
+    .before .before .before .before .before .before .before .before .before .before .write in let u = c .before .before .before .before .before .before .before
+    .before .before .before .statement2 in omega arith
 
 if-then-returns-4 : (t : ℕ) → if-then-lts.Need-returns-4 (if-then-calls t) (if-then-at t) if-then.Post
 unfolding ifOf andThen look next tapeStatement
-if-then-returns-4 t c = record { read = since (omega arith) (along (if-parts (G.statement (c .before .before .before .before .before .before .before .before .before .before .before .before .before .before .before .before .before .before .before .before .before .before .before .before .before .before .before .before .before .before .before .before .before .before .before .args .room)) (c .before .before .before .before .before .before .before .before .before .before .before .before .before .before .before .before .before .before .before .before .before .before .before .before .before .before .before .before .before .before .before .before .before .before .before .args .i) _ _) (goes _ (c .before .before .before .before .before .before .before .before .before .before .before .before .before .before .before .before .before .before .before .before .before .before .before .before .before .before .before .before .before .before .before .head .ensures .0 .read) (c .before .before .before .before .before .before .before .before .before .before .before .before .before .before .before .before .before .before .before .before .before .before .before .before .before .before .before .if1 .left) (λ h w. goes _ (c .before .before .before .before .before .before .before .before .before .before .before .before .before .before .before .before .before .before .before .before .before .before .before .before .statement .ensures .read) (c .before .before .before .before .before .before .before .before .before .before .before .before .before .before .before .before .before .before .before .before .if2 .left) (λ s y. rw (← (c .before .before .before .before .before .before .before .before .before .before .before .before .before .before .before .before .before .before .before .before .before .before .before .before .before .before .kind-at .ensures .is), ← (c .before .before .before .before .before .before .before .before .before .before .before .before .before .before .before .before .before .before .before .has-else .ensures), c .before .before .before .before .before .before .before .before .before .before .before .before .before .before .before .before .before .before .if3 .taken) (since (omega arith) (goes _ (c .before .before .before .before .before .before .before .before .before .before .statement2 .ensures .read) (c .before .before .before .before .before .before .if4 .left) (λ u z. done (c .read .ensures) (omega arith) (omega arith) (λ k. c .before .before .before .before .write2 .ensures k ∙ (z _ ∙ (c .before .before .before .before .before .before .before .before .before .before .before .before .before .before .before .before .write .ensures _ ∙ (y _ ∙ w _))))))))))); low = let x = c .read .ensures in let o = c .before .before .before .before .before .before .before .before .before .before .before .before .before .before .before .before .before .before .before .before .before .before .before .before .before .before .before .before .before .before .before .before .before .before .before .pre in let h = c .before .before .before .before .before .before .before .before .before .before .before .before .before .before .before .before .before .before .before .before .before .before .before .before .before .before .before .before .before .before .before .head in let s = c .before .before .before .before .before .before .before .before .before .before .before .before .before .before .before .before .before .before .before .before .before .before .before .before .statement in let w = c .before .before .before .before .before .before .before .before .before .before .before .before .before .before .before .before .write in let u = c .before .before .before .before .before .before .before .before .before .before .statement2 in omega arith }
+if-then-returns-4 t c = record {
+  read = since (omega arith)
+      (along (if-parts (G.statement (c .before .before .before .before .before .before .before .before .before .before .before .before .before .before .before
+      .before .before .before .before .before .before .before .before .before .before .before .before .before .before .before .before .before .before .before
+      .before .args .room)) (c .before .before .before .before .before .before .before .before .before .before .before .before .before .before .before .before
+      .before .before .before .before .before .before .before .before .before .before .before .before .before .before .before .before .before .before .before
+      .args .i) _ _) (goes _ (c .before .before .before .before .before .before .before .before .before .before .before .before .before .before .before .before
+      .before .before .before .before .before .before .before .before .before .before .before .before .before .before .before .head .ensures .0 .read)
+      (c .before .before .before .before .before .before .before .before .before .before .before .before .before .before .before .before .before .before .before
+      .before .before .before .before .before .before .before .before .if1 .left)
+      (λ h w. goes _ (c .before .before .before .before .before .before .before .before .before .before .before .before .before .before .before .before .before
+      .before .before .before .before .before .before .before .statement .ensures .read)
+      (c .before .before .before .before .before .before .before .before .before .before .before .before .before .before .before .before .before .before .before
+      .before .if2 .left) (λ s y. rw (
+        ← (c .before .before .before .before .before .before .before .before .before .before .before .before .before .before .before
+            .before .before .before .before .before .before .before .before .before .before .before .kind-at .ensures .is),
+        ← (c .before .before .before .before .before .before .before .before .before .before .before .before .before .before .before .before .before .before .before
+            .has-else .ensures),
+        c .before .before .before .before .before .before .before .before .before .before .before .before .before .before .before .before
+            .before .before .if3 .taken,
+      ) (since (omega arith)
+      (goes _ (c .before .before .before .before .before .before .before .before .before .before .statement2 .ensures .read)
+      (c .before .before .before .before .before .before .if4 .left)
+      (λ u z. done (c .read .ensures) (omega arith) (omega arith) (λ k. c .before .before .before .before .write2 .ensures k
+      ∙ (z _ ∙ (c .before .before .before .before .before .before .before .before .before .before .before .before .before .before .before .before .write .ensures
+      _ ∙ (y _ ∙ w _)))))))))));
+  low = let x = c .read .ensures in let o = c .before .before .before .before .before .before .before .before .before .before
+      .before .before .before .before .before .before .before .before .before .before .before .before .before .before .before .before .before .before .before
+      .before .before .before .before .before .before .pre in let h = c .before .before .before .before .before .before .before .before .before .before .before
+      .before .before .before .before .before .before .before .before .before .before .before .before .before .before .before .before .before .before .before
+      .before .head in let s = c .before .before .before .before .before .before .before .before .before .before .before .before .before .before .before .before
+      .before .before .before .before .before .before .before .before .statement in let w = c .before .before .before .before .before .before .before .before
+      .before .before .before .before .before .before .before .before .write in let u = c .before .before .before .before .before .before .before .before .before
+      .before .statement2 in omega arith;
+}
 
 if-then-write-requires-3 : (t : ℕ) → if-then-lts.Need-write-requires-3 (if-then-calls t) (if-then-at t) if-then.Post
-if-then-write-requires-3 t c κs = let o = c .before .before .before .before .before .before .before .before .before .before .before .before .before .before .before .before .before .before .pre in let h = c .before .before .before .before .before .before .before .before .before .before .before .before .before .before .head in let s = c .before .before .before .before .before .before .before .statement in omega arith
+if-then-write-requires-3 t c κs =
+    let at-statement = c .before .before .before .before .before .before .before in
+    let at-head = at-statement .before .before .before .before .before .before .before in
+    let start = at-head .before .before .before .before in
+    let o = start .pre in let h = at-head .head in let s = at-statement .statement in omega arith
 
 if-then-add-read-2 : (t : ℕ) → if-then-lts.Need-add-read-2 (if-then-calls t) (if-then-at t) if-then.Post
-if-then-add-read-2 t c = let o = c .before .before .before .before .before .before .before .before .before .before .before .before .before .before .before .before .before .before .before .before .before .before .pre in let h = c .before .before .before .before .before .before .before .before .before .before .before .before .before .before .before .before .before .before .head in let s = c .before .before .before .before .before .before .before .before .before .before .before .statement in omega arith
+if-then-add-read-2 t c =
+    let at-statement = c .before .before .before .before .before .before .before .before .before .before .before in
+    let at-head = at-statement .before .before .before .before .before .before .before in
+    let start = at-head .before .before .before .before in
+    let o = start .pre in let h = at-head .head in let s = at-statement .statement in omega arith
 
 if-then-read-requires-2 : (t : ℕ) → if-then-lts.Need-read-requires-2 (if-then-calls t) (if-then-at t) if-then.Post
 if-then-read-requires-2 t c κs = search needs
@@ -507,7 +685,24 @@ if-then-same-length-5 t c = search needs
 
 if-then-returns-5 : (t : ℕ) → if-then-lts.Need-returns-5 (if-then-calls t) (if-then-at t) if-then.Post
 unfolding ifOf andThen look next tapeStatement
-if-then-returns-5 t c = record { read = since (omega arith) (along (if-parts (G.statement (c .before .before .before .before .before .before .before .before .before .before .before .before .before .before .before .before .before .before .before .before .before .before .before .args .room)) (c .before .before .before .before .before .before .before .before .before .before .before .before .before .before .before .before .before .before .before .before .before .before .before .args .i) _ _) (goes _ (c .before .before .before .before .before .before .before .before .before .before .before .before .before .before .before .before .before .before .before .head .ensures .0 .read) (c .before .before .before .before .before .before .before .before .before .before .before .before .before .before .before .if1 .left) (λ h w. goes _ (c .before .before .before .before .before .before .before .before .before .before .before .before .statement .ensures .read) (c .before .before .before .before .before .before .before .before .if2 .left) (λ s y. rw (← (c .before .before .before .before .before .before .before .before .before .before .before .before .before .before .kind-at .ensures .is), ← (c .before .before .before .before .before .before .before .has-else .ensures), c .before .before .before .before .before .before .if3 .left) (done (c .read2 .ensures) (omega arith) (omega arith) (λ k. c .before .before .before .before .write3 .ensures k ∙ (y _ ∙ w _))))))); low = let x = c .read2 .ensures in let o = c .before .before .before .before .before .before .before .before .before .before .before .before .before .before .before .before .before .before .before .before .before .before .before .pre in let h = c .before .before .before .before .before .before .before .before .before .before .before .before .before .before .before .before .before .before .before .head in let s = c .before .before .before .before .before .before .before .before .before .before .before .before .statement in omega arith }
+if-then-returns-5 t c =
+    let at-write3 = c .before .before .before .before in
+    let at-if3 = at-write3 .before .before in
+    let at-has-else = at-if3 .before in
+    let at-if2 = at-has-else .before in
+    let at-statement = at-if2 .before .before .before .before in
+    let at-kind-at = at-statement .before .before in
+    let at-if1 = at-kind-at .before in
+    let at-head = at-if1 .before .before .before .before in
+    let start = at-head .before .before .before .before in
+    record {
+      read = since (omega arith) (along (if-parts (G.statement (start .args .room)) (start .args .i) _ _)
+          (goes _ (at-head .head .ensures .0 .read) (at-if1 .if1 .left)
+          (λ h w. goes _ (at-statement .statement .ensures .read) (at-if2 .if2 .left)
+          (λ s y. rw (← (at-kind-at .kind-at .ensures .is), ← (at-has-else .has-else .ensures), at-if3 .if3 .left)
+          (done (c .read2 .ensures) (omega arith) (omega arith) (λ k. at-write3 .write3 .ensures k ∙ (y _ ∙ w _)))))));
+      low = let x = c .read2 .ensures in let o = start .pre in let h = at-head .head in let s = at-statement .statement in omega arith;
+    }
 
 abbrev items-Inv-loop : items-lts.InvT-loop
 items-Inv-loop kinds i t room tape₀ p at₀ q₀ tape at q = Going (tapeBlock tapeItems t) (itemsOf (G.statement room)) kinds i p tape₀ tape at q
@@ -525,23 +720,54 @@ items-has-label-requires : (t : ℕ) → items-lts.Need-has-label-requires (item
 items-has-label-requires t c κs = search needs
 
 items-write-requires : (t : ℕ) → items-lts.Need-write-requires (items-calls t) (items-at t) items.Post items-Inv-loop items-μ-loop
-items-write-requires t c κs = let h = label-inside (now (c .before .before .before .before .before .before .before .before .args .kinds)) (c .before .before .before .before .before .loop .at) (c .before .before .has-label .ensures) (c .before .if2 .taken) in search needs
+items-write-requires t c κs =
+    let at-has-label = c .before .before in
+    let at-loop = at-has-label .before .before .before in
+    let start = at-loop .before .before .before in
+    let h = label-inside (now (start .args .kinds)) (at-loop .loop .at) (at-has-label .has-label .ensures) (c .before .if2 .taken) in search needs
 
 items-add-colon : (t : ℕ) → items-lts.Need-add-colon (items-calls t) (items-at t) items.Post items-Inv-loop items-μ-loop
 items-add-colon t c = search needs
 
 items-add-at : (t : ℕ) → items-lts.Need-add-at (items-calls t) (items-at t) items.Post items-Inv-loop items-μ-loop
-items-add-at t c = let h = label-inside (now (c .before .before .before .before .before .before .before .before .before .before .before .args .kinds)) (c .before .before .before .before .before .before .before .before .loop .at) (c .before .before .before .before .before .has-label .ensures) (c .before .before .before .before .if2 .taken) in search needs
+items-add-at t c =
+    let at-if2 = c .before .before .before .before in
+    let at-has-label = at-if2 .before in
+    let at-loop = at-has-label .before .before .before in
+    let start = at-loop .before .before .before in
+    let h = label-inside (now (start .args .kinds)) (at-loop .loop .at) (at-has-label .has-label .ensures) (at-if2 .if2 .taken) in search needs
 
 items-add-q : (t : ℕ) → items-lts.Need-add-q (items-calls t) (items-at t) items.Post items-Inv-loop items-μ-loop
-items-add-q t c = let h = label-inside (now (c .before .before .before .before .before .before .before .before .before .before .before .args .kinds)) (c .before .before .before .before .before .before .before .before .loop .at) (c .before .before .before .before .before .has-label .ensures) (c .before .before .before .before .if2 .taken) in search needs
+items-add-q t c =
+    let at-if2 = c .before .before .before .before in
+    let at-has-label = at-if2 .before in
+    let at-loop = at-has-label .before .before .before in
+    let start = at-loop .before .before .before in
+    let h = label-inside (now (start .args .kinds)) (at-loop .loop .at) (at-has-label .has-label .ensures) (at-if2 .if2 .taken) in search needs
 
 items-loop-less : (t : ℕ) → items-lts.Need-loop-less (items-calls t) (items-at t) items.Post items-Inv-loop items-μ-loop
-items-loop-less t c = let h = label-inside (now (c .before .before .before .before .before .before .before .before .before .before .before .args .kinds)) (c .before .before .before .before .before .before .before .before .loop .at) (c .before .before .before .before .before .has-label .ensures) (c .before .before .before .before .if2 .taken) in search needs
+items-loop-less t c =
+    let at-if2 = c .before .before .before .before in
+    let at-has-label = at-if2 .before in
+    let at-loop = at-has-label .before .before .before in
+    let start = at-loop .before .before .before in
+    let h = label-inside (now (start .args .kinds)) (at-loop .loop .at) (at-has-label .has-label .ensures) (at-if2 .if2 .taken) in search needs
 
 items-loop-again : (t : ℕ) → items-lts.Need-loop-again (items-calls t) (items-at t) items.Post items-Inv-loop items-μ-loop
 unfolding itemsOf andThen look next tapeItems
-items-loop-again t c = let h = label-inside (now (c .before .before .before .before .before .before .before .before .before .before .before .args .kinds)) (c .before .before .before .before .before .before .before .before .loop .at) (c .before .before .before .before .before .has-label .ensures) (c .before .before .before .before .if2 .taken) in turn (c .before .before .before .before .before .before .before .before .loop .inv) (search needs) (search needs) (search needs) (search needs) (λ f s after r. rw (label-kinds (now (c .before .before .before .before .before .before .before .before .before .before .before .args .kinds)) (c .before .before .before .before .before .before .before .before .loop .at) (c .before .before .before .before .before .has-label .ensures) (c .before .before .before .before .if2 .taken) .0, label-kinds (now (c .before .before .before .before .before .before .before .before .before .before .before .args .kinds)) (c .before .before .before .before .before .before .before .before .loop .at) (c .before .before .before .before .before .has-label .ensures) (c .before .before .before .before .if2 .taken) .1) (since (omega arith) (gives (T.label (c .before .before .before .before .before .before .before .before .loop .at)) (λ b l k. l k ∙ c .before .before .write .ensures _) r)))
+items-loop-again t c =
+    let at-write = c .before .before in
+    let at-if2 = at-write .before .before in
+    let at-has-label = at-if2 .before in
+    let at-loop = at-has-label .before .before .before in
+    let start = at-loop .before .before .before in
+    let h = label-inside (now (start .args .kinds)) (at-loop .loop .at) (at-has-label .has-label .ensures) (at-if2 .if2 .taken) in turn (at-loop .loop .inv)
+    (search needs) (search needs) (search needs) (search needs)
+    (λ f s after r. rw (
+      label-kinds (now (start .args .kinds)) (at-loop .loop .at) (at-has-label .has-label .ensures) (at-if2 .if2 .taken) .0,
+      label-kinds (now (start .args .kinds)) (at-loop .loop .at) (at-has-label .has-label .ensures) (at-if2 .if2 .taken) .1,
+    )
+    (since (omega arith) (gives (T.label (at-loop .loop .at)) (λ b l k. l k ∙ at-write .write .ensures _) r)))
 
 items-statement-requires : (t : ℕ) → items-lts.Need-statement-requires (items-calls t) (items-at t) items.Post items-Inv-loop items-μ-loop
 items-statement-requires t c κs = search needs
@@ -568,7 +794,23 @@ items-same-length-2 : (t : ℕ) → items-lts.Need-same-length-2 (items-calls t)
 items-same-length-2 t c = search needs
 
 items-returns-2 : (t : ℕ) → items-lts.Need-returns-2 (items-calls t) (items-at t) items.Post items-Inv-loop items-μ-loop
-items-returns-2 t c = record { read = leaves (c .before .before .before .before .before .before .before .before .before .before .before .before .before .loop .inv) (λ f. along (item-is (now (c .before .before .before .before .before .before .before .before .before .before .before .before .before .before .before .before .args .kinds)) (c .before .before .before .before .before .before .before .before .before .before .before .before .before .loop .at) (c .before .before .before .before .before .before .before .before .before .before .has-label .ensures) _ f (c .before .before .before .before .before .before .before .before .before .if2 .left) (other (c .before .before .before .before .before .before .before .before .before .before .before .before .kind-at .ensures .is) (c .before .before .before .before .before .before .before .before .before .before .before .if1 .taken))) (goes _ (c .before .before .before .before .before .before .before .statement .ensures .read) (c .before .before .before .if3 .left) (λ x w. stops _ (c .before .before .wanted .ensures .read) (c .if4 .taken)))); low = search needs }
+items-returns-2 t c =
+    let at-wanted = c .before .before in
+    let at-if3 = at-wanted .before in
+    let at-statement = at-if3 .before .before .before .before in
+    let at-if2 = at-statement .before .before in
+    let at-has-label = at-if2 .before in
+    let at-if1 = at-has-label .before in
+    let at-kind-at = at-if1 .before in
+    let at-loop = at-kind-at .before in
+    let start = at-loop .before .before .before in
+    record {
+      read = leaves (at-loop .loop .inv)
+          (λ f. along (item-is (now (start .args .kinds)) (at-loop .loop .at) (at-has-label .has-label .ensures) _ f (at-if2 .if2 .left)
+          (other (at-kind-at .kind-at .ensures .is) (at-if1 .if1 .taken)))
+          (goes _ (at-statement .statement .ensures .read) (at-if3 .if3 .left) (λ x w. stops _ (at-wanted .wanted .ensures .read) (c .if4 .taken))));
+      low = search needs;
+    }
 
 items-loop-less-2 : (t : ℕ) → items-lts.Need-loop-less-2 (items-calls t) (items-at t) items.Post items-Inv-loop items-μ-loop
 items-loop-less-2 t c = search needs
@@ -577,7 +819,14 @@ items-loop-again-2 : (t : ℕ) → items-lts.Need-loop-again-2 (items-calls t) (
 unfolding tapeItems
 items-loop-again-2 t c = turn (c .before .before .before .before .before .before .before .before .before .before .before .before .before .loop .inv)
     (search needs) (search needs) (search needs) (search needs) (λ f s after r.
-    along (item-is (now (c .before .before .before .before .before .before .before .before .before .before .before .before .before .before .before .before .args .kinds)) (c .before .before .before .before .before .before .before .before .before .before .before .before .before .loop .at) (c .before .before .before .before .before .before .before .before .before .before .has-label .ensures) _ f (c .before .before .before .before .before .before .before .before .before .if2 .left) (other (c .before .before .before .before .before .before .before .before .before .before .before .before .kind-at .ensures .is) (c .before .before .before .before .before .before .before .before .before .before .before .if1 .taken))) (goes _ (c .before .before .before .before .before .before .before .statement .ensures .read) (c .before .before .before .if3 .left) (λ x w. goes _ (c .before .before .wanted .ensures .read) (c .if4 .left) (λ u e. gives (T.item x) (λ b l k. l k ∙ w _) r))))
+    along (item-is (now (c .before .before .before .before .before .before .before .before .before .before .before .before .before .before .before .before .args
+    .kinds)) (c .before .before .before .before .before .before .before .before .before .before .before .before .before .loop .at)
+    (c .before .before .before .before .before .before .before .before .before .before .has-label .ensures) _ f
+    (c .before .before .before .before .before .before .before .before .before .if2 .left)
+    (other (c .before .before .before .before .before .before .before .before .before .before .before .before .kind-at .ensures .is)
+    (c .before .before .before .before .before .before .before .before .before .before .before .if1 .taken)))
+    (goes _ (c .before .before .before .before .before .before .before .statement .ensures .read) (c .before .before .before .if3 .left)
+    (λ x w. goes _ (c .before .before .wanted .ensures .read) (c .if4 .left) (λ u e. gives (T.item x) (λ b l k. l k ∙ w _) r))))
 
 items-write-requires-2 : (t : ℕ) → items-lts.Need-write-requires-2 (items-calls t) (items-at t) items.Post items-Inv-loop items-μ-loop
 items-write-requires-2 t c κs = search needs
@@ -651,7 +900,11 @@ procedure-write-requires : (t : ℕ) → procedure-lts.Need-write-requires (proc
 procedure-write-requires t c κs = search needs
 
 procedure-add-read : (t : ℕ) → procedure-lts.Need-add-read (procedure-calls t) (procedure-at t) procedure.Post
-procedure-add-read t c = let o = c .before .before .before .before .before .before .before .before .before .before .before .before .before .before .before .before .before .before .before .before .pre in let h = c .before .before .before .before .before .before .before .before .before .before .before .before .before .before .before .procedure-head in let s = c .before .before .before .before .before .before .before .before .before .statement in omega arith
+procedure-add-read t c =
+    let at-statement = c .before .before .before .before .before .before .before .before .before in
+    let at-procedure-head = at-statement .before .before .before .before .before .before in
+    let start = at-procedure-head .before .before .before .before .before in
+    let o = start .pre in let h = at-procedure-head .procedure-head in let s = at-statement .statement in omega arith
 
 procedure-read-requires : (t : ℕ) → procedure-lts.Need-read-requires (procedure-calls t) (procedure-at t) procedure.Post
 procedure-read-requires t c κs = search needs
@@ -660,11 +913,20 @@ procedure-same-length-3 : (t : ℕ) → procedure-lts.Need-same-length-3 (proced
 procedure-same-length-3 t c = search needs
 
 procedure-returns-4 : (t : ℕ) → procedure-lts.Need-returns-4 (procedure-calls t) (procedure-at t) procedure.Post
-procedure-returns-4 t c = record {
-  read = along (procedure-parts _ _ _
-      (c .before .before .before .before .before .before .before .before .before .before .before .before .before .before .before .before .before .before .if1 .left)) (since (omega arith) (goes _ (c .before .before .before .before .before .before .before .before .before .before .before .before .before .before .before .before .procedure-head .ensures .0 .read) (c .before .before .before .before .before .before .before .before .before .before .before .before .if2 .left) (λ r w. goes _ (c .before .before .before .before .before .before .before .before .before .before .statement .ensures .read) (c .before .before .before .before .before .before .if3 .left) (λ s y. done (c .read .ensures) (omega arith) (omega arith) (λ k. c .before .before .before .before .write .ensures k ∙ (y _ ∙ w _))))));
-  low = search needs;
-}
+procedure-returns-4 t c =
+    let at-write = c .before .before .before .before in
+    let at-if3 = at-write .before .before in
+    let at-statement = at-if3 .before .before .before .before in
+    let at-if2 = at-statement .before .before in
+    let at-procedure-head = at-if2 .before .before .before .before in
+    let at-if1 = at-procedure-head .before .before in
+    record {
+      read = along (procedure-parts _ _ _ (at-if1 .if1 .left))
+          (since (omega arith) (goes _ (at-procedure-head .procedure-head .ensures .0 .read) (at-if2 .if2 .left)
+          (λ r w. goes _ (at-statement .statement .ensures .read) (at-if3 .if3 .left)
+          (λ s y. done (c .read .ensures) (omega arith) (omega arith) (λ k. at-write .write .ensures k ∙ (y _ ∙ w _))))));
+      low = search needs;
+    }
 
 statement-kind-at-requires : (t : ℕ) → statement-lts.Need-kind-at-requires (statement-calls t) (statement-at t) statement′.Post
 statement-kind-at-requires t c κs = search needs
@@ -702,17 +964,21 @@ statement-same-length t c = search needs
 
 statement-returns-2 : (t : ℕ) → statement-lts.Need-returns-2 (statement-calls t) (statement-at t) statement′.Post
 unfolding constructOf andThen look next tapeStatement
-statement-returns-2 t c = record {
-  read = along (construct _
-      (c .before .before .before .before .before .before .before .before .before .before .before .before .kind-at .ensures)
-      (c .before .before .before .before .before .before .before .before .before .before .before .opens .ensures)
-      (c .before .before .before .before .before .before .before .before .before .before .if1 .taken)
-      (c .before .before .before .before .before .before .before .before .before .if2 .left))
-      (rw (same (c .before .before .before .before .before .before .before .before .before .before .before .before .kind-at .ensures .is)
-      (c .before .before .before .before .before .before .before .before .if3 .taken))
-      (since (omega arith) (gives (T.block (c .before .before .before .before .before .before .before .before .before .before .before .before .before .before .before .args .i)) (λ b l k. l k ∙ c .before .before .before .before .before .before .write .ensures _) (c .before .before .body .ensures .read))));
-  low = search needs;
-}
+statement-returns-2 t c =
+    let at-body = c .before .before in
+    let at-write = at-body .before .before .before .before in
+    let at-if3 = at-write .before .before in
+    let at-if2 = at-if3 .before in
+    let at-if1 = at-if2 .before in
+    let at-opens = at-if1 .before in
+    let at-kind-at = at-opens .before in
+    let start = at-kind-at .before .before .before in
+    record {
+      read = along (construct _ (at-kind-at .kind-at .ensures) (at-opens .opens .ensures) (at-if1 .if1 .taken) (at-if2 .if2 .left))
+          (rw (same (at-kind-at .kind-at .ensures .is) (at-if3 .if3 .taken))
+          (since (omega arith) (gives (T.block (start .args .i)) (λ b l k. l k ∙ at-write .write .ensures _) (at-body .body .ensures .read))));
+      low = search needs;
+    }
 
 statement-sub-if-then : (t : ℕ) → statement-lts.Need-sub-if-then (statement-calls t) (statement-at t) statement′.Post
 statement-sub-if-then t c = search needs
@@ -725,14 +991,18 @@ statement-same-length-2 t c = search needs
 
 statement-returns-3 : (t : ℕ) → statement-lts.Need-returns-3 (statement-calls t) (statement-at t) statement′.Post
 unfolding constructOf andThen look next
-statement-returns-3 t c = record {
-  read = along (construct _ (c .before .before .before .before .before .before .before .before .before .kind-at .ensures)
-      (c .before .before .before .before .before .before .before .before .opens .ensures) (c .before .before .before .before .before .before .before .if1 .taken)
-      (c .before .before .before .before .before .before .if2 .left))
-      (rw (same (c .before .before .before .before .before .before .before .before .before .kind-at .ensures .is) (c .before .before .before .before .if4 .taken))
-      (c .before .before .if-then .ensures .read));
-  low = search needs;
-}
+statement-returns-3 t c =
+    let at-if-then = c .before .before in
+    let at-if4 = at-if-then .before .before in
+    let at-if2 = at-if4 .before .before in
+    let at-if1 = at-if2 .before in
+    let at-opens = at-if1 .before in
+    let at-kind-at = at-opens .before in
+    record {
+      read = along (construct _ (at-kind-at .kind-at .ensures) (at-opens .opens .ensures) (at-if1 .if1 .taken) (at-if2 .if2 .left))
+          (rw (same (at-kind-at .kind-at .ensures .is) (at-if4 .if4 .taken)) (at-if-then .if-then .ensures .read));
+      low = search needs;
+    }
 
 statement-sub-while-do : (t : ℕ) → statement-lts.Need-sub-while-do (statement-calls t) (statement-at t) statement′.Post
 statement-sub-while-do t c = search needs
@@ -759,7 +1029,19 @@ statement-sub-for-do : (t : ℕ) → statement-lts.Need-sub-for-do (statement-ca
 statement-sub-for-do t c = search needs
 
 statement-for-do-requires : (t : ℕ) → statement-lts.Need-for-do-requires (statement-calls t) (statement-at t) statement′.Post
-statement-for-do-requires t c κs = let o = c .before .before .before .before .before .before .before .before .before .before .pre in let k = c .before .before .before .before .before .before .before .kind-at in let z = c .before .before .before .before .if2 .left in ((omega arith), (record { inside = omega arith; low = omega arith; room = omega arith; small = omega arith }, is-token openers (c .before .before .before .before .before .before .before .kind-at .ensures) (c .before .before .before .before .before .before .opens .ensures) (c .before .before .before .before .before .if1 .taken) refl))
+statement-for-do-requires t c κs =
+    let at-if2 = c .before .before .before .before in
+    let at-if1 = at-if2 .before in
+    let at-opens = at-if1 .before in
+    let at-kind-at = at-opens .before in
+    let start = at-kind-at .before .before .before in
+    let o = start .pre in let k = at-kind-at .kind-at in let z = at-if2 .if2 .left in (
+      (omega arith),
+      (
+        record { inside = omega arith; low = omega arith; room = omega arith; small = omega arith },
+        is-token openers (at-kind-at .kind-at .ensures) (at-opens .opens .ensures) (at-if1 .if1 .taken) refl,
+      ),
+    )
 
 statement-same-length-4 : (t : ℕ) → statement-lts.Need-same-length-4 (statement-calls t) (statement-at t) statement′.Post
 statement-same-length-4 t c = search needs
@@ -826,13 +1108,33 @@ while-do-same-length-2 : (t : ℕ) → while-do-lts.Need-same-length-2 (while-do
 while-do-same-length-2 t c = search needs
 
 while-do-returns-2 : (t : ℕ) → while-do-lts.Need-returns-2 (while-do-calls t) (while-do-at t) while-do.Post
-while-do-returns-2 t c = record { read = since (omega arith) (along (while-parts (G.statement (c .before .before .before .before .before .before .before .before .before .before .before .before .before .before .before .before .before .before .args .room)) (c .before .before .before .before .before .before .before .before .before .before .before .before .before .before .before .before .before .before .args .i) _ _) (goes _ (c .before .before .before .before .before .before .before .before .before .before .head .ensures .0 .read) (c .before .before .before .before .before .before .if1 .left) (λ h w. stops _ (c .before .before .before .before .statement .ensures .read) (c .if2 .taken)))); low = let z = c .before .before .before .before .before .before .if1 .left in let o = c .before .before .before .before .before .before .before .before .before .before .before .before .before .before .before .before .before .before .pre in let w = c .before .before .before .before .before .before .before .before .before .before .before .before .before .before .write in let h = c .before .before .before .before .before .before .before .before .before .before .head in let s = c .before .before .before .before .statement in omega arith }
+while-do-returns-2 t c =
+    let at-statement = c .before .before .before .before in
+    let at-if1 = at-statement .before .before in
+    let at-head = at-if1 .before .before .before .before in
+    let at-write = at-head .before .before .before .before in
+    let start = at-write .before .before .before .before in
+    record {
+      read = since (omega arith) (along (while-parts (G.statement (start .args .room)) (start .args .i) _ _)
+          (goes _ (at-head .head .ensures .0 .read) (at-if1 .if1 .left) (λ h w. stops _ (at-statement .statement .ensures .read) (c .if2 .taken))));
+      low = let z = at-if1 .if1 .left in let o = start .pre in let w = at-write .write in let h = at-head .head in let s = at-statement .statement in omega
+          arith;
+    }
 
 while-do-write-requires-2 : (t : ℕ) → while-do-lts.Need-write-requires-2 (while-do-calls t) (while-do-at t) while-do.Post
-while-do-write-requires-2 t c κs = let z = c .before .before .before .before .before .before .before .if1 .left in let o = c .before .before .before .before .before .before .before .before .before .before .before .before .before .before .before .before .before .before .before .pre in let w = c .before .before .before .before .before .before .before .before .before .before .before .before .before .before .before .write in let h = c .before .before .before .before .before .before .before .before .before .before .before .head in let s = c .before .before .before .before .before .statement in omega arith
+while-do-write-requires-2 t c κs = let z = c .before .before .before .before .before .before .before .if1 .left in let o = c .before .before .before .before
+    .before .before .before .before .before .before .before .before .before .before .before .before .before .before .before .pre in let w = c .before .before
+    .before .before .before .before .before .before .before .before .before .before .before .before .before .write in let h = c .before .before .before .before
+    .before .before .before .before .before .before .before .head in let s = c .before .before .before .before .before .statement in omega arith
 
 while-do-add-read : (t : ℕ) → while-do-lts.Need-add-read (while-do-calls t) (while-do-at t) while-do.Post
-while-do-add-read t c = let z = c .before .before .before .before .before .before .before .before .before .before .before .if1 .left in let o = c .before .before .before .before .before .before .before .before .before .before .before .before .before .before .before .before .before .before .before .before .before .before .before .pre in let w = c .before .before .before .before .before .before .before .before .before .before .before .before .before .before .before .before .before .before .before .write in let h = c .before .before .before .before .before .before .before .before .before .before .before .before .before .before .before .head in let s = c .before .before .before .before .before .before .before .before .before .statement in omega arith
+while-do-add-read t c =
+    let at-statement = c .before .before .before .before .before .before .before .before .before in
+    let at-if1 = at-statement .before .before in
+    let at-head = at-if1 .before .before .before .before in
+    let at-write = at-head .before .before .before .before in
+    let start = at-write .before .before .before .before in
+    let z = at-if1 .if1 .left in let o = start .pre in let w = at-write .write in let h = at-head .head in let s = at-statement .statement in omega arith
 
 while-do-read-requires : (t : ℕ) → while-do-lts.Need-read-requires (while-do-calls t) (while-do-at t) while-do.Post
 while-do-read-requires t c κs = search needs
@@ -842,7 +1144,22 @@ while-do-same-length-3 t c = search needs
 
 while-do-returns-3 : (t : ℕ) → while-do-lts.Need-returns-3 (while-do-calls t) (while-do-at t) while-do.Post
 unfolding tapeStatement
-while-do-returns-3 t c = record { read = since (omega arith) (along (while-parts (G.statement (c .before .before .before .before .before .before .before .before .before .before .before .before .before .before .before .before .before .before .before .before .before .before .before .before .args .room)) (c .before .before .before .before .before .before .before .before .before .before .before .before .before .before .before .before .before .before .before .before .before .before .before .before .args .i) _ _) (goes _ (c .before .before .before .before .before .before .before .before .before .before .before .before .before .before .before .before .head .ensures .0 .read) (c .before .before .before .before .before .before .before .before .before .before .before .before .if1 .left) (λ h w. goes _ (c .before .before .before .before .before .before .before .before .before .before .statement .ensures .read) (c .before .before .before .before .before .before .if2 .left) (λ s y. done (c .read .ensures) (omega arith) (omega arith) (λ k. c .before .before .before .before .write2 .ensures k ∙ (y _ ∙ (w _ ∙ c .before .before .before .before .before .before .before .before .before .before .before .before .before .before .before .before .before .before .before .before .write .ensures _))))))); low = let x = c .read .ensures in let z = c .before .before .before .before .before .before .before .before .before .before .before .before .if1 .left in let o = c .before .before .before .before .before .before .before .before .before .before .before .before .before .before .before .before .before .before .before .before .before .before .before .before .pre in let w = c .before .before .before .before .before .before .before .before .before .before .before .before .before .before .before .before .before .before .before .before .write in let h = c .before .before .before .before .before .before .before .before .before .before .before .before .before .before .before .before .head in let s = c .before .before .before .before .before .before .before .before .before .before .statement in omega arith }
+while-do-returns-3 t c =
+    let at-write2 = c .before .before .before .before in
+    let at-if2 = at-write2 .before .before in
+    let at-statement = at-if2 .before .before .before .before in
+    let at-if1 = at-statement .before .before in
+    let at-head = at-if1 .before .before .before .before in
+    let at-write = at-head .before .before .before .before in
+    let start = at-write .before .before .before .before in
+    record {
+      read = since (omega arith) (along (while-parts (G.statement (start .args .room)) (start .args .i) _ _)
+          (goes _ (at-head .head .ensures .0 .read) (at-if1 .if1 .left)
+          (λ h w. goes _ (at-statement .statement .ensures .read) (at-if2 .if2 .left)
+          (λ s y. done (c .read .ensures) (omega arith) (omega arith) (λ k. at-write2 .write2 .ensures k ∙ (y _ ∙ (w _ ∙ at-write .write .ensures _)))))));
+      low = let x = c .read .ensures in let z = at-if1 .if1 .left in let o = start .pre in let w = at-write .write in let h = at-head .head in let s =
+          at-statement .statement in omega arith;
+    }
 
 pub +body+for-do+if-then+items+procedure+statement+while-do-spec : {M : Type 1} → statement M
 +body+for-do+if-then+items+procedure+statement+while-do-spec =

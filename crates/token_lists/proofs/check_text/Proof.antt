@@ -69,7 +69,9 @@ loop-less c = omega (
 )
 
 loop-again : tie.Need-loop-again Inv-loop μ-loop
-loop-again c = reads-on (answered (c .before .before .before .before .before)) (c .before .before .before .next .given .1) (sym (c .before .is-last .ensures) ∙ c .if2 .left)
+loop-again c =
+    let at-next = c .before .before .before in
+    reads-on (answered (c .before .before .before .before .before)) (at-next .next .given .1) (sym (c .before .is-last .ensures) ∙ c .if2 .left)
 
 enum-known-next-2 : tie.Need-enum-known-next-2 Inv-loop μ-loop
 enum-known-next-2 c = search needs
@@ -79,7 +81,9 @@ add-t16 c = omega (arith, refused-inside (answered (c .before .before .before)) 
 
 returns-3 : tie.Need-returns-3 Inv-loop μ-loop
 unfolding tokensOf
-returns-3 c = rw (le-ltb _ _ (c .before .before .before .before .before .before .if1 .left)) (reads-no (answered (c .before .before .before)) (ap outcomeOf (c .before .next2 .given .1)) refl)
+returns-3 c =
+    let at-if1 = c .before .before .before .before .before .before in
+    rw (le-ltb _ _ (at-if1 .if1 .left)) (reads-no (answered (c .before .before .before)) (ap outcomeOf (c .before .next2 .given .1)) refl)
 
 enum-known-next-3 : tie.Need-enum-known-next-3 Inv-loop μ-loop
 enum-known-next-3 c = search needs
@@ -89,7 +93,9 @@ add-t17 c = omega (arith, refused-inside (answered (c .before .before .before)) 
 
 returns-4 : tie.Need-returns-4 Inv-loop μ-loop
 unfolding tokensOf
-returns-4 c = rw (le-ltb _ _ (c .before .before .before .before .before .before .if1 .left)) (reads-no (answered (c .before .before .before)) (ap outcomeOf (c .before .next3 .given .1)) refl)
+returns-4 c =
+    let at-if1 = c .before .before .before .before .before .before in
+    rw (le-ltb _ _ (at-if1 .if1 .left)) (reads-no (answered (c .before .before .before)) (ap outcomeOf (c .before .next3 .given .1)) refl)
 
 pub check-text-spec : {M : Type 1} → statement M
 check-text-spec =

@@ -122,11 +122,18 @@ loop-less c = omega (
 
 loop-again : tie.Need-loop-again Inv-loop μ-loop
 loop-again c =
-    let a = answered (c .before .before .before .before .before) in
-    let q = c .before .before .before .next .given .1 in
-    let l = sym (c .before .is-last .ensures) ∙ c .if1 .left in
-    let v = c .before .before .before .before .before .before .before .loop .inv in
-    (reads-on a q l, laid-on a q kindOf _ _ (v .1) l, laid-on a q valueOf _ _ (v .2) l, laid-on a q placeOf _ _ (v .3) l, search needs, search needs, search needs)
+    let at-next = c .before .before .before in
+    let at-loop = at-next .before .before .before .before in
+    let a = answered (c .before .before .before .before .before) in let q = at-next .next .given .1 in let l = sym (c .before .is-last .ensures)
+    ∙ c .if1 .left in let v = at-loop .loop .inv in (
+      reads-on a q l,
+      laid-on a q kindOf _ _ (v .1) l,
+      laid-on a q valueOf _ _ (v .2) l,
+      laid-on a q placeOf _ _ (v .3) l,
+      search needs,
+      search needs,
+      search needs,
+    )
 
 enum-known-next-2 : tie.Need-enum-known-next-2 Inv-loop μ-loop
 enum-known-next-2 c = search needs

@@ -32,9 +32,14 @@ returns c = too-many (now (c .before .before .before .before .before .before .be
     ∙ c .before .before .before .before .before .before .before .before .check-text .ensures) _ (omega (arith, c .before .room-in .ensures, c .if1 .taken))
 
 lay-tokens-requires : tie.Need-lay-tokens-requires
-lay-tokens-requires c κs = let s = now (c .before .before .before .before .before .before .before .before .before .before .before .before .before .before .before .before .args .src) in
-    let e = sym (ap summaryOf (c .before .before .before .before .before .before .before .before .before .checked .given .1)) ∙ c .before .before .before .before .before .before .before .before .before .before .before .check-text .ensures in
-    (checked-limit s _ e, omega (arith, checked-count s _ e, c .before .before .before .before .room-in .ensures, c .before .before .before .if1 .left))
+lay-tokens-requires c κs =
+    let at-if1 = c .before .before .before in
+    let at-room-in = at-if1 .before in
+    let at-checked = at-room-in .before .before .before .before .before in
+    let at-check-text = at-checked .before .before in
+    let start = at-check-text .before .before .before .before .before in
+    let s = now (start .args .src) in let e = sym (ap summaryOf (at-checked .checked .given .1))
+    ∙ at-check-text .check-text .ensures in (checked-limit s _ e, omega (arith, checked-count s _ e, at-room-in .room-in .ensures, at-if1 .if1 .left))
 
 enum-told : tie.Need-enum-told
 enum-told c = search needs
@@ -58,7 +63,15 @@ same-length-6 : tie.Need-same-length-6
 same-length-6 c = search needs
 
 returns-2 : tie.Need-returns-2
-returns-2 c = all-read (now (c .before .before .before .before .before .before .before .before .before .before .before .before .before .before .before .before .before .before .before .before .before .before .before .args .src)) _ (sym (ap summaryOf (c .before .before .before .before .before .before .before .before .before .before .before .before .before .before .before .before .checked .given .1)) ∙ c .before .before .before .before .before .before .before .before .before .before .before .before .before .before .before .before .before .before .check-text .ensures) _ (omega (arith, c .before .before .before .before .before .before .before .before .before .before .before .room-in .ensures, c .before .before .before .before .before .before .before .before .before .before .if1 .left)) (c .before .before .before .before .before .before .lay-tokens .ensures)
+returns-2 c =
+    let at-lay-tokens = c .before .before .before .before .before .before in
+    let at-if1 = at-lay-tokens .before .before .before .before in
+    let at-room-in = at-if1 .before in
+    let at-checked = at-room-in .before .before .before .before .before in
+    let at-check-text = at-checked .before .before in
+    let start = at-check-text .before .before .before .before .before in
+    all-read (now (start .args .src)) _ (sym (ap summaryOf (at-checked .checked .given .1)) ∙ at-check-text .check-text .ensures) _
+    (omega (arith, at-room-in .room-in .ensures, at-if1 .if1 .left)) (at-lay-tokens .lay-tokens .ensures)
 
 returns-3 : tie.Need-returns-3
 returns-3 c = stays _ _ _ (sym (ap summaryOf (c .enum-told .given .1)) ∙ c .before .before .check-text .ensures) refl

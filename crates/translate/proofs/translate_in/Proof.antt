@@ -1,139 +1,29 @@
--- `translate_in` reads the text, refusals 1 to 3, and then goes on with the lists cut to its tokens. Assumes nothing.
+-- `translate_in` reads the text, refusals 1 to 3, and then goes on with its tokens. Assumes nothing.
 use Rattle.translate.proofs.Groups.{text-refused, some-room, text-read}
-use Rattle.settled.proofs.Rooms.{cut-blanks, cut-lent}
-use Rattle.settled.proofs.Reading.{all-read, few-read}
+use Rattle.settled.proofs.Rooms.{read-fits, cut-blanks}
+use Rattle.settled.proofs.Reading.{all-read}
+use Rattle.scopes.specs.Search.{firstToken}
 use Rattle.ledger.proofs.Cutting.{wide-take}
-use Rattle.ledger.specs.Book.{wideOf, thinOf}
-use lib.Seq.{length-front, length-take-le}
-use mathlib.Core.Path.{refl, sym, _∙_}
-use Prim.Native.Nat.{_+_, _*_}
+use mathlib.Core.Path.{refl}
+use Prim.Native.Nat.{_+_}
 use native.Mathlib.Omega.{arith}
 use borrow.Author.Needs.{needs}
 use Rattle.translate.proofs.translate_in.Statement.{statement}
 use Rattle.translate.proofs.translate_in.Tie as tie
 
 read-requires : tie.Need-read-requires
-read-requires c κs =
-    let start = c .before .before .before .before .before .before .before .before in
-    (start .pre .short, start .pre .for-kinds, start .pre .for-wide)
+read-requires c κs = search needs
 
 enum-known-tokens : tie.Need-enum-known-tokens
 enum-known-tokens c = search needs
 
-add-m : tie.Need-add-m
-add-m c =
-    let at-tokens = c .before in
-    let at-read = at-tokens .before .before .before .before .before .before in
-    let start = at-read .before .before .before .before .before .before .before .before .before in
-    omega (arith, few-read (start .args .src .now) _ (at-read .read .ensures .0 .is) _ (at-tokens .tokens .given .1), start .pre .short)
-
-mul-rows : tie.Need-mul-rows
-mul-rows c =
-    let at-tokens = c .before in
-    let at-read = at-tokens .before .before .before .before .before .before in
-    let start = at-read .before .before .before .before .before .before .before .before .before in
-    omega (arith, few-read (start .args .src .now) _ (at-read .read .ensures .0 .is) _ (at-tokens .tokens .given .1), start .pre .short)
-
-slice-reshare-prefix-translate-tokens : tie.Need-slice-reshare-prefix-translate-tokens
-slice-reshare-prefix-translate-tokens c =
-    let at-tokens = c .before in
-    let at-read = at-tokens .before .before .before .before .before .before in
-    let start = at-read .before .before .before .before .before .before .before .before .before in
-    omega (
-      arith,
-      few-read (start .args .src .now) _ (at-read .read .ensures .0 .is) _ (at-tokens .tokens .given .1),
-      start .pre .for-kinds,
-      at-read .read .kept
-          .1 .0,
-    )
-
-slice-aggregate-translate-tokens : tie.Need-slice-aggregate-translate-tokens
-slice-aggregate-translate-tokens c =
-    let at-tokens = c .before .before in
-    let at-read = at-tokens .before .before .before .before .before .before in
-    let start = at-read .before .before .before .before .before .before .before .before .before in
-    sym (length-take-le _ _ (omega (
-      arith,
-      few-read (start .args .src .now) _ (at-read .read .ensures .0 .is) _ (at-tokens .tokens .given .1),
-      start .pre .for-kinds,
-      at-read .read .kept .1 .0,
-    )))
-
-slice-relend-prefix-translate-tokens : tie.Need-slice-relend-prefix-translate-tokens
-slice-relend-prefix-translate-tokens c =
-    let at-tokens = c .before .before in
-    let at-read = at-tokens .before .before .before .before .before .before in
-    let start = at-read .before .before .before .before .before .before .before .before .before in
-    omega (arith, few-read (start .args .src .now) _ (at-read .read .ensures .0 .is) _ (at-tokens .tokens .given .1), start .pre .for-tape)
-
-slice-aggregate-translate-tokens-2 : tie.Need-slice-aggregate-translate-tokens-2
-slice-aggregate-translate-tokens-2 c =
-    let at-tokens = c .before .before .before in
-    let at-read = at-tokens .before .before .before .before .before .before in
-    let start = at-read .before .before .before .before .before .before .before .before .before in
-    sym (length-take-le _ _ (omega (arith, few-read (start .args .src .now) _ (at-read .read .ensures .0 .is) _ (at-tokens .tokens .given .1), start .pre .for-tape)))
-
-slice-relend-prefix-translate-tokens-2 : tie.Need-slice-relend-prefix-translate-tokens-2
-slice-relend-prefix-translate-tokens-2 c =
-    let at-tokens = c .before .before .before in
-    let at-read = at-tokens .before .before .before .before .before .before in
-    let start = at-read .before .before .before .before .before .before .before .before .before in
-    omega (
-      arith,
-      few-read (start .args .src .now) _ (at-read .read .ensures .0 .is) _ (at-tokens .tokens .given .1),
-      start .pre .for-wide,
-      at-read .read .kept
-          .1 .1 .0,
-    )
-
-slice-aggregate-translate-tokens-3 : tie.Need-slice-aggregate-translate-tokens-3
-slice-aggregate-translate-tokens-3 c =
-    let at-tokens = c .before .before .before .before in
-    let at-read = at-tokens .before .before .before .before .before .before in
-    let start = at-read .before .before .before .before .before .before .before .before .before in
-    sym (length-take-le _ _ (omega (
-      arith,
-      few-read (start .args .src .now) _ (at-read .read .ensures .0 .is) _ (at-tokens .tokens .given .1),
-      start .pre .for-wide,
-      at-read .read .kept .1 .1 .0,
-    )))
-
-slice-relend-prefix-translate-tokens-3 : tie.Need-slice-relend-prefix-translate-tokens-3
-slice-relend-prefix-translate-tokens-3 c =
-    let at-tokens = c .before .before .before .before in
-    let at-read = at-tokens .before .before .before .before .before .before in
-    let start = at-read .before .before .before .before .before .before .before .before .before in
-    omega (arith, few-read (start .args .src .now) _ (at-read .read .ensures .0 .is) _ (at-tokens .tokens .given .1), start .pre .for-thin)
-
-slice-aggregate-translate-tokens-4 : tie.Need-slice-aggregate-translate-tokens-4
-slice-aggregate-translate-tokens-4 c =
-    let at-tokens = c .before .before .before .before .before in
-    let at-read = at-tokens .before .before .before .before .before .before in
-    let start = at-read .before .before .before .before .before .before .before .before .before in
-    sym (length-take-le _ _ (omega (arith, few-read (start .args .src .now) _ (at-read .read .ensures .0 .is) _ (at-tokens .tokens .given .1), start .pre .for-thin)))
-
-translate-tokens-requires : tie.Need-translate-tokens-requires
-translate-tokens-requires c κs =
+translate-read-requires : tie.Need-translate-read-requires
+translate-read-requires c κs =
     let at-tokens = c .before .before .before .before .before .before in
     let at-read = at-tokens .before .before .before .before .before .before in
-    let start = at-read .before .before .before .before .before .before .before .before .before in
-    let f = few-read (start .args .src .now) _ (at-read .read .ensures .0 .is) _ (at-tokens .tokens .given .1) in let l = cut-lent (17 + at-tokens .tokens
-    .given .0 .0) (at-read .read .last .1 .0) (start .args .tape .now) (at-read .read .last .1 .1 .0) (start .args .thin .now) (omega arith) (omega (
-      arith,
-      f,
-      start .pre .short,
-    )) (omega (arith, f, start .pre .for-kinds, at-read .read .kept .1 .0)) (omega (arith, f, start .pre .for-tape)) (omega (
-      arith,
-      f,
-      start
-          .pre .for-wide,
-      at-read .read .kept .1 .1 .0,
-    )) (omega (arith, f, start .pre .for-thin)) in (
-      all-read (start .args .src .now) _ (at-read .read .ensures .0
-          .is) _ (at-tokens .tokens .given .1),
-      l .0,
-      l .1,
-      l .2,
+    let start = at-read .before .before .before .before .before .before .before .before .before in (
+      all-read (start .args .src .now) _ (at-read .read .ensures .0 .is) _ (at-tokens .tokens .given .1),
+      read-fits (start .pre) (at-read .read .ensures .0) (at-read .read .kept .1 .0) (at-read .read .kept .1 .1 .0) (at-tokens .tokens .given .1),
     )
 
 enum-told : tie.Need-enum-told
@@ -149,56 +39,32 @@ enum-known-tokens-4 : tie.Need-enum-known-tokens-4
 enum-known-tokens-4 c = search needs
 
 same-length : tie.Need-same-length
-same-length c =
-    let back = c .before .before .before .before .before .before .before .before .before .before .before .before .before .before .before in
-    let at-read = back .before .before .before .before .before .before in
-    at-read .read .kept .1 .0
+same-length c = search needs
 
 same-length-2 : tie.Need-same-length-2
-same-length-2 c =
-    let at-translate-tokens = c .before .before .before .before .before .before .before .before in
-    let at-tokens = at-translate-tokens .before .before .before .before .before .before .before in
-    let start = at-tokens .before .before .before .before .before .before .before .before .before .before .before .before .before .before .before in
-    length-front (start .args .tape .now) (at-translate-tokens .translate-tokens .last .1 .1 .0) (17 + at-tokens .tokens .given .0 .0) (at-translate-tokens
-    .translate-tokens .kept .1 .1 .0)
+same-length-2 c = search needs
 
 same-length-3 : tie.Need-same-length-3
-same-length-3 c =
-    let at-translate-tokens = c .before .before .before .before .before .before .before .before in
-    let at-tokens = at-translate-tokens .before .before .before .before .before .before .before in
-    let at-read = at-tokens .before .before .before .before .before .before in
-    length-front (at-read .read .last .1 .1 .0) (at-translate-tokens .translate-tokens .last .1 .1 .1 .0) (4 * (17 + at-tokens .tokens .given .0 .0))
-    (at-translate-tokens .translate-tokens .kept .1 .1 .1 .0) ∙ at-read .read .kept .1 .1 .0
+same-length-3 c = search needs
 
 same-length-4 : tie.Need-same-length-4
-same-length-4 c =
-    let at-translate-tokens = c .before .before .before .before .before .before .before .before in
-    let at-tokens = at-translate-tokens .before .before .before .before .before .before .before in
-    let start = at-tokens .before .before .before .before .before .before .before .before .before .before .before .before .before .before .before in
-    length-front (start .args .thin .now) (at-translate-tokens .translate-tokens .last .1 .1 .1 .1 .0) (4 * (17 + at-tokens .tokens .given .0 .0))
-    (at-translate-tokens .translate-tokens .kept .1 .1 .1 .1 .0)
+same-length-4 c = search needs
 
 same-length-5 : tie.Need-same-length-5
-same-length-5 c =
-    let at-translate-tokens = c .before .before .before .before .before .before .before .before in
-    at-translate-tokens .translate-tokens .kept .1 .1 .1 .1 .1 .0
+same-length-5 c = search needs
 
 returns : tie.Need-returns
 returns c =
-    let at-translate-tokens = c .before .before .before .before .before .before .before .before in
-    let at-tokens = at-translate-tokens .before .before .before .before .before .before .before in
+    let at-translate-read = c .before .before .before .before .before .before .before .before in
+    let at-tokens = at-translate-read .before .before .before .before .before .before .before in
     let at-read = at-tokens .before .before .before .before .before .before in
     let start = at-read .before .before .before .before .before .before .before .before .before in
-    let f = few-read (start .args .src .now) _ (at-read .read .ensures .0 .is) _ (at-tokens .tokens .given .1) in text-read _ _ _ _ (at-read .read .ensures .0)
-    _ (at-tokens .tokens .given .1) _ _ _ _ _ (wide-take 0 (17 + at-tokens .tokens .given .0 .0) (at-read .read .last .1 .1 .0) (omega arith) (omega (
-      arith,
-      f,
-      start .pre .for-wide,
-      at-read .read .kept .1 .1 .0,
-    ))) (cut-blanks (start .args .src .now) _ (at-read .read .ensures .0 .is) _ (at-tokens .tokens .given .1)
-    (start .args .wide .now) (at-read .read .last .1 .1 .0) (start .args .thin .now) (start .pre .no-wide) (start .pre .no-thin) (at-read .read .ensures .1)
-    (at-read .read .kept .1 .1 .0) (omega (arith, f, start .pre .for-wide)) (omega (arith, f, start .pre .for-thin))) (at-translate-tokens .translate-tokens
-    .ensures)
+    let f = read-fits {wide′ = at-read .read .last .1 .1 .0} (start .pre) (at-read .read .ensures .0) (at-read .read .kept .1 .0) (at-read .read .kept .1 .1 .0) (at-tokens .tokens .given .1) in
+    text-read _ _ _ _ (at-read .read .ensures .0) _ (at-tokens .tokens .given .1) _ _ _ _ _
+    (wide-take 0 (firstToken + at-tokens .tokens .given .0 .0) (at-read .read .last .1 .1 .0) (omega arith) (f .for-wide))
+    (cut-blanks (start .args .src .now) _ (at-read .read .ensures .0 .is) _ (at-tokens .tokens .given .1) (start .args .wide .now) (at-read .read .last .1 .1 .0) (start .args .thin .now)
+    (start .pre .no-wide) (start .pre .no-thin) (at-read .read .ensures .1) (at-read .read .kept .1 .1 .0) (omega (arith, f .for-wide, at-read .read .kept .1 .1 .0)) (f .for-thin))
+    (at-translate-read .translate-read .ensures)
 
 same-length-6 : tie.Need-same-length-6
 same-length-6 c = search needs
@@ -253,17 +119,7 @@ translate-in-spec =
     (tie.spec
     read-requires
     enum-known-tokens
-    add-m
-    mul-rows
-    slice-reshare-prefix-translate-tokens
-    slice-aggregate-translate-tokens
-    slice-relend-prefix-translate-tokens
-    slice-aggregate-translate-tokens-2
-    slice-relend-prefix-translate-tokens-2
-    slice-aggregate-translate-tokens-3
-    slice-relend-prefix-translate-tokens-3
-    slice-aggregate-translate-tokens-4
-    translate-tokens-requires
+    translate-read-requires
     enum-told
     enum-known-tokens-2
     enum-known-tokens-3

@@ -20,7 +20,10 @@ same-requires-2 : tie.Need-same-requires-2
 same-requires-2 c κs = search needs
 
 returns-2 : tie.Need-returns-2
-returns-2 c = (rw (told (c .before .before .before .before .same .ensures) (c .before .before .before .if1 .left), told (c .before .same2 .ensures) (c .if2 .taken)), search needs)
+returns-2 c =
+    let at-if1 = c .before .before .before in
+    let at-same = at-if1 .before in
+    (rw (told (at-same .same .ensures) (at-if1 .if1 .left), told (c .before .same2 .ensures) (c .if2 .taken)), search needs)
 
 slice-aggregate-same-3 : tie.Need-slice-aggregate-same-3
 slice-aggregate-same-3 c = search needs
@@ -84,10 +87,50 @@ same-requires-6 : tie.Need-same-requires-6
 same-requires-6 c κs = search needs
 
 returns-6 : tie.Need-returns-6
-returns-6 c = (rw (told (c .before .before .before .before .before .before .before .before .before .before .before .before .before .before .before .before .same .ensures) (c .before .before .before .before .before .before .before .before .before .before .before .before .before .before .before .if1 .left), told (c .before .before .before .before .before .before .before .before .before .before .before .before .before .same2 .ensures) (c .before .before .before .before .before .before .before .before .before .before .before .before .if2 .left), told (c .before .before .before .before .before .before .before .before .before .before .same3 .ensures) (c .before .before .before .before .before .before .before .before .before .if3 .left), told (c .before .before .before .before .before .before .before .same4 .ensures) (c .before .before .before .before .before .before .if4 .left), told (c .before .before .before .before .same5 .ensures) (c .before .before .before .if5 .left), told (c .before .same6 .ensures) (c .if6 .taken)), search needs)
+returns-6 c =
+    let at-if5 = c .before .before .before in
+    let at-same5 = at-if5 .before in
+    let at-if4 = at-same5 .before .before in
+    let at-same4 = at-if4 .before in
+    let at-if3 = at-same4 .before .before in
+    let at-same3 = at-if3 .before in
+    let at-if2 = at-same3 .before .before in
+    let at-same2 = at-if2 .before in
+    let at-if1 = at-same2 .before .before in
+    let at-same = at-if1 .before in (
+      rw (
+        told (at-same .same .ensures) (at-if1 .if1 .left),
+        told (at-same2 .same2 .ensures) (at-if2 .if2 .left),
+        told (at-same3 .same3 .ensures) (at-if3 .if3 .left),
+        told (at-same4 .same4 .ensures) (at-if4 .if4 .left),
+        told (at-same5 .same5 .ensures) (at-if5 .if5 .left),
+        told (c .before .same6 .ensures) (c .if6 .taken),
+      ),
+      search needs,
+    )
 
 returns-7 : tie.Need-returns-7
-returns-7 c = (rw (told (c .before .before .before .before .before .before .before .before .before .before .before .before .before .before .before .before .same .ensures) (c .before .before .before .before .before .before .before .before .before .before .before .before .before .before .before .if1 .left), told (c .before .before .before .before .before .before .before .before .before .before .before .before .before .same2 .ensures) (c .before .before .before .before .before .before .before .before .before .before .before .before .if2 .left), told (c .before .before .before .before .before .before .before .before .before .before .same3 .ensures) (c .before .before .before .before .before .before .before .before .before .if3 .left), told (c .before .before .before .before .before .before .before .same4 .ensures) (c .before .before .before .before .before .before .if4 .left), told (c .before .before .before .before .same5 .ensures) (c .before .before .before .if5 .left), told (c .before .same6 .ensures) (c .if6 .left)), search needs)
+returns-7 c =
+    let at-if5 = c .before .before .before in
+    let at-same5 = at-if5 .before in
+    let at-if4 = at-same5 .before .before in
+    let at-same4 = at-if4 .before in
+    let at-if3 = at-same4 .before .before in
+    let at-same3 = at-if3 .before in
+    let at-if2 = at-same3 .before .before in
+    let at-same2 = at-if2 .before in
+    let at-if1 = at-same2 .before .before in
+    let at-same = at-if1 .before in (
+      rw (
+        told (at-same .same .ensures) (at-if1 .if1 .left),
+        told (at-same2 .same2 .ensures) (at-if2 .if2 .left),
+        told (at-same3 .same3 .ensures) (at-if3 .if3 .left),
+        told (at-same4 .same4 .ensures) (at-if4 .if4 .left),
+        told (at-same5 .same5 .ensures) (at-if5 .if5 .left),
+        told (c .before .same6 .ensures) (c .if6 .left),
+      ),
+      search needs,
+    )
 
 pub command-spec : {M : Type 1} → statement M
 command-spec =

@@ -29,7 +29,10 @@ returns-3 c = rw (
 )
 
 returns-4 : tie.Need-returns-4
-returns-4 c = rw (← c .before .least-names .ensures, le-ltb _ _ (c .before .before .before .if1 .left), le-ltb _ _ (c .before .before .if2 .left), le-ltb _ _ (c .if3 .left))
+returns-4 c =
+    let at-if2 = c .before .before in
+    let at-if1 = at-if2 .before in
+    rw (← c .before .least-names .ensures, le-ltb _ _ (at-if1 .if1 .left), le-ltb _ _ (at-if2 .if2 .left), le-ltb _ _ (c .if3 .left))
 
 pub finished-spec : {M : Type 1} → statement M
 finished-spec =

@@ -20,7 +20,10 @@ same-requires-2 : tie.Need-same-requires-2
 same-requires-2 c κs = search needs
 
 returns-2 : tie.Need-returns-2
-returns-2 c = rw (told (c .before .before .before .before .same .ensures) (c .before .before .before .if1 .left), told (c .before .same2 .ensures) (c .if2 .taken))
+returns-2 c =
+    let at-if1 = c .before .before .before in
+    let at-same = at-if1 .before in
+    rw (told (at-same .same .ensures) (at-if1 .if1 .left), told (c .before .same2 .ensures) (c .if2 .taken))
 
 slice-aggregate-same-3 : tie.Need-slice-aggregate-same-3
 slice-aggregate-same-3 c = search needs

@@ -18,7 +18,10 @@ object-named-requires : tie.Need-object-named-requires
 object-named-requires c κs = search needs
 
 returns-2 : tie.Need-returns-2
-returns-2 c = rw (c .object-named .ensures, told (c .before .before .before .is-option .ensures) (c .before .before .if1 .left), eq-eqb _ _ (c .before .if2 .taken))
+returns-2 c =
+    let at-if1 = c .before .before in
+    let at-is-option = at-if1 .before in
+    rw (c .object-named .ensures, told (at-is-option .is-option .ensures) (at-if1 .if1 .left), eq-eqb _ _ (c .before .if2 .taken))
 
 waits-for-requires : tie.Need-waits-for-requires
 waits-for-requires c κs = search needs

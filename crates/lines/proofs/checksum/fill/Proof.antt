@@ -40,7 +40,9 @@ same-length : tie.Need-same-length Inv-loop μ-loop
 same-length c = search needs
 
 returns : tie.Need-returns Inv-loop μ-loop
-returns c = filled-whole _ (now (c .before .before .args .s)) (c .before .loop .i) _ (search needs) (omega (arith, c .before .loop .inv .1, c .loop-test .left)) (c .before .loop .inv .2)
+returns c =
+    let start = c .before .before in
+    filled-whole _ (now (start .args .s)) (c .before .loop .i) _ (search needs) (omega (arith, c .before .loop .inv .1, c .loop-test .left)) (c .before .loop .inv .2)
 
 pub fill-spec : {M : Type 1} → statement M
 fill-spec =

@@ -42,13 +42,16 @@ loop-less : tie.Need-loop-less Inv-loop μ-loop
 loop-less c = search needs
 
 loop-again : tie.Need-loop-again Inv-loop μ-loop
-loop-again c = (
-  search needs,
-  run-on _ _ _ (search needs) (told (c .before .before .before .is-digit .ensures) (c .before .before .if1 .taken)) (search needs),
-  value-on _ (now (c .before .before .before .before .before .before .before .before .args .s)) (c .before .before .before .before .before .before .loop .i)
-      (c .before .before .before .before .before .before .loop .v) (c .before .digit .result) _ (c .before .before .before .before .before .before .loop .inv .2)
-      (search needs) (c .before .digit .ensures .0) (c .grown .ensures),
-)
+loop-again c =
+    let at-if1 = c .before .before in
+    let at-is-digit = at-if1 .before in
+    let at-loop = at-is-digit .before .before .before in
+    let start = at-loop .before .before in (
+      search needs,
+      run-on _ _ _ (search needs) (told (at-is-digit .is-digit .ensures) (at-if1 .if1 .taken)) (search needs),
+      value-on _ (now (start .args .s)) (at-loop .loop .i) (at-loop .loop .v) (c .before .digit .result) _ (at-loop .loop .inv .2) (search needs)
+          (c .before .digit .ensures .0) (c .grown .ensures),
+    )
 
 returns : tie.Need-returns Inv-loop μ-loop
 returns c = record { size = run-stop _ _ _ (search needs) (told (c .before .is-digit .ensures) (c .if1 .left)) (search needs); value = search needs; fits = search needs }

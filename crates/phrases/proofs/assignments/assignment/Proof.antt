@@ -42,17 +42,52 @@ same-length-3 c = search needs
 
 returns-3 : tie.Need-returns-3
 unfolding assignmentOf
-returns-3 c = record { read = goes _ (c .before .before .before .before .before .before .before .before .before .before .before .before .before .before .before .before .before .place .ensures .read) (c .before .before .before .before .before .before .before .before .before .before .before .before .before .if1 .left) (λ d w. goes _ (c .before .before .before .before .before .before .before .before .before .before .before .before .wanted .ensures .read) (c .before .before .before .before .before .before .before .before .before .before .if2 .left) (λ t e. goes _ (c .before .before .before .before .before .before .before .before .sign .ensures .0 .read) (c .before .before .before .before .before .before .before .before .sign .ensures .1) (λ s x. stops _ (c .before .before .before .before .operand .ensures .read) (c .if3 .taken)))); low = let a = c .before .before .before .before .before .before .before .before .before .before .before .before .before .before .before .before .before .place in let w = c .before .before .before .before .before .before .before .before .before .before .before .before .wanted in let s = c .before .before .before .before .before .before .before .before .sign in let o = c .before .before .before .before .operand in search needs }
+returns-3 c =
+    let at-operand = c .before .before .before .before in
+    let at-sign = at-operand .before .before .before .before in
+    let at-if2 = at-sign .before .before in
+    let at-wanted = at-if2 .before .before in
+    let at-if1 = at-wanted .before in
+    let at-place = at-if1 .before .before .before .before in
+    record {
+      read = goes _ (at-place .place .ensures .read) (at-if1 .if1 .left)
+          (λ d w. goes _ (at-wanted .wanted .ensures .read) (at-if2 .if2 .left)
+          (λ t e. goes _ (at-sign .sign .ensures .0 .read) (at-sign .sign .ensures .1) (λ s x. stops _ (at-operand .operand .ensures .read) (c .if3 .taken))));
+      low = let a = at-place .place in let w = at-wanted .wanted in let s = at-sign .sign in let o = at-operand .operand in search needs;
+    }
 
 terms-requires : tie.Need-terms-requires
-terms-requires c κs = let a = c .before .before .before .before .before .before .before .before .before .before .before .before .before .before .before .before .before .before .place in let w = c .before .before .before .before .before .before .before .before .before .before .before .before .before .wanted in let s = c .before .before .before .before .before .before .before .before .before .sign in let o = c .before .before .before .before .before .operand in let e = c .before .before .before .before .before .before .before .before .before .before .before .before .before .before .before .before .before .before .before .before .before .before .pre in search needs
+terms-requires c κs = let a = c .before .before .before .before .before .before .before .before .before .before .before .before .before .before .before .before
+    .before .before .place in let w = c .before .before .before .before .before .before .before .before .before .before .before .before .before .wanted in let s
+    = c .before .before .before .before .before .before .before .before .before .sign in let o = c .before .before .before .before .before .operand in let e = c
+    .before .before .before .before .before .before .before .before .before .before .before .before .before .before .before .before .before .before .before
+    .before .before .before .pre in search needs
 
 same-length-4 : tie.Need-same-length-4
-same-length-4 c = let a = c .before .before .before .before .before .before .before .before .before .before .before .before .before .before .before .before .before .before .before .before .before .place in let s = c .before .before .before .before .before .before .before .before .before .before .before .before .sign in let o = c .before .before .before .before .before .before .before .before .operand in let e = c .before .before .terms in search needs
+same-length-4 c = let a = c .before .before .before .before .before .before .before .before .before .before .before .before .before .before .before .before
+    .before .before .before .before .before .place in let s = c .before .before .before .before .before .before .before .before .before .before .before .before
+    .sign in let o = c .before .before .before .before .before .before .before .before .operand in let e = c .before .before .terms in search needs
 
 returns-4 : tie.Need-returns-4
 unfolding assignmentOf tapeAssignment
-returns-4 c = record { read = goes _ (c .before .before .before .before .before .before .before .before .before .before .before .before .before .before .before .before .before .before .before .before .before .place .ensures .read) (c .before .before .before .before .before .before .before .before .before .before .before .before .before .before .before .before .before .if1 .left) (λ d w. goes _ (c .before .before .before .before .before .before .before .before .before .before .before .before .before .before .before .before .wanted .ensures .read) (c .before .before .before .before .before .before .before .before .before .before .before .before .before .before .if2 .left) (λ t e. goes _ (c .before .before .before .before .before .before .before .before .before .before .before .before .sign .ensures .0 .read) (c .before .before .before .before .before .before .before .before .before .before .before .before .sign .ensures .1) (λ s x. goes _ (c .before .before .before .before .before .before .before .before .operand .ensures .read) (c .before .before .before .before .if3 .left) (λ a y. gives (λ ts. record { target = d; sign = s; first = a; rest = ts }) (λ ts l k. l k ∙ (y _ ∙ (x _ ∙ w _))) (c .before .before .terms .ensures .read))))); low = let a = c .before .before .before .before .before .before .before .before .before .before .before .before .before .before .before .before .before .before .before .before .before .place in let w = c .before .before .before .before .before .before .before .before .before .before .before .before .before .before .before .before .wanted in let s = c .before .before .before .before .before .before .before .before .before .before .before .before .sign in let o = c .before .before .before .before .before .before .before .before .operand in let e = c .before .before .terms in search needs }
+returns-4 c =
+    let at-terms = c .before .before in
+    let at-if3 = at-terms .before .before in
+    let at-operand = at-if3 .before .before .before .before in
+    let at-sign = at-operand .before .before .before .before in
+    let at-if2 = at-sign .before .before in
+    let at-wanted = at-if2 .before .before in
+    let at-if1 = at-wanted .before in
+    let at-place = at-if1 .before .before .before .before in
+    record {
+      read = goes _ (at-place .place .ensures .read) (at-if1 .if1 .left)
+          (λ d w. goes _ (at-wanted .wanted .ensures .read) (at-if2 .if2 .left)
+          (λ t e. goes _ (at-sign .sign .ensures .0 .read) (at-sign .sign .ensures .1)
+          (λ s x. goes _ (at-operand .operand .ensures .read) (at-if3 .if3 .left)
+          (λ a y. gives (λ ts. record { target = d; sign = s; first = a; rest = ts }) (λ ts l k. l k ∙ (y _ ∙ (x _ ∙ w _))) (at-terms .terms .ensures .read)))));
+      low = let a = at-place .place in let w = at-wanted .wanted in let s = at-sign .sign in let o = at-operand .operand in let e = at-terms .terms in search
+          needs;
+    }
 
 pub assignment-spec : {M : Type 1} → statement M
 assignment-spec =

@@ -31,14 +31,33 @@ add-operand : tie.Need-add-operand
 add-operand c = search needs
 
 operand-requires : tie.Need-operand-requires
-operand-requires c κs = let h = is-token relations (c .before .before .before .kind-at2 .ensures) (c .before .before .is-relation .ensures) (c .before .if2 .taken) refl in search needs
+operand-requires c κs =
+    let at-is-relation = c .before .before in
+    let at-kind-at2 = at-is-relation .before in
+    let h = is-token relations (at-kind-at2 .kind-at2 .ensures) (at-is-relation .is-relation .ensures) (c .before .if2 .taken) refl in search needs
 
 same-length : tie.Need-same-length
 same-length c = search needs
 
 returns : tie.Need-returns
 unfolding condition andThen look tapeCondition
-returns c = let h = is-token relations (c .before .before .before .before .before .before .kind-at2 .ensures) (c .before .before .before .before .before .is-relation .ensures) (c .before .before .before .before .if2 .taken) refl in record { read = rw (one-yes (K.NAME ∷ K.OVERFLOW ∷ relations) (c .before .before .before .before .before .before .before .before .kind-at .ensures) (rw (c .before .before .before .before .before .before .before .if1 .taken)) refl, same (c .before .before .before .before .before .before .before .before .kind-at .ensures .is) (c .before .before .before .before .before .before .before .if1 .taken), one-yes relations (c .before .before .before .before .before .before .kind-at2 .ensures) (c .before .before .before .before .before .is-relation .ensures) (c .before .before .before .before .if2 .taken)) (since (omega arith) (gives (compared _ _) (λ a w. w) (c .before .before .operand .ensures .read))); low = search needs }
+returns c =
+    let at-operand = c .before .before in
+    let at-if2 = at-operand .before .before in
+    let at-is-relation = at-if2 .before in
+    let at-kind-at2 = at-is-relation .before in
+    let at-if1 = at-kind-at2 .before in
+    let at-kind-at = at-if1 .before in
+    let h = is-token relations (at-kind-at2 .kind-at2 .ensures) (at-is-relation .is-relation .ensures)
+    (at-if2 .if2 .taken) refl in record {
+      read = rw (
+        one-yes (K.NAME ∷ K.OVERFLOW ∷ relations) (at-kind-at .kind-at .ensures) (rw (at-if1 .if1 .taken)) refl,
+        same (at-kind-at .kind-at .ensures .is) (at-if1 .if1 .taken),
+        one-yes relations (at-kind-at2 .kind-at2 .ensures) (at-is-relation .is-relation .ensures)
+            (at-if2 .if2 .taken),
+      ) (since (omega arith) (gives (compared _ _) (λ a w. w) (at-operand .operand .ensures .read)));
+      low = search needs;
+    }
 
 refused-requires : tie.Need-refused-requires
 refused-requires c κs = search needs
@@ -60,7 +79,10 @@ begins-condition-requires : tie.Need-begins-condition-requires
 begins-condition-requires c κs = search needs
 
 write-requires : tie.Need-write-requires
-write-requires c κs = let h = is-token (K.NAME ∷ K.OVERFLOW ∷ relations) (c .before .before .before .before .kind-at .ensures) (c .before .before .begins-condition .ensures) (c .before .if3 .taken) refl in search needs
+write-requires c κs =
+    let at-begins-condition = c .before .before in
+    let at-kind-at = at-begins-condition .before .before in
+    let h = is-token (K.NAME ∷ K.OVERFLOW ∷ relations) (at-kind-at .kind-at .ensures) (at-begins-condition .begins-condition .ensures) (c .before .if3 .taken) refl in search needs
 
 add-read : tie.Need-add-read
 add-read c = search needs
@@ -76,7 +98,21 @@ same-length-2 c = search needs
 
 returns-3 : tie.Need-returns-3
 unfolding condition andThen look tapeCondition
-returns-3 c = let h = is-token (K.NAME ∷ K.OVERFLOW ∷ relations) (c .before .before .before .before .before .before .before .before .kind-at .ensures) (c .before .before .before .before .before .before .begins-condition .ensures) (c .before .before .before .before .before .if3 .taken) refl in record { read = rw (one-yes (K.NAME ∷ K.OVERFLOW ∷ relations) (c .before .before .before .before .before .before .before .before .kind-at .ensures) (c .before .before .before .before .before .before .begins-condition .ensures) (c .before .before .before .before .before .if3 .taken), ne-eqb _ _ (other (c .before .before .before .before .before .before .before .before .kind-at .ensures .is) (c .before .before .before .before .before .before .before .if1 .left))) (done (c .read .ensures) (omega arith) (omega arith) (c .before .before .before .write .ensures)); low = search needs }
+returns-3 c =
+    let at-write = c .before .before .before in
+    let at-if3 = at-write .before .before in
+    let at-begins-condition = at-if3 .before in
+    let at-if1 = at-begins-condition .before in
+    let at-kind-at = at-if1 .before in
+    let h = is-token (K.NAME ∷ K.OVERFLOW ∷ relations) (at-kind-at .kind-at .ensures) (at-begins-condition .begins-condition .ensures)
+    (at-if3 .if3 .taken) refl in record {
+      read = rw (
+        one-yes (K.NAME ∷ K.OVERFLOW ∷ relations) (at-kind-at .kind-at .ensures) (at-begins-condition .begins-condition .ensures) (at-if3 .if3 .taken),
+        ne-eqb _ _ (other (at-kind-at .kind-at .ensures .is) (at-if1 .if1 .left)),
+      )
+          (done (c .read .ensures) (omega arith) (omega arith) (at-write .write .ensures));
+      low = search needs;
+    }
 
 refused-requires-2 : tie.Need-refused-requires-2
 refused-requires-2 c κs = search needs

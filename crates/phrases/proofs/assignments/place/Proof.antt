@@ -13,7 +13,9 @@ refused-requires : tie.Need-refused-requires
 refused-requires c κs = search needs
 
 returns : tie.Need-returns
-returns c = record { read = since (omega arith) (refuses (c .before .before .before .designator .ensures .read) (c .before .if1 .taken) (c .refused .ensures)); low = search needs }
+returns c =
+    let at-designator = c .before .before .before in
+    record { read = since (omega arith) (refuses (at-designator .designator .ensures .read) (c .before .if1 .taken) (c .refused .ensures)); low = search needs }
 
 cast-write : tie.Need-cast-write
 cast-write c = search needs
@@ -35,11 +37,15 @@ same-length c = search needs
 
 returns-2 : tie.Need-returns-2
 unfolding tapeDesignator
-returns-2 c = record {
-  read = since (omega arith) (turns (c .before .before .before .before .before .before .before .before .designator .ensures .read)
-      (c .before .before .before .before .before .before .if1 .left) (λ a (e, f) k. rw (e, ← f) (c .before .before .before .write .ensures k)) (c .read .ensures));
-  low = search needs;
-}
+returns-2 c =
+    let at-write = c .before .before .before in
+    let at-if1 = at-write .before .before .before in
+    let at-designator = at-if1 .before .before in
+    record {
+      read = since (omega arith) (turns (at-designator .designator .ensures .read) (at-if1 .if1 .left)
+          (λ a (e, f) k. rw (e, ← f) (at-write .write .ensures k)) (c .read .ensures));
+      low = search needs;
+    }
 
 pub place-spec : {M : Type 1} → statement M
 place-spec =

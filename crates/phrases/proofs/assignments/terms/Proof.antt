@@ -33,17 +33,36 @@ add-operand : tie.Need-add-operand Inv-loop μ-loop
 add-operand c = let h = is-token operators (c .before .before .kind-at .ensures) (c .before .is-operator .ensures) (c .if1 .taken) refl in search needs
 
 operand-requires : tie.Need-operand-requires Inv-loop μ-loop
-operand-requires c κs = let h = is-token operators (c .before .before .before .kind-at .ensures) (c .before .before .is-operator .ensures) (c .before .if1 .taken) refl in search needs
+operand-requires c κs =
+    let at-is-operator = c .before .before in
+    let at-kind-at = at-is-operator .before in
+    let h = is-token operators (at-kind-at .kind-at .ensures) (at-is-operator .is-operator .ensures) (c .before .if1 .taken) refl in search needs
 
 same-length : tie.Need-same-length Inv-loop μ-loop
 same-length c = search needs
 
 returns : tie.Need-returns Inv-loop μ-loop
 unfolding terms andThen look next
-returns c = let h = is-token operators (c .before .before .before .before .before .before .before .before .kind-at .ensures) (c .before .before .before .before .before .before .before .is-operator .ensures) (c .before .before .before .before .before .before .if1 .taken) refl in record { read = leaves (c .before .before .before .before .before .before .before .before .before .loop .inv) (λ f. rw (among operators (c .before .before .before .before .before .before .before .before .kind-at .ensures) (c .before .before .before .before .before .before .before .is-operator .ensures) (c .before .before .before .before .before .before .if1 .taken)) (since (omega arith) (stops _ (c .before .before .before .before .operand .ensures .read) (c .if2 .taken)))); low = search needs }
+returns c =
+    let at-operand = c .before .before .before .before in
+    let at-if1 = at-operand .before .before in
+    let at-is-operator = at-if1 .before in
+    let at-kind-at = at-is-operator .before in
+    let at-loop = at-kind-at .before in
+    let h = is-token operators (at-kind-at .kind-at .ensures) (at-is-operator .is-operator .ensures)
+    (at-if1 .if1 .taken) refl in record {
+      read = leaves (at-loop .loop .inv)
+          (λ f. rw (among operators (at-kind-at .kind-at .ensures) (at-is-operator .is-operator .ensures) (at-if1 .if1 .taken))
+          (since (omega arith) (stops _ (at-operand .operand .ensures .read) (c .if2 .taken))));
+      low = search needs;
+    }
 
 loop-less : tie.Need-loop-less Inv-loop μ-loop
-loop-less c = let h = is-token operators (c .before .before .before .before .before .before .before .before .kind-at .ensures) (c .before .before .before .before .before .before .before .is-operator .ensures) (c .before .before .before .before .before .before .if1 .taken) refl in search needs
+loop-less c =
+    let at-if1 = c .before .before .before .before .before .before in
+    let at-is-operator = at-if1 .before in
+    let at-kind-at = at-is-operator .before in
+    let h = is-token operators (at-kind-at .kind-at .ensures) (at-is-operator .is-operator .ensures) (at-if1 .if1 .taken) refl in search needs
 
 loop-again : tie.Need-loop-again Inv-loop μ-loop
 unfolding terms andThen look next tapeEach

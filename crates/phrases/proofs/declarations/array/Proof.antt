@@ -52,7 +52,19 @@ same-length c = search needs
 
 returns-3 : tie.Need-returns-3
 unfolding cellsOf tapeDeclaration
-returns-3 c = record { read = goes _ (c .before .before .before .before .before .before .before .before .before .before .before .before .before .before .in-parens .ensures .read) (c .before .before .before .before .before .before .before .before .before .before .before .before .if1 .left) (λ t e. goes _ (c .before .before .before .before .before .before .before .before .before .before .before .type-at .ensures .read) (c .before .before .before .before .before .before .before .before .before .if2 .left) (λ w f. gives (cells (some t) w) (λ is l k. l k ∙ rw (e, ← f) (c .before .before .before .before .before .before .write .ensures _)) (c .before .before .cells .ensures .read))); low = search needs }
+returns-3 c =
+    let at-cells = c .before .before in
+    let at-write = at-cells .before .before .before .before in
+    let at-if2 = at-write .before .before .before in
+    let at-type-at = at-if2 .before .before in
+    let at-if1 = at-type-at .before in
+    let at-in-parens = at-if1 .before .before in
+    record {
+      read = goes _ (at-in-parens .in-parens .ensures .read) (at-if1 .if1 .left)
+          (λ t e. goes _ (at-type-at .type-at .ensures .read) (at-if2 .if2 .left)
+          (λ w f. gives (cells (some t) w) (λ is l k. l k ∙ rw (e, ← f) (at-write .write .ensures _)) (at-cells .cells .ensures .read)));
+      low = search needs;
+    }
 
 pub array-spec : {M : Type 1} → statement M
 array-spec =

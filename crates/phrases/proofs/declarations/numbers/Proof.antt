@@ -70,11 +70,14 @@ same-length-2 c = search needs
 
 returns-2 : tie.Need-returns-2 Inv-loop μ-loop
 unfolding numbers andThen look tapeEach
-returns-2 c = record {
-  read = leaves (c .before .before .before .loop .inv) (λ f.
-      rw (ne-eqb _ _ (other (c .before .before .kind-at .ensures .is) (c .before .if1 .left))) (done (c .read .ensures) (omega arith) (omega arith) (λ k. refl)));
-  low = search needs;
-}
+returns-2 c =
+    let at-kind-at = c .before .before in
+    let at-loop = at-kind-at .before in
+    record {
+      read = leaves (at-loop .loop .inv) (λ f. rw (ne-eqb _ _ (other (at-kind-at .kind-at .ensures .is) (c .before .if1 .left)))
+          (done (c .read .ensures) (omega arith) (omega arith) (λ k. refl)));
+      low = search needs;
+    }
 
 pub numbers-spec : {M : Type 1} → statement M
 numbers-spec =

@@ -38,13 +38,18 @@ same-length c = search needs
 
 returns-3 : tie.Need-returns-3
 unfolding registerItem
-returns-3 c = record {
-  read = goes _ (c .before .before .before .before .before .before .before .before .before .before .wanted .ensures .read)
-      (c .before .before .before .before .before .before .before .before .if1 .left) (λ n e.
-      goes _ (c .before .before .before .before .before .before .before .in-parens .ensures .read) (c .before .before .before .before .before .if2 .left) (λ t f.
-      done (c .read .ensures) (omega arith) (omega arith) (λ k. rw e (c .before .before .before .write .ensures k))));
-  low = search needs;
-}
+returns-3 c =
+    let at-write = c .before .before .before in
+    let at-if2 = at-write .before .before in
+    let at-in-parens = at-if2 .before .before in
+    let at-if1 = at-in-parens .before in
+    let at-wanted = at-if1 .before .before in
+    record {
+      read = goes _ (at-wanted .wanted .ensures .read) (at-if1 .if1 .left)
+          (λ n e. goes _ (at-in-parens .in-parens .ensures .read) (at-if2 .if2 .left)
+          (λ t f. done (c .read .ensures) (omega arith) (omega arith) (λ k. rw e (at-write .write .ensures k))));
+      low = search needs;
+    }
 
 pub register-item-spec : {M : Type 1} → statement M
 register-item-spec =

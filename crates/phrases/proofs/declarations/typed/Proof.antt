@@ -27,14 +27,30 @@ add-registers : tie.Need-add-registers
 add-registers c = search needs
 
 registers-requires : tie.Need-registers-requires
-registers-requires c κs = let h = registered (c .before .before .before .before .before .before .before .type-at .result .value) (c .before .before .before .kind-at .ensures) (c .before .before .if2 .taken) in search needs
+registers-requires c κs =
+    let at-if2 = c .before .before in
+    let at-kind-at = at-if2 .before in
+    let at-type-at = at-kind-at .before .before .before .before in
+    let h = registered (at-type-at .type-at .result .value) (at-kind-at .kind-at .ensures) (at-if2 .if2 .taken) in search needs
 
 same-length : tie.Need-same-length
 same-length c = search needs
 
 returns-2 : tie.Need-returns-2
 unfolding tapeDeclaration
-returns-2 c = let h = registered (c .before .before .before .before .before .before .before .before .before .before .type-at .result .value) (c .before .before .before .before .before .before .kind-at .ensures) (c .before .before .before .before .before .if2 .taken) in record { read = goes _ (c .before .before .before .before .before .before .before .before .before .before .type-at .ensures .read) (c .before .before .before .before .before .before .before .before .if1 .left) (λ w f. rw (after-registers w _ (c .before .before .before .before .before .before .kind-at .ensures) f (c .before .before .before .before .before .if2 .taken)) (since (omega arith) (gives registers (λ rs l. l) (c .before .before .registers .ensures .read)))); low = search needs }
+returns-2 c =
+    let at-registers = c .before .before in
+    let at-if2 = at-registers .before .before .before in
+    let at-kind-at = at-if2 .before in
+    let at-if1 = at-kind-at .before .before in
+    let at-type-at = at-if1 .before .before in
+    let h = registered (at-type-at .type-at .result .value) (at-kind-at .kind-at .ensures)
+    (at-if2 .if2 .taken) in record {
+      read = goes _ (at-type-at .type-at .ensures .read) (at-if1 .if1 .left)
+          (λ w f. rw (after-registers w _ (at-kind-at .kind-at .ensures) f (at-if2 .if2 .taken))
+          (since (omega arith) (gives registers (λ rs l. l) (at-registers .registers .ensures .read))));
+      low = search needs;
+    }
 
 cast-write : tie.Need-cast-write
 cast-write c = search needs
@@ -56,7 +72,19 @@ same-length-2 c = search needs
 
 returns-3 : tie.Need-returns-3
 unfolding cellsOf tapeDeclaration
-returns-3 c = record { read = goes _ (c .before .before .before .before .before .before .before .before .before .before .before .before .before .before .type-at .ensures .read) (c .before .before .before .before .before .before .before .before .before .before .before .before .if1 .left) (λ w f. rw (after-cells w _ (c .before .before .before .before .before .before .before .before .before .before .kind-at .ensures) f (c .before .before .before .before .before .before .before .before .before .if2 .left)) (gives (cells none w) (λ is l k. l k ∙ rw (← f) (c .before .before .before .before .before .before .write .ensures _)) (c .before .before .cells .ensures .read))); low = search needs }
+returns-3 c =
+    let at-cells = c .before .before in
+    let at-write = at-cells .before .before .before .before in
+    let at-if2 = at-write .before .before .before in
+    let at-kind-at = at-if2 .before in
+    let at-if1 = at-kind-at .before .before in
+    let at-type-at = at-if1 .before .before in
+    record {
+      read = goes _ (at-type-at .type-at .ensures .read) (at-if1 .if1 .left)
+          (λ w f. rw (after-cells w _ (at-kind-at .kind-at .ensures) f (at-if2 .if2 .left))
+          (gives (cells none w) (λ is l k. l k ∙ rw (← f) (at-write .write .ensures _)) (at-cells .cells .ensures .read)));
+      low = search needs;
+    }
 
 pub typed-spec : {M : Type 1} → statement M
 typed-spec =

@@ -52,16 +52,20 @@ same-length-3 : tie.Need-same-length-3
 same-length-3 c = search needs
 
 returns-4 : tie.Need-returns-4
-returns-4 c = (
-  record {
-    read = takes _ _ (c .before .before .before .before .before .before .before .before .before .before .before .before .wanted .ensures)
-        (c .before .before .before .before .before .before .before .before .before .before .if1 .left)
-        (goes _ (c .before .before .before .before .before .before .before .before .assignment .ensures .read) (c .before .before .before .before .if2 .left) (λ a w.
-        goes _ (c .before .before .before .wanted2 .ensures .read) (c .before .if3 .left) (λ t e. done (c .read .ensures) (omega arith) (omega arith) w)));
-    low = search needs;
-  },
-  search needs,
-)
+returns-4 c =
+    let at-wanted2 = c .before .before .before in
+    let at-if2 = at-wanted2 .before in
+    let at-assignment = at-if2 .before .before .before .before in
+    let at-if1 = at-assignment .before .before in
+    let at-wanted = at-if1 .before .before in (
+      record {
+        read = takes _ _ (at-wanted .wanted .ensures) (at-if1 .if1 .left)
+            (goes _ (at-assignment .assignment .ensures .read) (at-if2 .if2 .left)
+            (λ a w. goes _ (at-wanted2 .wanted2 .ensures .read) (c .before .if3 .left) (λ t e. done (c .read .ensures) (omega arith) (omega arith) w)));
+        low = search needs;
+      },
+      search needs,
+    )
 
 pub control-spec : {M : Type 1} → statement M
 control-spec =

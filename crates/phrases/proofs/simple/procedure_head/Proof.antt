@@ -52,7 +52,23 @@ same-length : tie.Need-same-length
 same-length c = search needs
 
 returns-4 : tie.Need-returns-4
-returns-4 c = (record { read = goes _ (c .before .before .before .before .before .before .before .before .before .before .before .before .before .wanted .ensures .read) (c .before .before .before .before .before .before .before .before .before .before .before .if1 .left) (λ t e. goes _ (c .before .before .before .before .before .before .before .before .before .before .in-parens .ensures .read) (c .before .before .before .before .before .before .before .before .if2 .left) (λ u f. goes _ (c .before .before .before .before .before .before .before .wanted2 .ensures .read) (c .before .before .before .before .before .if3 .left) (λ v g. done (c .read .ensures) (omega arith) (omega arith) (c .before .before .before .write .ensures)))); low = search needs }, search needs)
+returns-4 c =
+    let at-write = c .before .before .before in
+    let at-if3 = at-write .before .before in
+    let at-wanted2 = at-if3 .before .before in
+    let at-if2 = at-wanted2 .before in
+    let at-in-parens = at-if2 .before .before in
+    let at-if1 = at-in-parens .before in
+    let at-wanted = at-if1 .before .before in (
+      record {
+        read = goes _ (at-wanted .wanted .ensures .read) (at-if1 .if1 .left)
+            (λ t e. goes _ (at-in-parens .in-parens .ensures .read) (at-if2 .if2 .left)
+            (λ u f. goes _ (at-wanted2 .wanted2 .ensures .read) (at-if3 .if3 .left)
+            (λ v g. done (c .read .ensures) (omega arith) (omega arith) (at-write .write .ensures))));
+        low = search needs;
+      },
+      search needs,
+    )
 
 pub procedure-head-spec : {M : Type 1} → statement M
 procedure-head-spec =

@@ -15,8 +15,8 @@ kind-at-requires c κs = search needs
 returns : tie.Need-returns
 returns c = rw (
   ← (c .kind-at .ensures .is),
-  ← same-test (λ k. not (eqb k 5)
-      && (not (eqb k 8) && not (eqb k 10))) (λ k. not (member k (K.IF ∷ K.WHILE ∷ K.FOR ∷ []))) tt (c .before .before .args .k) (search needs),
+  ← same-test (λ k. not (eqb k K.IF)
+      && (not (eqb k K.WHILE) && not (eqb k K.FOR))) (λ k. not (member k (K.IF ∷ K.WHILE ∷ K.FOR ∷ []))) tt (c .before .before .args .k) (search needs),
 )
 
 pub has-else-spec : {M : Type 1} → statement M

@@ -1,0 +1,3 @@
+-- What a part of the translator owes for the groups of refusals that are left; the lengths that lists are made for.
+pub mod Groups
+pub mod Sizes
