@@ -1,9 +1,11 @@
 // A text's cells by their names, and the operand of an instruction by its address: what who runs a source asks for by name and is told of in its own words.
 ghost use mathlib.Core.Path.{_≡_};
 ghost use mathlib.Core.Option.{none};
-ghost use Prim.Native.Nat.{ℕ, _+_, _≤_, _<_};
+ghost use Prim.Native.Nat.{ℕ, _+_, _*_, _≤_, _<_};
 ghost use lib.ListN.{length};
-ghost use Rattle.token.specs.Text.{tokensOf};
+ghost use Rattle.token.specs.Text.{tokensOf, TEXT-LIMIT};
+ghost use Rattle.grammar.specs.Grammar.{nesting};
+ghost use Rattle.scopes.specs.Search.{firstToken};
 ghost use Rattle.tape.specs.Events.{TOKEN-LIMIT};
 ghost use Rattle.ledger.specs.Book.{wideOf, thinOf};
 ghost use Rattle.ledger.specs.Bounds.{Narrow, Nested};
@@ -26,15 +28,14 @@ use ledger::offset;
 use ledger::under;
 use ledger::value;
 use settled::FIRST_TOKEN;
+use settled::MORE_ROWS;
+use settled::TEXT_LIMIT;
 use settled::place_of;
 use tables::element_size;
 use tables::is_array;
 use tables::is_cell;
 use tables::number;
 use token::Tokens;
-
-// "source over 32,768 bytes".
-const TEXT_LIMIT: usize = 32768;
 
 // ── cells ──
 
@@ -170,7 +171,7 @@ fn spot_after(address: usize, p: usize, q: usize, operand: Spot, spot: Spot) -> 
 
 // The operand of the event whose first instruction is at the address.
 fn spot_along(tape: &[u32], kinds: &[u8], wide: &[u64], thin: &[u16], address: usize) -> Spot
-    requires { ⌜ length (now tape) ≤ 67108864 ⌝ }
+    requires { ⌜ length (now tape) ≤ 2 * TOKEN-LIMIT ⌝ }
     ensures { λ r. ⌜ r ≡ spotAlong address (now (kinds .entry)) (wideOf (now (wide .entry))) (thinOf (now (thin .entry))) (now (tape .entry)) ⌝ }
 {
     let mut p: usize = 0;
@@ -232,7 +233,7 @@ fn look_settled(
     key: u64,
     address: usize,
 ) -> Seen
-    requires { ⌜ (tokensOf (now src) .number ≡ 0) × (length (now tape) ≤ 65536) ⌝ }
+    requires { ⌜ (tokensOf (now src) .number ≡ 0) × (length (now tape) ≤ TOKEN-LIMIT) ⌝ }
     ensures { λ r. ⌜ Shows (allTokens (now (src .entry))) (now (kinds .entry)) (wideOf (now (wide .entry))) (thinOf (now (thin .entry))) (now (tape .entry)) key address r ⌝ }
 {
     let site = sites(wide, key);
@@ -254,7 +255,7 @@ fn look_tape(
     key: u64,
     address: usize,
 ) -> Seen
-    requires { ⌜ (tokensOf (now src) .number ≡ 0) × (17 + length (now tape) ≤ length (now kinds)) × Narrow (now tape) × Nested 64 0 0 (now tape)
+    requires { ⌜ (tokensOf (now src) .number ≡ 0) × (firstToken + length (now tape) ≤ length (now kinds)) × Narrow (now tape) × Nested nesting 0 0 (now tape)
         × Lent (length (now kinds)) (now wide) (now thin) ⌝ }
     ensures { λ r. ⌜ LooksOn (now (src .entry)) (now (kinds .entry)) (now (tape .entry)) (wideOf (now (wide .entry))) (thinOf (now (thin .entry))) key address r ⌝ }
 {
@@ -278,7 +279,7 @@ fn look_tokens(
     key: u64,
     address: usize,
 ) -> Seen
-    requires { ⌜ (tokensOf (now src) .number ≡ 0) × (17 ≤ length (now kinds)) × (length (now tape) ≡ length (now kinds)) × Lent (length (now kinds)) (now wide) (now thin) ⌝ }
+    requires { ⌜ (tokensOf (now src) .number ≡ 0) × (firstToken ≤ length (now kinds)) × (length (now tape) ≡ length (now kinds)) × Lent (length (now kinds)) (now wide) (now thin) ⌝ }
     ensures { λ r. ⌜ LooksAt (now (src .entry)) (now (kinds .entry)) (wideOf (now (wide .entry))) (thinOf (now (thin .entry))) key address r ⌝ }
 {
     let p = parse::program(kinds, FIRST_TOKEN, tape);
@@ -325,17 +326,14 @@ fn look_in(
     }
 }
 
-// Beside a token at each byte: the end, and the names in front.
-const MORE: usize = 18;
-
 fn look_in_lists(src: &[u8], key: u64, address: usize) -> Seen
-    requires { ⌜ length (now src) ≤ 32768 ⌝ }
+    requires { ⌜ length (now src) ≤ TEXT-LIMIT ⌝ }
     ensures { λ r. ⌜ Sees (soundOf (now (src .entry))) key address r ⌝ }
 {
-    let mut kinds = [0u8; TEXT_LIMIT + MORE];
-    let mut tape = [0u32; TEXT_LIMIT + MORE];
-    let mut wide = [0u64; 4 * (TEXT_LIMIT + MORE)];
-    let mut thin = [0u16; 4 * (TEXT_LIMIT + MORE)];
+    let mut kinds = [0u8; TEXT_LIMIT + MORE_ROWS];
+    let mut tape = [0u32; TEXT_LIMIT + MORE_ROWS];
+    let mut wide = [0u64; 4 * (TEXT_LIMIT + MORE_ROWS)];
+    let mut thin = [0u16; 4 * (TEXT_LIMIT + MORE_ROWS)];
     look_in(
         src,
         &mut kinds,
@@ -350,7 +348,7 @@ fn look_in_lists(src: &[u8], key: u64, address: usize) -> Seen
 // A function that calls itself takes none with large arrays into its own frame, and is taken into none: so the lists are on the stack while a text is looked at, and
 // no longer.
 fn look_apart(src: &[u8], key: u64, address: usize) -> Seen
-    requires { ⌜ length (now src) ≤ 32768 ⌝ }
+    requires { ⌜ length (now src) ≤ TEXT-LIMIT ⌝ }
     ensures { λ r. ⌜ Sees (soundOf (now (src .entry))) key address r ⌝ }
 {
     if src.len() <= TEXT_LIMIT {

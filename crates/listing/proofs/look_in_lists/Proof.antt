@@ -1,7 +1,8 @@
 -- `look_in_lists` lends lists for 32,768 bytes. Assumes nothing.
 use borrow.Author.Needs.{needs}
 use native.Mathlib.Omega.{arith}
-use lib.ListN.{length}
+use Rattle.settled.specs.Texts.{rowsFor}
+use Rattle.token.specs.Text.{TEXT-LIMIT}
 use Rattle.settled.proofs.Rooms.{rooms}
 use Rattle.listing.proofs.look_in_lists.Statement.{statement}
 use Rattle.listing.proofs.look_in_lists.Tie as tie
@@ -21,7 +22,7 @@ slice-aggregate-look-in-4 c = search needs
 look-in-requires : tie.Need-look-in-requires
 look-in-requires c κs =
     let start = c .before .before .before .before .before in
-    rooms (length (start .args .src .now)) 32786 (omega (arith, start .pre)) (omega (arith, start .pre))
+    rooms _ (rowsFor TEXT-LIMIT) (omega (arith, start .pre)) (omega (arith, start .pre))
 
 returns : tie.Need-returns
 returns c = search needs
