@@ -9,7 +9,8 @@ use Rattle.objtext.specs.Object.{Segment, Object, objectText, Form, of-object, 
 use Rattle.objtext.specs.Reader.{readObject, readAs, segmentList}
 use Rattle.objtext.proofs.Written.{written-once}
 use Rattle.objtext.proofs.Exact.{exactly, form}
-use Rattle.objtext.proofs.Walks.{no-some, read-as}
+use Rattle.base.proofs.Lists.{none-some}
+use Rattle.objtext.proofs.Walks.{read-as}
 use Rattle.machine.specs.Space.{needed}
 use Rattle.machine.specs.Run.{run}
 use Rattle.runner.specs.Load.{loaded, spaceOf, started}
@@ -43,7 +44,7 @@ module _ (text regs : List ℕ) (k budget : ℕ) (s : List ℕ) where
 
   pub runner-uncounted : (n : ℕ) → n ≡ 0 → readAs n text ≡ readObject text → runner text regs k budget s ≡ refused 17 regs k s
   unfolding readAs
-  runner-uncounted n h e = let u : none ≡ readObject text = rw h at e in runner-none (λ gs o q. no-some gs (u ∙ exactly text gs .1 (o, q)))
+  runner-uncounted n h e = let u : none ≡ readObject text = rw h at e in runner-none (λ gs o q. none-some gs (u ∙ exactly text gs .1 (o, q)))
 
   -- what is left where a count was read: 18, 19, or the run
   module _ (n : ℕ) (h : n ≡ 0 → ⊥) (e : readAs n text ≡ readObject text) where
