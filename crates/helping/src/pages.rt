@@ -332,7 +332,7 @@ This, with storage 20480, runs and gets stop 1: this is enough for every program
     BEGIN END @
 ~";
 
-pub const COMMANDS: [u8; 2825] = *b"Tautgaff: PL360, translated and run, with proof.
+pub const COMMANDS: [u8; 3143] = *b"Tautgaff: PL360, translated and run, with proof.
 
     tautgaff translate FILE [-o OBJECT]   the object text, to OBJECT or standard output
     tautgaff check FILE...                each file's answer
@@ -356,13 +356,14 @@ Status: 0 all accepted, 1 some refused, 2 wrong use, or a file that cannot be re
 ~    tautgaff run FILE|OBJECT [--set NAME=VALUE]... [--show NAME]... [--budget N] [--cc N]
 
 Runs an object text, or a source, which is translated first, and reports why it stopped, how many instructions were completed, the registers and the
-condition code.
-    --set NAME=VALUE   what a register has when the run begins; 0 where nothing is said
-    --show NAME        a register to report once more, behind all of them
+condition code. Of a source a stop at an operand is shown where it is written, with the address.
+    --set NAME=VALUE   what a register, or a cell of the source, has when the run begins; where nothing is said a register has 0
+    --show NAME        a register, or a cell of the source, to report behind all registers
     --budget N         how many instructions may be completed; 1000000 where nothing is said
     --cc N             the condition code when the run begins, 0 to 3; 0 where nothing is said
-NAME is R0 to R9 or RA to RF. VALUE is decimal, with `_` or `-` in front if negative, or `#` and hexadecimal digits. Registers 14 and 15 are set by
-loading.
+NAME is R0 to R9 or RA to RF; or, for a source, a declared cell, or an element of an array, NAME(NUMBER), by its byte offset as in the language. If several
+cells have the name, the first in the text is meant.
+VALUE is decimal, with `_` or `-` in front if negative, or `#` and hexadecimal digits. Registers 14 and 15 are set by loading.
 Status: 0 ended, 1 refused, 2 wrong use, or a file that cannot be read, 3 budget used up, 4 stopped by 2, 3 or 4.
 ~    tautgaff same FILE OBJECT
 

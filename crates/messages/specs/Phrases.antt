@@ -80,3 +80,6 @@ faults =
     ++ bytes "\nthis is no value: decimal, with _ or - in front, or # and hexadecimal digits"
     ++ bytes "\nthis names no register: R0 to R9, RA to RF"
     ++ bytes "\nthere is no help on this: a command, or a number from 0 to 19"
+    ++ bytes "\nthis names no register, and the text declares no cell of this name"
+    ++ bytes "\nthis is no element: the number is a byte offset in an array, a multiple of its element size"
+    ++ bytes "\nthis is no value for a SHORT cell: -32768 to 65535"

@@ -78,7 +78,7 @@ const NOTES: [u8; 1026] = *b"\n\
     \n a base or the return register of what is around this place";
 
 // Why a word of the command line is wrong.
-const FAULTS: [u8; 348] = *b"\nthere is no such command\
+const FAULTS: [u8; 558] = *b"\nthere is no such command\
     \nthis command has no such option\
     \nthere is one name too many\
     \nthis is no number from 0 to 4294967295\
@@ -86,7 +86,10 @@ const FAULTS: [u8; 348] = *b"\nthere is no such command\
     \na name is missing\
     \nthis is no value: decimal, with _ or - in front, or # and hexadecimal digits\
     \nthis names no register: R0 to R9, RA to RF\
-    \nthere is no help on this: a command, or a number from 0 to 19";
+    \nthere is no help on this: a command, or a number from 0 to 19\
+    \nthis names no register, and the text declares no cell of this name\
+    \nthis is no element: the number is a byte offset in an array, a multiple of its element size\
+    \nthis is no value for a SHORT cell: -32768 to 65535";
 
 // ── what is said ──
 

@@ -1,8 +1,9 @@
 // The report of a run: why it stopped, how far it came, what it left in the registers; and a value by its name.
 ghost use Prim.Native.Nat.{_+_, _≤_};
 ghost use lib.ListN.{length};
+ghost use Rattle.base.specs.Text.{bytes};
 ghost use Rattle.figures.specs.Writing.{Adds, Holds};
-ghost use Rattle.reports.specs.Reports.{figureText, registerText, registersText, reportText, toldText, valueText};
+ghost use Rattle.reports.specs.Reports.{stops, figureText, registerText, registersText, reportText, toldText, valueText};
 use figures::put_all;
 use figures::put_decimal;
 use figures::put_hexadecimal;
@@ -40,6 +41,13 @@ fn put_figure(out: &mut [u8], at: usize, name: &[u8], n: usize) -> usize
     let named = put_all(out, at, name);
     let numbered = put_decimal(out, named, n);
     put_all(out, numbered, b"\n")
+}
+
+// Why a run stopped, as a line.
+pub fn put_stop(out: &mut [u8], at: usize, stop: usize) -> usize
+    ensures { λ r. ⌜ Adds (toldText (bytes "stop ") stop stops) (now (out .entry)) at (now (out .exit)) r ⌝ }
+{
+    put_told(out, at, b"stop ", stop, &STOPS)
 }
 
 // A value by its name, as a line.

@@ -99,7 +99,7 @@ fn table(l: usize, count: usize, s: &mut [u8])
     }
 }
 
-fn load(t: &[u8], count: usize, s: &mut [u8])
+pub fn load(t: &[u8], count: usize, s: &mut [u8])
     requires { ⌜ (0 < count) × (readAs count (now t) ≡ readObject (now t)) × (needed ≤ length (now s)) ⌝ }
     ensures { λ _. ⌜ now (s .exit) ≡ loaded (segmentList count (now (t .entry))) (now (s .entry)) ⌝ }
 {
@@ -149,7 +149,14 @@ fn refused(v: Verdict, regs: [u32; 16], code: u64) -> Answer
 }
 
 // The run of what is loaded.
-fn started(t: &[u8], count: usize, given: [u32; 16], code: u64, budget: u32, s: &mut [u8]) -> Answer
+pub fn started(
+    t: &[u8],
+    count: usize,
+    given: [u32; 16],
+    code: u64,
+    budget: u32,
+    s: &mut [u8],
+) -> Answer
     requires { ⌜ (0 < count) × (readAs count (now t) ≡ readObject (now t)) × (needed ≤ length (now s)) ⌝ }
     ensures { λ r. ⌜ outcome r (now (s .exit)) ≡ accepted (run budget (spaceOf (segmentList count (now (t .entry)))) (startedOf given code) (now (s .entry))) ⌝ }
 {

@@ -1,4 +1,5 @@
 -- The registers that a run begins with: zero, or what `--set NAME=VALUE` says, the last one where a register is named twice. `--show NAME` names a register.
+-- Of a source a name that is no register's may be a cell: it is left as it is.
 use Prim.Native.Nat.{ℕ, zero, suc, _+_, _-_}
 use mathlib.Core.List.{List}
 use lib.Dec.{ltb, eqb}
@@ -26,24 +27,30 @@ valued x n k Nothing = wrongAt x n 7
 abbrev pub nameIn : List ℕ → ℕ
 nameIn s = registerIn (take (partLength 61 s) s)
 
-abbrev pub setBy : Registers → ℕ → List ℕ → Registers
-setBy x n s = choose (ltb (nameIn s) 16) (valued x n (nameIn s) (numberIn (drop 1 (drop (partLength 61 s) s)))) (wrongAt x n 8)
+abbrev pub other : Registers → ℕ → (source : Bool) → Registers
+other x n source = choose source x (wrongAt x n 8)
+
+abbrev pub setBy : Registers → ℕ → List ℕ → (source : Bool) → Registers
+setBy x n s source = choose (ltb (nameIn s) 16) (valued x n (nameIn s) (numberIn (drop 1 (drop (partLength 61 s) s)))) (other x n source)
 
 -- NAME
-abbrev pub shownBy : Registers → ℕ → List ℕ → Registers
-shownBy x n s = choose (ltb (registerIn s) 16) x (wrongAt x n 8)
+abbrev pub shownBy : Registers → ℕ → List ℕ → (source : Bool) → Registers
+shownBy x n s source = choose (ltb (registerIn s) 16) x (other x n source)
 
 -- the word n behind an option, by what the option waits for
-abbrev pub saidBy : Registers → ℕ → ℕ → List ℕ → Registers
-saidBy x option n s = choose (ltb 0 (x .why)) x (choose (eqb option 2) (setBy x n s) (choose (eqb option 3) (shownBy x n s) x))
+abbrev pub saidBy : Registers → ℕ → ℕ → List ℕ → (source : Bool) → Registers
+saidBy x option n s source = choose (ltb 0 (x .why)) x (choose (eqb option 2) (setBy x n s source) (choose (eqb option 3) (shownBy x n s source) x))
 
--- k words from the number n, each with the one before it
-unfoldable pub saidFrom : List ℕ → ℕ → ℕ → Registers → Registers
-saidFrom words zero n x = x
-saidFrom words (suc k) n x = saidFrom words k (n + 1) (saidBy x (runOption (partOf 0 (n - 1) words)) n (partOf 0 n words))
+-- step by step over k words from the number n: by the option that the word before each is, its number and the word itself
+unfoldable pub wordsFrom : {A : Type 0} → (ℕ → ℕ → List ℕ → A → A) → List ℕ → ℕ → ℕ → A → A
+wordsFrom step words zero n x = x
+wordsFrom step words (suc k) n x = wordsFrom step words k (n + 1) (step (runOption (partOf 0 (n - 1) words)) n (partOf 0 n words) x)
+
+abbrev pub saidIn : (source : Bool) → ℕ → ℕ → List ℕ → Registers → Registers
+saidIn source option n s x = saidBy x option n s source
 
 abbrev pub none : Registers
 none = record { values = replicate 16 0; why = 0; word = 0 }
 
-abbrev pub startOf : List ℕ → Registers
-startOf words = saidFrom words (partCount 0 words - 1) 1 none
+abbrev pub startOf : List ℕ → (source : Bool) → Registers
+startOf words source = wordsFrom (saidIn source) words (partCount 0 words - 1) 1 none

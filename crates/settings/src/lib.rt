@@ -1,8 +1,8 @@
-// What `--set` and `--show` say of registers.
+// What `--set` and `--show` say of registers. Of a source other names may be cells, and are left to who knows them.
 ghost use mathlib.Core.Path.{_≡_};
 ghost use Prim.Native.Nat.{_-_, _<_, _≤_};
 ghost use lib.ListN.{length};
-ghost use Rattle.settings.specs.Setting.{wrongAt, withRegister, valued as valuedOf, setBy, shownBy, saidBy, none as noneOf, saidFrom, startOf};
+ghost use Rattle.settings.specs.Setting.{wrongAt, withRegister, valued as valuedOf, other as otherOf, setBy, shownBy, saidBy, none as noneOf, startOf};
 use figures::Reading;
 use words::SET;
 use words::SHOW;
@@ -63,8 +63,18 @@ fn valued(x: Registers, n: usize, k: usize, found: Reading) -> Registers
     }
 }
 
-fn set_by(x: Registers, n: usize, s: &[u8]) -> Registers
-    ensures { λ r. ⌜ r ≡ setBy x n (now (s .entry)) ⌝ }
+// A name that is no register's.
+fn other(x: Registers, n: usize, source: bool) -> Registers
+    ensures { λ r. ⌜ r ≡ otherOf x n source ⌝ }
+{
+    if source {
+        return x;
+    }
+    wrong_at(x, n, NO_REGISTER)
+}
+
+fn set_by(x: Registers, n: usize, s: &[u8], source: bool) -> Registers
+    ensures { λ r. ⌜ r ≡ setBy x n (now (s .entry)) source ⌝ }
 {
     let size = figures::part_length(s, b'=');
     let k = words::register(figures::front(s, size));
@@ -76,45 +86,45 @@ fn set_by(x: Registers, n: usize, s: &[u8]) -> Registers
             figures::number(figures::rest(figures::rest(s, size), 1)),
         );
     }
-    wrong_at(x, n, NO_REGISTER)
+    other(x, n, source)
 }
 
-fn shown_by(x: Registers, n: usize, s: &[u8]) -> Registers
-    ensures { λ r. ⌜ r ≡ shownBy x n (now (s .entry)) ⌝ }
+fn shown_by(x: Registers, n: usize, s: &[u8], source: bool) -> Registers
+    ensures { λ r. ⌜ r ≡ shownBy x n (now (s .entry)) source ⌝ }
 {
     let k = words::register(s);
     if k < 16 {
         return x;
     }
-    wrong_at(x, n, NO_REGISTER)
+    other(x, n, source)
 }
 
-fn said_by(x: Registers, option: u8, n: usize, s: &[u8]) -> Registers
-    ensures { λ r. ⌜ r ≡ saidBy x option n (now (s .entry)) ⌝ }
+fn said_by(x: Registers, option: u8, n: usize, s: &[u8], source: bool) -> Registers
+    ensures { λ r. ⌜ r ≡ saidBy x option n (now (s .entry)) source ⌝ }
 {
     let why = x.why;
     if 0 < why {
         return x;
     }
     if option == SET {
-        return set_by(x, n, s);
+        return set_by(x, n, s, source);
     }
     if option == SHOW {
-        return shown_by(x, n, s);
+        return shown_by(x, n, s, source);
     }
     x
 }
 
-// The registers that the words say.
-pub fn start(words: &[u8]) -> Registers
-    ensures { λ r. ⌜ r ≡ startOf (now (words .entry)) ⌝ }
+// The registers that the words say, of a source or of an object text.
+pub fn start(words: &[u8], source: bool) -> Registers
+    ensures { λ r. ⌜ r ≡ startOf (now (words .entry)) source ⌝ }
 {
     let count = figures::part_count(words, 0);
     let mut x = none();
     let mut n: usize = 1;
     while n < count {
         let option = words::run_option(figures::part(words, 0, n - 1));
-        x = said_by(x, option, n, figures::part(words, 0, n));
+        x = said_by(x, option, n, figures::part(words, 0, n), source);
         n += 1;
     }
     x

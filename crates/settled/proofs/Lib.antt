@@ -5,3 +5,4 @@ pub mod Places
 pub mod Programs
 pub mod Rooms
 pub mod Judging
+pub mod Ruling

@@ -15,11 +15,7 @@ use Rattle.grammar.specs.Reader.{Result, ok, bad}
 use Rattle.grammar.specs.Grammar.{program}
 use Rattle.ledger.specs.Book.{Wide, Thin, onWide, onThin, zeros}
 use Rattle.scopes.specs.declared.Broken.{Broken}
-use Rattle.scopes.specs.Broken.{_⊕_}
 use Rattle.scopes.specs.Search.{firstToken}
-use Rattle.scopes.proofs.Joins.{join-assoc}
-use Rattle.static_rules.specs.Kinds.{rulesOf}
-use Rattle.translation.specs.Layout.{layout, placeCells}
 use Rattle.translation.specs.Translate as T
 use Rattle.translation.specs.Translate.{kindsOf, valuesOf, named, labelled, make, finish, onRulesBy, onRules, afterTokens, inRoom, translated, translate}
 use Rattle.translation.proofs.Answers.{read-grammar}
@@ -28,8 +24,9 @@ use Rattle.parse.specs.Programs.{Told, toldOf, Parsed}
 use Rattle.parse.proofs.Texts.{tokens-small}
 use Rattle.readers.specs.declared.tokens.Answer as P
 use Rattle.settled.specs.declared.Judged.{Judged}
-use Rattle.settled.specs.Texts.{allTokens, placesOf, Fronted, Small, Text, Blanks, Bound, meantIn, tablesIn, Settled, Stays}
+use Rattle.settled.specs.Texts.{allTokens, placesOf, Fronted, Small, Text, Blanks, Bound, meantIn, Settled, Stays}
 use Rattle.settled.proofs.Reading.{all-read}
+use Rattle.settled.proofs.Ruling.{broken-is}
 use Rattle.settled.proofs.Programs.{tree, reads, text-is}
 use Rattle.settled.proofs.Judging.{program-front}
 use Rattle.made.specs.declared.Answer.{Answer}
@@ -45,13 +42,8 @@ module _
     (ts : List Token) (x : Statement) (tape : List ℕ) (others : Broken) (r : Judged) (w₀ w : Wide) (b₀ b : Thin) (t : Text ts x (w₀ .values) tape) (d : Bound ts x b₀ others)
     (k : Stays w₀ w b₀ b) (s : Settled ts x w b others r)
   where
-    broken-is : r .broken ≡ make ts x .broken
-    unfolding make layout
-    broken-is =
-        let k = rulesOf (tablesIn ts x) x in
-        let y = placeCells (meantIn ts x .bases) (meantIn ts x .cells) .broken in
-        s .broken-is ∙ (ap (λ (o : Broken). (o ⊕ k) ⊕ y) (d .broken-is)
-        ∙ (join-assoc (named ts x .broken ⊕ labelled ts x .broken) k y ∙ join-assoc (named ts x .broken) (labelled ts x .broken) (k ⊕ y)))
+    ruled : r .broken ≡ make ts x .broken
+    ruled = broken-is ts x others r w b₀ b d s
 
     pub rule-broken : (out : List ℕ) (place : ℕ) → place ≡ getD (placesOf ts) (r .broken .at) 0 → (r .broken .number ≡ 0 → ⊥)
         → Gives (inRoom (length out) (onRules ts (make ts x))) out out (Refused (r .broken .number) place)
@@ -59,10 +51,10 @@ module _
     rule-broken out place p h = go (make ts x .broken .number) refl
       where
         go : (n : ℕ) → make ts x .broken .number ≡ n → Gives (inRoom (length out) (onRulesBy ts (make ts x) n)) out out (Refused (r .broken .number) place)
-        go zero q = absurd (h (ap (λ (z : Broken). z .number) broken-is ∙ q))
+        go zero q = absurd (h (ap (λ (z : Broken). z .number) ruled ∙ q))
         go (suc n) q = record {
-          number-is = ap (λ (z : Broken). z .number) broken-is ∙ q;
-          place-is = p ∙ ap (λ (z : Broken). getD (placesOf ts) (z .at) 0) broken-is;
+          number-is = ap (λ (z : Broken). z .number) ruled ∙ q;
+          place-is = p ∙ ap (λ (z : Broken). getD (placesOf ts) (z .at) 0) ruled;
           length-is = refl;
           buffer-is = refl;
         }
@@ -72,7 +64,7 @@ module _
         → Gives (madeAlong kinds w c (b .written) tape (r .bases) (length out)) out out′ a → Gives (inRoom (length out) (onRules ts (make ts x))) out out′ a
     unfolding onRules
     none-broken kinds out out′ c a ek ec long h g =
-        let quiet : make ts x .broken .number ≡ 0 = sym (ap (λ (z : Broken). z .number) broken-is) ∙ h in
+        let quiet : make ts x .broken .number ≡ 0 = sym (ap (λ (z : Broken). z .number) ruled) ∙ h in
         let front = program-front ts x (t .to) (t .program) in
         let ew : w ≡ onWide 0 (λ (l : List ℕ). valuesOf ts) w = ap (λ (v : List ℕ). onWide 0 (λ (l : List ℕ). v) w) (k .values-stay ∙ t .values-are) in
         let eb : c ≡ record { found = named ts x .found; goes = labelled ts x .goes; opens = meantIn ts x .opens; written = replicate (length ts) 0 } =

@@ -37,15 +37,15 @@ returns c = rw (
   lt-ltb _ _ (c .before .before .before .before .if1 .taken),
 )
 
-wrong-at-requires : tie.Need-wrong-at-requires
-wrong-at-requires c κs = search needs
+other-requires : tie.Need-other-requires
+other-requires c κs = search needs
 
 returns-2 : tie.Need-returns-2
 returns-2 c = rw (
   ← c .before .before .before .before .part-length .ensures .0,
   ← c .before .before .before .front .ensures,
   ← c .before .before .register .ensures .0,
-  c .wrong-at .ensures,
+  c .other .ensures,
   le-ltb _ _ (c .before .if1 .left),
 )
 
@@ -61,5 +61,5 @@ set-by-spec =
     number-requires
     valued-requires
     returns
-    wrong-at-requires
+    other-requires
     returns-2)

@@ -10,11 +10,11 @@ register-requires c κs = search needs
 returns : tie.Need-returns
 returns c = rw (← c .before .register .ensures .0, lt-ltb _ _ (c .if1 .taken))
 
-wrong-at-requires : tie.Need-wrong-at-requires
-wrong-at-requires c κs = search needs
+other-requires : tie.Need-other-requires
+other-requires c κs = search needs
 
 returns-2 : tie.Need-returns-2
-returns-2 c = rw (← c .before .before .register .ensures .0, c .wrong-at .ensures, le-ltb _ _ (c .before .if1 .left))
+returns-2 c = rw (← c .before .before .register .ensures .0, c .other .ensures, le-ltb _ _ (c .before .if1 .left))
 
 pub shown-by-spec : {M : Type 1} → statement M
 shown-by-spec =
@@ -22,5 +22,5 @@ shown-by-spec =
     (tie.spec
     register-requires
     returns
-    wrong-at-requires
+    other-requires
     returns-2)

@@ -1,6 +1,6 @@
 -- `start` goes word by word. The invariant: the whole is what the words that are left make of the registers so far. Assumes nothing.
 use Rattle.settings.proofs.Going.{word-on, words-end}
-use Rattle.settings.specs.Setting.{saidFrom, startOf}
+use Rattle.settings.specs.Setting.{wordsFrom, saidIn, startOf}
 use mathlib.Core.Path.{_≡_}
 use Prim.Native.Nat.{_≤_, _-_}
 use borrow.Author.Needs.{needs}
@@ -8,10 +8,10 @@ use Rattle.settings.proofs.start.Statement.{statement}
 use Rattle.settings.proofs.start.Tie as tie
 
 abbrev Inv-loop : tie.InvT-loop
-Inv-loop words count x₀ n₀ x n = (1 ≤ n) × (startOf words ≡ saidFrom words (count - n) n x)
+Inv-loop words source count x₀ n₀ x n = (1 ≤ n) × (startOf words source ≡ wordsFrom (saidIn source) words (count - n) n x)
 
 abbrev μ-loop : tie.MeasureT-loop
-μ-loop words count x₀ n₀ x n = count - n
+μ-loop words source count x₀ n₀ x n = count - n
 
 part-count-requires : tie.Need-part-count-requires Inv-loop μ-loop
 part-count-requires c κs = search needs
@@ -51,12 +51,12 @@ loop-again c = (
     c .before .part2 .ensures,
     c .before .before .run-option .ensures,
     c .before .before .before .part .ensures,
-  ) (word-on _ _ _ _ (c .before .before .before .before .before .loop .inv .1)
+  ) (word-on _ _ _ _ _ (c .before .before .before .before .before .loop .inv .1)
       (c .before .before .before .before .loop-test .taken)),
 )
 
 returns : tie.Need-returns Inv-loop μ-loop
-returns c = words-end _ _ _ _ (c .before .loop .inv .1) (c .loop-test .left)
+returns c = words-end _ _ _ _ _ (c .before .loop .inv .1) (c .loop-test .left)
 
 pub start-spec : {M : Type 1} → statement M
 start-spec =

@@ -1,0 +1,2 @@
+-- The run with cells set.
+pub mod Running

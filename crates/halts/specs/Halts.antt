@@ -1,0 +1,46 @@
+-- A stop 2 or 3 in the words of the source that was run: where, the line, the operand as it is written, and its address.
+--     survey.pl360:12:9: stop 2: a forbidden operand
+--       R1 := TABLE(R2);
+--             ^^^^^^^^^ address 12288 is in no data segment
+use Prim.Native.Nat.{ℕ, _+_, _-_, _/_, _%_, min}
+use mathlib.Core.List.{List, [], _∷_, _++_}
+use lib.Dec.{eqb}
+use lib.ListN.{length, drop, replicate}
+use Rattle.base.specs.Choose.{choose}
+use Rattle.base.specs.Text.{bytes}
+use Rattle.figures.specs.Parts.{partLength, partOf, filled}
+use Rattle.excerpts.specs.Lines.{lineOf, columnOf, shownBefore, shownLine, placeText, lineText}
+use Rattle.reports.specs.Reports.{stops, toldText}
+
+-- why, each behind a newline, counted from 1; `%` stands for the address
+abbrev pub reasons : List ℕ
+reasons =
+    bytes "\n address % is in no data segment"
+    ++ bytes "\n address % is in no cell that may be written"
+    ++ bytes "\n address % is no multiple of 2"
+    ++ bytes "\n address % is no multiple of 4"
+
+-- by the stop and the opcode: 40 and 50 store, 40 to 4F are of half words
+abbrev pub reasonFor : (stop opcode : ℕ) → ℕ
+reasonFor stop opcode = choose (eqb stop 3) (choose (eqb (opcode / 16) 4) 3 4) (choose (eqb (opcode % 16) 0) 2 1)
+
+-- as much of the operand as stands in its line, 40 bytes at most
+abbrev pub wideFor : (from to : ℕ) → (text : List ℕ) → (place : ℕ) → ℕ
+wideFor from to text place = min (min 39 (to - from) + 1) (partLength 10 (drop place text))
+
+unfoldable pub headText : List ℕ → (stop : ℕ) → (text : List ℕ) → (place : ℕ) → List ℕ
+headText file stop text place = placeText file (lineOf text place) (columnOf text place) ++ bytes ": " ++ toldText (bytes "stop ") stop stops
+
+unfoldable pub underText : (before wide address k : ℕ) → List ℕ
+underText before wide address k = replicate before 32 ++ replicate wide 94 ++ filled address (partOf 10 k reasons) ++ bytes "\n"
+
+-- a place past the end of the text is its end; none is past 32,768
+abbrev pub placeIn : (place : ℕ) → List ℕ → ℕ
+placeIn place text = min 32768 (min place (length text))
+
+unfoldable pub linesText : (from to address k : ℕ) → (text : List ℕ) → (place : ℕ) → List ℕ
+linesText from to address k text place = lineText (shownLine text place) ++ underText (shownBefore text place) (wideFor from to text place) address k
+
+unfoldable pub haltText : List ℕ → (stop from to address opcode : ℕ) → List ℕ → List ℕ
+haltText file stop from to address opcode text =
+    headText file stop text (placeIn from text) ++ linesText from to address (reasonFor stop opcode) text (placeIn from text)

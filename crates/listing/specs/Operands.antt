@@ -1,0 +1,70 @@
+-- The operand of the instruction at an address, as it is written: along the tape of a text, each event with the instructions that it becomes.
+use mathlib.Core.List.{List}
+use mathlib.Core.Bool.{Bool, true, false, _&&_, _||_}
+use Prim.Native.Nat.{ℕ, _+_}
+use lib.Dec.{eqb, ltb}
+use Rattle.base.specs.Choose.{choose}
+use Rattle.tape.specs.Events as E
+use Rattle.tape.specs.Numbers.{familyAt, formAt}
+use Rattle.tape.specs.Pass.{pass}
+use Rattle.ledger.specs.Book.{Wide, Thin}
+use Rattle.emit.specs.declared.Use.{Use}
+use Rattle.emit.specs.declared.Use.the-variants.{Absent, Held, Number, Stored}
+use Rattle.emit.specs.declared.Writing.{Writing}
+use Rattle.emit.specs.Codes.{listOf, codeSizes}
+use Rattle.emit.specs.Events.{writingIn, codesIn}
+use Rattle.code.specs.Places.{noWriting}
+use Rattle.listing.specs.declared.Spot.{Spot}
+
+-- from its first token to its last, by its shape: a name, name(number), name(name), name(number)(name), or a number
+abbrev pub reach : (shape : ℕ) → ℕ
+reach shape = choose (eqb shape 1 || eqb shape 2) 3 (choose (eqb shape 3) 6 0)
+
+unfoldable pub spotOf : (token shape : ℕ) → Spot
+spotOf t shape = record { token = t; last = t + reach shape }
+
+abbrev pub noSpot : Spot
+noSpot = record { token = 0; last = 0 }
+
+-- the assignment that is written stores
+unfoldable pub stores : Use → Bool
+stores Absent = false
+stores (Held r) = false
+stores (Number v) = false
+stores (Stored short x b d) = true
+
+-- the target of the assignment that is written
+abbrev pub targetAfter : (family : ℕ) → (own target : Spot) → Spot
+targetAfter family own target = choose (eqb family E.TARGET || eqb family E.CONTROL) own target
+
+-- "store": the operand in storage is the target; else it is the event's own
+abbrev pub operandBy : (family : ℕ) → Use → (own target : Spot) → Spot
+operandBy family aim own target = choose (eqb family E.FIRST && stores aim) target own
+
+-- an event from address p to address q is the one at the address
+abbrev pub spotAfter : (address p q : ℕ) → (operand spot : Spot) → Spot
+spotAfter address p q operand spot = choose (eqb p address && ltb p q) operand spot
+
+-- the address so far, the assignment that is written, with its target, and the operand
+pub record Spotting : Type 0 where
+  pub at : ℕ
+  pub writing : Writing
+  pub target : Spot
+  pub spot : Spot
+
+abbrev pub spottingOf : ℕ → Writing → (target spot : Spot) → Spotting
+spottingOf at w target spot = record { at = at; writing = w; target = target; spot = spot }
+
+module _ (address : ℕ) (kinds : List ℕ) (w : Wide) (b : Thin) where
+  abbrev pub behind : (op t : ℕ) → Spotting → ℕ
+  behind op t s = s .at + codeSizes (listOf (codesIn kinds w b op t (s .writing)))
+
+  unfoldable pub spotEvent : (op t : ℕ) → Spotting → Spotting
+  spotEvent op t s =
+      let own : Spot = spotOf t (formAt op) in
+      spottingOf (behind op t s) (writingIn w b op t (s .writing)) (targetAfter (familyAt op) own (s .target))
+      (spotAfter address (s .at) (behind op t s) (operandBy (familyAt op) (s .writing .aim) own (s .target)) (s .spot))
+
+  -- along a whole tape
+  unfoldable pub spotAlong : List ℕ → Spot
+  spotAlong tape = pass spotEvent (spottingOf 0 noWriting noSpot noSpot) tape .spot
