@@ -1,7 +1,7 @@
 -- NAME, or NAME(NUMBER), by which `--set` and `--show` name a cell of a source: as the language does, so that the number is a byte offset, a name alone is the
 -- first element, and the first 10 characters count.
 use mathlib.Core.List.{List}
-use mathlib.Core.Bool.{Bool, true, false, not, _&&_, _||_}
+use mathlib.Core.Bool.{Bool, false, not, _&&_, _||_}
 use Prim.Native.Nat.{ℕ, _+_, _/_, _%_}
 use lib.Dec.{eqb, ltb}
 use lib.ListN.{getD, replicate}

@@ -1,6 +1,6 @@
 -- `--set NAME=VALUE` where NAME is no register: the value is laid into the cell when the program is loaded. What is wrong of a word is told by its number.
 use mathlib.Core.List.{List}
-use mathlib.Core.Bool.{Bool, true, false}
+use mathlib.Core.Bool.{Bool, true}
 use Prim.Native.Nat.{ℕ, _+_, _-_}
 use lib.Dec.{eqb, ltb}
 use lib.ListN.{length, take, drop}

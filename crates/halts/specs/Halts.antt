@@ -3,7 +3,7 @@
 --       R1 := TABLE(R2);
 --             ^^^^^^^^^ address 12288 is in no data segment
 use Prim.Native.Nat.{ℕ, _+_, _-_, _/_, _%_, min}
-use mathlib.Core.List.{List, [], _∷_, _++_}
+use mathlib.Core.List.{List, _++_}
 use lib.Dec.{eqb}
 use lib.ListN.{length, drop, replicate}
 use Rattle.base.specs.Choose.{choose}
