@@ -1,5 +1,6 @@
 -- The files of this crate's proofs.
 pub mod Operands
+pub mod Rows
 pub mod Runs
 pub mod Stops
 pub mod Resumes
