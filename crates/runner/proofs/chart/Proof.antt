@@ -1,4 +1,4 @@
--- `list` lays a number of each data head over the table by page. The invariant: the heads that are left, from the place reached, make the whole. Assumes nothing.
+-- `chart` lays the numbers of each data head over the map by page. The invariant: the heads that are left, from the place reached, make the whole. Assumes nothing.
 use Prim.Native.Nat.{_-_, _*_, _≤_}
 use mathlib.Core.Path.{_≡_}
 use lib.ListN.{drop}
@@ -6,18 +6,18 @@ use borrow.Author.Needs.{needs}
 use Rattle.objtext.proofs.Places.{after-program-place}
 use Rattle.objtext.proofs.Walks.{Walked, object-walk, program-short, data-short}
 use Rattle.objtext.specs.Reader.{afterProgram}
-use Rattle.runner.proofs.Loads.{walk-here, walk-on, list-on, list-end}
-use Rattle.runner.specs.Tables.{listed}
-use Rattle.runner.proofs.list.Statement.{statement}
-use Rattle.runner.proofs.list.Tie as tie
+use Rattle.runner.proofs.Loads.{walk-here, walk-on, chart-on, chart-end}
+use Rattle.runner.specs.Tables.{charted}
+use Rattle.runner.proofs.chart.Statement.{statement}
+use Rattle.runner.proofs.chart.Tie as tie
 
 abbrev Inv-loop : tie.InvT-loop
-Inv-loop t count o entries₀ at₀ k₀ entries at k =
+Inv-loop t count map₀ at₀ k₀ map at k =
     (1 ≤ k) × (k ≤ count) × (count ≤ 4) × (at ≤ 11025 * k) × Walked (count - k) k (drop at t)
-    × (listed o (count - k) k (drop at t) entries ≡ listed o (count - 1) 1 (afterProgram t) entries₀)
+    × (charted (count - k) k (drop at t) map ≡ charted (count - 1) 1 (afterProgram t) map₀)
 
 abbrev μ-loop : tie.MeasureT-loop
-μ-loop t count o entries₀ at₀ k₀ entries at k = count - k
+μ-loop t count map₀ at₀ k₀ map at k = count - k
 
 after-program-requires : tie.Need-after-program-requires Inv-loop μ-loop
 after-program-requires c κs = program-short 0 (c .before .args .t .now) (object-walk (c .before .args .count) (c .before .args .t .now) (c .before .pre .0) (c .before .pre .1) .program)
@@ -83,8 +83,8 @@ returns : tie.Need-returns Inv-loop μ-loop
 returns c = list-end (c .before .before .before .before .args .count) (c .before .loop .k) (c .loop-test .left) (c .before .before .before .before .args .o)
     (drop (c .before .loop .at) (c .before .before .before .before .args .t .now)) (c .before .loop .entries) (c .before .loop .inv .5)
 
-pub list-spec : {M : Type 1} → statement M
-list-spec =
+pub chart-spec : {M : Type 1} → statement M
+chart-spec =
     tie.close
     (tie.spec
     Inv-loop
