@@ -1,10 +1,10 @@
 // Document 01, "Runner": one instruction, from its bytes. Every opcode has an arm of its own that calls a shared function with a constant.
 ghost use mathlib.Core.Path.{_≡_};
 ghost use mathlib.Core.List.{List};
-ghost use Prim.Native.Nat.{ℕ, _+_, _*_, _%_, _<_, _≤_};
+ghost use Prim.Native.Nat.{ℕ, _+_, _*_, _/_, _%_, _<_, _≤_};
 ghost use lib.ListN.{length};
 ghost use Rattle.machine.specs.Space.{room, needed, displacements, Space, spaceBy};
-ghost use Rattle.machine.specs.Step.{cpu, stepped, shortOn, longOn, step as stepOf};
+ghost use Rattle.machine.specs.Step.{address as addressOf, cpu, stepped, shortOn, longOn, step as stepOf};
 ghost use Rattle.machine.specs.Instructions.{shortKind, shiftKind, storageKind};
 ghost use Rattle.machine.specs.Lent.{given, turn};
 use machine::Fun;
@@ -102,6 +102,14 @@ fn displacement(bd: u8, d: u8) -> usize
     (bd % 16) as usize * 256 + (d as usize)
 }
 
+// "base·16 + displacement/256, displacement mod 256": the address that the last two bytes name, with an index.
+fn named(regs: &[u32; 16], x: usize, third: u8, fourth: u8) -> u32
+    requires { ⌜ x < 16 ⌝ }
+    ensures { λ r. ⌜ r ≡ addressOf (now (regs .entry)) x (third / 16) (third % 16 * 256 + fourth) ⌝ }
+{
+    address(regs, x, upper(third), displacement(third, fourth))
+}
+
 pub fn step(
     program: usize,
     map: &[usize; MAP],
@@ -141,14 +149,13 @@ pub fn step(
         return halt(4, code, at);
     }
     let third = s[i + 2];
-    let b = upper(third);
-    let d = displacement(third, s[i + 3]);
+    let fourth = s[i + 3];
     if op < 128 {
         return storage(
             op,
             Given {
                 rx: rx,
-                b: address(regs, lower(rx), b, d),
+                b: named(regs, lower(rx), third, fourth),
                 code: code,
                 at: at,
             },
@@ -161,7 +168,7 @@ pub fn step(
         op,
         Given {
             rx: rx,
-            b: address(regs, 0, b, d),
+            b: named(regs, 0, third, fourth),
             code: code,
             at: at,
         },

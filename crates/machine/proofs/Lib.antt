@@ -1,8 +1,8 @@
 -- The files of this crate's proofs.
 pub mod Operands
-pub mod Rows
 pub mod Runs
 pub mod Stops
 pub mod Resumes
 pub mod Outside
 pub mod Effects
+pub mod Rows

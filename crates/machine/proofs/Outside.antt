@@ -12,12 +12,13 @@ use borrow.Author.Tests.{le-leb, leb-true, eqb-true}
 use Rattle.base.specs.Choose.{choose}
 use Rattle.base.specs.Numbers.{stored, bytesOf}
 use Rattle.base.proofs.Tests.{by-test, never-true, and-left, and-right}
+use Rattle.base.proofs.Lists.{all-both}
 use Rattle.base.proofs.Parts.{sets-before, sets-after}
 use Rattle.base.proofs.Numbers.{length-stored, length-bytesOf}
 use Rattle.machine.specs.declared.Fun.{Fun}
 use Rattle.machine.specs.declared.Shift.{Shift}
 use Rattle.machine.specs.Space.{Space, room, origin, writable}
-use Rattle.machine.specs.Instructions.{Long, appliesTo, multipliesBy, stores, branchesTo, links, shifts, unlistedLong, storageRows, shiftRows, longKind}
+use Rattle.machine.specs.Instructions.{Long, appliesTo, multipliesBy, stores, branchesTo, links, shifts, unlistedLong, halfwordRows, wordRows, storageRows, shiftRows, longKind}
 use Rattle.machine.specs.Step.{Cpu, Turn, Stepped, stepped, went, halted, moved, address, longBy, step}
 use Rattle.machine.specs.Run.{onward, after, run}
 use Rattle.machine.proofs.Rows.{row-is}
@@ -106,8 +107,9 @@ long-keeps none m rx b d c s = untouched
 all-sized : (op : ℕ) → Sized (longKind op)
 all-sized op =
     row-is Sized storageRows
-    (two, (link, (branch, (loads, (loads, (loads, (loads, (loads,
-    (four, (loads, (loads, (loads, (loads, (loads, (loads, (loads, (product, (loads, (loads, tt))))))))))))))))))) op
+    (all-both (λ (x : ℕ × Long). Sized (x .1)) halfwordRows wordRows
+    (two, (link, (branch, (loads, (loads, (loads, (loads, (loads, tt))))))))
+    (four, (loads, (loads, (loads, (loads, (loads, (loads, (loads, (product, (loads, (loads, tt)))))))))))) op
     (row-is Sized shiftRows (shift, (shift, (shift, (shift, tt)))) op none)
 
 -- a step leaves the length of storage and every byte that is not writable

@@ -1,18 +1,20 @@
 -- Rows of the tables of opcodes: what holds of every row holds of what is found (`row-is`), an opcode that is none of theirs finds what is said further on
--- (`row-rest`), and from 128 on opcodes are shifts, which have no index (`storage-long`, `shift-long`). Assumes nothing.
-use Prim.Native.Nat.{ℕ, suc, _%_, _<_, _≤_}
+-- (`row-rest`), and from 128 on opcodes are shifts, which have no index (`step-storage`, `step-shift`). Assumes nothing.
+use Prim.Native.Nat.{ℕ, suc, _+_, _*_, _/_, _%_, _<_, _≤_}
 use mathlib.Core.Path.{_≡_, refl, sym, ap, _∙_}
 use mathlib.Core.Bool.{Bool, true, false}
 use mathlib.Core.List.{List, [], _∷_}
 use lib.Dec.{T, eqb, ltb, leb}
+use lib.ListN.{getD}
 use borrow.Author.Tests.{ne-eqb, lt-leb, le-ltb}
 use Rattle.base.specs.Choose.{choose}
 use Rattle.base.specs.Lists.{All}
 use Rattle.base.specs.Tables.{every}
 use Rattle.base.proofs.Tests.{never-true, is-true, and-left, and-right}
-use Rattle.machine.specs.Space.{Space}
-use Rattle.machine.specs.Instructions.{Long, unlistedLong, rowOf, storageRows, shiftRows, longKind, storageKind, shiftKind}
-use Rattle.machine.specs.Step.{Cpu, address, longOn, longBy}
+use Rattle.machine.specs.Space.{Space, origin}
+use Rattle.machine.specs.Instructions.{Long, unlistedLong, rowOf, storageRows, shiftRows, storageKind, shiftKind}
+use Rattle.machine.specs.Step.{Cpu, Stepped, address, longOn, indexOf, step}
+use Rattle.machine.proofs.Effects.{step-long}
 
 module _ {A : Type 0} where
   either : (P : A → Type 0) (t : Bool) {a b : A} → P a → P b → P (choose t a b)
@@ -48,19 +50,34 @@ module _ {A : Type 0} where
       rw (ne-eqb op (x .0) (λ q. never-true (sym e ∙ (ap f q ∙ is-true (f (x .0)) (and-left (f (x .0)) more t)))))
       (row-other f xs (suc i) op other (and-right (f (x .0)) more t) e)
 
-module _ (op : ℕ) (m : Space) (rx b d : ℕ) (c : Cpu) (s : List ℕ) where
-  -- the address of a kind is formed with the register x as its index
-  abbrev Indexed : ℕ → Long → Type 0
-  Indexed x k = longOn k m rx (address (c .regs) x b d) c s ≡ longBy k m rx b d c s
+module _ (m : Space) (c : Cpu) (s : List ℕ) (even : c .counter % 2 ≡ 0) (low : origin 0 ≤ c .counter) (is : 64 ≤ getD s (c .counter) 0) (fits : c .counter + 4 ≤ origin 0 + m .program) where
+  abbrev op : ℕ
+  op = getD s (c .counter) 0
 
-  pub storage-long : op < 128 → longOn (storageKind op) m rx (address (c .regs) (rx % 16) b d) c s ≡ longBy (longKind op) m rx b d c s
-  storage-long h =
+  abbrev rx : ℕ
+  rx = getD s (c .counter + 1) 0
+
+  -- the address that is formed with x as the index
+  abbrev at : ℕ → ℕ
+  at x = address (c .regs) x (getD s (c .counter + 2) 0 / 16) (getD s (c .counter + 2) 0 % 16 * 256 + getD s (c .counter + 3) 0)
+
+  -- a kind has the index x
+  abbrev Indexed : ℕ → Long → Type 0
+  Indexed x k = longOn k m rx (at x) c s ≡ longOn k m rx (at (indexOf k (rx % 16))) c s
+
+  abbrev byKind : Long → Stepped
+  byKind k = longOn k m rx (at (indexOf k (rx % 16))) c s
+
+  pub step-storage : op < 128 → longOn (storageKind op) m rx (at (rx % 16)) c s ≡ step m c s
+  step-storage h =
       row-is (Indexed (rx % 16)) storageRows
       (refl, (refl, (refl, (refl, (refl, (refl, (refl, (refl, (refl, (refl, (refl, (refl, (refl, (refl, (refl, (refl, (refl, (refl, (refl, tt))))))))))))))))))) op
       refl
-      ∙ ap (λ (k : Long). longBy (rowOf storageRows op k) m rx b d c s) (sym (row-other (λ k. leb 128 k) shiftRows 0 op unlistedLong tt (lt-leb 128 op h)))
+      ∙ ap (λ (k : Long). byKind (rowOf storageRows op k)) (sym (row-other (λ k. leb 128 k) shiftRows 0 op unlistedLong tt (lt-leb 128 op h)))
+      ∙ sym (step-long m c s even low op refl is fits)
 
-  pub shift-long : 128 ≤ op → longOn (shiftKind op) m rx (address (c .regs) 0 b d) c s ≡ longBy (longKind op) m rx b d c s
-  shift-long h =
+  pub step-shift : 128 ≤ op → longOn (shiftKind op) m rx (at 0) c s ≡ step m c s
+  step-shift h =
       row-is (Indexed 0) shiftRows (refl, (refl, (refl, (refl, tt)))) op refl
-      ∙ ap (λ (k : Long). longBy k m rx b d c s) (sym (row-other (λ k. ltb k 128) storageRows 0 op (shiftKind op) tt (le-ltb op 128 h)))
+      ∙ ap byKind (sym (row-other (λ k. ltb k 128) storageRows 0 op (shiftKind op) tt (le-ltb op 128 h)))
+      ∙ sym (step-long m c s even low op refl is fits)

@@ -235,13 +235,7 @@ pub fn load_step(
     halt(2, g.code, g.at)
 }
 
-pub fn store_step(
-    n: usize,
-    g: Given,
-    map: &[usize; MAP],
-    regs: &[u32; 16],
-    s: &mut [u8],
-) -> Next
+pub fn store_step(n: usize, g: Given, map: &[usize; MAP], regs: &[u32; 16], s: &mut [u8]) -> Next
     requires { ⌜ (g .at < 2 * room) × (needed ≤ length (now s)) × (0 < n) × (n ≤ 4) × (needed % n ≡ 0) ⌝ }
     ensures { λ q. ⌜ stepped (turn q (now (regs .entry))) (now (s .exit)) ≡ storeStep (spaceBy 0 (now (map .entry))) (given g (now (regs .entry))) n (g .rx / 16) (g .b) (now (s .entry)) ⌝ }
 {
@@ -278,12 +272,7 @@ pub fn multiply_step(g: Given, regs: &mut [u32; 16]) -> Next
     pair(2, g, regs)
 }
 
-pub fn multiply_word_step(
-    g: Given,
-    map: &[usize; MAP],
-    regs: &mut [u32; 16],
-    s: &[u8],
-) -> Next
+pub fn multiply_word_step(g: Given, map: &[usize; MAP], regs: &mut [u32; 16], s: &[u8]) -> Next
     requires { ⌜ (g .at < 2 * room) × (needed ≤ length (now s)) ⌝ }
     ensures { λ q. ⌜ turn q (now (regs .exit)) ≡ multiplyByTurn (spaceBy 0 (now (map .entry))) (given g (now (regs .entry))) (g .rx / 16) (g .b) (now (s .entry)) ⌝ }
 {

@@ -19,7 +19,7 @@ use Rattle.objtext.proofs.Places.{after-data-place}
 use Rattle.objtext.proofs.Walks.{Walked, walked-on}
 use Rattle.machine.specs.Space.{origin, needed, endColumn, fromColumn, toColumn}
 use Rattle.runner.specs.Load.{placed, tableWord, tabled, cleared}
-use Rattle.runner.specs.Tables.{paged, charted}
+use Rattle.runner.specs.Charted.{paged, charted}
 
 -- ── along the data segments ──
 

@@ -1,5 +1,5 @@
 -- What is read from the heads again is the segments': the map is their space, segment 1's length is the table's. Assumes nothing.
-use Prim.Native.Nat.{ℕ, zero, suc, _+_, _-_, _<_, _≤_}
+use Prim.Native.Nat.{ℕ, zero, suc, _+_, _-_, _*_, _<_, _≤_}
 use mathlib.Core.Path.{_≡_, refl, sym, ap, ap₂, _∙_, subst}
 use mathlib.Core.Bool.{Bool, true, false}
 use mathlib.Core.List.{List, [], _∷_, _++_, map}
@@ -15,7 +15,7 @@ use Rattle.objtext.proofs.Places.{length-content, length-place}
 use Rattle.objtext.proofs.Walks.{length-list}
 use Rattle.machine.specs.Space.{pages, needed, endColumn, fromColumn, toColumn, entry, spaceBy}
 use Rattle.runner.specs.Load.{placed, tabled, loaded, endOf, fromOf, toOf, byPage, programLength, spaceOf}
-use Rattle.runner.specs.Tables.{charted}
+use Rattle.runner.specs.Charted.{charted}
 
 -- a column of the map
 entry-is : (map : List ℕ) (column p : ℕ) → entry map column p ≡ getD (take pages (drop column map)) p 0

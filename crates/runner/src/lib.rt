@@ -7,7 +7,7 @@ ghost use Rattle.objtext.specs.Reader.{afterProgram, segmentList, readAs, readO
 ghost use Rattle.machine.specs.Space.{needed};
 ghost use Rattle.machine.specs.Run.{run};
 ghost use Rattle.runner.specs.Load.{placed, tableWord, tabled, loaded, spaceOf, started as startedOf};
-ghost use Rattle.runner.specs.Tables.{charted};
+ghost use Rattle.runner.specs.Charted.{charted};
 ghost use Rattle.runner.specs.Numbers.{stopOf};
 ghost use Rattle.runner.specs.Runner.{runner, outcome, refusal, accepted};
 

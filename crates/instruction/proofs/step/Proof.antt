@@ -1,9 +1,7 @@
-use Rattle.machine.specs.Space.{spaceBy}
-use lib.ListN.{getD}
-use Prim.Native.Nat.{_+_}
 -- `step` makes the definition's tests of the counter in its order, then forms the second operand and calls `short`, `storage` or `shift`. Assumes nothing.
 use Rattle.machine.specs.Step.{cpu, step}
-use Rattle.machine.proofs.Rows.{storage-long, shift-long}
+use Rattle.machine.specs.Space.{spaceBy}
+use Rattle.machine.proofs.Rows.{step-storage, step-shift}
 use Rattle.machine.proofs.Operands.{kept}
 use borrow.Author.Tests.{lt-ltb, le-ltb, le-leb, lt-leb, eq-eqb, ne-eqb}
 use mathlib.Core.Path.{_∙_}
@@ -58,7 +56,10 @@ short-requires c κs = search needs
 
 returns-4 : tie.Need-returns-4
 unfolding step
-returns-4 c = rw (eq-eqb _ _ (c .before .before .before .before .before .before .before .before .before .before .if1 .left), le-leb _ _ (c .before .before .before .before .before .before .before .before .before .if2 .left), le-leb _ _ (c .before .before .before .before .before .before .before .before .if3 .left), lt-ltb _ _ (c .before .before .before .before .before .if4 .taken))
+returns-4 c =
+    let d = c .before .before .before .before .before in
+    let e = d .before .before .before .before .before in
+    rw (eq-eqb _ _ (e .if1 .left), le-leb _ _ (d .before .before .before .before .if2 .left), le-leb _ _ (d .before .before .before .if3 .left), lt-ltb _ _ (d .if4 .taken))
     (kept (c .short .ensures ∙ rw (c .before .before .get .ensures, c .before .before .before .lower .ensures .0)))
 
 add-if5 : tie.Need-add-if5
@@ -72,7 +73,9 @@ halt-requires-4 c κs = search needs
 
 returns-5 : tie.Need-returns-5
 unfolding step
-returns-5 c = rw (eq-eqb _ _ (c .before .before .before .before .before .before .before .if1 .left), le-leb _ _ (c .before .before .before .before .before .before .if2 .left), le-leb _ _ (c .before .before .before .before .before .if3 .left), le-ltb _ _ (c .before .before .if4 .left), lt-leb _ _ (c .before .if5 .taken), c .halt4 .ensures)
+returns-5 c =
+    let d = c .before .before .before .before .before in
+    rw (eq-eqb _ _ (d .before .before .if1 .left), le-leb _ _ (d .before .if2 .left), le-leb _ _ (d .if3 .left), le-ltb _ _ (c .before .before .if4 .left), lt-leb _ _ (c .before .if5 .taken), c .halt4 .ensures)
 
 add-third : tie.Need-add-third
 add-third c = search needs
@@ -80,23 +83,17 @@ add-third c = search needs
 slice-read-third : tie.Need-slice-read-third
 slice-read-third c = search needs
 
-upper-requires : tie.Need-upper-requires
-upper-requires c κs = search needs
+add-fourth : tie.Need-add-fourth
+add-fourth c = search needs
 
-add-displacement : tie.Need-add-displacement
-add-displacement c = search needs
-
-slice-read-displacement : tie.Need-slice-read-displacement
-slice-read-displacement c = search needs
-
-displacement-requires : tie.Need-displacement-requires
-displacement-requires c κs = search needs
+slice-read-fourth : tie.Need-slice-read-fourth
+slice-read-fourth c = search needs
 
 lower-requires-2 : tie.Need-lower-requires-2
 lower-requires-2 c κs = search needs
 
-address-requires : tie.Need-address-requires
-address-requires c κs = search needs
+named-requires : tie.Need-named-requires
+named-requires c κs = search needs
 
 storage-requires : tie.Need-storage-requires
 storage-requires c κs = search needs
@@ -105,27 +102,31 @@ same-length : tie.Need-same-length
 same-length c = search needs
 
 returns-6 : tie.Need-returns-6
-unfolding step
-returns-6 c = let a = c .before .before .before .before .before .before .before .before .before .before .before .before .before .before .before .before .before .before .before .before .before .args in
-    let s = a .s .now in
-    rw (eq-eqb _ _ (c .before .before .before .before .before .before .before .before .before .before .before .before .before .before .before .before .before .before .before .if1 .left), le-leb _ _ (c .before .before .before .before .before .before .before .before .before .before .before .before .before .before .before .before .before .before .if2 .left), le-leb _ _ (c .before .before .before .before .before .before .before .before .before .before .before .before .before .before .before .before .before .if3 .left), le-ltb _ _ (c .before .before .before .before .before .before .before .before .before .before .before .before .before .before .if4 .left), le-leb _ _ (c .before .before .before .before .before .before .before .before .before .before .before .before .before .if5 .left), ← c .before .before .before .before .before .before .before .before .before .before .before .upper .ensures .0, ← c .before .before .before .before .before .before .before .before .before .displacement .ensures .0)
-    (c .before .before .storage .ensures (a .program) ∙ rw (c .before .before .before .before .before .address .ensures, c .before .before .before .before .before .before .lower2 .ensures .0)
-    (storage-long (getD s (a .at) 0) (spaceBy (a .program) (a .map .now)) (getD s (a .at + 1) 0) (c .before .before .before .before .before .before .before .before .before .before .before .upper .result) (c .before .before .before .before .before .before .before .before .before .displacement .result) (cpu (a .regs .now) (a .code) (a .at)) s (c .before .before .before .before .before .before .before .before .if6 .taken)))
+returns-6 c =
+    let d = c .before .before .before .before .before in
+    let e = d .before .before .before .before .before .before in
+    let g = e .before .before .before .before .before in
+    let a = g .before .before .before .args in
+    let m = spaceBy (a .program) (a .map .now) in
+    c .before .before .storage .ensures (a .program)
+    ∙ rw (d .named .ensures, d .before .lower2 .ensures .0)
+    (step-storage m (cpu (a .regs .now) (a .code) (a .at)) (a .s .now) (g .before .if1 .left) (g .if2 .left) (e .before .if4 .left) (e .if5 .left) (d .before .before .before .if6 .taken))
 
-address-requires-2 : tie.Need-address-requires-2
-address-requires-2 c κs = search needs
+named-requires-2 : tie.Need-named-requires-2
+named-requires-2 c κs = search needs
 
 shift-requires : tie.Need-shift-requires
 shift-requires c κs = search needs
 
 returns-7 : tie.Need-returns-7
-unfolding step
-returns-7 c = let a = c .before .before .before .before .before .before .before .before .before .before .before .before .before .before .before .before .before .args in
-    let s = a .s .now in
+returns-7 c =
+    let d = c .before .before .before .before .before .before .before in
+    let e = d .before .before .before .before .before in
+    let a = e .before .before .before .args in
     let m = spaceBy (a .program) (a .map .now) in
-    rw (eq-eqb _ _ (c .before .before .before .before .before .before .before .before .before .before .before .before .before .before .before .if1 .left), le-leb _ _ (c .before .before .before .before .before .before .before .before .before .before .before .before .before .before .if2 .left), le-leb _ _ (c .before .before .before .before .before .before .before .before .before .before .before .before .before .if3 .left), le-ltb _ _ (c .before .before .before .before .before .before .before .before .before .before .if4 .left), le-leb _ _ (c .before .before .before .before .before .before .before .before .before .if5 .left), ← c .before .before .before .before .before .before .before .upper .ensures .0, ← c .before .before .before .before .before .displacement .ensures .0)
-    (c .shift .ensures m s ∙ rw (c .before .before .address2 .ensures)
-    (shift-long (getD s (a .at) 0) m (getD s (a .at + 1) 0) (c .before .before .before .before .before .before .before .upper .result) (c .before .before .before .before .before .displacement .result) (cpu (a .regs .now) (a .code) (a .at)) s (c .before .before .before .before .if6 .left)))
+    c .shift .ensures m (a .s .now)
+    ∙ rw (c .before .before .named2 .ensures)
+    (step-shift m (cpu (a .regs .now) (a .code) (a .at)) (a .s .now) (e .before .if1 .left) (e .if2 .left) (d .before .if4 .left) (d .if5 .left) (c .before .before .before .before .if6 .left))
 
 pub step-spec : {M : Type 1} → statement M
 step-spec =
@@ -152,15 +153,13 @@ step-spec =
     returns-5
     add-third
     slice-read-third
-    upper-requires
-    add-displacement
-    slice-read-displacement
-    displacement-requires
+    add-fourth
+    slice-read-fourth
     lower-requires-2
-    address-requires
+    named-requires
     storage-requires
     same-length
     returns-6
-    address-requires-2
+    named-requires-2
     shift-requires
     returns-7)
