@@ -84,7 +84,10 @@ element-write-map-3 c = search needs
 after-data-requires : tie.Need-after-data-requires Inv-loop μ-loop
 after-data-requires c κs = (
   search needs,
-  data-short (c .before .before .before .before .loop .k) (drop (c .before .before .before .before .loop .at) (c .before .before .before .before .before .before .before .args .t .now)) (walk-here (c .before .before .before .before .before .before .before .args .t .now) (c .before .before .before .before .before .before .before .args .count) (c .before .before .before .before .loop .k) (c .before .before .before .before .loop .at) (c .before .before .before .loop-test .taken) (c .before .before .before .before .loop .inv .4)),
+  data-short (c .before .before .before .before .loop .k) (drop (c .before .before .before .before .loop .at)
+      (c .before .before .before .before .before .before .before .args .t .now)) (walk-here (c .before .before .before .before .before .before .before .args .t .now)
+      (c .before .before .before .before .before .before .before .args .count) (c .before .before .before .before .loop .k) (c .before .before .before .before .loop .at)
+      (c .before .before .before .loop-test .taken) (c .before .before .before .before .loop .inv .4)),
 )
 
 add-k : tie.Need-add-k Inv-loop μ-loop
@@ -99,13 +102,18 @@ loop-again c = (
   search needs,
   search needs,
   search needs,
-  rw (c .after-data .ensures .0) (walk-on (c .before .before .before .before .before .before .before .before .args .t .now) (c .before .before .before .before .before .before .before .before .args .count) (c .before .before .before .before .before .loop .k) (c .before .before .before .before .before .loop .at) (c .before .before .before .before .loop-test .taken) (c .before .before .before .before .before .loop .inv .4)),
+  rw (c .after-data .ensures .0) (walk-on (c .before .before .before .before .before .before .before .before .args .t .now)
+      (c .before .before .before .before .before .before .before .before .args .count) (c .before .before .before .before .before .loop .k)
+      (c .before .before .before .before .before .loop .at) (c .before .before .before .before .loop-test .taken) (c .before .before .before .before .before .loop .inv .4)),
   rw (c .after-data .ensures .0, c .before .before .before .two-at .ensures .0, c .before .before .two-at2 .ensures .0, c .before .two-at3 .ensures .0)
-      (chart-on (c .before .before .before .before .before .before .before .before .args .t .now) (c .before .before .before .before .before .before .before .before .args .count) (c .before .before .before .before .before .loop .k) (c .before .before .before .before .before .loop .at) (c .before .before .before .before .loop-test .taken) (c .before .before .before .before .before .loop .map) (c .before .before .before .before .before .loop .inv .5)),
+      (chart-on (c .before .before .before .before .before .before .before .before .args .t .now) (c .before .before .before .before .before .before .before .before .args .count)
+      (c .before .before .before .before .before .loop .k) (c .before .before .before .before .before .loop .at) (c .before .before .before .before .loop-test .taken)
+      (c .before .before .before .before .before .loop .map) (c .before .before .before .before .before .loop .inv .5)),
 )
 
 returns : tie.Need-returns Inv-loop μ-loop
-returns c = chart-end (c .before .before .before .before .args .count) (c .before .loop .k) (c .loop-test .left) (drop (c .before .loop .at) (c .before .before .before .before .args .t .now)) (c .before .loop .map) (c .before .loop .inv .5)
+returns c = chart-end (c .before .before .before .before .args .count) (c .before .loop .k) (c .loop-test .left) (drop (c .before .loop .at)
+    (c .before .before .before .before .args .t .now)) (c .before .loop .map) (c .before .loop .inv .5)
 
 pub chart-spec : {M : Type 1} → statement M
 chart-spec =
