@@ -4,7 +4,7 @@ use mathlib.Core.List.{List, [], _∷_}
 use Prim.Native.Nat.{ℕ, zero, suc, _+_, _*_, _/_, _%_, _≤_, _<_}
 use native.Mathlib.Omega.{arith}
 use lib.ListN.{length, getD}
-use Rattle.machine.specs.Space.{Space, origin}
+use Rattle.machine.specs.Space.{Space, origin, displacements}
 use Rattle.machine.specs.Instructions.{shortKind, longKind}
 use Rattle.machine.specs.Step.{Cpu, Stepped, stepped, address, shortBy, longBy, step}
 use Rattle.machine.specs.Operands.{operandAddress}
@@ -21,10 +21,6 @@ first-field r x h = omega arith
 
 pub second-field : (r x : ℕ) → x < 16 → (r * 16 + x) % 16 ≡ x
 second-field r x h = omega arith
-
--- a displacement has 12 bits
-abbrev pub displacements : ℕ
-displacements = 4096
 
 -- base and displacement
 base-field : (b d : ℕ) → d < displacements → (b * 16 + d / 256) / 16 ≡ b

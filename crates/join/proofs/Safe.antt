@@ -11,6 +11,7 @@ use Rattle.static_rules.specs.Registers.{Registers}
 use Rattle.static_rules.specs.Meaning.{Based, Cell, elementSize}
 use Rattle.static_rules.specs.Meanings.{dataBase}
 use Rattle.machine.specs.declared.Shift.{Shift}
+use Rattle.machine.specs.Space.{displacements}
 use Rattle.machine.specs.Instructions.{Short, applies, multiplies, branches, ends, unlisted, Long, appliesTo, multipliesBy, stores, branchesTo, links, shifts, unlistedLong, shortKind, longKind}
 pub use Rattle.machine.proofs.Effects.{PlainShort, Reads, Serves}
 use Rattle.translation.specs.Instructions.{Datum, element, literal, entry, Instruction, rr, rx, shift, branch, link, stop, opcode, addRow}
@@ -21,7 +22,6 @@ use Rattle.translation.specs.Bytes.{programBase}
 use Rattle.translation.proofs.Rooms.{CellAt}
 use Rattle.join.specs.Writes.{writes}
 use Rattle.join.specs.Points.{Within, Writes, Point, withBase, inBody, procedureOf}
-use Rattle.join.proofs.Decode.{displacements}
 
 -- ── registers ──
 

@@ -22,7 +22,7 @@ use Rattle.static_rules.specs.Meanings.{dataBase}
 use Rattle.static_rules.proofs.Elements.{size-positive}
 use Rattle.machine.specs.declared.Shift.{Shift}
 use Rattle.machine.specs.declared.Fun.the-variants.{Load}
-use Rattle.machine.specs.Space.{Space, room, origin, needed, readable, writable}
+use Rattle.machine.specs.Space.{Space, room, origin, needed, displacements, readable, writable}
 use Rattle.machine.specs.Instructions.{Short, Long, appliesTo, multipliesBy, stores, branchesTo, links, shifts, unlistedLong, branches, ends, shortKind, longKind}
 use Rattle.machine.specs.Operands.{operandAddress, operandBytes}
 use Rattle.machine.specs.Writes.{writesShort, writesLong}
@@ -45,7 +45,7 @@ use Rattle.join.proofs.Flows.{Under, Good, Enters, Calls, Onward, Opens
 use Rattle.join.proofs.Chain.{Holds, afterCall, Chain, outermost, called}
 use Rattle.join.proofs.ChainMoves.{chain-holds, chain-kept, chain-at, chain-under, chain-call, Back, chain-return}
 use Rattle.join.proofs.Loading.{Mapped}
-use Rattle.join.proofs.Decode.{StandAt, displacements, first-field, second-field, decode-address, decode-opcode, decode-two, decode-four}
+use Rattle.join.proofs.Decode.{StandAt, first-field, second-field, decode-address, decode-opcode, decode-two, decode-four}
 
 -- ── a program in storage ──
 

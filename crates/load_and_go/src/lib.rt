@@ -11,7 +11,7 @@ ghost use Rattle.load_and_go.specs.Going.{Told, outcome, refusal, ran, g
 // "code over 3", "storage under 20,480 bytes".
 const LAST_CODE: u64 = 3;
 
-const NEEDED: usize = 20480;
+const NEEDED: usize = machine::ROOM * machine::PAGES;
 
 pub struct Answer {
     pub number: usize,

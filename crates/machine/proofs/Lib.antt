@@ -5,3 +5,4 @@ pub mod Stops
 pub mod Resumes
 pub mod Outside
 pub mod Effects
+pub mod Rows

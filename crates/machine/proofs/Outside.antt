@@ -10,17 +10,18 @@ use lib.Dec.{T, eqb, ltb, leb, leb→le}
 use lib.ListN.{length, getD}
 use borrow.Author.Tests.{le-leb, leb-true, eqb-true}
 use Rattle.base.specs.Choose.{choose}
-use Rattle.base.specs.Lists.{All}
 use Rattle.base.specs.Numbers.{stored, bytesOf}
 use Rattle.base.proofs.Tests.{by-test, never-true, and-left, and-right}
+use Rattle.base.proofs.Lists.{all-both}
 use Rattle.base.proofs.Parts.{sets-before, sets-after}
 use Rattle.base.proofs.Numbers.{length-stored, length-bytesOf}
 use Rattle.machine.specs.declared.Fun.{Fun}
 use Rattle.machine.specs.declared.Shift.{Shift}
-use Rattle.machine.specs.Space.{Space, origin, writable}
-use Rattle.machine.specs.Instructions.{Long, appliesTo, multipliesBy, stores, branchesTo, links, shifts, unlistedLong, rowOf, halfwordRows, wordRows, shiftRows, longKind}
+use Rattle.machine.specs.Space.{Space, room, origin, writable}
+use Rattle.machine.specs.Instructions.{Long, appliesTo, multipliesBy, stores, branchesTo, links, shifts, unlistedLong, halfwordRows, wordRows, storageRows, shiftRows, longKind}
 use Rattle.machine.specs.Step.{Cpu, Turn, Stepped, stepped, went, halted, moved, address, longBy, step}
 use Rattle.machine.specs.Run.{onward, after, run}
+use Rattle.machine.proofs.Rows.{row-is}
 
 -- a byte outside the n bytes that are stored stays
 pub byte-elsewhere : (s : List ℕ) (at n v a : ℕ) → (a < at) ⊎ (at + n ≤ a) → getD (stored s at n v) a 0 ≡ getD s a 0
@@ -38,29 +39,25 @@ data Sized : Long → Type 0 where
   shift : {f : Shift} → Sized (shifts f)
   none : Sized unlistedLong
 
-sized : (t : Bool) {a b : Long} → Sized a → Sized b → Sized (choose t a b)
-sized true p q = p
-sized false p q = q
-
 -- a byte of an aligned operand that is writable is writable
 module _ (m : Space) (w n a : ℕ) (z : (n ≡ 2) ⊎ (n ≡ 4)) (e : w % n ≡ 0) (h : w ≤ a) (l : a < w + n) where
-  page : (a / 4096 ≡ w / 4096) × (a % 4096 + w ≡ w % 4096 + a) × (w % 4096 ≤ a % 4096) × (a % 4096 + 1 ≤ w % 4096 + n)
+  page : (a / room ≡ w / room) × (a % room + w ≡ w % room + a) × (w % room ≤ a % room) × (a % room + 1 ≤ w % room + n)
   page = go z e l
     where
-      go : (n ≡ 2) ⊎ (n ≡ 4) → w % n ≡ 0 → a < w + n → (a / 4096 ≡ w / 4096) × (a % 4096 + w ≡ w % 4096 + a) × (w % 4096 ≤ a % 4096) × (a % 4096 + 1 ≤ w % 4096 + n)
+      go : (n ≡ 2) ⊎ (n ≡ 4) → w % n ≡ 0 → a < w + n → (a / room ≡ w / room) × (a % room + w ≡ w % room + a) × (w % room ≤ a % room) × (a % room + 1 ≤ w % room + n)
       go (inl q) r k = let r′ : w % 2 ≡ 0 = rw q at r in let k′ : a < w + 2 = rw q at k in rw q (omega arith)
       go (inr q) r k = let r′ : w % 4 ≡ 0 = rw q at r in let k′ : a < w + 4 = rw q at k in rw q (omega arith)
 
   byte-writable : writable m w n ≡ true → writable m a 1 ≡ true
   byte-writable o =
-      let p = m .from (w / 4096) in
-      let t = m .to (w / 4096) in
-      let x : p ≤ w % 4096 = leb→le p (w % 4096) (and-left (leb p (w % 4096)) (leb (w % 4096 + n) t) (subst T (sym o) tt)) in
-      let y : w % 4096 + n ≤ t = leb→le (w % 4096 + n) t (and-right (leb p (w % 4096)) (leb (w % 4096 + n) t) (subst T (sym o) tt)) in
+      let p = m .from (w / room) in
+      let t = m .to (w / room) in
+      let x : p ≤ w % room = leb→le p (w % room) (and-left (leb p (w % room)) (leb (w % room + n) t) (subst T (sym o) tt)) in
+      let y : w % room + n ≤ t = leb→le (w % room + n) t (and-right (leb p (w % room)) (leb (w % room + n) t) (subst T (sym o) tt)) in
       let g = page in
-      let f : m .from (a / 4096) ≤ a % 4096 = rw (g .0) (omega arith) in
-      let u : a % 4096 + 1 ≤ m .to (a / 4096) = rw (g .0) (omega arith) in
-      ap₂ _&&_ (le-leb (m .from (a / 4096)) (a % 4096) f) (le-leb (a % 4096 + 1) (m .to (a / 4096)) u)
+      let f : m .from (a / room) ≤ a % room = rw (g .0) (omega arith) in
+      let u : a % room + 1 ≤ m .to (a / room) = rw (g .0) (omega arith) in
+      ap₂ _&&_ (le-leb (m .from (a / room)) (a % room) f) (le-leb (a % room + 1) (m .to (a / room)) u)
 
 pub record Keeps (m : Space) (s t : List ℕ) : Type 0 where
   pub long : length t ≡ length s
@@ -107,16 +104,13 @@ long-keeps link m rx b d c s = untouched
 long-keeps shift m rx b d c s = untouched
 long-keeps none m rx b d c s = untouched
 
--- of every row of a table, and of what is said further on
-rows-sized : (rows : List (ℕ × Long)) → All (λ x. Sized (x .1)) rows → (op : ℕ) {other : Long} → Sized other → Sized (rowOf rows op other)
-rows-sized [] a op z = z
-rows-sized (x ∷ xs) a op z = sized (eqb op (x .0)) (a .0) (rows-sized xs (a .1) op z)
-
 all-sized : (op : ℕ) → Sized (longKind op)
 all-sized op =
-    rows-sized halfwordRows (two, (link, (branch, (loads, (loads, (loads, (loads, (loads, tt)))))))) op
-    (rows-sized wordRows (four, (loads, (loads, (loads, (loads, (loads, (loads, (loads, (product, (loads, (loads, tt))))))))))) op
-    (rows-sized shiftRows (shift, (shift, (shift, (shift, tt)))) op none))
+    row-is Sized storageRows
+    (all-both (λ (x : ℕ × Long). Sized (x .1)) halfwordRows wordRows
+    (two, (link, (branch, (loads, (loads, (loads, (loads, (loads, tt))))))))
+    (four, (loads, (loads, (loads, (loads, (loads, (loads, (loads, (product, (loads, (loads, tt)))))))))))) op
+    (row-is Sized shiftRows (shift, (shift, (shift, (shift, tt)))) op none)
 
 -- a step leaves the length of storage and every byte that is not writable
 pub step-keeps : (m : Space) (c : Cpu) (s : List ℕ) → Keeps m s (step m c s .store)

@@ -1,6 +1,6 @@
 -- The opcodes of document 01, in two steps: where an instruction's operand is, and what is done with it.
 use Prim.Native.Nat.{ℕ}
-use mathlib.Core.List.{List, [], _∷_}
+use mathlib.Core.List.{List, [], _∷_, _++_}
 use lib.Dec.{eqb}
 use Rattle.base.specs.Choose.{choose}
 use Rattle.machine.specs.declared.Fun.{Fun}
@@ -93,8 +93,12 @@ shiftRows =
 abbrev pub shiftKind : ℕ → Long
 shiftKind op = rowOf shiftRows op unlistedLong
 
-abbrev pub wordKind : ℕ → Long
-wordKind op = rowOf wordRows op (shiftKind op)
+-- of storage in all
+abbrev pub storageRows : List (ℕ × Long)
+storageRows = halfwordRows ++ wordRows
+
+abbrev pub storageKind : ℕ → Long
+storageKind op = rowOf storageRows op unlistedLong
 
 abbrev pub longKind : ℕ → Long
-longKind op = rowOf halfwordRows op (wordKind op)
+longKind op = rowOf storageRows op (shiftKind op)

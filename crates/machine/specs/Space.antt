@@ -21,6 +21,10 @@ pages = 5
 abbrev pub needed : ℕ
 needed = room * pages
 
+-- "base·16 + displacement/256, displacement mod 256": a displacement has 12 bits
+abbrev pub displacements : ℕ
+displacements = 16 * 256
+
 -- The program's length and, by pages, the length and the writable part of the data segment there; nothing where there is none.
 pub record Space : Type 0 where
   pub program : ℕ
@@ -36,9 +40,18 @@ readable m a n = leb (a % room + n) (m .end (a / room))
 abbrev pub writable : Space → ℕ → ℕ → Bool
 writable m a n = leb (m .from (a / room)) (a % room) && leb (a % room + n) (m .to (a / room))
 
--- the same from tables with an entry for each page
-abbrev pub entry : List ℕ → ℕ → ℕ
-entry l k = choose (ltb k pages) (getD l k 0) 0
+-- The same from one table of three columns, each with an entry for each page: the columns of ends, froms and tos.
+abbrev pub endColumn : ℕ
+endColumn = 0
 
-abbrev pub spaceBy : ℕ → List ℕ → List ℕ → List ℕ → Space
-spaceBy program ends froms tos = record { program = program; end = entry ends; from = entry froms; to = entry tos }
+abbrev pub fromColumn : ℕ
+fromColumn = pages
+
+abbrev pub toColumn : ℕ
+toColumn = 2 * pages
+
+abbrev pub entry : List ℕ → ℕ → ℕ → ℕ
+entry map column k = choose (ltb k pages) (getD map (column + k) 0) 0
+
+abbrev pub spaceBy : ℕ → List ℕ → Space
+spaceBy program map = record { program = program; end = entry map endColumn; from = entry map fromColumn; to = entry map toColumn }

@@ -138,7 +138,7 @@ storeStep m c n r a s =
     (λ k. stepped (halted k c) s)
 
 abbrev pub multiplyTurn : Cpu → ℕ → ℕ → Turn
-multiplyTurn c r x = pairedFrom r (went (paired c r (getD (c .regs) x 0) (c .counter + 2))) (halted noInstruction c)
+multiplyTurn c r b = pairedFrom r (went (paired c r b (c .counter + 2))) (halted noInstruction c)
 
 abbrev pub multiplyByTurn : Space → Cpu → ℕ → ℕ → List ℕ → Turn
 multiplyByTurn m c r a s =
@@ -148,14 +148,14 @@ multiplyByTurn m c r a s =
 abbrev pub asked : ℕ → ℕ → Bool
 asked m k = eqb (choose (eqb k 0) (m / 8) (choose (eqb k 1) (m / 4) (choose (eqb k 2) (m / 2) m)) % 2) 1
 
-abbrev pub branchTurn : Cpu → ℕ → ℕ → ℕ → ℕ → Turn
-branchTurn c m x b d = choose (asked m (c .code)) (went (moved c (address (c .regs) x b d))) (went (moved c (c .counter + 4)))
+abbrev pub branchTurn : Cpu → ℕ → ℕ → Turn
+branchTurn c m a = choose (asked m (c .code)) (went (moved c a)) (went (moved c (c .counter + 4)))
 
--- with register 0 no branch is taken
-abbrev pub branchRegisterTurn : Cpu → ℕ → ℕ → Turn
-branchRegisterTurn c m x =
+-- by register x, which holds b; with register 0 no branch is taken
+abbrev pub branchRegisterTurn : Cpu → ℕ → ℕ → ℕ → Turn
+branchRegisterTurn c m x b =
     choose (eqb x 0) (went (moved c (c .counter + 2)))
-    (choose (asked m (c .code)) (went (moved c (getD (c .regs) x 0 % 2 ^ 24))) (went (moved c (c .counter + 2))))
+    (choose (asked m (c .code)) (went (moved c (b % 2 ^ 24))) (went (moved c (c .counter + 2))))
 
 -- "45 leaves length code, condition code, mask and address in the link": 2, the code, 0 and the next instruction's
 abbrev pub link : ℕ → ℕ → ℕ
@@ -165,8 +165,8 @@ abbrev pub linkTurn : Cpu → ℕ → ℕ → Turn
 linkTurn c r a = went (cpu (set (c .regs) r (link (c .code) (c .counter + 4))) (c .code) a)
 
 -- the low six bits of the address say how far
-abbrev pub shiftTurn : Cpu → Shift → ℕ → ℕ → ℕ → Turn
-shiftTurn c f r b d = went (wrote c r (shiftedBy f (getD (c .regs) r 0) (address (c .regs) 0 b d % 64) (c .code)) (c .counter + 4))
+abbrev pub shiftTurn : Cpu → Shift → ℕ → ℕ → Turn
+shiftTurn c f r a = went (wrote c r (shiftedBy f (getD (c .regs) r 0) (a % 64) (c .code)) (c .counter + 4))
 
 -- ── one instruction ──
 
@@ -174,21 +174,39 @@ shiftTurn c f r b d = went (wrote c r (shiftedBy f (getD (c .regs) r 0) (address
 abbrev pub endStop : ℕ → ℕ
 endStop rx = choose (eqb rx 0) atEnd noInstruction
 
+-- by kind, with the register fields and what the second register holds
+abbrev pub shortOn : Short → ℕ → ℕ → Cpu → Turn
+shortOn (applies f) rx b c = went (executed c f (rx / 16) b (c .counter + 2))
+shortOn multiplies rx b c = multiplyTurn c (rx / 16) b
+shortOn branches rx b c = branchRegisterTurn c (rx / 16) (rx % 16) b
+shortOn ends rx b c = halted (endStop rx) c
+shortOn unlisted rx b c = halted noInstruction c
+
 abbrev pub shortBy : Short → ℕ → Cpu → Turn
-shortBy (applies f) rx c = went (executed c f (rx / 16) (getD (c .regs) (rx % 16) 0) (c .counter + 2))
-shortBy multiplies rx c = multiplyTurn c (rx / 16) (rx % 16)
-shortBy branches rx c = branchRegisterTurn c (rx / 16) (rx % 16)
-shortBy ends rx c = halted (endStop rx) c
-shortBy unlisted rx c = halted noInstruction c
+shortBy k rx c = shortOn k rx (getD (c .regs) (rx % 16) 0) c
+
+-- by kind, with the register fields and the address that the other fields name
+abbrev pub longOn : Long → Space → ℕ → ℕ → Cpu → List ℕ → Stepped
+longOn (appliesTo n f) m rx a c s = stepped (loadTurn m c f n (rx / 16) a s) s
+longOn multipliesBy m rx a c s = stepped (multiplyByTurn m c (rx / 16) a s) s
+longOn (stores n) m rx a c s = storeStep m c n (rx / 16) a s
+longOn branchesTo m rx a c s = stepped (branchTurn c (rx / 16) a) s
+longOn links m rx a c s = stepped (linkTurn c (rx / 16) a) s
+longOn (shifts f) m rx a c s = stepped (shiftTurn c f (rx / 16) a) s
+longOn unlistedLong m rx a c s = stepped (halted noInstruction c) s
+
+-- the index of a kind: a shift has none
+abbrev pub indexOf : Long → ℕ → ℕ
+indexOf (appliesTo n f) x = x
+indexOf multipliesBy x = x
+indexOf (stores n) x = x
+indexOf branchesTo x = x
+indexOf links x = x
+indexOf (shifts f) x = 0
+indexOf unlistedLong x = x
 
 abbrev pub longBy : Long → Space → ℕ → ℕ → ℕ → Cpu → List ℕ → Stepped
-longBy (appliesTo n f) m rx b d c s = stepped (loadTurn m c f n (rx / 16) (address (c .regs) (rx % 16) b d) s) s
-longBy multipliesBy m rx b d c s = stepped (multiplyByTurn m c (rx / 16) (address (c .regs) (rx % 16) b d) s) s
-longBy (stores n) m rx b d c s = storeStep m c n (rx / 16) (address (c .regs) (rx % 16) b d) s
-longBy branchesTo m rx b d c s = stepped (branchTurn c (rx / 16) (rx % 16) b d) s
-longBy links m rx b d c s = stepped (linkTurn c (rx / 16) (address (c .regs) (rx % 16) b d)) s
-longBy (shifts f) m rx b d c s = stepped (shiftTurn c f (rx / 16) b d) s
-longBy unlistedLong m rx b d c s = stepped (halted noInstruction c) s
+longBy k m rx b d c s = longOn k m rx (address (c .regs) (indexOf k (rx % 16)) b d) c s
 
 -- a step where a test passes, and else none for want of an instruction
 abbrev pub where4 : Bool → Cpu → List ℕ → Stepped → Stepped

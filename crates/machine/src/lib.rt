@@ -1,19 +1,29 @@
-// The machine of document 01, "Runner": what its instructions do. Registers, storage and the limits of the segments are lent, so that no turn moves more
-// than 16 bytes.
+// The machine of document 01, "Runner": what its instructions do. Registers, storage and the map of the segments are lent, so that no turn moves more
+// than what an instruction is given and what comes next.
 ghost use mathlib.Core.Path.{_≡_};
 ghost use mathlib.Core.Bool.{true, _&&_};
+ghost use mathlib.Core.List.{List};
 ghost use Prim.Native.Nat.{ℕ, _+_, _*_, _/_, _%_, _^_, _<_, _≤_};
 ghost use lib.Dec.{leb};
 ghost use lib.ListN.{length, getD};
-ghost use Rattle.machine.specs.Space.{room, needed, entry, spaceBy};
-ghost use Rattle.machine.specs.Step.{cpu, completed, went, stepped, applied, shiftedBy, part as partOf, address as addressOf, extended, executed, paired, asked, loadTurn, storeStep, multiplyTurn, multiplyByTurn, branchTurn, branchRegisterTurn, linkTurn, shiftTurn, endStop};
-ghost use Rattle.machine.specs.Lent.{turn, ended};
+ghost use Rattle.machine.specs.Space.{room, needed, displacements, spaceBy, readable, writable};
+ghost use Rattle.machine.specs.Step.{completed, went, stepped, applied, shiftedBy, part as partOf, address as addressOf, extended, executed, paired, asked, loadTurn, storeStep, multiplyTurn, multiplyByTurn, branchTurn, branchRegisterTurn, linkTurn, shiftTurn, endStop};
+ghost use Rattle.machine.specs.Lent.{given, turn, ended};
 use alu::Made;
 
 // "Segment k goes to 4096·(k+1)": the room of a segment, and the pages of that size that are needed.
 pub const ROOM: usize = 4096;
 
 pub const PAGES: usize = 5;
+
+// The map of what may be touched, three columns with an entry for each page: where its data segment ends, where its writable part begins and ends.
+pub const ENDS: usize = 0;
+
+pub const FROMS: usize = PAGES;
+
+pub const TOS: usize = 2 * PAGES;
+
+pub const MAP: usize = 3 * PAGES;
 
 // "Addresses keep 24 bits".
 const ADDRESSES: usize = 16777216;
@@ -45,11 +55,32 @@ pub enum Shift {
     Left,
 }
 
+// Before an instruction: its register fields, its second operand (what a register holds, or an address), the condition code and the counter.
+pub struct Given {
+    pub rx: u8,
+    pub b: u32,
+    pub code: u64,
+    pub at: u32,
+}
+
 // After an instruction: the stop, 5 where there is none, the condition code and the counter. 16 bytes on purpose.
 pub struct Next {
     pub code: u64,
     pub at: u32,
     pub stop: u32,
+}
+
+// The two halves of a byte.
+pub fn upper(x: u8) -> usize
+    ensures { λ r. ⌜ (r ≡ x / 16) × (r < 16) ⌝ }
+{
+    (x / 16) as usize
+}
+
+pub fn lower(x: u8) -> usize
+    ensures { λ r. ⌜ (r ≡ x % 16) × (r < 16) ⌝ }
+{
+    (x % 16) as usize
 }
 
 pub fn get(regs: &[u32; 16], i: usize) -> u32
@@ -67,11 +98,11 @@ fn part(regs: &[u32; 16], i: usize) -> usize
     if i == 0 { 0 } else { get(regs, i) as usize }
 }
 
-pub fn address(regs: &[u32; 16], x: usize, b: usize, d: usize) -> usize
-    requires { ⌜ (x < 16) × (b < 16) × (d < 4096) ⌝ }
-    ensures { λ r. ⌜ (r ≡ addressOf (now (regs .entry)) x b d) × (r < 16777216) ⌝ }
+pub fn address(regs: &[u32; 16], x: usize, b: usize, d: usize) -> u32
+    requires { ⌜ (x < 16) × (b < 16) × (d < displacements) ⌝ }
+    ensures { λ r. ⌜ r ≡ addressOf (now (regs .entry)) x b d ⌝ }
 {
-    (part(regs, b) + part(regs, x) + d) % ADDRESSES
+    ((part(regs, b) + part(regs, x) + d) % ADDRESSES) as u32
 }
 
 pub fn halt(stop: u32, code: u64, at: u32) -> Next
@@ -123,36 +154,37 @@ fn apply(f: Fun, a: u32, b: u32, code: u64) -> Made
     }
 }
 
-pub fn execute(f: Fun, regs: &mut [u32; 16], r: usize, b: u32, code: u64, next: u32) -> Next
-    requires { ⌜ r < 16 ⌝ }
-    ensures { λ q. ⌜ turn q (now (regs .exit)) ≡ went (executed (cpu (now (regs .entry)) code next) f r b next) ⌝ }
+// By an instruction of so many bytes.
+pub fn execute(f: Fun, size: u32, g: Given, regs: &mut [u32; 16]) -> Next
+    requires { ⌜ (g .at < 2 * room) × (size ≤ 4) ⌝ }
+    ensures { λ q. ⌜ turn q (now (regs .exit)) ≡ went (executed (given g (now (regs .entry))) f (g .rx / 16) (g .b) (g .at + size)) ⌝ }
 {
-    let a = get(regs, r);
-    let v = apply(f, a, b, code);
+    let r = upper(g.rx);
+    let v = apply(f, get(regs, r), g.b, g.code);
     regs[r] = v.value;
-    go(v.code, next)
+    go(v.code, g.at + size)
 }
 
-fn is_readable(end: &[usize; PAGES], at: usize, n: usize) -> bool
+fn is_readable(map: &[usize; MAP], at: usize, n: usize) -> bool
     requires { ⌜ (0 < n) × (n ≤ room) ⌝ }
-    ensures { λ r. ⌜ (r ≡ leb (at % room + n) (entry (now (end .entry)) (at / room))) × (r ≡ true → at < needed) ⌝ }
+    ensures { λ r. ⌜ (r ≡ readable (spaceBy 0 (now (map .entry))) at n) × (r ≡ true → at < needed) ⌝ }
 {
     let k = at / ROOM;
     if k < PAGES {
-        at % ROOM + n <= end[k]
+        at % ROOM + n <= map[ENDS + k]
     } else {
         false
     }
 }
 
-fn is_writable(from: &[usize; PAGES], to: &[usize; PAGES], at: usize, n: usize) -> bool
+fn is_writable(map: &[usize; MAP], at: usize, n: usize) -> bool
     requires { ⌜ (0 < n) × (n ≤ room) ⌝ }
-    ensures { λ r. ⌜ (r ≡ leb (entry (now (from .entry)) (at / room)) (at % room) && leb (at % room + n) (entry (now (to .entry)) (at / room))) × (r ≡ true → at < needed) ⌝ }
+    ensures { λ r. ⌜ (r ≡ writable (spaceBy 0 (now (map .entry))) at n) × (r ≡ true → at < needed) ⌝ }
 {
     let k = at / ROOM;
     let o = at % ROOM;
     if k < PAGES {
-        (from[k] <= o) & (o + n <= to[k])
+        (map[FROMS + k] <= o) & (o + n <= map[TOS + k])
     } else {
         false
     }
@@ -170,100 +202,95 @@ fn extend(n: usize, v: u32) -> u32
     }
 }
 
+// The same instruction with the operand that was read.
+fn on(g: Given, b: u32) -> Given
+    ensures { λ r. ⌜ r ≡ record { rx = g .rx; b = b; code = g .code; at = g .at } ⌝ }
+{
+    Given {
+        rx: g.rx,
+        b: b,
+        code: g.code,
+        at: g.at,
+    }
+}
+
 pub fn load_step(
     f: Fun,
     n: usize,
+    g: Given,
+    map: &[usize; MAP],
     regs: &mut [u32; 16],
-    r: usize,
-    w: usize,
-    end: &[usize; PAGES],
     s: &[u8],
-    code: u64,
-    at: u32,
 ) -> Next
-    requires { ⌜ (r < 16) × (at < 2 * room) × (needed ≤ length (now s)) × (0 < n) × (n ≤ 4) × (needed % n ≡ 0) ⌝ }
-    ensures { λ q. ⌜ turn q (now (regs .exit)) ≡ loadTurn (spaceBy 0 (now (end .entry)) (now (end .entry)) (now (end .entry))) (cpu (now (regs .entry)) code at) f n r w (now (s .entry)) ⌝ }
+    requires { ⌜ (g .at < 2 * room) × (needed ≤ length (now s)) × (0 < n) × (n ≤ 4) × (needed % n ≡ 0) ⌝ }
+    ensures { λ q. ⌜ turn q (now (regs .exit)) ≡ loadTurn (spaceBy 0 (now (map .entry))) (given g (now (regs .entry))) f n (g .rx / 16) (g .b) (now (s .entry)) ⌝ }
 {
+    let w = g.b as usize;
     if w % n != 0 {
-        return halt(3, code, at);
+        return halt(3, g.code, g.at);
     }
-    if is_readable(end, w, n) {
-        return execute(f, regs, r, extend(n, base::load(s, w, n)), code, at + 4);
+    if is_readable(map, w, n) {
+        return execute(f, 4, on(g, extend(n, base::load(s, w, n))), regs);
     }
-    halt(2, code, at)
+    halt(2, g.code, g.at)
 }
 
-pub fn store_step(
-    n: usize,
-    regs: &[u32; 16],
-    r: usize,
-    w: usize,
-    from: &[usize; PAGES],
-    to: &[usize; PAGES],
-    s: &mut [u8],
-    code: u64,
-    at: u32,
-) -> Next
-    requires { ⌜ (r < 16) × (at < 2 * room) × (needed ≤ length (now s)) × (0 < n) × (n ≤ 4) × (needed % n ≡ 0) ⌝ }
-    ensures { λ q. ⌜ stepped (turn q (now (regs .entry))) (now (s .exit)) ≡ storeStep (spaceBy 0 (now (from .entry)) (now (from .entry)) (now (to .entry))) (cpu (now (regs .entry)) code at) n r w (now (s .entry)) ⌝ }
+pub fn store_step(n: usize, g: Given, map: &[usize; MAP], regs: &[u32; 16], s: &mut [u8]) -> Next
+    requires { ⌜ (g .at < 2 * room) × (needed ≤ length (now s)) × (0 < n) × (n ≤ 4) × (needed % n ≡ 0) ⌝ }
+    ensures { λ q. ⌜ stepped (turn q (now (regs .entry))) (now (s .exit)) ≡ storeStep (spaceBy 0 (now (map .entry))) (given g (now (regs .entry))) n (g .rx / 16) (g .b) (now (s .entry)) ⌝ }
 {
+    let w = g.b as usize;
     if w % n != 0 {
-        return halt(3, code, at);
+        return halt(3, g.code, g.at);
     }
-    if is_writable(from, to, w, n) {
-        base::store(s, w, n, get(regs, r));
-        return go(code, at + 4);
+    if is_writable(map, w, n) {
+        base::store(s, w, n, get(regs, upper(g.rx)));
+        return go(g.code, g.at + 4);
     }
-    halt(2, code, at)
+    halt(2, g.code, g.at)
 }
 
 // The product of register r + 1 in registers r and r + 1.
-fn pair(regs: &mut [u32; 16], r: usize, b: u32, code: u64, next: u32) -> Next
-    requires { ⌜ r + 1 < 16 ⌝ }
-    ensures { λ q. ⌜ turn q (now (regs .exit)) ≡ went (paired (cpu (now (regs .entry)) code next) r b next) ⌝ }
+fn pair(size: u32, g: Given, regs: &mut [u32; 16]) -> Next
+    requires { ⌜ (g .rx / 16 % 2 ≡ 0) × (g .at < 2 * room) × (size ≤ 4) ⌝ }
+    ensures { λ q. ⌜ turn q (now (regs .exit)) ≡ went (paired (given g (now (regs .entry))) (g .rx / 16) (g .b) (g .at + size)) ⌝ }
 {
-    let p = alu::product(get(regs, r + 1), b);
+    let r = (g.rx / 16) as usize;
+    let p = alu::product(get(regs, r + 1), g.b);
     regs[r] = (p / 4294967296) as u32;
     regs[r + 1] = (p % 4294967296) as u32;
-    go(code, next)
+    go(g.code, g.at + size)
 }
 
-pub fn multiply_step(regs: &mut [u32; 16], r: usize, x: usize, code: u64, at: u32) -> Next
-    requires { ⌜ (r < 16) × (x < 16) × (at < 2 * room) ⌝ }
-    ensures { λ q. ⌜ turn q (now (regs .exit)) ≡ multiplyTurn (cpu (now (regs .entry)) code at) r x ⌝ }
+pub fn multiply_step(g: Given, regs: &mut [u32; 16]) -> Next
+    requires { ⌜ g .at < 2 * room ⌝ }
+    ensures { λ q. ⌜ turn q (now (regs .exit)) ≡ multiplyTurn (given g (now (regs .entry))) (g .rx / 16) (g .b) ⌝ }
 {
-    if r % 2 != 0 {
-        return halt(4, code, at);
+    if g.rx / 16 % 2 != 0 {
+        return halt(4, g.code, g.at);
     }
-    pair(regs, r, get(regs, x), code, at + 2)
+    pair(2, g, regs)
 }
 
-pub fn multiply_word_step(
-    regs: &mut [u32; 16],
-    r: usize,
-    w: usize,
-    end: &[usize; PAGES],
-    s: &[u8],
-    code: u64,
-    at: u32,
-) -> Next
-    requires { ⌜ (r < 16) × (at < 2 * room) × (needed ≤ length (now s)) ⌝ }
-    ensures { λ q. ⌜ turn q (now (regs .exit)) ≡ multiplyByTurn (spaceBy 0 (now (end .entry)) (now (end .entry)) (now (end .entry))) (cpu (now (regs .entry)) code at) r w (now (s .entry)) ⌝ }
+pub fn multiply_word_step(g: Given, map: &[usize; MAP], regs: &mut [u32; 16], s: &[u8]) -> Next
+    requires { ⌜ (g .at < 2 * room) × (needed ≤ length (now s)) ⌝ }
+    ensures { λ q. ⌜ turn q (now (regs .exit)) ≡ multiplyByTurn (spaceBy 0 (now (map .entry))) (given g (now (regs .entry))) (g .rx / 16) (g .b) (now (s .entry)) ⌝ }
 {
-    if r % 2 != 0 {
-        return halt(4, code, at);
+    let w = g.b as usize;
+    if g.rx / 16 % 2 != 0 {
+        return halt(4, g.code, g.at);
     }
     if w % 4 != 0 {
-        return halt(3, code, at);
+        return halt(3, g.code, g.at);
     }
-    if is_readable(end, w, 4) {
-        return pair(regs, r, base::load(s, w, 4), code, at + 4);
+    if is_readable(map, w, 4) {
+        return pair(4, on(g, base::load(s, w, 4)), regs);
     }
-    halt(2, code, at)
+    halt(2, g.code, g.at)
 }
 
 // Whether the mask's bit for the code is set.
-fn is_asked(m: usize, code: u64) -> bool
+fn is_asked(m: u8, code: u64) -> bool
     ensures { λ r. ⌜ r ≡ asked m code ⌝ }
 {
     if code == 0 {
@@ -278,52 +305,45 @@ fn is_asked(m: usize, code: u64) -> bool
     m % 2 == 1
 }
 
-pub fn branch_register_step(regs: &[u32; 16], m: usize, x: usize, code: u64, at: u32) -> Next
-    requires { ⌜ (x < 16) × (at < 2 * room) ⌝ }
-    ensures { λ q. ⌜ turn q (now (regs .entry)) ≡ branchRegisterTurn (cpu (now (regs .entry)) code at) m x ⌝ }
+pub fn branch_register_step(g: Given) -> Next
+    requires { ⌜ g .at < 2 * room ⌝ }
+    ensures { λ q. ⌜ ((rs : List ℕ) → turn q rs ≡ branchRegisterTurn (given g rs) (g .rx / 16) (g .rx % 16) (g .b)) ⌝ }
 {
-    if x == 0 {
-        return go(code, at + 2);
+    if g.rx % 16 == 0 {
+        return go(g.code, g.at + 2);
     }
-    if is_asked(m, code) {
-        return go(code, ((get(regs, x) as usize) % ADDRESSES) as u32);
+    if is_asked(g.rx / 16, g.code) {
+        return go(g.code, ((g.b as usize) % ADDRESSES) as u32);
     }
-    go(code, at + 2)
+    go(g.code, g.at + 2)
 }
 
-pub fn branch_step(
-    regs: &[u32; 16],
-    m: usize,
-    x: usize,
-    b: usize,
-    d: usize,
-    code: u64,
-    at: u32,
-) -> Next
-    requires { ⌜ (x < 16) × (b < 16) × (d < 4096) × (at < 2 * room) ⌝ }
-    ensures { λ q. ⌜ turn q (now (regs .entry)) ≡ branchTurn (cpu (now (regs .entry)) code at) m x b d ⌝ }
+pub fn branch_step(g: Given) -> Next
+    requires { ⌜ g .at < 2 * room ⌝ }
+    ensures { λ q. ⌜ ((rs : List ℕ) → turn q rs ≡ branchTurn (given g rs) (g .rx / 16) (g .b)) ⌝ }
 {
-    if is_asked(m, code) {
-        return go(code, address(regs, x, b, d) as u32);
+    if is_asked(g.rx / 16, g.code) {
+        return go(g.code, g.b);
     }
-    go(code, at + 4)
+    go(g.code, g.at + 4)
 }
 
-pub fn link_step(regs: &mut [u32; 16], r: usize, w: usize, code: u64, at: u32) -> Next
-    requires { ⌜ (r < 16) × (at < 2 * room) × (w < 16777216) ⌝ }
-    ensures { λ q. ⌜ turn q (now (regs .exit)) ≡ linkTurn (cpu (now (regs .entry)) code at) r w ⌝ }
+pub fn link_step(g: Given, regs: &mut [u32; 16]) -> Next
+    requires { ⌜ g .at < 2 * room ⌝ }
+    ensures { λ q. ⌜ turn q (now (regs .exit)) ≡ linkTurn (given g (now (regs .entry))) (g .rx / 16) (g .b) ⌝ }
 {
-    regs[r] = 2147483648 + (code % 4) as u32 * 268435456 + (at + 4);
-    go(code, w as u32)
+    let r = upper(g.rx);
+    regs[r] = 2147483648 + (g.code % 4) as u32 * 268435456 + (g.at + 4);
+    go(g.code, g.b)
 }
 
-pub fn service_step(rx: u8, code: u64, at: u32) -> Next
-    ensures { λ q. ⌜ q ≡ ended (endStop rx) code at ⌝ }
+pub fn service_step(g: Given) -> Next
+    ensures { λ q. ⌜ q ≡ ended (endStop (g .rx)) (g .code) (g .at) ⌝ }
 {
-    if rx == 0 {
-        halt(1, code, at)
+    if g.rx == 0 {
+        halt(1, g.code, g.at)
     } else {
-        halt(4, code, at)
+        halt(4, g.code, g.at)
     }
 }
 
@@ -345,21 +365,12 @@ fn shifted(f: Shift, a: u32, n: u32, code: u64) -> Made
     }
 }
 
-pub fn shift_step(
-    f: Shift,
-    regs: &mut [u32; 16],
-    r: usize,
-    b: usize,
-    d: usize,
-    code: u64,
-    at: u32,
-) -> Next
-    requires { ⌜ (r < 16) × (b < 16) × (d < 4096) × (at < 2 * room) ⌝ }
-    ensures { λ q. ⌜ turn q (now (regs .exit)) ≡ shiftTurn (cpu (now (regs .entry)) code at) f r b d ⌝ }
+pub fn shift_step(f: Shift, g: Given, regs: &mut [u32; 16]) -> Next
+    requires { ⌜ g .at < 2 * room ⌝ }
+    ensures { λ q. ⌜ turn q (now (regs .exit)) ≡ shiftTurn (given g (now (regs .entry))) f (g .rx / 16) (g .b) ⌝ }
 {
-    let n = (address(regs, 0, b, d) % 64) as u32;
-    let a = get(regs, r);
-    let v = shifted(f, a, n, code);
+    let r = upper(g.rx);
+    let v = shifted(f, get(regs, r), g.b % 64, g.code);
     regs[r] = v.value;
-    go(v.code, at + 4)
+    go(v.code, g.at + 4)
 }

@@ -8,7 +8,7 @@ ghost use Rattle.machine.specs.Run.{run as runOf};
 ghost use Rattle.run.specs.Lent.{ran};
 use instruction::step;
 use machine::COMPLETED;
-use machine::PAGES;
+use machine::MAP;
 
 pub struct Ran {
     pub stop: u32,
@@ -20,9 +20,7 @@ pub struct Ran {
 
 pub fn run(
     program: usize,
-    end: &[usize; PAGES],
-    from: &[usize; PAGES],
-    to: &[usize; PAGES],
+    map: &[usize; MAP],
     given: [u32; 16],
     first: u64,
     start: u32,
@@ -30,14 +28,14 @@ pub fn run(
     s: &mut [u8],
 ) -> Ran
     requires { ⌜ (program ≤ room) × (needed ≤ length (now s)) ⌝ }
-    ensures { λ q. ⌜ ran q (now (s .exit)) ≡ runOf budget (spaceBy program (now (end .entry)) (now (from .entry)) (now (to .entry))) (cpu given first start) (now (s .entry)) ⌝ }
+    ensures { λ q. ⌜ ran q (now (s .exit)) ≡ runOf budget (spaceBy program (now (map .entry))) (cpu given first start) (now (s .entry)) ⌝ }
 {
     let mut regs = given;
     let mut code = first;
     let mut at = start;
     let mut count: u32 = 0;
     while count < budget {
-        let q = step(program, end, from, to, &mut regs, s, code, at);
+        let q = step(program, map, &mut regs, s, code, at);
         code = q.code;
         at = q.at;
         if q.stop != COMPLETED {

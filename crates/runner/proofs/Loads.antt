@@ -1,4 +1,4 @@
--- Loading, in the form of its loops' invariants: what is left to be placed, listed or entered in the table, from where the loop stands, makes the whole.
+-- Loading, in the form of its loops' invariants: what is left to be placed, charted or entered in the table, from where the loop stands, makes the whole.
 -- Assumes nothing.
 use Prim.Native.Nat.{ℕ, zero, suc, _+_, _-_, _*_, _<_, _≤_}
 use mathlib.Core.Path.{_≡_, refl, sym, ap, _∙_, subst}
@@ -17,9 +17,9 @@ use Rattle.objtext.specs.Object.{Segment, contentOf, framesFor}
 use Rattle.objtext.specs.Reader.{twoOf, contentAt, contentLength, headLength, isData, dataAt, afterData, programAt, afterProgram, dataList, segmentList}
 use Rattle.objtext.proofs.Places.{after-data-place}
 use Rattle.objtext.proofs.Walks.{Walked, walked-on}
-use Rattle.machine.specs.Space.{origin, needed}
+use Rattle.machine.specs.Space.{origin, needed, endColumn, fromColumn, toColumn}
 use Rattle.runner.specs.Load.{placed, tableWord, tabled, cleared}
-use Rattle.runner.specs.Tables.{listed}
+use Rattle.runner.specs.Charted.{paged, charted}
 
 -- ── along the data segments ──
 
@@ -47,11 +47,12 @@ module _ (t : List ℕ) (count k at : ℕ) (h : k < count) where
       rw (after-data-place t at, ← drop-drop 17 at t)
       (subst (λ (j : ℕ). placed j (dataList (count - j) (afterData (drop at t))) (sets s (origin k) g) ≡ x) (sym (add-one k)) (rw more at e))
 
-  pub list-on : (o : ℕ) (l : List ℕ) {x : List ℕ} → listed o (count - k) k (drop at t) l ≡ x
-      → listed o (count - (k + 1)) (k + 1) (drop (behind t at) t) (set l (k + 1) (twoOf (drop (at + o) t))) ≡ x
-  list-on o l {x} e =
-      rw (after-data-place t at, ← drop-drop o at t)
-      (subst (λ (j : ℕ). listed o (count - j) j (afterData (drop at t)) (set l (k + 1) (twoOf (drop o (drop at t)))) ≡ x) (sym (add-one k)) (rw more at e))
+  pub chart-on : (map : List ℕ) {x : List ℕ} → charted (count - k) k (drop at t) map ≡ x
+      → charted (count - (k + 1)) (k + 1) (drop (behind t at) t)
+      (set (set (set map (endColumn + (k + 1)) (twoOf (drop (at + 4) t))) (fromColumn + (k + 1)) (twoOf (drop (at + 8) t))) (toColumn + (k + 1)) (twoOf (drop (at + 12) t))) ≡ x
+  chart-on map {x} e =
+      rw (after-data-place t at, ← drop-drop 4 at t, ← drop-drop 8 at t, ← drop-drop 12 at t)
+      (subst (λ (j : ℕ). charted (count - j) j (afterData (drop at t)) (paged (k + 1) (drop at t) map) ≡ x) (sym (add-one k)) (rw more at e))
 
 module _ (count k : ℕ) (h : count ≤ k) where
   none-left : count - k ≡ 0
@@ -60,8 +61,8 @@ module _ (count k : ℕ) (h : count ≤ k) where
   pub place-end : (u s : List ℕ) {x : List ℕ} → placed k (dataList (count - k) u) s ≡ x → s ≡ x
   place-end u s e = rw none-left at e
 
-  pub list-end : (o : ℕ) (u l : List ℕ) {x : List ℕ} → listed o (count - k) k u l ≡ x → l ≡ x
-  list-end o u l e = rw none-left at e
+  pub chart-end : (u map : List ℕ) {x : List ℕ} → charted (count - k) k u map ≡ x → map ≡ x
+  chart-end u map e = rw none-left at e
 
   pub table-end : (l : ℕ) (s : List ℕ) {x : List ℕ} → tabled l (count - k) k s ≡ x → s ≡ x
   table-end l s e = rw none-left at e

@@ -7,7 +7,7 @@ ghost use Rattle.objtext.specs.Reader.{afterProgram, segmentList, readAs, readO
 ghost use Rattle.machine.specs.Space.{needed};
 ghost use Rattle.machine.specs.Run.{run};
 ghost use Rattle.runner.specs.Load.{placed, tableWord, tabled, loaded, spaceOf, started as startedOf};
-ghost use Rattle.runner.specs.Tables.{listed};
+ghost use Rattle.runner.specs.Charted.{charted};
 ghost use Rattle.runner.specs.Numbers.{stopOf};
 ghost use Rattle.runner.specs.Runner.{runner, outcome, refusal, accepted};
 
@@ -18,9 +18,9 @@ const PAGES: usize = machine::PAGES;
 
 const NEEDED: usize = ROOM * PAGES;
 
-const PROGRAM_ORIGIN: u32 = 4096;
+const PROGRAM_ORIGIN: u32 = ROOM as u32;
 
-const DATA_ORIGIN: u32 = 8192;
+const DATA_ORIGIN: u32 = 2 * PROGRAM_ORIGIN;
 
 pub enum Verdict {
     Ran,
@@ -108,15 +108,18 @@ pub fn load(t: &[u8], count: usize, s: &mut [u8])
     table(objtext::two_at(t, objtext::after_program(t) + 4), count, s);
 }
 
-// The numbers at an offset of the data heads, by page.
-fn list(t: &[u8], count: usize, o: usize, entries: &mut [usize; PAGES])
-    requires { ⌜ (0 < count) × (readAs count (now t) ≡ readObject (now t)) × (o ≤ 12) ⌝ }
-    ensures { λ _. ⌜ now (entries .exit) ≡ listed o (count - 1) 1 (afterProgram (now (t .entry))) (now (entries .entry)) ⌝ }
+// The map of what may be touched, from the data heads.
+fn chart(t: &[u8], count: usize, map: &mut [usize; machine::MAP])
+    requires { ⌜ (0 < count) × (readAs count (now t) ≡ readObject (now t)) ⌝ }
+    ensures { λ _. ⌜ now (map .exit) ≡ charted (count - 1) 1 (afterProgram (now (t .entry))) (now (map .entry)) ⌝ }
 {
     let mut at = objtext::after_program(t);
     let mut k: usize = 1;
     while k < count {
-        entries[k + 1] = objtext::two_at(t, at + o);
+        let page = k + 1;
+        map[machine::ENDS + page] = objtext::two_at(t, at + 4);
+        map[machine::FROMS + page] = objtext::two_at(t, at + 8);
+        map[machine::TOS + page] = objtext::two_at(t, at + 12);
         at = objtext::after_data(t, at);
         k += 1;
     }
@@ -160,20 +163,14 @@ pub fn started(
     requires { ⌜ (0 < count) × (readAs count (now t) ≡ readObject (now t)) × (needed ≤ length (now s)) ⌝ }
     ensures { λ r. ⌜ outcome r (now (s .exit)) ≡ accepted (run budget (spaceOf (segmentList count (now (t .entry)))) (startedOf given code) (now (s .entry))) ⌝ }
 {
-    let mut ends = [0usize; PAGES];
-    let mut froms = [0usize; PAGES];
-    let mut tos = [0usize; PAGES];
-    list(t, count, 4, &mut ends);
-    list(t, count, 8, &mut froms);
-    list(t, count, 12, &mut tos);
+    let mut map = [0usize; machine::MAP];
+    chart(t, count, &mut map);
     let mut regs = given;
     regs[14] = DATA_ORIGIN;
     regs[15] = PROGRAM_ORIGIN;
     let q = run::run(
         objtext::two_at(t, 4),
-        &ends,
-        &froms,
-        &tos,
+        &map,
         regs,
         code,
         PROGRAM_ORIGIN,

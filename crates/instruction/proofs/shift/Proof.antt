@@ -1,12 +1,10 @@
 -- Each arm of `shift` does what the table says of its opcode, and any other opcode is unlisted. Assumes nothing.
-use borrow.Author.Tests.{ne-eqb}
+use Rattle.machine.proofs.Rows.{row-rest}
 use Rattle.machine.proofs.Operands.{kept}
+use Rattle.machine.specs.Instructions.{unlistedLong, shiftRows}
 use borrow.Author.Needs.{needs}
 use Rattle.instruction.proofs.shift.Statement.{statement}
 use Rattle.instruction.proofs.shift.Tie as tie
-
-cast-r : tie.Need-cast-r
-cast-r c = search needs
 
 shift-step-requires : tie.Need-shift-step-requires
 shift-step-requires c κs = search needs
@@ -36,15 +34,12 @@ returns-4 : tie.Need-returns-4
 returns-4 c = λ m s. rw (c .before .before .match .keys4) (kept (c .shift-step4 .ensures))
 
 returns-5 : tie.Need-returns-5
-returns-5 c = λ m s.
-    let m = c .before .match .rest in
-    rw (ne-eqb _ _ (m .1), ne-eqb _ _ (m .0 .1), ne-eqb _ _ (m .0 .0 .1), ne-eqb _ _ (m .0 .0 .0 .1), c .halt .ensures)
+returns-5 c = λ m s. rw (row-rest (c .before .before .args .op) shiftRows unlistedLong (c .before .match .rest), c .halt .ensures)
 
 pub shift-spec : {M : Type 1} → statement M
 shift-spec =
     tie.close
     (tie.spec
-    cast-r
     shift-step-requires
     shift-step-requires-2
     shift-step-requires-3

@@ -1,21 +1,9 @@
 -- Each arm of `short` does what the table says of its opcode, and any other opcode is unlisted. Assumes nothing.
-use borrow.Author.Tests.{ne-eqb}
-use mathlib.Core.Path.{_∙_}
+use Rattle.machine.proofs.Rows.{row-rest}
+use Rattle.machine.specs.Instructions.{unlisted, registerRows}
 use borrow.Author.Needs.{needs}
 use Rattle.instruction.proofs.short.Statement.{statement}
 use Rattle.instruction.proofs.short.Tie as tie
-
-cast-r : tie.Need-cast-r
-cast-r c = search needs
-
-cast-x : tie.Need-cast-x
-cast-x c = search needs
-
-get-requires : tie.Need-get-requires
-get-requires c κs = search needs
-
-add-next : tie.Need-add-next
-add-next c = search needs
 
 branch-register-step-requires : tie.Need-branch-register-step-requires
 branch-register-step-requires c κs = search needs
@@ -66,79 +54,57 @@ halt-requires : tie.Need-halt-requires
 halt-requires c κs = search needs
 
 returns : tie.Need-returns
-returns c = rw (c .before .before .match .keys1) (c .branch-register-step .ensures)
+returns c = rw (c .before .match .keys1) (c .branch-register-step .ensures _)
 
 returns-2 : tie.Need-returns-2
 returns-2 c = rw (c .before .match .keys2, c .service-step .ensures)
 
 returns-3 : tie.Need-returns-3
-returns-3 c = rw (c .before .before .match .keys3) (c .execute .ensures ∙ rw (c .before .before .before .get .ensures))
+returns-3 c = rw (c .before .before .match .keys3) (c .execute .ensures)
 
 returns-4 : tie.Need-returns-4
-returns-4 c = rw (c .before .before .match .keys4) (c .execute2 .ensures ∙ rw (c .before .before .before .get .ensures))
+returns-4 c = rw (c .before .before .match .keys4) (c .execute2 .ensures)
 
 returns-5 : tie.Need-returns-5
-returns-5 c = rw (c .before .before .match .keys5) (c .execute3 .ensures ∙ rw (c .before .before .before .get .ensures))
+returns-5 c = rw (c .before .before .match .keys5) (c .execute3 .ensures)
 
 returns-6 : tie.Need-returns-6
-returns-6 c = rw (c .before .before .match .keys6) (c .execute4 .ensures ∙ rw (c .before .before .before .get .ensures))
+returns-6 c = rw (c .before .before .match .keys6) (c .execute4 .ensures)
 
 returns-7 : tie.Need-returns-7
-returns-7 c = rw (c .before .before .match .keys7) (c .execute5 .ensures ∙ rw (c .before .before .before .get .ensures))
+returns-7 c = rw (c .before .before .match .keys7) (c .execute5 .ensures)
 
 returns-8 : tie.Need-returns-8
-returns-8 c = rw (c .before .before .match .keys8) (c .execute6 .ensures ∙ rw (c .before .before .before .get .ensures))
+returns-8 c = rw (c .before .before .match .keys8) (c .execute6 .ensures)
 
 returns-9 : tie.Need-returns-9
-returns-9 c = rw (c .before .before .match .keys9) (c .execute7 .ensures ∙ rw (c .before .before .before .get .ensures))
+returns-9 c = rw (c .before .before .match .keys9) (c .execute7 .ensures)
 
 returns-10 : tie.Need-returns-10
-returns-10 c = rw (c .before .before .match .keys10) (c .execute8 .ensures ∙ rw (c .before .before .before .get .ensures))
+returns-10 c = rw (c .before .before .match .keys10) (c .execute8 .ensures)
 
 returns-11 : tie.Need-returns-11
-returns-11 c = rw (c .before .before .match .keys11) (c .execute9 .ensures ∙ rw (c .before .before .before .get .ensures))
+returns-11 c = rw (c .before .before .match .keys11) (c .execute9 .ensures)
 
 returns-12 : tie.Need-returns-12
-returns-12 c = rw (c .before .before .match .keys12) (c .execute10 .ensures ∙ rw (c .before .before .before .get .ensures))
+returns-12 c = rw (c .before .before .match .keys12) (c .execute10 .ensures)
 
 returns-13 : tie.Need-returns-13
 returns-13 c = rw (c .before .before .match .keys13) (c .multiply-step .ensures)
 
 returns-14 : tie.Need-returns-14
-returns-14 c = rw (c .before .before .match .keys14) (c .execute11 .ensures ∙ rw (c .before .before .before .get .ensures))
+returns-14 c = rw (c .before .before .match .keys14) (c .execute11 .ensures)
 
 returns-15 : tie.Need-returns-15
-returns-15 c = rw (c .before .before .match .keys15) (c .execute12 .ensures ∙ rw (c .before .before .before .get .ensures))
+returns-15 c = rw (c .before .before .match .keys15) (c .execute12 .ensures)
 
 returns-16 : tie.Need-returns-16
-returns-16 c =
-    let m = c .before .match .rest in
-    rw (
-      ne-eqb _ _ (m .1),
-      ne-eqb _ _ (m .0 .1),
-      ne-eqb _ _ (m .0 .0 .1),
-      ne-eqb _ _ (m .0 .0 .0 .1),
-      ne-eqb _ _ (m .0 .0 .0 .0 .1),
-      ne-eqb _ _ (m .0 .0 .0 .0 .0 .1),
-      ne-eqb _ _ (m .0 .0 .0 .0 .0 .0 .1),
-      ne-eqb _ _ (m .0 .0 .0 .0 .0 .0 .0 .1),
-      ne-eqb _ _ (m .0 .0 .0 .0 .0 .0 .0 .0 .1),
-      ne-eqb _ _ (m .0 .0 .0 .0 .0 .0 .0 .0 .0 .1),
-      ne-eqb _ _ (m .0 .0 .0 .0 .0 .0 .0 .0 .0 .0 .1),
-      ne-eqb _ _ (m .0 .0 .0 .0 .0 .0 .0 .0 .0 .0 .0 .1),
-      ne-eqb _ _ (m .0 .0 .0 .0 .0 .0 .0 .0 .0 .0 .0 .0 .1),
-      ne-eqb _ _ (m .0 .0 .0 .0 .0 .0 .0 .0 .0 .0 .0 .0 .0 .1),
-      ne-eqb _ _ (m .0 .0 .0 .0 .0 .0 .0 .0 .0 .0 .0 .0 .0 .0 .1),
-    ) (rw (c .halt .ensures))
+returns-16 c = rw (row-rest (c .before .before .args .op) registerRows unlisted (c .before .match .rest), c .halt .ensures)
 
 pub short-spec : {M : Type 1} → statement M
 short-spec =
     tie.close
     (tie.spec
-    cast-r
-    cast-x
-    get-requires
-    add-next
     branch-register-step-requires
     service-step-requires
     execute-requires

@@ -1,7 +1,10 @@
--- `step` makes the definition's tests of the counter in its order, then calls `short` or `long`. Assumes nothing.
-use Rattle.machine.specs.Step.{step}
+-- `step` makes the definition's tests of the counter in its order, then forms the second operand and calls `short`, `storage` or `shift`. Assumes nothing.
+use Rattle.machine.specs.Step.{cpu, step}
+use Rattle.machine.specs.Space.{spaceBy}
+use Rattle.machine.proofs.Rows.{step-storage, step-shift}
 use Rattle.machine.proofs.Operands.{kept}
 use borrow.Author.Tests.{lt-ltb, le-ltb, le-leb, lt-leb, eq-eqb, ne-eqb}
+use mathlib.Core.Path.{_∙_}
 use borrow.Author.Needs.{needs}
 use Rattle.instruction.proofs.step.Statement.{statement}
 use Rattle.instruction.proofs.step.Tie as tie
@@ -42,19 +45,22 @@ add-rx c = search needs
 slice-read-rx : tie.Need-slice-read-rx
 slice-read-rx c = search needs
 
+lower-requires : tie.Need-lower-requires
+lower-requires c κs = search needs
+
+get-requires : tie.Need-get-requires
+get-requires c κs = search needs
+
 short-requires : tie.Need-short-requires
 short-requires c κs = search needs
 
 returns-4 : tie.Need-returns-4
 unfolding step
 returns-4 c =
-    let a = c .before .before in
-    rw (
-      eq-eqb _ _ (a .before .before .before .before .before .if1 .left),
-      le-leb _ _ (a .before .before .before .before .if2 .left),
-      le-leb _ _ (a .before .before .before .if3 .left),
-      lt-ltb _ _ (a .if4 .taken),
-    ) (kept (c .short .ensures))
+    let d = c .before .before .before .before .before in
+    let e = d .before .before .before .before .before in
+    rw (eq-eqb _ _ (e .if1 .left), le-leb _ _ (d .before .before .before .before .if2 .left), le-leb _ _ (d .before .before .before .if3 .left), lt-ltb _ _ (d .if4 .taken))
+    (kept (c .short .ensures ∙ rw (c .before .before .get .ensures, c .before .before .before .lower .ensures .0)))
 
 add-if5 : tie.Need-add-if5
 add-if5 c = search needs
@@ -68,15 +74,8 @@ halt-requires-4 c κs = search needs
 returns-5 : tie.Need-returns-5
 unfolding step
 returns-5 c =
-    let a = c .before in
-    rw (
-      eq-eqb _ _ (a .before .before .before .before .before .before .if1 .left),
-      le-leb _ _ (a .before .before .before .before .before .if2 .left),
-      le-leb _ _ (a .before .before .before .before .if3 .left),
-      le-ltb _ _ (a .before .if4 .left),
-      lt-leb _ _ (a .if5 .taken),
-      c .halt4 .ensures,
-    )
+    let d = c .before .before .before .before .before in
+    rw (eq-eqb _ _ (d .before .before .if1 .left), le-leb _ _ (d .before .if2 .left), le-leb _ _ (d .if3 .left), le-ltb _ _ (c .before .before .if4 .left), lt-leb _ _ (c .before .if5 .taken), c .halt4 .ensures)
 
 add-third : tie.Need-add-third
 add-third c = search needs
@@ -84,38 +83,50 @@ add-third c = search needs
 slice-read-third : tie.Need-slice-read-third
 slice-read-third c = search needs
 
-upper-requires : tie.Need-upper-requires
-upper-requires c κs = search needs
+add-fourth : tie.Need-add-fourth
+add-fourth c = search needs
 
-add-displacement : tie.Need-add-displacement
-add-displacement c = search needs
+slice-read-fourth : tie.Need-slice-read-fourth
+slice-read-fourth c = search needs
 
-slice-read-displacement : tie.Need-slice-read-displacement
-slice-read-displacement c = search needs
+lower-requires-2 : tie.Need-lower-requires-2
+lower-requires-2 c κs = search needs
 
-displacement-requires : tie.Need-displacement-requires
-displacement-requires c κs = search needs
+named-requires : tie.Need-named-requires
+named-requires c κs = search needs
 
-long-requires : tie.Need-long-requires
-long-requires c κs = search needs
+storage-requires : tie.Need-storage-requires
+storage-requires c κs = search needs
 
 same-length : tie.Need-same-length
 same-length c = search needs
 
 returns-6 : tie.Need-returns-6
-unfolding step
 returns-6 c =
-    let e = c .before .before .before .before .before in
-    let a = e .before .before .before .before in
-    rw (
-      eq-eqb _ _ (a .before .before .before .before .before .before .if1 .left),
-      le-leb _ _ (a .before .before .before .before .before .if2 .left),
-      le-leb _ _ (a .before .before .before .before .if3 .left),
-      le-ltb _ _ (a .before .if4 .left),
-      le-leb _ _ (a .if5 .left),
-      ← e .before .before .upper .ensures .0,
-      ← e .displacement .ensures .0,
-    ) (c .before .before .long .ensures (a .before .before .before .before .before .before .before .before .args .program))
+    let d = c .before .before .before .before .before in
+    let e = d .before .before .before .before .before .before in
+    let g = e .before .before .before .before .before in
+    let a = g .before .before .before .args in
+    let m = spaceBy (a .program) (a .map .now) in
+    c .before .before .storage .ensures (a .program)
+    ∙ rw (d .named .ensures, d .before .lower2 .ensures .0)
+    (step-storage m (cpu (a .regs .now) (a .code) (a .at)) (a .s .now) (g .before .if1 .left) (g .if2 .left) (e .before .if4 .left) (e .if5 .left) (d .before .before .before .if6 .taken))
+
+named-requires-2 : tie.Need-named-requires-2
+named-requires-2 c κs = search needs
+
+shift-requires : tie.Need-shift-requires
+shift-requires c κs = search needs
+
+returns-7 : tie.Need-returns-7
+returns-7 c =
+    let d = c .before .before .before .before .before .before .before in
+    let e = d .before .before .before .before .before in
+    let a = e .before .before .before .args in
+    let m = spaceBy (a .program) (a .map .now) in
+    c .shift .ensures m (a .s .now)
+    ∙ rw (c .before .before .named2 .ensures)
+    (step-shift m (cpu (a .regs .now) (a .code) (a .at)) (a .s .now) (e .before .if1 .left) (e .if2 .left) (d .before .if4 .left) (d .if5 .left) (c .before .before .before .before .if6 .left))
 
 pub step-spec : {M : Type 1} → statement M
 step-spec =
@@ -132,6 +143,8 @@ step-spec =
     slice-read-op
     add-rx
     slice-read-rx
+    lower-requires
+    get-requires
     short-requires
     returns-4
     add-if5
@@ -140,10 +153,13 @@ step-spec =
     returns-5
     add-third
     slice-read-third
-    upper-requires
-    add-displacement
-    slice-read-displacement
-    displacement-requires
-    long-requires
+    add-fourth
+    slice-read-fourth
+    lower-requires-2
+    named-requires
+    storage-requires
     same-length
-    returns-6)
+    returns-6
+    named-requires-2
+    shift-requires
+    returns-7)

@@ -11,12 +11,12 @@ use Rattle.run.proofs.run.Statement.{statement}
 use Rattle.run.proofs.run.Tie as tie
 
 abbrev Inv-loop : tie.InvT-loop
-Inv-loop program end from to first start budget s₀ regs₀ code₀ at₀ count₀ s regs code at count =
+Inv-loop program map first start budget s₀ regs₀ code₀ at₀ count₀ s regs code at count =
     (length s ≡ length s₀) × (count ≤ budget)
-    × (counted count (run (budget - count) (spaceBy program end from to) (cpu regs code at) s) ≡ run budget (spaceBy program end from to) (cpu regs₀ first start) s₀)
+    × (counted count (run (budget - count) (spaceBy program map) (cpu regs code at) s) ≡ run budget (spaceBy program map) (cpu regs₀ first start) s₀)
 
 abbrev μ-loop : tie.MeasureT-loop
-μ-loop program end from to first start budget s₀ regs₀ code₀ at₀ count₀ s regs code at count = budget - count
+μ-loop program map first start budget s₀ regs₀ code₀ at₀ count₀ s regs code at count = budget - count
 
 loop-holds : tie.Need-loop-holds Inv-loop μ-loop
 loop-holds c = (search needs, search needs, run-start _ _ _ _)

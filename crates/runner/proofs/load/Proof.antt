@@ -1,6 +1,7 @@
 -- `load` clears, places and enters the table, as the definition does. Assumes nothing.
 use mathlib.Core.Path.{_∙_}
 use borrow.Author.Needs.{needs}
+use Rattle.machine.specs.Space.{needed}
 use Rattle.objtext.proofs.Places.{after-program-place}
 use Rattle.objtext.proofs.Walks.{object-walk, program-short}
 use Rattle.runner.proofs.Loads.{length-placed, length-cleared}
@@ -37,7 +38,7 @@ table-requires c κs = (
     c .before .before .before .before .before .place .ensures,
     length-placed,
     c .before .before .before .before .before .before .before .before .before .clear .ensures,
-    length-cleared 20480 (c .before .before .before .before .before .before .before .before .before .before .before .before .before .args .s .now)
+    length-cleared needed (c .before .before .before .before .before .before .before .before .before .before .before .before .before .args .s .now)
         (c .before .before .before .before .before .before .before .before .before .before .before .before .before .pre .2),
   )
       (c .before .before .before .before .before .before .before .before .before .before .before .before .before .pre .2),

@@ -1,4 +1,4 @@
--- `started` runs the machine in the space of the segments, whose tables by page are read from the heads. Assumes nothing.
+-- `started` runs the machine in the space of the segments, whose map is read from the heads. Assumes nothing.
 use Prim.Native.Nat.{ℕ, _<_}
 use mathlib.Core.Path.{_∙_, ap, sym, subst}
 use native.Mathlib.Omega.{arith}
@@ -11,14 +11,8 @@ use Rattle.runner.specs.Runner.{accepted}
 use Rattle.runner.proofs.started.Statement.{statement}
 use Rattle.runner.proofs.started.Tie as tie
 
-list-requires : tie.Need-list-requires
-list-requires c κs = (c .before .before .before .pre .0, c .before .before .before .pre .1, search needs)
-
-list-requires-2 : tie.Need-list-requires-2
-list-requires-2 c κs = (c .before .before .before .before .before .pre .0, c .before .before .before .before .before .pre .1, search needs)
-
-list-requires-3 : tie.Need-list-requires-3
-list-requires-3 c κs = (c .before .before .before .before .before .before .before .pre .0, c .before .before .before .before .before .before .before .pre .1, search needs)
+chart-requires : tie.Need-chart-requires
+chart-requires c κs = search needs
 
 array-write-regs : tie.Need-array-write-regs
 array-write-regs c = search needs
@@ -30,18 +24,10 @@ two-at-requires : tie.Need-two-at-requires
 two-at-requires c κs = search needs
 
 run-requires : tie.Need-run-requires
-run-requires c κs = (
-  omega (
-    arith,
-    c .before .before .before .before .two-at .ensures .0,
-    program-short 0 (c .before .before .before .before .before .before .before .before .before .before .before .before .before .args .t .now)
-        (object-walk (c .before .before .before .before .before .before .before .before .before .before .before .before .before .args .count)
-        (c .before .before .before .before .before .before .before .before .before .before .before .before .before .args .t .now)
-        (c .before .before .before .before .before .before .before .before .before .before .before .before .before .pre .0)
-        (c .before .before .before .before .before .before .before .before .before .before .before .before .before .pre .1) .program),
-  ),
-  search needs,
-)
+run-requires c κs =
+    let a = c .before .before .before .before .before .before .before in
+    let w = object-walk (a .args .count) (a .args .t .now) (a .pre .0) (a .pre .1) in
+    (omega (arith, c .before .before .two-at .ensures .0, program-short 0 (a .args .t .now) (w .program)), search needs)
 
 stop-of-requires : tie.Need-stop-of-requires
 stop-of-requires c κs = subst (λ (n : ℕ). n < 5) (sym (ap (λ (r : Result). r .stop) (c .before .before .before .run .ensures))) (run-stops _ _ _ _)
@@ -50,15 +36,19 @@ same-length : tie.Need-same-length
 same-length c = search needs
 
 returns : tie.Need-returns
-returns c = rw (c .stop-of .ensures) (ap accepted (c .before .before .before .before .run .ensures) ∙ rw (c .before .before .before .before .before .before .before .before .before .before .before .before .before .before .list .ensures, c .before .before .before .before .before .before .before .before .before .before .before .before .list2 .ensures, c .before .before .before .before .before .before .before .before .before .before .list3 .ensures, c .before .before .before .before .before .before .before .before .before .two-at .ensures .0, space-is (c .before .before .before .before .before .before .before .before .before .before .before .before .before .before .before .before .before .before .args .count) (c .before .before .before .before .before .before .before .before .before .before .before .before .before .before .before .before .before .before .args .t .now) (c .before .before .before .before .before .before .before .before .before .before .before .before .before .before .before .before .before .before .pre .0) (object-walk (c .before .before .before .before .before .before .before .before .before .before .before .before .before .before .before .before .before .before .args .count) (c .before .before .before .before .before .before .before .before .before .before .before .before .before .before .before .before .before .before .args .t .now) (c .before .before .before .before .before .before .before .before .before .before .before .before .before .before .before .before .before .before .pre .0) (c .before .before .before .before .before .before .before .before .before .before .before .before .before .before .before .before .before .before .pre .1) .few)))
+returns c =
+    let d = c .before .before .before .before .before .before .before .before in
+    let a = d .before .before .before .before in
+    let w = object-walk (a .args .count) (a .args .t .now) (a .pre .0) (a .pre .1) in
+    rw (c .stop-of .ensures)
+    (ap accepted (c .before .before .before .before .run .ensures)
+    ∙ rw (d .chart .ensures, c .before .before .before .before .before .before .before .two-at .ensures .0, space-is (a .args .count) (a .args .t .now) (a .pre .0) (w .few)))
 
 pub started-spec : {M : Type 1} → statement M
 started-spec =
     tie.close
     (tie.spec
-    list-requires
-    list-requires-2
-    list-requires-3
+    chart-requires
     array-write-regs
     array-write-regs-2
     two-at-requires
