@@ -573,7 +573,8 @@ module _ (kinds values found goes : List ℕ) (z : Meant) (l : Layout) where
             let known = routineOf n (registerOf (meaningAt f r)) (basesIn (P.within b ∷ p)) ∷ gs in
             let inner = withNames b (n ∷ b .names) in
             let j = with-routine n (registerOf (meaningAt f r)) b p gs (q .1) i in
-            let s = safe-statement x _ (P.body n r ∷ P.within inner ∷ p) [] known (record { names = j .names; around = (q .1, j .around) }) (λ d w. absurd (none-at-edge n r (P.within inner ∷ p) d w)) hs in
+            let s = safe-statement x _ (P.body n r ∷ P.within inner ∷ p) [] known (record { names = j .names; around = (q .1, j .around) })
+            (λ d w. absurd (none-at-edge n r (P.within inner ∷ p) d w)) hs in
             let u = safe-body y k inner p ls known j c o (s .1 .1) in
             ((q .0, s .0, u .0), u .1)
         safe-body (T.items is) k b p ls gs i c o h = safe-items is k b p (labelsOf (coreItems f is) ++ ls) gs i (labels-in is (b .labels) (labelsIn p) ls o c) h

@@ -61,7 +61,8 @@ returns c = c .before .before .table .ensures ∙ rw (
     (c .before .before .before .before .before .before .before .before .before .before .before .before .before .before .before .before .pre .0)
     (c .before .before .before .before .before .before .before .before .before .before .before .before .before .before .before .before .pre .1) .some)
     (rw (c .before .before .before .before .before .after-program .ensures .0)
-    (after-program-place (c .before .before .before .before .before .before .before .before .before .before .before .before .before .before .before .before .args .t .now))) (c .before .before .before .before .two-at .ensures .0))
+    (after-program-place (c .before .before .before .before .before .before .before .before .before .before .before .before .before .before .before .before
+    .args .t .now))) (c .before .before .before .before .two-at .ensures .0))
 
 pub load-spec : {M : Type 1} → statement M
 load-spec =

@@ -25,13 +25,13 @@ two-at-requires : tie.Need-two-at-requires Inv-loop μ-loop
 two-at-requires c κs = search needs
 
 fill-requires : tie.Need-fill-requires Inv-loop μ-loop
-fill-requires c κs = omega (
-  arith,
-  c .before .two-at .ensures .0,
-  program-short 0 (c .before .before .before .before .args .t .now)
-      (object-walk (c .before .before .before .before .args .count) (c .before .before .before .before .args .t .now) (c .before .before .before .before .pre .0)
-      (c .before .before .before .before .pre .1) .program),
-)
+fill-requires c κs =
+    let start = c .before .before .before .before in
+    omega (
+      arith,
+      c .before .two-at .ensures .0,
+      program-short 0 (start .args .t .now) (object-walk (start .args .count) (start .args .t .now) (start .pre .0) (start .pre .1) .program),
+    )
 
 after-program-requires : tie.Need-after-program-requires Inv-loop μ-loop
 after-program-requires c κs = program-short 0 (c .before .before .before .before .before .before .before .args .t .now)
@@ -41,19 +41,16 @@ after-program-requires c κs = program-short 0 (c .before .before .before .befor
 
 loop-holds : tie.Need-loop-holds Inv-loop μ-loop
 loop-holds c =
-    (let w = object-walk (c .before .before .before .before .before .before .before .before .args .count) (c .before .before .before .before .before .before .before .before .args .t .now) (c .before .before .before .before .before .before .before .before .pre .0) (c .before .before .before .before .before .before .before .before .pre .1) in
-    let f = w .few in (
+    let start = c .before .before .before .before .before .before .before .before in
+    (let w = object-walk (start .args .count) (start .args .t .now) (start .pre .0) (start .pre .1) in let f = w .few in (
       search needs,
       search needs,
       f,
       search needs,
       search needs,
-      rw (c .after-program .ensures .0, after-program-place (c .before .before .before .before .before .before .before .before .args .t .now))
+      rw (c .after-program .ensures .0, after-program-place (start .args .t .now))
           (w .data-segments),
-      rw (
-        c .after-program .ensures .0,
-        after-program-place (c .before .before .before .before .before .before .before .before .args .t .now),
-      ),
+      rw (c .after-program .ensures .0, after-program-place (start .args .t .now)),
     ))
 
 add-fill : tie.Need-add-fill Inv-loop μ-loop
@@ -72,14 +69,17 @@ mul-fill : tie.Need-mul-fill Inv-loop μ-loop
 mul-fill c = search needs
 
 fill-requires-2 : tie.Need-fill-requires-2 Inv-loop μ-loop
-fill-requires-2 c κs = omega (
-  arith,
-  c .before .two-at2 .ensures .0,
-  length-place (c .before .before .before .before .before .before .before .before .before .before .before .before .args .t .now)
-      (c .before .before .before .loop .at),
-  data-short (c .before .before .before .loop .k)
-      (drop (c .before .before .before .loop .at) (c .before .before .before .before .before .before .before .before .before .before .before .before .args .t .now)) (walk-here (c .before .before .before .before .before .before .before .before .before .before .before .before .args .t .now) (c .before .before .before .before .before .before .before .before .before .before .before .before .args .count) (c .before .before .before .loop .k) (c .before .before .before .loop .at) (c .before .before .loop-test .taken) (c .before .before .before .loop .inv .5)),
-)
+fill-requires-2 c κs =
+    let at-loop-test = c .before .before in
+    let at-loop = at-loop-test .before in
+    let start = at-loop .before .before .before .before .before .before .before .before .before in
+    omega (
+      arith,
+      c .before .two-at2 .ensures .0,
+      length-place (start .args .t .now) (at-loop .loop .at),
+      data-short (at-loop .loop .k) (drop (at-loop .loop .at) (start .args .t .now))
+          (walk-here (start .args .t .now) (start .args .count) (at-loop .loop .k) (at-loop .loop .at) (at-loop-test .loop-test .taken) (at-loop .loop .inv .5)),
+    )
 
 after-data-requires : tie.Need-after-data-requires Inv-loop μ-loop
 after-data-requires c κs = (
@@ -100,20 +100,27 @@ loop-less : tie.Need-loop-less Inv-loop μ-loop
 loop-less c = search needs
 
 loop-again : tie.Need-loop-again Inv-loop μ-loop
-loop-again c = (
-  search needs,
-  search needs,
-  search needs,
-  search needs,
-  rw (c .before .before .before .fill2 .ensures) (simp length-sets (c .before .before .before .before .before .before .before .loop .inv .4)),
-  rw (c .after-data .ensures .0) (walk-on (c .before .before .before .before .before .before .before .before .before .before .before .before .before .before .before .before .args .t .now) (c .before .before .before .before .before .before .before .before .before .before .before .before .before .before .before .before .args .count) (c .before .before .before .before .before .before .before .loop .k) (c .before .before .before .before .before .before .before .loop .at) (c .before .before .before .before .before .before .loop-test .taken) (c .before .before .before .before .before .before .before .loop .inv .5)),
-  rw (
-    c .after-data .ensures .0,
-    c .before .before .before .fill2 .ensures,
-    c .before .before .before .before .before .two-at2 .ensures .0,
-    length-place (c .before .before .before .before .before .before .before .before .before .before .before .before .before .before .before .before .args .t .now) (c .before .before .before .before .before .before .before .loop .at),
-  ) (place-on (c .before .before .before .before .before .before .before .before .before .before .before .before .before .before .before .before .args .t .now) (c .before .before .before .before .before .before .before .before .before .before .before .before .before .before .before .before .args .count) (c .before .before .before .before .before .before .before .loop .k) (c .before .before .before .before .before .before .before .loop .at) (c .before .before .before .before .before .before .loop-test .taken) (c .before .before .before .before .before .before .before .loop .s) (c .before .before .before .before .before .before .before .loop .inv .6)),
-)
+loop-again c =
+    let at-fill2 = c .before .before .before in
+    let at-two-at2 = at-fill2 .before .before in
+    let at-loop-test = at-two-at2 .before in
+    let at-loop = at-loop-test .before in
+    let start = at-loop .before .before .before .before .before .before .before .before .before in (
+      search needs,
+      search needs,
+      search needs,
+      search needs,
+      rw (at-fill2 .fill2 .ensures) (simp length-sets (at-loop .loop .inv .4)),
+      rw (c .after-data .ensures .0) (walk-on (start .args .t .now) (start .args .count) (at-loop .loop .k) (at-loop .loop .at)
+          (at-loop-test .loop-test .taken) (at-loop .loop .inv .5)),
+      rw (
+        c .after-data .ensures .0,
+        at-fill2 .fill2 .ensures,
+        at-two-at2 .two-at2 .ensures .0,
+        length-place (start .args .t .now) (at-loop .loop .at),
+      ) (place-on (start .args .t .now) (start .args .count) (at-loop .loop .k) (at-loop .loop .at)
+          (at-loop-test .loop-test .taken) (at-loop .loop .s) (at-loop .loop .inv .6)),
+    )
 
 same-length : tie.Need-same-length Inv-loop μ-loop
 same-length c = search needs
