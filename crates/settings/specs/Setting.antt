@@ -1,6 +1,7 @@
 -- The registers that a run begins with: zero, or what `--set NAME=VALUE` says, the last one where a register is named twice. `--show NAME` names a register.
 -- Of a source a name that is no register's may be a cell: it is left as it is.
 use Prim.Native.Nat.{ℕ, zero, suc, _+_, _-_}
+use mathlib.Core.Bool.{Bool}
 use mathlib.Core.List.{List}
 use lib.Dec.{ltb, eqb}
 use lib.ListN.{take, drop, set, replicate}
