@@ -5,7 +5,7 @@ ghost use Prim.Native.Nat.{ℕ, _+_, _*_, _/_, _%_, _<_, _≤_};
 ghost use lib.ListN.{length};
 ghost use Rattle.machine.specs.Space.{room, needed, displacements, Space, spaceBy};
 ghost use Rattle.machine.specs.Step.{address as addressOf, cpu, stepped, shortOn, longOn, step as stepOf};
-ghost use Rattle.machine.specs.Instructions.{shortKind, shiftKind, storageKind};
+ghost use Rattle.machine.specs.Instructions.{shortKind, shiftKind, readKind, storageKind};
 ghost use Rattle.machine.specs.Lent.{given, turn};
 use machine::Fun;
 use machine::Given;
@@ -67,13 +67,12 @@ fn shift(op: u8, g: Given, regs: &mut [u32; 16]) -> Next
     }
 }
 
-// What names an address with an index: of two bytes of storage, the branches, of four bytes of storage.
-fn storage(op: u8, g: Given, map: &[usize; MAP], regs: &mut [u32; 16], s: &mut [u8]) -> Next
+// What stores nothing: of two bytes of storage, the branches, of four bytes of storage.
+fn reading(op: u8, g: Given, map: &[usize; MAP], regs: &mut [u32; 16], s: &[u8]) -> Next
     requires { ⌜ (g .at < 2 * room) × (needed ≤ length (now s)) ⌝ }
-    ensures { λ q. ⌜ ((p : ℕ) → stepped (turn q (now (regs .exit))) (now (s .exit)) ≡ longOn (storageKind op) (spaceBy p (now (map .entry))) (g .rx) (g .b) (given g (now (regs .entry))) (now (s .entry))) ⌝ }
+    ensures { λ q. ⌜ ((p : ℕ) → stepped (turn q (now (regs .exit))) (now (s .entry)) ≡ longOn (readKind op) (spaceBy p (now (map .entry))) (g .rx) (g .b) (given g (now (regs .entry))) (now (s .entry))) ⌝ }
 {
     match op {
-        0x40 => store_step(2, g, map, regs, s),
         0x45 => link_step(g, regs),
         0x47 => branch_step(g),
         0x48 => load_step(Fun::Load, 2, g, map, regs, s),
@@ -81,7 +80,6 @@ fn storage(op: u8, g: Given, map: &[usize; MAP], regs: &mut [u32; 16], s: &mut [
         0x4A => load_step(Fun::Add, 2, g, map, regs, s),
         0x4B => load_step(Fun::Subtract, 2, g, map, regs, s),
         0x4C => load_step(Fun::MultiplyHalf, 2, g, map, regs, s),
-        0x50 => store_step(4, g, map, regs, s),
         0x54 => load_step(Fun::And, 4, g, map, regs, s),
         0x56 => load_step(Fun::Or, 4, g, map, regs, s),
         0x57 => load_step(Fun::ExclusiveOr, 4, g, map, regs, s),
@@ -93,6 +91,18 @@ fn storage(op: u8, g: Given, map: &[usize; MAP], regs: &mut [u32; 16], s: &mut [
         0x5E => load_step(Fun::AddLogical, 4, g, map, regs, s),
         0x5F => load_step(Fun::SubtractLogical, 4, g, map, regs, s),
         _ => halt(4, g.code, g.at),
+    }
+}
+
+// What names an address with an index.
+fn storage(op: u8, g: Given, map: &[usize; MAP], regs: &mut [u32; 16], s: &mut [u8]) -> Next
+    requires { ⌜ (g .at < 2 * room) × (needed ≤ length (now s)) ⌝ }
+    ensures { λ q. ⌜ ((p : ℕ) → stepped (turn q (now (regs .exit))) (now (s .exit)) ≡ longOn (storageKind op) (spaceBy p (now (map .entry))) (g .rx) (g .b) (given g (now (regs .entry))) (now (s .entry))) ⌝ }
+{
+    match op {
+        0x40 => store_step(2, g, map, regs, s),
+        0x50 => store_step(4, g, map, regs, s),
+        _ => reading(op, g, map, regs, s),
     }
 }
 

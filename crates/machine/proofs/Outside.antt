@@ -106,10 +106,15 @@ long-keeps none m rx b d c s = untouched
 
 all-sized : (op : ℕ) → Sized (longKind op)
 all-sized op =
-    row-is Sized storageRows
-    (all-both (λ (x : ℕ × Long). Sized (x .1)) halfwordRows wordRows
-    (two, (link, (branch, (loads, (loads, (loads, (loads, (loads, tt))))))))
-    (four, (loads, (loads, (loads, (loads, (loads, (loads, (loads, (product, (loads, (loads, tt)))))))))))) op
+    row-is Sized storageRows (
+      two,
+      (
+        four,
+        all-both (λ (x : ℕ × Long). Sized (x .1)) halfwordRows wordRows
+            (link, (branch, (loads, (loads, (loads, (loads, (loads, tt)))))))
+            (loads, (loads, (loads, (loads, (loads, (loads, (loads, (product, (loads, (loads, tt)))))))))),
+      ),
+    ) op
     (row-is Sized shiftRows (shift, (shift, (shift, (shift, tt)))) op none)
 
 -- a step leaves the length of storage and every byte that is not writable

@@ -53,11 +53,14 @@ registerRows =
 abbrev pub shortKind : ℕ → Short
 shortKind op = rowOf registerRows op unlisted
 
+-- what is stored, of two bytes and of four
+abbrev pub storeRows : List (ℕ × Long)
+storeRows = (0x40, stores 2) ∷ (0x50, stores 4) ∷ []
+
 -- of two bytes of storage, and the branches
 abbrev pub halfwordRows : List (ℕ × Long)
 halfwordRows =
-    (0x40, stores 2)
-    ∷ (0x45, links)
+    (0x45, links)
     ∷ (0x47, branchesTo)
     ∷ (0x48, appliesTo 2 Load)
     ∷ (0x49, appliesTo 2 Compare)
@@ -69,8 +72,7 @@ halfwordRows =
 -- of four bytes of storage
 abbrev pub wordRows : List (ℕ × Long)
 wordRows =
-    (0x50, stores 4)
-    ∷ (0x54, appliesTo 4 And)
+    (0x54, appliesTo 4 And)
     ∷ (0x56, appliesTo 4 Or)
     ∷ (0x57, appliesTo 4 ExclusiveOr)
     ∷ (0x58, appliesTo 4 Load)
@@ -93,9 +95,15 @@ shiftRows =
 abbrev pub shiftKind : ℕ → Long
 shiftKind op = rowOf shiftRows op unlistedLong
 
--- of storage in all
+-- all that stores nothing, and all that names an address with an index
+abbrev pub readRows : List (ℕ × Long)
+readRows = halfwordRows ++ wordRows
+
+abbrev pub readKind : ℕ → Long
+readKind op = rowOf readRows op unlistedLong
+
 abbrev pub storageRows : List (ℕ × Long)
-storageRows = halfwordRows ++ wordRows
+storageRows = storeRows ++ readRows
 
 abbrev pub storageKind : ℕ → Long
 storageKind op = rowOf storageRows op unlistedLong

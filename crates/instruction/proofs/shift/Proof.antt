@@ -1,8 +1,8 @@
 -- Each arm of `shift` does what the table says of its opcode, and any other opcode is unlisted. Assumes nothing.
-use Rattle.machine.proofs.Rows.{row-rest}
-use Rattle.machine.proofs.Operands.{kept}
-use Rattle.machine.specs.Instructions.{unlistedLong, shiftRows}
 use borrow.Author.Needs.{needs}
+use Rattle.machine.proofs.Operands.{kept}
+use Rattle.machine.proofs.Rows.{row-rest}
+use Rattle.machine.specs.Instructions.{unlistedLong, shiftRows}
 use Rattle.instruction.proofs.shift.Statement.{statement}
 use Rattle.instruction.proofs.shift.Tie as tie
 

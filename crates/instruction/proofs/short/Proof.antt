@@ -1,7 +1,7 @@
 -- Each arm of `short` does what the table says of its opcode, and any other opcode is unlisted. Assumes nothing.
+use borrow.Author.Needs.{needs}
 use Rattle.machine.proofs.Rows.{row-rest}
 use Rattle.machine.specs.Instructions.{unlisted, registerRows}
-use borrow.Author.Needs.{needs}
 use Rattle.instruction.proofs.short.Statement.{statement}
 use Rattle.instruction.proofs.short.Tie as tie
 

@@ -1,11 +1,11 @@
 -- `step` makes the definition's tests of the counter in its order, then forms the second operand and calls `short`, `storage` or `shift`. Assumes nothing.
-use Rattle.machine.specs.Step.{cpu, step}
-use Rattle.machine.specs.Space.{spaceBy}
-use Rattle.machine.proofs.Rows.{step-storage, step-shift}
-use Rattle.machine.proofs.Operands.{kept}
-use borrow.Author.Tests.{lt-ltb, le-ltb, le-leb, lt-leb, eq-eqb, ne-eqb}
 use mathlib.Core.Path.{_∙_}
 use borrow.Author.Needs.{needs}
+use borrow.Author.Tests.{lt-ltb, le-ltb, le-leb, lt-leb, eq-eqb, ne-eqb}
+use Rattle.machine.proofs.Operands.{kept}
+use Rattle.machine.proofs.Rows.{step-storage, step-shift}
+use Rattle.machine.specs.Space.{spaceBy}
+use Rattle.machine.specs.Step.{cpu, step}
 use Rattle.instruction.proofs.step.Statement.{statement}
 use Rattle.instruction.proofs.step.Tie as tie
 
@@ -75,7 +75,14 @@ returns-5 : tie.Need-returns-5
 unfolding step
 returns-5 c =
     let d = c .before .before .before .before .before in
-    rw (eq-eqb _ _ (d .before .before .if1 .left), le-leb _ _ (d .before .if2 .left), le-leb _ _ (d .if3 .left), le-ltb _ _ (c .before .before .if4 .left), lt-leb _ _ (c .before .if5 .taken), c .halt4 .ensures)
+    rw (
+      eq-eqb _ _ (d .before .before .if1 .left),
+      le-leb _ _ (d .before .if2 .left),
+      le-leb _ _ (d .if3 .left),
+      le-ltb _ _ (c .before .before .if4 .left),
+      lt-leb _ _ (c .before .if5 .taken),
+      c .halt4 .ensures,
+    )
 
 add-third : tie.Need-add-third
 add-third c = search needs
@@ -126,7 +133,8 @@ returns-7 c =
     let m = spaceBy (a .program) (a .map .now) in
     c .shift .ensures m (a .s .now)
     ∙ rw (c .before .before .named2 .ensures)
-    (step-shift m (cpu (a .regs .now) (a .code) (a .at)) (a .s .now) (e .before .if1 .left) (e .if2 .left) (d .before .if4 .left) (d .if5 .left) (c .before .before .before .before .if6 .left))
+    (step-shift m (cpu (a .regs .now) (a .code) (a .at)) (a .s .now) (e .before .if1 .left) (e .if2 .left) (d .before .if4 .left) (d .if5 .left)
+    (c .before .before .before .before .if6 .left))
 
 pub step-spec : {M : Type 1} → statement M
 step-spec =

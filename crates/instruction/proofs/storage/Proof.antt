@@ -1,7 +1,6 @@
--- Each arm of `storage` does what the table says of its opcode, and any other opcode is unlisted. Assumes nothing.
+-- `storage` stores by the table's two rows, and leaves any other opcode to `reading`. Assumes nothing.
 use Rattle.machine.proofs.Rows.{row-rest}
-use Rattle.machine.proofs.Operands.{kept}
-use Rattle.machine.specs.Instructions.{unlistedLong, storageRows}
+use Rattle.machine.specs.Instructions.{storeRows, readKind}
 use borrow.Author.Needs.{needs}
 use Rattle.instruction.proofs.storage.Statement.{statement}
 use Rattle.instruction.proofs.storage.Tie as tie
@@ -9,62 +8,11 @@ use Rattle.instruction.proofs.storage.Tie as tie
 store-step-requires : tie.Need-store-step-requires
 store-step-requires c κs = search needs
 
-link-step-requires : tie.Need-link-step-requires
-link-step-requires c κs = search needs
-
-branch-step-requires : tie.Need-branch-step-requires
-branch-step-requires c κs = search needs
-
-load-step-requires : tie.Need-load-step-requires
-load-step-requires c κs = search needs
-
-load-step-requires-2 : tie.Need-load-step-requires-2
-load-step-requires-2 c κs = search needs
-
-load-step-requires-3 : tie.Need-load-step-requires-3
-load-step-requires-3 c κs = search needs
-
-load-step-requires-4 : tie.Need-load-step-requires-4
-load-step-requires-4 c κs = search needs
-
-load-step-requires-5 : tie.Need-load-step-requires-5
-load-step-requires-5 c κs = search needs
-
 store-step-requires-2 : tie.Need-store-step-requires-2
 store-step-requires-2 c κs = search needs
 
-load-step-requires-6 : tie.Need-load-step-requires-6
-load-step-requires-6 c κs = search needs
-
-load-step-requires-7 : tie.Need-load-step-requires-7
-load-step-requires-7 c κs = search needs
-
-load-step-requires-8 : tie.Need-load-step-requires-8
-load-step-requires-8 c κs = search needs
-
-load-step-requires-9 : tie.Need-load-step-requires-9
-load-step-requires-9 c κs = search needs
-
-load-step-requires-10 : tie.Need-load-step-requires-10
-load-step-requires-10 c κs = search needs
-
-load-step-requires-11 : tie.Need-load-step-requires-11
-load-step-requires-11 c κs = search needs
-
-load-step-requires-12 : tie.Need-load-step-requires-12
-load-step-requires-12 c κs = search needs
-
-multiply-word-step-requires : tie.Need-multiply-word-step-requires
-multiply-word-step-requires c κs = search needs
-
-load-step-requires-13 : tie.Need-load-step-requires-13
-load-step-requires-13 c κs = search needs
-
-load-step-requires-14 : tie.Need-load-step-requires-14
-load-step-requires-14 c κs = search needs
-
-halt-requires : tie.Need-halt-requires
-halt-requires c κs = search needs
+reading-requires : tie.Need-reading-requires
+reading-requires c κs = search needs
 
 same-length : tie.Need-same-length
 same-length c = search needs
@@ -72,169 +20,28 @@ same-length c = search needs
 returns : tie.Need-returns
 returns c = λ p. rw (c .before .before .before .before .before .match .keys1) (c .before .before .store-step .ensures)
 
-returns-2 : tie.Need-returns-2
-returns-2 c = λ p. rw (c .before .before .match .keys2) (kept (c .link-step .ensures))
-
-returns-3 : tie.Need-returns-3
-returns-3 c = λ p. rw (c .before .match .keys3) (kept (c .branch-step .ensures _))
-
 same-length-2 : tie.Need-same-length-2
 same-length-2 c = search needs
 
-returns-4 : tie.Need-returns-4
-returns-4 c = λ p. rw (c .before .before .before .match .keys4) (kept (c .load-step .ensures))
+returns-2 : tie.Need-returns-2
+returns-2 c = λ p. rw (c .before .before .before .before .before .match .keys2) (c .before .before .store-step2 .ensures)
 
 same-length-3 : tie.Need-same-length-3
 same-length-3 c = search needs
 
-returns-5 : tie.Need-returns-5
-returns-5 c = λ p. rw (c .before .before .before .match .keys5) (kept (c .load-step2 .ensures))
-
-same-length-4 : tie.Need-same-length-4
-same-length-4 c = search needs
-
-returns-6 : tie.Need-returns-6
-returns-6 c = λ p. rw (c .before .before .before .match .keys6) (kept (c .load-step3 .ensures))
-
-same-length-5 : tie.Need-same-length-5
-same-length-5 c = search needs
-
-returns-7 : tie.Need-returns-7
-returns-7 c = λ p. rw (c .before .before .before .match .keys7) (kept (c .load-step4 .ensures))
-
-same-length-6 : tie.Need-same-length-6
-same-length-6 c = search needs
-
-returns-8 : tie.Need-returns-8
-returns-8 c = λ p. rw (c .before .before .before .match .keys8) (kept (c .load-step5 .ensures))
-
-same-length-7 : tie.Need-same-length-7
-same-length-7 c = search needs
-
-returns-9 : tie.Need-returns-9
-returns-9 c = λ p. rw (c .before .before .before .before .before .match .keys9) (c .before .before .store-step2 .ensures)
-
-same-length-8 : tie.Need-same-length-8
-same-length-8 c = search needs
-
-returns-10 : tie.Need-returns-10
-returns-10 c = λ p. rw (c .before .before .before .match .keys10) (kept (c .load-step6 .ensures))
-
-same-length-9 : tie.Need-same-length-9
-same-length-9 c = search needs
-
-returns-11 : tie.Need-returns-11
-returns-11 c = λ p. rw (c .before .before .before .match .keys11) (kept (c .load-step7 .ensures))
-
-same-length-10 : tie.Need-same-length-10
-same-length-10 c = search needs
-
-returns-12 : tie.Need-returns-12
-returns-12 c = λ p. rw (c .before .before .before .match .keys12) (kept (c .load-step8 .ensures))
-
-same-length-11 : tie.Need-same-length-11
-same-length-11 c = search needs
-
-returns-13 : tie.Need-returns-13
-returns-13 c = λ p. rw (c .before .before .before .match .keys13) (kept (c .load-step9 .ensures))
-
-same-length-12 : tie.Need-same-length-12
-same-length-12 c = search needs
-
-returns-14 : tie.Need-returns-14
-returns-14 c = λ p. rw (c .before .before .before .match .keys14) (kept (c .load-step10 .ensures))
-
-same-length-13 : tie.Need-same-length-13
-same-length-13 c = search needs
-
-returns-15 : tie.Need-returns-15
-returns-15 c = λ p. rw (c .before .before .before .match .keys15) (kept (c .load-step11 .ensures))
-
-same-length-14 : tie.Need-same-length-14
-same-length-14 c = search needs
-
-returns-16 : tie.Need-returns-16
-returns-16 c = λ p. rw (c .before .before .before .match .keys16) (kept (c .load-step12 .ensures))
-
-same-length-15 : tie.Need-same-length-15
-same-length-15 c = search needs
-
-returns-17 : tie.Need-returns-17
-returns-17 c = λ p. rw (c .before .before .before .match .keys17) (kept (c .multiply-word-step .ensures))
-
-same-length-16 : tie.Need-same-length-16
-same-length-16 c = search needs
-
-returns-18 : tie.Need-returns-18
-returns-18 c = λ p. rw (c .before .before .before .match .keys18) (kept (c .load-step13 .ensures))
-
-same-length-17 : tie.Need-same-length-17
-same-length-17 c = search needs
-
-returns-19 : tie.Need-returns-19
-returns-19 c = λ p. rw (c .before .before .before .match .keys19) (kept (c .load-step14 .ensures))
-
-returns-20 : tie.Need-returns-20
-returns-20 c = λ p. rw (row-rest (c .before .before .before .args .op) storageRows unlistedLong (c .before .match .rest), c .halt .ensures)
+returns-3 : tie.Need-returns-3
+returns-3 c = λ p. rw (row-rest (c .before .before .before .before .before .args .op) storeRows (readKind (c .before .before .before .before .before .args .op)) (c .before .before .before .match .rest)) (c .reading .ensures p)
 
 pub storage-spec : {M : Type 1} → statement M
 storage-spec =
     tie.close
     (tie.spec
     store-step-requires
-    link-step-requires
-    branch-step-requires
-    load-step-requires
-    load-step-requires-2
-    load-step-requires-3
-    load-step-requires-4
-    load-step-requires-5
     store-step-requires-2
-    load-step-requires-6
-    load-step-requires-7
-    load-step-requires-8
-    load-step-requires-9
-    load-step-requires-10
-    load-step-requires-11
-    load-step-requires-12
-    multiply-word-step-requires
-    load-step-requires-13
-    load-step-requires-14
-    halt-requires
+    reading-requires
     same-length
     returns
-    returns-2
-    returns-3
     same-length-2
-    returns-4
+    returns-2
     same-length-3
-    returns-5
-    same-length-4
-    returns-6
-    same-length-5
-    returns-7
-    same-length-6
-    returns-8
-    same-length-7
-    returns-9
-    same-length-8
-    returns-10
-    same-length-9
-    returns-11
-    same-length-10
-    returns-12
-    same-length-11
-    returns-13
-    same-length-12
-    returns-14
-    same-length-13
-    returns-15
-    same-length-14
-    returns-16
-    same-length-15
-    returns-17
-    same-length-16
-    returns-18
-    same-length-17
-    returns-19
-    returns-20)
+    returns-3)

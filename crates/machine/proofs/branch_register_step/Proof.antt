@@ -1,54 +1,40 @@
-use Rattle.base.proofs.Tests.{told}
-use borrow.Author.Tests.{eq-eqb, ne-eqb}
+-- `branch_register_step` takes no branch by register 0, and else goes by the mask. Assumes nothing.
 use borrow.Author.Needs.{needs}
+use borrow.Author.Tests.{eq-eqb, ne-eqb}
+use Rattle.base.proofs.Tests.{told}
 use Rattle.machine.proofs.branch_register_step.Statement.{statement}
 use Rattle.machine.proofs.branch_register_step.Tie as tie
-use Rattle.machine.proofs.branch_register_step.Reads as reads
-use Rattle.machine.proofs.branch_register_step.Lts as lts
-use Rattle.machine.proofs.go.Reads as go-reads
-use Rattle.machine.proofs.is_asked.Reads as is-asked-reads
 
--- src/lib.rt:324:27
 add-go : tie.Need-add-go
 add-go c = search needs
 
--- src/lib.rt:324:9
 go-requires : tie.Need-go-requires
 go-requires c κs = search needs
 
--- src/lib.rt:324:9
 returns : tie.Need-returns
 returns c = λ rs. rw (eq-eqb _ _ (c .before .before .if1 .taken), c .go .ensures)
 
--- src/lib.rt:326:8
 is-asked-requires : tie.Need-is-asked-requires
 is-asked-requires c κs = search needs
 
--- src/lib.rt:327:29
 cast-go : tie.Need-cast-go
 cast-go c = search needs
 
--- src/lib.rt:327:27
 cast-go-2 : tie.Need-cast-go-2
 cast-go-2 c = search needs
 
--- src/lib.rt:327:9
 go-requires-2 : tie.Need-go-requires-2
 go-requires-2 c κs = search needs
 
--- src/lib.rt:327:9
 returns-2 : tie.Need-returns-2
 returns-2 c = λ rs. rw (ne-eqb _ _ (c .before .before .before .before .before .if1 .left), told (c .before .before .before .is-asked .ensures) (c .before .before .if2 .taken), c .go2 .ensures)
 
--- src/lib.rt:329:16
 add-go-2 : tie.Need-add-go-2
 add-go-2 c = search needs
 
--- src/lib.rt:329:5
 go-requires-3 : tie.Need-go-requires-3
 go-requires-3 c κs = search needs
 
--- src/lib.rt:319:1
 returns-3 : tie.Need-returns-3
 returns-3 c = λ rs. rw (ne-eqb _ _ (c .before .before .before .before .before .if1 .left), told (c .before .before .before .is-asked .ensures) (c .before .before .if2 .left), c .go3 .ensures)
 

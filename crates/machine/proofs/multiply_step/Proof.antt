@@ -1,25 +1,18 @@
-use borrow.Author.Tests.{eq-eqb, ne-eqb}
+-- `multiply_step` stops at an odd field, and else multiplies. Assumes nothing.
 use borrow.Author.Needs.{needs}
+use borrow.Author.Tests.{eq-eqb, ne-eqb}
 use Rattle.machine.proofs.multiply_step.Statement.{statement}
 use Rattle.machine.proofs.multiply_step.Tie as tie
-use Rattle.machine.proofs.multiply_step.Reads as reads
-use Rattle.machine.proofs.multiply_step.Lts as lts
-use Rattle.machine.proofs.halt.Reads as halt-reads
-use Rattle.machine.proofs.pair.Reads as pair-reads
 
--- src/lib.rt:276:9
 halt-requires : tie.Need-halt-requires
 halt-requires c κs = search needs
 
--- src/lib.rt:276:9
 returns : tie.Need-returns
 returns c = rw (ne-eqb _ _ (c .before .if1 .taken), c .halt .ensures)
 
--- src/lib.rt:278:5
 pair-requires : tie.Need-pair-requires
 pair-requires c κs = search needs
 
--- src/lib.rt:271:1
 returns-2 : tie.Need-returns-2
 returns-2 c = rw (eq-eqb _ _ (c .before .before .if1 .left)) (c .pair .ensures)
 

@@ -1,24 +1,18 @@
-use borrow.Author.Tests.{eq-eqb, ne-eqb}
+-- `service_step` follows the definition's test. Assumes nothing.
 use borrow.Author.Needs.{needs}
+use borrow.Author.Tests.{eq-eqb, ne-eqb}
 use Rattle.machine.proofs.service_step.Statement.{statement}
 use Rattle.machine.proofs.service_step.Tie as tie
-use Rattle.machine.proofs.service_step.Reads as reads
-use Rattle.machine.proofs.service_step.Lts as lts
-use Rattle.machine.proofs.halt.Reads as halt-reads
 
--- src/lib.rt:355:9
 halt-requires : tie.Need-halt-requires
 halt-requires c κs = search needs
 
--- src/lib.rt:357:9
 halt-requires-2 : tie.Need-halt-requires-2
 halt-requires-2 c κs = search needs
 
--- src/lib.rt:351:1
 returns : tie.Need-returns
 returns c = rw (eq-eqb _ _ (c .before .if1 .taken)) (c .halt .ensures)
 
--- src/lib.rt:351:1
 returns-2 : tie.Need-returns-2
 returns-2 c = rw (ne-eqb _ _ (c .before .if1 .left)) (c .halt2 .ensures)
 
