@@ -98,7 +98,7 @@ fn is_element(s: Site, a: Asked) -> bool
 }
 
 // "Segment k goes to 4096·(k+1)".
-const PAGE: u64 = 4096;
+const PAGE: u64 = machine::ROOM as u64;
 
 fn placed_at(s: Site, v: u64) -> Element
     ensures { λ r. ⌜ r ≡ placedAt s v ⌝ }

@@ -6,10 +6,10 @@ use base::less;
 use runner::Stop;
 use runner::Verdict;
 
-const STORAGE: usize = 20480;
+const STORAGE: usize = machine::ROOM * machine::PAGES;
 
 // Where the program lies.
-const PROGRAM: usize = 4096;
+const PROGRAM: usize = machine::ROOM;
 
 fn stop_number(stop: Stop) -> usize
     ensures { λ r. ⌜ r ≡ stopOf stop ⌝ }
