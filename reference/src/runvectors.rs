@@ -60,7 +60,7 @@ fn manifest(cases: usize, counts: &Counts, runs: usize, emulated: usize) -> Stri
          and the line that answers it (`number place stop counter cc count r0 … r15 hash`).\n\
          runs are the papers' cases 1, 6 and 8, the edges of storage and budget around them, and generated ones from seed {SEED}.\n\
          Made again by `reference runvectors DIR`.\n",
-        hercules::STORED
+        hercules::stored()
     )
 }
 

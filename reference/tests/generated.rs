@@ -6,7 +6,7 @@ use reference::build::Builder;
 use reference::gen;
 use reference::random::Random;
 use reference::spell;
-use reference::token::{tokens, Kind, RESERVED, SIGNS};
+use reference::token::{reserved, tokens, Kind, SIGNS};
 use reference::translate::translate;
 use reference::vectors;
 use std::collections::{BTreeMap, BTreeSet, HashSet};
@@ -70,7 +70,7 @@ fn accepted_texts_use_every_token_and_every_opcode_in_every_form() {
             }
         }
     }
-    for (word, kind) in RESERVED.iter().chain(&SIGNS) {
+    for (word, kind) in reserved().iter().chain(&SIGNS) {
         assert!(kinds.contains(kind), "{word}");
     }
     assert!(kinds.contains(&Kind::Name) && kinds.contains(&Kind::Number));

@@ -8,7 +8,7 @@ use reference::meant::{meant, Does, Named};
 use reference::objread;
 use reference::random::Random;
 use reference::runcase::Case;
-use reference::slips::{Slip, SLIPS};
+use reference::slips::{slips, Slip};
 use reference::translate::{translate, translate_with};
 use reference::watch::{watch, Clause, Cry, Given, Seen, Text, Watched};
 use reference::watching::{
@@ -214,7 +214,7 @@ fn one_changed_byte_is_cried_out_for_wherever_it_matters() {
 
 #[test]
 fn wrong_translators_are_cried_out_for_and_nothing_else_is() {
-    for slip in SLIPS {
+    for &slip in slips() {
         let trial = try_slip(slip, Texts::Hunted, 17, 250);
         assert!(trial.false_cries.is_empty(), "{}", trial.report("slip"));
         assert!(trial.wrong > 0, "{slip:?}: {}", trial.report("slip"));
