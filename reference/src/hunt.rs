@@ -225,7 +225,8 @@ impl Hunter<'_> {
     /// Inside IF only a simple one may stand before ELSE.
     fn statement(&mut self, any: bool) {
         self.statements = self.statements.saturating_sub(1);
-        if BYTE_FUNCTIONS && self.random.chance(1, 4) {
+        let often = if self.slip == Slip::FunctionsForgotten { 4 } else { 10 };
+        if BYTE_FUNCTIONS && self.random.chance(1, often) {
             return self.function();
         }
         match self.random.below(20) {

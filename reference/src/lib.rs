@@ -22,6 +22,7 @@ pub const BYTE_FUNCTIONS: bool = cfg!(feature = "byte-functions");
 
 pub mod assemble;
 pub mod build;
+pub mod byte_points;
 pub mod cmd_run;
 pub mod cmd_text;
 pub mod cmd_watch;

@@ -423,11 +423,10 @@ impl Reader<'_> {
     /// "IC, STC and LA take a register, then a cell that may be indexed; LTR takes two registers; IC, LA and LTR write the
     /// first", the others take a number or have one, then a cell. Of the cell they mean the first byte.
     fn function(&mut self, function: Function, arguments: &[Operand]) {
-        let names = |argument: &Operand| match argument {
-            Operand::Designator(designator) => self.register(designator.name),
-            Operand::Number(_) => 0,
+        let register = match arguments.first() {
+            Some(Operand::Designator(designator)) => self.register(designator.name),
+            _ => 0,
         };
-        let register = names(&arguments[0]);
         let writes = if function.writes_first { only(register) } else { 0 };
         let cell = match arguments.last() {
             Some(Operand::Designator(designator)) => self.cell(designator),

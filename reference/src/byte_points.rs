@@ -1,0 +1,222 @@
+//! The points of document 02, 1/13, decided in docs/DECISIONS.md, section B: texts as in `points`, and runs.
+
+use crate::points::{point, Point};
+use crate::runcase::Case;
+use crate::runner::STORAGE_NEEDED;
+use crate::translate::translate;
+
+/// A translated text's run: from these registers, all others 0, and this code.
+pub struct Run {
+    pub name: &'static str,
+    pub text: &'static [u8],
+    pub regs: &'static [(usize, u32)],
+    pub code: u64,
+    pub ends: &'static [End],
+}
+
+/// What is so at the end of a run.
+#[derive(Clone, Copy, PartialEq, Eq, Debug)]
+pub enum End {
+    Stop(u32),
+    Count(u32),
+    Code(u64),
+    Register(usize, u32),
+    /// A byte of segment 1.
+    Byte(usize, u8),
+}
+
+impl Run {
+    /// The case with a budget of so many instructions.
+    pub fn case(&self, budget: u32) -> Case {
+        let mut regs = [0; 16];
+        self.regs.iter().for_each(|&(register, value)| regs[register] = value);
+        let object = translate(self.text, None).object;
+        Case { object, budget, cc: self.code, storage_length: STORAGE_NEEDED, regs }
+    }
+}
+
+const fn run(
+    name: &'static str,
+    text: &'static [u8],
+    regs: &'static [(usize, u32)],
+    code: u64,
+    ends: &'static [End],
+) -> Run {
+    Run { name, text, regs, code, ends }
+}
+
+pub const BYTE_POINTS: &[Point] = &[
+    point("B1", b"BEGIN INTEGER BYTE; END @", 4, 14, ""),
+    point("B1", b"BEGIN BYTE: NULL; END @", 4, 10, ""),
+    point("B1", b"BEGIN INTEGER BYTES, CHARACTERS, CASE, OF; END @", 0, 0, ""),
+    point("B2", b"BEGIN INTEGER SET; SET := R1; END @", 0, 0, "5010E010 0A00"),
+    point("B2", b"BEGIN PROCEDURE TEST(R5); NULL; TEST; END @", 0, 0, "47F0F006 07F5 4550F004 0A00"),
+    point("B2", b"BEGIN INTEGER REGISTER LTR(3); LTR := R1; END @", 0, 0, "1831 0A00"),
+    point("B2", b"BEGIN IC: NULL; GOTO IC; END @", 0, 0, ""),
+    point("B4", b"BEGIN BYTE B; MVC(5)(B)(B); END @", 6, 14, ""),
+    point("B4", b"BEGIN FUNCTION LTR(1)(#1200); END @", 4, 15, ""),
+    point("B5", b"BEGIN LTR(R1); END @", 8, 6, ""),
+    point("B5", b"BEGIN X(1)(R2)(Y(4))(5)(Z); END @", 6, 6, ""),
+    point("B5", b"BEGIN IC(); END @", 4, 9, ""),
+    point("B5", b"BEGIN IC(R1, B); END @", 4, 11, ""),
+    point("B5", b"BEGIN IC R1; END @", 4, 9, ""),
+    point("B5", b"BEGIN SET((F)); END @", 4, 10, ""),
+    point("B5", b"BEGIN MVI(4 + 1)(B); END @", 4, 12, ""),
+    point("B6", b"BEGIN LTR(R1)(R2) := 5; END @", 4, 18, ""),
+    point("B6", b"BEGIN A(R1)(4) := R2; END @", 4, 15, ""),
+    point("B6", b"BEGIN A(4)(4) := R2; END @", 4, 14, ""),
+    point("B6", b"BEGIN A(B(4)) := R2; END @", 4, 14, ""),
+    point("B6", b"BEGIN A(4)(R1)(R2) := R3; END @", 4, 19, ""),
+    point("B6", b"BEGIN IC(4)(R1) := R2; END @", 8, 6, ""),
+    point("B6", b"BEGIN BYTE B; MVI(5)(B) := R1; END @", 8, 14, ""),
+    point("B6", b"BEGIN BYTE F; SET(F) := R1; END @", 8, 14, ""),
+    point("B7", b"BEGIN R1 := A(R1)(4); END @", 4, 17, ""),
+    point("B7", b"BEGIN R1 := IC(R2)(A); END @", 4, 18, ""),
+    point("B7", b"BEGIN FOR A(R1)(4) := 1 STEP 1 UNTIL 2 DO NULL; END @", 4, 15, ""),
+    point("B7", b"BEGIN IF LTR(R1)(R2) = R1 THEN NULL; END @", 4, 12, ""),
+    point("B7", b"BEGIN IC(R1): NULL; END @", 4, 12, ""),
+    point("B8", b"BEGIN ARRAY (8) BYTE A; IC(R1)(A(4)(R2)); END @", 0, 0, "4312E014 0A00"),
+    point("B8", b"BEGIN ARRAY (8) BYTE A; IC(R1)(A)(4)(R2); END @", 8, 24, ""),
+    point("B8", b"BEGIN ARRAY (8) BYTE A; SET(A)(4); END @", 8, 24, ""),
+    point("B8", b"BEGIN ARRAY (8) BYTE A; IC(R1)(A(R2)(4)); END @", 4, 36, ""),
+    point("B8", b"BEGIN ARRAY (8) BYTE A; IC(R1)(A(4)(4)); END @", 4, 36, ""),
+    point("B9", b"BEGIN IC; END @", 8, 6, ""),
+    point("B9", b"BEGIN IC(5); END @", 8, 6, ""),
+    point("B9", b"BEGIN MVI(256); END @", 8, 6, ""),
+    point("B9", b"BEGIN LTR(X)(R1)(R2); END @", 8, 6, ""),
+    point("B10", b"BEGIN PROCEDURE P(R5); NULL; P(R1); END @", 8, 29, ""),
+    point("B10", b"BEGIN ARRAY (2) INTEGER A; A(4); END @", 8, 27, ""),
+    point("B10", b"BEGIN R1(R2); END @", 8, 6, ""),
+    point("B10", b"BEGIN A(4); END @", 6, 6, ""),
+    point("B11", b"BEGIN R1 := LA; END @", 8, 12, ""),
+    point("B11", b"BEGIN IC := R1; END @", 8, 6, ""),
+    point("B11", b"BEGIN IF LTR = R1 THEN NULL; END @", 8, 9, ""),
+    point("B11", b"BEGIN SEGMENT BASE LA; END @", 8, 19, ""),
+    point("B11", b"BEGIN PROCEDURE P(LA); NULL; END @", 8, 18, ""),
+    point("B11", b"BEGIN LA(R1)(IC(R2)); END @", 8, 13, ""),
+    point("B12", b"BEGIN BYTE SET; SET(SET); END @", 8, 16, ""),
+    point("B12", b"BEGIN BYTE B; PROCEDURE SET(R5); SET(B); END @", 8, 33, ""),
+    point("B12", b"BEGIN BYTE B; BEGIN BYTE SET; END; SET(B); END @", 0, 0, "92FFE010 0A00"),
+    point("B12", b"BEGIN BYTE B; INTEGER R1; IC(R1)(B); END @", 8, 29, ""),
+    point("B13", b"BEGIN BYTE F; IF < THEN SET(F) ELSE RESET(F); END @", 0, 0, "47B0F00C 92FFE010 47F0F010 9200E010 0A00"),
+    point("B13", b"BEGIN BYTE F; PROCEDURE P(R5); SET(F); P; END @", 0, 0, "47F0F00A 92FFE010 07F5 4550F004 0A00"),
+    point("B14", b"BEGIN CHARACTER C(193); R1 := C; END @", 8, 30, ""),
+    point("B15", b"BEGIN ARRAY (3) BYTE A(1)(2)(3); END @", 0, 0, ""),
+    point("B15", b"BEGIN SHORT BYTE B; END @", 4, 12, ""),
+    point("B15", b"BEGIN BYTE REGISTER B(1); END @", 4, 11, ""),
+    point("B15", b"BEGIN BYTE INTEGER B; END @", 4, 11, ""),
+    point("B16", b"BEGIN BYTE A(255), B(#FF), C(_0), D(#000000FF); END @", 0, 0, ""),
+    point("B16", b"BEGIN BYTE A(256); END @", 11, 13, ""),
+    point("B16", b"BEGIN BYTE A(_1); END @", 11, 13, ""),
+    point("B16", b"BEGIN BYTE A(#FFFFFFFF); END @", 11, 13, ""),
+    point("B16", b"BEGIN BYTE A(1)(2); END @", 11, 16, ""),
+    point("B17", b"BEGIN BYTE B(1); INTEGER I(2); SHORT INTEGER S(3); BYTE C(4); END @", 0, 0, ""),
+    point("B17", b"BEGIN BYTE B; R1 := 5; END @", 0, 0, "5810E014 0A00"),
+    point("B17", b"BEGIN SEGMENT BASE RC; BYTE B(7); SHORT INTEGER S(8); END @", 0, 0, ""),
+    point("B18", b"BEGIN ARRAY (2049) BYTE A; END @", 11, 13, ""),
+    point("B18", b"BEGIN ARRAY (2048) BYTE A; ARRAY (2032) CHARACTER B; END @", 0, 0, ""),
+    point("B18", b"BEGIN ARRAY (2048) BYTE A; ARRAY (2032) BYTE B; BYTE C; END @", 12, 53, ""),
+    point("B19", b"BEGIN INTEGER I; SHORT INTEGER S; IC(R1)(I); STC(R2)(S); LA(R3)(I); MVI(1)(S); CLI(2)(I); SET(S); END @", 0, 0, "4310E010 4220E014 4130E010 9201E014 9502E010 92FFE014 0A00"),
+    point("B20", b"BEGIN ARRAY (2) INTEGER A; IC(R1)(A(1)); END @", 11, 36, ""),
+    point("B20", b"BEGIN ARRAY (2) INTEGER A; IC(R1)(A(4)); END @", 0, 0, "4310E014 0A00"),
+    point("B20", b"BEGIN ARRAY (3) BYTE A; IC(R1)(A(2)); IC(R1)(A(3)); END @", 11, 47, ""),
+    point("B20", b"BEGIN ARRAY (3) BYTE A; LA(R1)(A(3)); END @", 11, 33, ""),
+    point("B20", b"BEGIN ARRAY (3) BYTE A; LA(R1)(A(_1)(R2)); END @", 11, 33, ""),
+    point("B21", b"BEGIN BYTE B; IC(R1)(B(R2)); END @", 8, 21, ""),
+    point("B21", b"BEGIN BYTE B; LA(R1)(B(0)); END @", 8, 21, ""),
+    point("B21", b"BEGIN ARRAY (3) BYTE A; STC(R1)(A(R0)); END @", 9, 34, ""),
+    point("B21", b"BEGIN ARRAY (3) BYTE A; STC(RE)(A(RF)); END @", 0, 0, "42EFE010 0A00"),
+    point("B22", b"BEGIN ARRAY (8) BYTE A; SET(A(R1)); END @", 8, 30, ""),
+    point("B22", b"BEGIN ARRAY (8) BYTE A; MVI(1)(A(4)(R1)); END @", 8, 36, ""),
+    point("B22", b"BEGIN ARRAY (8) BYTE A; SET(A(R0)); END @", 8, 30, ""),
+    point("B22", b"BEGIN ARRAY (8) BYTE A; SET(A(X)); END @", 6, 30, ""),
+    point("B22", b"BEGIN ARRAY (8) BYTE A; SET(A(9)(R1)); END @", 11, 30, ""),
+    point("B22", b"BEGIN BYTE B; SET(B(R1)); END @", 8, 18, ""),
+    point("B23", b"BEGIN ARRAY (8) BYTE A; SET(A(7)); RESET(A); CLI(5)(A(1)); END @", 0, 0, "92FFE017 9200E010 9505E011 0A00"),
+    point("B24", b"BEGIN BYTE B; IC(5)(B); END @", 8, 17, ""),
+    point("B24", b"BEGIN BYTE B; IC(B)(R1); END @", 8, 17, ""),
+    point("B24", b"BEGIN IC(R1)(R2); END @", 8, 13, ""),
+    point("B24", b"BEGIN LA(R1)(5); END @", 8, 13, ""),
+    point("B24", b"BEGIN BYTE B; LTR(R1)(B); END @", 8, 22, ""),
+    point("B24", b"BEGIN BYTE B; MVI(R1)(B); END @", 8, 18, ""),
+    point("B24", b"BEGIN BYTE B; MVI(B)(5); END @", 8, 18, ""),
+    point("B24", b"BEGIN SET(300); END @", 8, 10, ""),
+    point("B24", b"BEGIN PROCEDURE P(R5); NULL; SET(P); END @", 8, 33, ""),
+    point("B24", b"BEGIN ARRAY (2) INTEGER A; BYTE B; IC(A(X))(B); END @", 8, 38, ""),
+    point("B25", b"BEGIN BYTE B; MVI(#FF)(B); CLI(_0)(B); END @", 0, 0, "92FFE010 9500E010 0A00"),
+    point("B25", b"BEGIN BYTE B; MVI(256)(R1); END @", 11, 18, ""),
+    point("B25", b"BEGIN BYTE B; CLI(_1)(B); END @", 11, 18, ""),
+    point("B25", b"BEGIN BYTE B; CLI(#FFFFFFFF)(B); END @", 11, 18, ""),
+    point("B26", b"BEGIN BYTE B; IC(R1(4))(B); END @", 8, 17, ""),
+    point("B26", b"BEGIN LTR(R1)(R2(R3)); END @", 8, 14, ""),
+    point("B27", b"BEGIN BYTE B; IC(R0)(B); STC(R0)(B); LA(R0)(B); LTR(R0)(R0); END @", 0, 0, "4300E010 4200E010 4100E010 1200 0A00"),
+    point("B28", b"BEGIN BYTE B; IC(RE)(B); END @", 10, 17, ""),
+    point("B28", b"BEGIN BYTE B; STC(RE)(B); END @", 0, 0, ""),
+    point("B28", b"BEGIN LTR(R1)(RF); END @", 0, 0, ""),
+    point("B28", b"BEGIN PROCEDURE P(R5); LTR(R5)(R5); END @", 10, 27, ""),
+    point("B28", b"BEGIN LA(RF)(X); END @", 10, 9, ""),
+    point("B29", b"BEGIN BYTE B; PROCEDURE P(R5); IC(R7)(B); PROCEDURE S(R7); P; END @", 10, 59, ""),
+    point("B29", b"BEGIN BYTE B; PROCEDURE P(R5); STC(R7)(B); PROCEDURE S(R7); P; END @", 0, 0, ""),
+    point("B30", b"BEGIN BYTE B; B := R1; END @", 8, 14, ""),
+    point("B30", b"BEGIN BYTE B; B := 5; END @", 8, 14, ""),
+    point("B30", b"BEGIN BYTE B; R1 := R2 + B; END @", 8, 25, ""),
+    point("B30", b"BEGIN BYTE B; R1 := NEG B; END @", 8, 24, ""),
+    point("B30", b"BEGIN BYTE B; IF R1 = B THEN NULL; END @", 8, 22, ""),
+    point("B30", b"BEGIN BYTE B; FOR R1 := 1 STEP 1 UNTIL B DO NULL; END @", 8, 39, ""),
+    point("B30", b"BEGIN ARRAY (2) BYTE A; R1 := A(9); END @", 8, 30, ""),
+    point("B30", b"BEGIN BYTE B; INTEGER I; I := B; END @", 8, 30, ""),
+    point("B31", b"BEGIN BYTE B; R2 := R3 * B; END @", 8, 25, ""),
+    point("B32", b"BEGIN SEGMENT BASE RC; ARRAY (4) BYTE A; IC(R1)(A(2)(R3)); STC(R1)(A(R2)); LA(R2)(A); LTR(R1)(R2); MVI(5)(A(1)); CLI(#C1)(A); SET(A); RESET(A); TEST(A(3)); END @", 0, 0, "58C0E008 4313C002 4212C000 4120C000 1212 9205C001 95C1C000 92FFC000 9200C000 95FFC003 0A00"),
+    point("B40", b"BEGIN INTEGER I; IC(R1)(I); END @", 0, 0, ""),
+];
+
+pub const BYTE_RUNS: &[Run] = &[
+    run(
+        "B34",
+        b"BEGIN INTEGER I(#ABCDEF01); IC(R1)(I); END @",
+        &[(1, 0x1122_3344)],
+        3,
+        &[End::Stop(1), End::Register(1, 0x1122_33AB), End::Code(3)],
+    ),
+    run(
+        "B34",
+        b"BEGIN BYTE B; STC(R1)(B); END @",
+        &[(1, 0x1122_3344)],
+        1,
+        &[End::Stop(1), End::Byte(16, 0x44), End::Code(1)],
+    ),
+    run(
+        "B35",
+        b"BEGIN ARRAY (4) BYTE A; LA(R1)(A(1)(R1)); END @",
+        &[(1, 0xFFFF_FFFF)],
+        2,
+        &[End::Stop(1), End::Register(1, 0x0000_2010), End::Code(2)],
+    ),
+    run(
+        "B35",
+        b"BEGIN ARRAY (4) BYTE A; LA(R1)(A(R2)); END @",
+        &[(2, 0x00F0_0001)],
+        0,
+        &[End::Stop(1), End::Register(1, 0x00F0_2011)],
+    ),
+    run("B36", b"BEGIN BYTE B(3); CLI(5)(B); END @", &[], 3, &[End::Code(1)]),
+    run("B36", b"BEGIN BYTE B(#80); CLI(#7F)(B); END @", &[], 3, &[End::Code(2)]),
+    run("B36", b"BEGIN BYTE B; MVI(#C1)(B); END @", &[], 3, &[End::Byte(16, 0xC1), End::Code(3)]),
+    run("B36", b"BEGIN BYTE B(#FF); TEST(B); IF = THEN R1 := 1; END @", &[], 1, &[End::Register(1, 0x0000_0001)]),
+    run("B37", b"BEGIN LTR(R1)(R2); END @", &[(2, 0x8000_0000)], 0, &[End::Register(1, 0x8000_0000), End::Code(1)]),
+    run(
+        "B38",
+        b"BEGIN ARRAY (4) BYTE A; STC(R1)(A(R2)); END @",
+        &[(2, 0x0000_0004)],
+        0,
+        &[End::Stop(2), End::Count(0)],
+    ),
+    run(
+        "B38",
+        b"BEGIN ARRAY (4) BYTE A; R1 := 5; IC(R1)(A(R2)); END @",
+        &[(2, 0x0000_0007)],
+        0,
+        &[End::Stop(1), End::Register(1, 0x0000_0005)],
+    ),
+    run("B38", b"BEGIN ARRAY (4) BYTE A; STC(R1)(A(R2)); END @", &[(2, 0xFFFF_FFFF)], 0, &[End::Stop(2)]),
+];
