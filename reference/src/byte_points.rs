@@ -168,6 +168,9 @@ pub const BYTE_POINTS: &[Point] = &[
     point("B31", b"BEGIN BYTE B; R2 := R3 * B; END @", 8, 25, ""),
     point("B32", b"BEGIN SEGMENT BASE RC; ARRAY (4) BYTE A; IC(R1)(A(2)(R3)); STC(R1)(A(R2)); LA(R2)(A); LTR(R1)(R2); MVI(5)(A(1)); CLI(#C1)(A); SET(A); RESET(A); TEST(A(3)); END @", 0, 0, "58C0E008 4313C002 4212C000 4120C000 1212 9205C001 95C1C000 92FFC000 9200C000 95FFC003 0A00"),
     point("B40", b"BEGIN INTEGER I; IC(R1)(I); END @", 0, 0, ""),
+    point("B41", b"BEGIN BYTE B; MVI(X)(B); END @", 6, 18, ""),
+    point("B41", b"BEGIN BYTE B; IC(X)(B); END @", 6, 17, ""),
+    point("B41", b"BEGIN LTR(R1)(X(4)); END @", 6, 14, ""),
 ];
 
 pub const BYTE_RUNS: &[Run] = &[
