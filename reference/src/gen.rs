@@ -2,7 +2,7 @@
 //! a text can have comes up, each at least once in 200 texts, and at least a third of the texts are accepted.
 
 use crate::build::Builder;
-use crate::functions::FUNCTIONS;
+use crate::functions::{Takes, FUNCTIONS};
 use crate::grammar::Type;
 use crate::layout::next_multiple;
 use crate::random::Random;
@@ -584,12 +584,16 @@ const IN_PARENTHESES: [&str; 30] = [
     "X",
 ];
 
-/// Statements that begin with a name and a row of parentheses: uses of functions and assignments, most of them right, and
+/// Statements that begin with a name and a row of parentheses: uses of functions and assignments, right, nearly right, and
 /// what is neither.
 pub fn rows(random: &mut Random) -> Vec<u8> {
     let mut phrase = format!("{BEFORE_ROWS} {} ", random.of(&HIDDEN));
     for _ in 0..random.range(1, 4) {
-        phrase += &if random.chance(2, 3) { right_row(random) } else { any_row(random) };
+        phrase += &match random.below(6) {
+            0..=2 => right_row(random),
+            3..=4 => near_row(random),
+            _ => any_row(random),
+        };
     }
     phrase += "END @";
     let mut tokens: Vec<String> = phrase.split_ascii_whitespace().map(str::to_string).collect();
@@ -616,6 +620,42 @@ fn right_row(random: &mut Random) -> String {
         6 => format!("{} ( {cell} ) ; ", random.of(&["SET", "RESET", "TEST"])),
         7 => format!("{} := {register} ; ", random.of(&["W ( 8 )", "W ( R1 )", "H ( 2 ) ( R3 )", "I"])),
         _ => "P ; ".to_string(),
+    }
+}
+
+/// The use of a function with arguments of the right sort, in which something may be wrong all the same.
+fn near_row(random: &mut Random) -> String {
+    let function = random.of(&FUNCTIONS);
+    let register = *random.of(&["R1", "R2", "RE", "RF", "E", "Z", "X", "I", "5", "R1 ( 4 )"]);
+    let value = *random.of(&["0", "255", "256", "_1", "#FF", "R1", "B"]);
+    let cell = *random.of(&[
+        "A",
+        "A ( 7 )",
+        "A ( 8 )",
+        "A ( _1 )",
+        "A ( R1 )",
+        "A ( 4 ) ( R2 )",
+        "A ( R0 )",
+        "A ( Z )",
+        "A ( X )",
+        "B",
+        "B ( 0 )",
+        "B ( R1 )",
+        "W ( 2 )",
+        "W ( 4 ) ( R1 )",
+        "H ( 6 )",
+        "H ( 8 )",
+        "R1",
+        "X",
+        "P",
+        "LA",
+    ]);
+    let name = function.name;
+    match function.takes {
+        Takes::RegisterAndCell => format!("{name} ( {register} ) ( {cell} ) ; "),
+        Takes::TwoRegisters => format!("{name} ( {register} ) ( {} ) ; ", random.of(&["R1", "RE", "X", "B"])),
+        Takes::NumberAndCell => format!("{name} ( {value} ) ( {cell} ) ; "),
+        Takes::Cell(_) => format!("{name} ( {cell} ) ; "),
     }
 }
 

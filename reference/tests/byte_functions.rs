@@ -6,7 +6,9 @@ use helpers::*;
 use reference::byte_points::{End, BYTE_RUNS};
 use reference::earley::Recognizer;
 use reference::functions::{Takes, FUNCTIONS};
+use reference::gen;
 use reference::machine::origin;
+use reference::random::Random;
 use reference::rules::broken;
 use reference::token::tokens;
 
@@ -208,6 +210,33 @@ fn functions_write_through_calls() {
     }
 }
 
+/// The answer to a text of tokens, which has to be that of the grammar as written and of the rules as sets.
+fn compare(recognizer: &Recognizer, text: &[u8]) -> usize {
+    let tokens = tokens(text).expect("tokens");
+    let unfit = recognizer.first_unfit(tokens.iter().map(|token| token.kind));
+    let opinion = match unfit {
+        Some(at) => (4, tokens[at].place),
+        None => broken(&tokens).first().map_or((0, 0), |&(place, number)| (number, place)),
+    };
+    let answer = verdict(text);
+    assert_eq!(answer, opinion, "{}", show(text));
+    answer.0 as usize
+}
+
+#[test]
+fn generated_rows_of_parentheses() {
+    let recognizer = Recognizer::new();
+    let mut answers = [0; 17];
+    for number in 0..15_000 {
+        let text = gen::rows(&mut Random::new(12, number));
+        if tokens(&text).is_ok() {
+            answers[compare(&recognizer, &text)] += 1;
+        }
+    }
+    println!("generated rows: {} comparisons, by number {answers:?}", answers.iter().sum::<usize>());
+    assert!([0, 4, 6, 8, 9, 10, 11].iter().all(|&number| answers[number] > 100), "{answers:?}");
+}
+
 const NAMES: [&str; 15] =
     ["IC", "STC", "LA", "MVI", "CLI", "SET", "RESET", "TEST", "LTR", "A", "B", "W", "P", "R1", "X"];
 const ARGUMENTS: [&str; 26] = [
@@ -256,15 +285,7 @@ fn all_rows_of_parentheses() {
         for row in &rows {
             for behind in ["", ":= R2"] {
                 let text = format!("{front} {name} {row} {behind} ; END @");
-                let tokens = tokens(text.as_bytes()).expect("tokens");
-                let unfit = recognizer.first_unfit(tokens.iter().map(|token| token.kind));
-                let opinion = match unfit {
-                    Some(at) => (4, tokens[at].place),
-                    None => broken(&tokens).first().map_or((0, 0), |&(place, number)| (number, place)),
-                };
-                let answer = verdict(text.as_bytes());
-                assert_eq!(answer, opinion, "{text}");
-                answers[answer.0 as usize] += 1;
+                answers[compare(&recognizer, text.as_bytes())] += 1;
                 compared += 1;
             }
         }
