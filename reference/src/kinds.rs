@@ -228,31 +228,30 @@ impl Judge<'_, '_> {
         }
         let (first, last) = (&used.arguments[0], &used.arguments[used.arguments.len() - 1]);
         match function.takes {
-            Takes::RegisterAndCell | Takes::TwoRegisters => self.register_argument(first, function, protected),
+            Takes::RegisterAndCell | Takes::TwoRegisters => {
+                self.register_argument(first, function.writes_first, protected);
+            }
             Takes::NumberAndCell => self.number_argument(first),
             Takes::Cell(_) => {}
         }
         match function.takes {
-            Takes::TwoRegisters => {
-                self.register_argument(last, Function { writes_first: false, ..function }, protected)
-            }
+            Takes::TwoRegisters => self.register_argument(last, false, protected),
             Takes::RegisterAndCell => self.cell_argument(last, true),
             Takes::NumberAndCell | Takes::Cell(_) => self.cell_argument(last, false),
         }
     }
 
     /// "IC, LA and LTR write the first, so the protected rule counts it."
-    fn register_argument(&mut self, argument: &Operand, function: Function, protected: RegisterSet) {
+    fn register_argument(&mut self, argument: &Operand, written: bool, protected: RegisterSet) {
         match argument {
             Operand::Number(number) => self.violations.add(8, *number),
             Operand::Designator(designator) => {
                 self.designator(designator);
                 self.register(designator.name);
-                let forgotten = self.slip == Slip::FunctionsForgotten;
-                if let (true, Meaning::Register(register)) =
-                    (function.writes_first && !forgotten, self.meaning(designator.name))
-                {
-                    self.writes(only(register), designator.name, protected);
+                if let Meaning::Register(register) = self.meaning(designator.name) {
+                    if written && self.slip != Slip::FunctionsForgotten {
+                        self.writes(only(register), designator.name, protected);
+                    }
                 }
             }
         }
