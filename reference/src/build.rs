@@ -129,6 +129,16 @@ pub struct Builder<'a> {
     careless: usize,
 }
 
+/// The words that a type is declared by; INTEGER has LOGICAL beside it.
+pub fn type_words(of: Type) -> &'static str {
+    match of {
+        Type::Integer => "INTEGER",
+        Type::Short => "SHORT INTEGER",
+        Type::Byte => "BYTE",
+        Type::Character => "CHARACTER",
+    }
+}
+
 /// The first 10 characters.
 fn counted(name: &str) -> &str {
     &name[..name.len().min(10)]
@@ -301,12 +311,7 @@ impl<'a> Builder<'a> {
             let value = if self.slips() { any_value(self.random) } else { count as u32 };
             self.in_parentheses(value);
         }
-        let words = match of {
-            Type::Integer => *self.random.of(&["INTEGER", "LOGICAL"]),
-            Type::Short => "SHORT INTEGER",
-            Type::Byte => "BYTE",
-            Type::Character => "CHARACTER",
-        };
+        let words = if of == Type::Integer { *self.random.of(&["INTEGER", "LOGICAL"]) } else { type_words(of) };
         self.put_all(words);
         for item in 0..items {
             if item > 0 {

@@ -1,7 +1,7 @@
 //! Generated source texts: right ones, careless ones, ones at the limits, and mutated ones, so that every refusal that
 //! a text can have comes up, each at least once in 200 texts, and at least a third of the texts are accepted.
 
-use crate::build::Builder;
+use crate::build::{type_words, Builder};
 use crate::functions::{Takes, FUNCTIONS};
 use crate::grammar::Type;
 use crate::layout::next_multiple;
@@ -383,12 +383,7 @@ fn full_segment(random: &mut Random) -> Vec<u8> {
             continue;
         }
         end = start + size * count;
-        let words = match of {
-            Type::Integer => "INTEGER",
-            Type::Short => "SHORT INTEGER",
-            Type::Byte => "BYTE",
-            Type::Character => "CHARACTER",
-        };
+        let words = type_words(of);
         let phrase = format!("ARRAY ( {count} ) {words} A{item} ;");
         tokens.extend(phrase.split(' ').map(str::to_string));
         if last || end > 4096 {
@@ -551,38 +546,19 @@ const BEFORE_ROWS: &str = "BEGIN ARRAY ( 8 ) BYTE A ; BYTE B , F ; INTEGER I ; A
 const HIDDEN: [&str; 5] = ["", "", "BYTE SET ;", "INTEGER REGISTER LTR ( 3 ) ;", "PROCEDURE IC ( R7 ) ; NULL ;"];
 
 /// What a parenthesis may hold, right for some function or for none.
-const IN_PARENTHESES: [&str; 30] = [
-    "R1",
-    "R2",
-    "R5",
-    "RE",
-    "RF",
-    "Z",
-    "E",
-    "5",
-    "0",
-    "255",
-    "256",
-    "_1",
-    "#FF",
-    "A",
-    "A ( 4 )",
-    "A ( R1 )",
-    "A ( 4 ) ( R2 )",
-    "A ( 8 )",
-    "A ( R0 )",
-    "A ( X )",
-    "B",
-    "F",
-    "I",
-    "W ( 4 )",
-    "W ( 2 )",
-    "H ( 6 ) ( R3 )",
-    "B ( R1 )",
-    "P",
-    "IC",
-    "X",
-];
+const IN_PARENTHESES: &str = "R1|R2|R5|RE|RF|Z|E|5|0|255|256|_1|#FF|A|A ( 4 )|A ( R1 )|A ( 4 ) ( R2 )|\
+    A ( 8 )|A ( R0 )|A ( X )|B|F|I|W ( 4 )|W ( 2 )|H ( 6 ) ( R3 )|B ( R1 )|P|IC|X";
+
+/// What nearly fits where a cell belongs.
+const NEARLY_CELLS: &str =
+    "A|A ( 7 )|A ( 8 )|A ( _1 )|A ( R1 )|A ( 4 ) ( R2 )|A ( R0 )|A ( Z )|A ( X )|B|B ( 0 )|B ( R1 )|\
+    W ( 2 )|W ( 4 ) ( R1 )|H ( 6 )|H ( 8 )|R1|X|P|LA";
+
+/// One of the parts of a list with bars between them.
+fn one_of<'a>(random: &mut Random, list: &'a str) -> &'a str {
+    let parts: Vec<&str> = list.split('|').collect();
+    *random.of(&parts)
+}
 
 /// Statements that begin with a name and a row of parentheses: uses of functions and assignments, right, nearly right, and
 /// what is neither.
@@ -628,28 +604,7 @@ fn near_row(random: &mut Random) -> String {
     let function = random.of(&FUNCTIONS);
     let register = *random.of(&["R1", "R2", "RE", "RF", "E", "Z", "X", "I", "5", "R1 ( 4 )"]);
     let value = *random.of(&["0", "255", "256", "_1", "#FF", "R1", "B"]);
-    let cell = *random.of(&[
-        "A",
-        "A ( 7 )",
-        "A ( 8 )",
-        "A ( _1 )",
-        "A ( R1 )",
-        "A ( 4 ) ( R2 )",
-        "A ( R0 )",
-        "A ( Z )",
-        "A ( X )",
-        "B",
-        "B ( 0 )",
-        "B ( R1 )",
-        "W ( 2 )",
-        "W ( 4 ) ( R1 )",
-        "H ( 6 )",
-        "H ( 8 )",
-        "R1",
-        "X",
-        "P",
-        "LA",
-    ]);
+    let cell = one_of(random, NEARLY_CELLS);
     let name = function.name;
     match function.takes {
         Takes::RegisterAndCell => format!("{name} ( {register} ) ( {cell} ) ; "),
@@ -665,22 +620,9 @@ fn any_row(random: &mut Random) -> String {
         _ => random.of(&FUNCTIONS).name.to_string(),
     };
     for _ in 0..random.below(4) {
-        row += &format!(" ( {} )", random.of(&IN_PARENTHESES));
+        row += &format!(" ( {} )", one_of(random, IN_PARENTHESES));
     }
-    let behind = *random.of(&[
-        ";",
-        ";",
-        ";",
-        ";",
-        ":= R1 ;",
-        ":= 5 ;",
-        ":= R1 + R2 ;",
-        ":",
-        "+ R1 ;",
-        "( ) ;",
-        ", R1 ;",
-        "R1 ;",
-    ]);
+    let behind = one_of(random, ";|;|;|;|:= R1 ;|:= 5 ;|:= R1 + R2 ;|:|+ R1 ;|( ) ;|, R1 ;|R1 ;");
     format!("{row} {behind} ")
 }
 

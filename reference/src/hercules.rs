@@ -256,7 +256,7 @@ fn without_index(random: &mut Random, regs: &mut [u32; 16], op: u8, address: u32
         regs[base] = address.wrapping_sub(displacement as u32).wrapping_add((random.next() as u32) << 24);
         return four(op, 0, 0, base as u8, displacement as u16);
     }
-    // Segment 2 is within reach of register 12 alone, so another base takes its place.
+    // Segment 2 lies past what register 14 reaches: register 13 takes its place there.
     match address.checked_sub(regs[14]) {
         Some(offset) if offset < 4096 => four(op, 0, 0, 14, offset as u16),
         _ => {
