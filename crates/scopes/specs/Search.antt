@@ -18,6 +18,10 @@ standardName c = token K.NAME (keyOf (82 ∷ c ∷ [])) 0
 abbrev pub inFront : List Token
 inFront = token K.END-OF-TEXT 0 0 ∷ map standardName (bytes "0123456789ABCDEF")
 
+-- how many names are declared around the program
+abbrev pub standardNames : ℕ
+standardNames = 16
+
 -- the text's own tokens follow
 abbrev pub firstToken : ℕ
 firstToken = 17
