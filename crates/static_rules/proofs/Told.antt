@@ -485,7 +485,6 @@ module _ (kinds values found : List ℕ) where
           e .grows (ownIn p) r h (has-both .0),
           λ v b w. e .grows (ownIn p) v b (has-both .1 v b (subst (λ (o : Registers). has o v ≡ true) kept w)),
         )
-
     phrase-told (applied n) p i y c s z g a l e f = tt
     phrase-told (argued n q b) p i y c s z g a l e f = λ r h m w.
         let o = use-before n q i c g a in

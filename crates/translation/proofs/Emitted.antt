@@ -305,15 +305,15 @@ module _ (f : Tables) (l : Layout) (n : ℕ) (small : All Small (f .means))
       let g = functionAt k in
       if-ready (eqb 1 (arity g)) (functionOn g 0 (g .number) (useOf f a))
       (λ e. let h = eqb-true 1 (arity g) e in
-          on-ready g 0 (g .number) (useOf f a) (sound-at k) (omega arith) (sound-at k .1)
-          (argument-ready kept (argumentAt g 0) a (taken-at (g .takes) 0 (omega arith) (sound-at k .2)) q .0))
+      on-ready g 0 (g .number) (useOf f a) (sound-at k) (omega arith) (sound-at k .1)
+      (argument-ready kept (argumentAt g 0) a (taken-at (g .takes) 0 (omega arith) (sound-at k .2)) q .0))
   function-ready k a (b ∷ []) ((kept, q), ((kept′, q′), u)) =
       let g = functionAt k in
       if-ready (eqb 2 (arity g) && isToken a) (functionOn g (sourceOf f a) (numberOf f a) (useOf f b))
       (λ e. let h = eqb-true 2 (arity g) (both (eqb 2 (arity g)) (isToken a) e .0) in
-          on-ready g (sourceOf f a) (numberOf f a) (useOf f b) (sound-at k) (source-ready a)
-          (argument-ready kept (argumentAt g 0) a (taken-at (g .takes) 0 (omega arith) (sound-at k .2)) q .1)
-          (argument-ready kept′ (argumentAt g 1) b (taken-at (g .takes) 1 (omega arith) (sound-at k .2)) q′ .0))
+      on-ready g (sourceOf f a) (numberOf f a) (useOf f b) (sound-at k) (source-ready a)
+      (argument-ready kept (argumentAt g 0) a (taken-at (g .takes) 0 (omega arith) (sound-at k .2)) q .1)
+      (argument-ready kept′ (argumentAt g 1) b (taken-at (g .takes) 1 (omega arith) (sound-at k .2)) q′ .0))
   function-ready k a (b ∷ c ∷ xs) q = tt
 
   use-code-ready : (m : Meaning) (a : Operand) (xs : List Operand) → Arguments m 0 (a ∷ xs) → AllReady (useCode f m a xs)
