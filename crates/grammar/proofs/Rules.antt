@@ -456,10 +456,10 @@ procedures room = record {
   some = λ d kinds i. leads-begins d (as-procedure room i);
 }
 
-is-use : (kinds : List ℕ) {room d i : ℕ} → getD kinds i 0 ≡ K.NAME → (xs : List Operand) (j : ℕ) → areArguments kinds xs (i + 1) j → statementIn room d kinds (useOf i xs) i j
+is-use : (kinds : List ℕ) (room d i : ℕ) → getD kinds i 0 ≡ K.NAME → (xs : List Operand) (j : ℕ) → areArguments kinds xs (i + 1) j → statementIn room d kinds (useOf i xs) i j
 unfolding isStatement nestingOf areArguments
-is-use kinds n [] j h = (omega arith, (refl, n, h))
-is-use kinds n (a ∷ xs) j h = (omega arith, (refl, n, h))
+is-use kinds room d i n [] j h = (omega arith, (refl, n, h))
+is-use kinds room d i n (a ∷ xs) j h = (omega arith, (refl, n, h))
 
 module _ {kinds : List ℕ} (room i : ℕ) where
   as-assign : Leads (statementIn room) kinds i (part assignments (λ a. made (assign a))) i
@@ -469,7 +469,7 @@ module _ {kinds : List ℕ} (room i : ℕ) where
   -- a call or a use
   as-use : Leads (statementIn room) kinds i (token K.NAME (λ n. part rows (λ xs. made (useOf n xs)))) i
   unfolding Each
-  as-use = starts (λ d o n xs j h. is-use o n xs j h)
+  as-use = starts (λ d o n xs j h. is-use o room d i n xs j h)
 
   as-goto : Leads (statementIn room) kinds i (token K.GOTO (λ t. token K.NAME (λ n. made (goto t n)))) i
   unfolding Each isStatement nestingOf
