@@ -209,20 +209,15 @@ declaration = do
 -- ── "simple = assignment, name (a call), block, GOTO name, NULL." Document 02, 1/13: "A use is a simple statement: the name, then each argument in its own parentheses." ──
 
 -- document 02, 1/13: "each argument in its own parentheses"
-unfoldable pub argument : Reader Operand
-argument = do
-  want K.OPEN
-  a ← operand
-  want K.CLOSE
-  give a
-
 unfoldable pub arguments : ℕ → Reader (List Operand)
 arguments zero = give []
 arguments (suc fuel) = do
   k ← look
   if eqb k K.OPEN
       then (do
-        a ← argument
+        next
+        a ← operand
+        want K.CLOSE
         xs ← arguments fuel
         give (a ∷ xs))
       else give []
@@ -251,19 +246,17 @@ assignOr (some d) s = do
   a ← assignedTo d
   give (assign a)
 
--- a name with a row of arguments is a use; before a `:=` it is the target, if it is a designator
-unfoldable pub useOf : (name : ℕ) → Operand → List Operand → Reader Statement
-useOf n a xs = do
-  k ← look
-  if eqb k K.BECOMES then assignOr (targetOf n (a ∷ xs)) (apply n a xs) else give (apply n a xs)
+-- a name with a row of arguments; with none it is a call
+abbrev pub useOf : (name : ℕ) → List Operand → Statement
+useOf n [] = call n
+useOf n (a ∷ xs) = apply n a xs
 
--- an assignment, a call or a use, its name read
+-- an assignment, a call or a use, its name read: which of them shows behind the row of arguments, since every designator is one
 unfoldable pub afterName : ℕ → Reader Statement
 afterName n = do
+  xs ← fuelled arguments
   k ← look
-  if eqb k K.BECOMES then (do a ← assignmentOf n; give (assign a)) else
-      if eqb k K.OPEN then (do a ← argument; xs ← fuelled arguments; useOf n a xs) else
-      give (call n)
+  if eqb k K.BECOMES then assignOr (targetOf n xs) (useOf n xs) else give (useOf n xs)
 
 abbrev pub openers : List ℕ
 openers = K.BEGIN ∷ K.IF ∷ K.WHILE ∷ K.FOR ∷ []
