@@ -253,9 +253,9 @@ fn use_at(op: u32, t: usize, wide: &[u64], thin: &mut [u16], b: Blocks, n: Noted
 // ── the tape ──
 
 // How many names are declared in the block around the program.
-const STANDARD_NAMES: usize = 16;
+const STANDARD_NAMES: usize = 25;
 
-// "R0 to R9 and RA to RF are declared in a block around the program."
+// "R0 to R9 and RA to RF are declared in a block around the program.", and so are the standard functions.
 fn open_around(thin: &mut [u16]) -> Blocks
     requires { ⌜ firstToken ≤ length (now thin) / 4 ⌝ }
     ensures { λ r. ⌜ Begun (thinOf (now (thin .exit))) r × Stays (thinOf (now (thin .entry))) (thinOf (now (thin .exit))) ⌝ }
