@@ -162,7 +162,7 @@ functions =
 worked : Hold cases × Hold limits × Hold slips × Hold traps × Hold functions
 unfolding sameBytes runLen numberFrom bytesOf walk X.wordKind X.comment X.nameOrWord X.number X.begins X.sign X.lexeme X.nextStep X.nextToken X.readFrom
     X.tokensOf R.andThen R.look R.next R.want R.wantOne G.designatorOf G.operand G.condition G.terms G.signOf G.assignedTo G.assignmentOf G.numbers G.cellItem G.registerItem
-    G.listOf G.typeOf G.cellsOf G.afterType G.declaration G.argument G.arguments G.targetOf G.assignOr G.useOf G.afterName G.statementOf G.itemsOf G.bodyOf G.ifOf G.constructOf G.statement G.program grammatical
+    G.listOf G.typeOf G.cellsOf G.afterType G.declaration G.arguments G.targetOf G.assignOr G.afterName G.statementOf G.itemsOf G.bodyOf G.ifOf G.constructOf G.statement G.program grammatical
     Ev.each Ev.eventsItem Ev.eventsDeclaration Ev.eventsSign Ev.eventsChain Ev.eventsArguments Ev.eventsStatement Pl.along B.rule B._⊕_ S.inBlock S.find N.noteFound N.useName
     N.declareName N.declareNames N.useNames N.nameEvent L.noteLabel L.setLabel L.labelEvent Q.flags Q.has Q.addRegister Q.union Q.spares F.functionAt M.write M.writeText
     M.callWrites M.targetWrites M.openBase M.addCell M.meanEvent J.registerRule J.zeroRule J.writeRule J.indexRules J.subscriptRules J.placeRules J.noByte J.operandRules
