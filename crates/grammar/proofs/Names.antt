@@ -28,11 +28,11 @@ module _ (kinds : List ℕ) (n : ℕ) (h : getD kinds n 0 ≡ K.NAME) where
   pub uses : ((d : Designator) (j : ℕ) → designatorOf n kinds (n + 1) ≡ ok d j → has kinds j K.BECOMES ≡ false)
       → afterName n kinds (n + 1) ≡ andThen (arguments (suc (length kinds)) kinds (n + 1)) (λ xs j. ok (useOf n xs) j)
   unfolding afterName assignOr andThen look
-  uses no = go (arguments (suc (length kinds)) kinds (n + 1)) (right-arguments kinds (suc (length kinds)) (n + 1))
+  uses never = go (arguments (suc (length kinds)) kinds (n + 1)) (right-arguments kinds (suc (length kinds)) (n + 1))
     where
       taken : (s : Statement) (j : ℕ) (d : Option Designator) → Targets kinds n j d → has kinds j K.BECOMES ≡ true → assignOr d s kinds j ≡ ok s j
       taken s j none t b = refl
-      taken s j (some d) t b = never-true (sym (no d j (complete-designator kinds d n j t (isnt kinds j K.OPEN (eqb-true _ _ b) refl))) ∙ b)
+      taken s j (some d) t b = never-true (sym (never d j (complete-designator kinds d n j t (isnt kinds j K.OPEN (eqb-true _ _ b) refl))) ∙ b)
 
       go : (r : Result (List Operand)) → Right (always areArguments) kinds (n + 1) r
           → andThen r (λ xs j. (if has kinds j K.BECOMES then assignOr (targetOf n xs) (useOf n xs) else give (useOf n xs)) kinds j) ≡ andThen r (λ xs j. ok (useOf n xs) j)
