@@ -61,7 +61,7 @@ module _ (kinds : List ℕ) where
   complete-shape n (some s) none i j (e, h, (o, (y, z, (c, q)))) f = rw (e, y, ← q, o, z, c, rw (← q) at f)
   complete-shape n (some s) (some x) i j (e, h, (o, (y, z, (c, (p, (u, v, (d, q))))))) f = rw (e, y, u, ← q, o, z, c, p, p, v, d)
 
-  complete-designator : (d : Designator) (i j : ℕ) → isDesignator kinds d i j → has kinds j K.OPEN ≡ false → designatorOf i kinds (i + 1) ≡ ok d j
+  pub complete-designator : (d : Designator) (i j : ℕ) → isDesignator kinds d i j → has kinds j K.OPEN ≡ false → designatorOf i kinds (i + 1) ≡ ok d j
   unfolding isDesignator
   complete-designator d i j h f = complete-shape (d .name) (d .subscript) (d .index) i j h f
 
@@ -253,16 +253,23 @@ module _ (kinds : List ℕ) where
       go n (some s) none (e, h, (o, r)) = rw o
       go n (some s) (some x) (e, h, (o, r)) = rw o
 
-  complete-assign : (a : Assignment) (i j : ℕ) → isAssignment kinds a i j → oneAt kinds j stops → afterName i kinds (i + 1) ≡ ok (assign a) j
-  unfolding afterName assignOr isAssignment isDesignator look andThen
-  complete-assign a i j (m, h, r) f =
-      let s = a .target .subscript in
-      let x = a .target .index in
+  -- a designator with `:=` behind it is a target
+  pub name-target : (d : Designator) (i m : ℕ) → isDesignator kinds d i m → getD kinds m 0 ≡ K.BECOMES
+      → afterName i kinds (i + 1) ≡ andThen (assignedTo d kinds m) (λ a j. ok (assign a) j)
+  unfolding afterName assignOr isDesignator look andThen
+  name-target d i m h b =
       rw (
-        complete-arguments (rowOf s x) (suc (length kinds)) (i + 1) m (shape-row (a .target .name) s x i m h) (omega arith) (isnt kinds m K.OPEN (r .0) refl),
-        r .0,
-        ← pinned-designator kinds (a .target) i m h .0,
-        row-target (a .target .name) s x,
+        complete-arguments (rowOf (d .subscript) (d .index)) (suc (length kinds)) (i + 1) m (shape-row (d .name) (d .subscript) (d .index) i m h) (omega arith) (isnt kinds m K.OPEN b refl),
+        b,
+        ← pinned-designator kinds d i m h .0,
+        row-target (d .name) (d .subscript) (d .index),
+      )
+
+  complete-assign : (a : Assignment) (i j : ℕ) → isAssignment kinds a i j → oneAt kinds j stops → afterName i kinds (i + 1) ≡ ok (assign a) j
+  unfolding isAssignment andThen
+  complete-assign a i j (m, h, r) f =
+      rw (
+        name-target (a .target) i m h (r .0),
         complete-assigned a m j r (isnt-one kinds j stops K.OPEN f refl) (fails kinds j (λ k. member k operators) stops f refl),
       )
 

@@ -45,7 +45,7 @@ abbrev designators : Rule Designator
 designators = plainly (record { is = isDesignator; kept = keep-designator; some = λ kinds i. leads-begins 0 (as-name i) })
 
 module _ (kinds : List ℕ) where
-  right-designator : (n : ℕ) → getD kinds n 0 ≡ K.NAME → Right (always isDesignator) kinds n (designatorOf n kinds (n + 1))
+  pub right-designator : (n : ℕ) → getD kinds n 0 ≡ K.NAME → Right (always isDesignator) kinds n (designatorOf n kinds (n + 1))
   unfolding designatorOf andThen look next
   right-designator n h = either (has kinds (n + 1) K.OPEN) _ _ _
       (λ p. let o = eqb-true _ _ p in
@@ -348,7 +348,7 @@ module _ {kinds : List ℕ} (i : ℕ) where
   as-argument = starts (λ _ o p a m h c xs j hs. (p, (m, h, (c, hs))))
 
 module _ (kinds : List ℕ) where
-  right-arguments : (fuel i : ℕ) → Right (always areArguments) kinds i (arguments fuel kinds i)
+  pub right-arguments : (fuel i : ℕ) → Right (always areArguments) kinds i (arguments fuel kinds i)
   unfolding arguments andThen look next
   right-arguments zero i = gives (as-no-argument i)
   right-arguments (suc fuel) i = either (has kinds i K.OPEN) _ _ _
@@ -357,7 +357,7 @@ module _ (kinds : List ℕ) where
       (λ e. gives (as-no-argument i))
 
   -- a designator, if there is one, stands from n up to j
-  abbrev Targets : (n j : ℕ) → Option Designator → Type 0
+  abbrev pub Targets : (n j : ℕ) → Option Designator → Type 0
   Targets n j none = Unit {0}
   Targets n j (some d) = isDesignator kinds d n j
 
@@ -378,7 +378,7 @@ module _ (kinds : List ℕ) where
   both-targets n j s x (some t) none p h o e z c q g d v = tt
   both-targets n j s x (some t) (some y) p h o e z c q g d v = tt
 
-  row-targets : (n j : ℕ) (xs : List Operand) → getD kinds n 0 ≡ K.NAME → areArguments kinds xs (n + 1) j → Targets n j (targetOf n xs)
+  pub row-targets : (n j : ℕ) (xs : List Operand) → getD kinds n 0 ≡ K.NAME → areArguments kinds xs (n + 1) j → Targets n j (targetOf n xs)
   unfolding targetOf areArguments isOperand isDesignator
   row-targets n j [] h q = (refl, h, q)
   row-targets n j (number s ∷ []) h (o, (p, (e, y, u), (c, q))) = (refl, h, (o, (e, y, (rw u c, omega arith))))
