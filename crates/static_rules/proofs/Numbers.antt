@@ -47,7 +47,7 @@ counted-ruled nothing n k = ruled-at 8 n tt
 counted-ruled (register r) n k = ruled-at 8 n tt
 counted-ruled (cell c) n k = ruled-at 8 n tt
 counted-ruled (routine r) n k = ruled-at 8 n tt
-counted-ruled (function i) n k = ruled-rule _ 8 n tt
+counted-ruled (function i) n k = ruled-rule _ 8 _ tt
 
 either : (b : Bool) (x y : Broken) → Ruled x → Ruled y → Ruled (choose b x y)
 either true x y p q = p
