@@ -35,7 +35,7 @@ values-end xs w t h q = ap (λ (k : List ℕ). onWide 0 (λ (l : List ℕ). k) w
 pub front-place : (t : ℕ) → 0 ≡ getD (placesOf inFront) t 0
 front-place t = all-getD (λ (v : ℕ). 0 ≡ v) (placesOf inFront) t 0 (
   refl,
-  (refl, (refl, (refl, (refl, (refl, (refl, (refl, (refl, (refl, (refl, (refl, (refl, (refl, (refl, (refl, (refl, tt)))))))))))))))),
+  (refl, (refl, (refl, (refl, (refl, (refl, (refl, (refl, (refl, (refl, (refl, (refl, (refl, (refl, (refl, (refl, (refl, (refl, (refl, (refl, (refl, (refl, (refl, (refl, (refl, tt))))))))))))))))))))))))),
 ) refl
 
 -- their keys
