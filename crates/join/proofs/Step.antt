@@ -23,7 +23,7 @@ use Rattle.static_rules.proofs.Elements.{size-positive}
 use Rattle.machine.specs.declared.Shift.{Shift}
 use Rattle.machine.specs.declared.Fun.the-variants.{Load}
 use Rattle.machine.specs.Space.{Space, room, origin, needed, displacements, readable, writable}
-use Rattle.machine.specs.Instructions.{Short, Long, appliesTo, multipliesBy, stores, branchesTo, links, shifts, unlistedLong, branches, ends, shortKind, longKind}
+use Rattle.machine.specs.Instructions.{Short, Long, appliesTo, multipliesBy, stores, branchesTo, links, shifts, addresses, moves, compares, unlistedLong, branches, ends, shortKind, longKind}
 use Rattle.machine.specs.Operands.{operandAddress, operandBytes}
 use Rattle.machine.specs.Writes.{writesShort, writesLong}
 use Rattle.machine.specs.Step as M
@@ -118,6 +118,9 @@ reads-some (stores n) z r h = absurd h
 reads-some branchesTo z r h = absurd h
 reads-some links z r h = absurd h
 reads-some (shifts f) z r h = absurd h
+reads-some addresses z r h = absurd h
+reads-some moves z r h = absurd h
+reads-some compares z r h = absurd h
 reads-some unlistedLong z r h = absurd h
 
 serves-bytes : (k : Long) (z r : ℕ) → Serves k z r → operandBytes k ≡ z
@@ -540,7 +543,7 @@ module _ (n : ℕ) (l : Layout) (e : ℕ) (w : List Placed) (m : Space) (s₀ : 
     whole op r a b d q en h ad z pos k wi =
         let by = subst (λ (bs : List ℕ). StandAt s (c .counter) bs) en (stand (rx op r a) q) in
         let o : operandBytes (longKind (getD s (c .counter) 0)) ≡ z = ap (λ (y : ℕ). operandBytes (longKind y)) (decode-opcode m c s op r 0 b d by) ∙ k in
-        record { at = decode-address m c s op r 0 b d (omega arith) h by ∙ ad; some = omega arith; inside = omega arith }
+        record { at = decode-address m c s op r b d h by ∙ ad; some = omega arith; inside = omega arith }
 
     named : (i : Instruction) → here .instruction ≡ i → Goes n l e w here i → Named l (here .segment) c s i
     unfolding encode
@@ -566,13 +569,13 @@ module _ (n : ℕ) (l : Layout) (e : ℕ) (w : List Placed) (m : Space) (s₀ : 
     named (shift op r x d) q u = tt
     named (branch k t) q u =
         let b = good-near t (here .point) (u .to) in
-        decode-address m c s 0x47 k 0 programBase t (omega arith) (b .0) (stand (branch k t) q) ∙ from-base t (b .1)
+        decode-address m c s 0x47 k programBase t (b .0) (stand (branch k t) q) ∙ from-base t (b .1)
     named (link r t) q u =
         let nr = near (u .body .to) (u .body .one) t (u .body .at) in
         let sh = nr .short in
         let sm = nr .small in
         let sg : u .body .to .segment ≡ here .segment = u .body .segment ∙ u .segment in
-        decode-address m c s 0x45 r 0 programBase t (omega arith) sh (stand (link r t) q) ∙ from-base t (omega arith)
+        decode-address m c s 0x45 r programBase t sh (stand (link r t) q) ∙ from-base t (omega arith)
     named stop q u = tt
 
     pub operand-named : Named l (v .x .segment) c s (v .x .instruction)
