@@ -83,13 +83,13 @@ leaves-all : {A : Type 0} (f : A → Turn) (c : Cpu) (ok : Bool) (a n : ℕ) (do
     → Changes c [] (f (onOperand ok a n done halt) .cpu)
 leaves-all {A} f c ok a n done halt d h = go (eqb (a % n) 0) ok
   where
-    as-was : {t : Turn} → t .cpu .regs ≡ c .regs → Changes c [] (t .cpu)
-    as-was e = record { long = ap length e; others = λ q i. ap (λ (l : List ℕ). getD l q 0) e }
+    as-was : (t : Turn) → t .cpu .regs ≡ c .regs → Changes c [] (t .cpu)
+    as-was t e = record { long = ap length e; others = λ q i. ap (λ (l : List ℕ). getD l q 0) e }
 
     go : (p q : Bool) → Changes c [] (f (choose p (choose q done (halt forbidden)) (halt misaligned)) .cpu)
-    go true true = as-was {f done} d
-    go true false = as-was {f (halt forbidden)} (h forbidden)
-    go false q = as-was {f (halt misaligned)} (h misaligned)
+    go true true = as-was (f done) d
+    go true false = as-was (f (halt forbidden)) (h forbidden)
+    go false q = as-was (f (halt misaligned)) (h misaligned)
 
 pub long-changes : (k : Long) (m : Space) (rx b d : ℕ) (c : Cpu) (s : List ℕ) → Changes c (writesLong k (rx / 16)) (longBy k m rx b d c s .turn .cpu)
 long-changes (appliesTo n f) m rx b d c s =

@@ -19,7 +19,7 @@ use Rattle.machine.specs.declared.Fun.{Fun}
 use Rattle.machine.specs.declared.Shift.{Shift}
 use Rattle.machine.specs.Space.{Space, room, origin, writable}
 use Rattle.machine.specs.Instructions.{Long, appliesTo, multipliesBy, stores, branchesTo, links, shifts, addresses, moves, compares, unlistedLong, halfwordRows, wordRows, storageRows, plainRows, longKind}
-use Rattle.machine.specs.Step.{Cpu, Turn, Stepped, stepped, went, halted, moved, storeStep, longBy, step}
+use Rattle.machine.specs.Step.{Cpu, Turn, Stepped, stepped, went, halted, moved, address, storeStep, longBy, step}
 use Rattle.machine.specs.Run.{onward, after, run}
 use Rattle.machine.proofs.Rows.{row-is}
 
@@ -102,16 +102,16 @@ store-keeps m c s n v w z =
     (λ e. untouched)
 
 long-keeps : {k : Long} → Sized k → (m : Space) (rx b d : ℕ) (c : Cpu) (s : List ℕ) → StepKeeps m s (longBy k m rx b d c s)
-long-keeps byte m rx b d c s = store-keeps m c s 1 _ _ (inl refl)
-long-keeps two m rx b d c s = store-keeps m c s 2 _ _ (inr (inl refl))
-long-keeps four m rx b d c s = store-keeps m c s 4 _ _ (inr (inr refl))
+long-keeps byte m rx b d c s = store-keeps m c s 1 (getD (c .regs) (rx / 16) 0) (address (c .regs) (rx % 16) b d) (inl refl)
+long-keeps two m rx b d c s = store-keeps m c s 2 (getD (c .regs) (rx / 16) 0) (address (c .regs) (rx % 16) b d) (inr (inl refl))
+long-keeps four m rx b d c s = store-keeps m c s 4 (getD (c .regs) (rx / 16) 0) (address (c .regs) (rx % 16) b d) (inr (inr refl))
 long-keeps loads m rx b d c s = untouched
 long-keeps product m rx b d c s = untouched
 long-keeps branch m rx b d c s = untouched
 long-keeps link m rx b d c s = untouched
 long-keeps shift m rx b d c s = untouched
 long-keeps plain m rx b d c s = untouched
-long-keeps move m rx b d c s = store-keeps m c s 1 _ _ (inl refl)
+long-keeps move m rx b d c s = store-keeps m c s 1 rx (address (c .regs) 0 b d) (inl refl)
 long-keeps compare m rx b d c s = untouched
 long-keeps none m rx b d c s = untouched
 

@@ -14,6 +14,7 @@ use Rattle.machine.specs.Space.{Space, room, origin, readable, writable}
 use Rattle.machine.specs.Instructions.{Short, applies, multiplies, branches, ends, unlisted, Long, appliesTo, multipliesBy, stores, branchesTo, links, shifts, addresses, moves, compares, unlistedLong, shortKind, longKind}
 use Rattle.machine.specs.Step.{Cpu, Turn, Stepped, stepped, went, halted, address, asked, completed, indexOf, shortBy, longBy, step}
 use Rattle.machine.specs.Run.{Result, result, counted, onward, run}
+use Rattle.machine.proofs.Operands.{byte-aligned}
 use Rattle.machine.proofs.Stops.{stopped-same}
 use Rattle.runner.specs.Stops.{noShort, noLong, isNone, endsAt, isEnd, misalignedAt, isMisaligned, forbiddenAt, isForbidden, firstOf, reached}
 
@@ -55,10 +56,6 @@ paired-stop : (v t u : Bool) (c d : Cpu)
     → choose v (choose t (choose u (went d) (halted 2 c)) (halted 3 c)) (halted 4 c) .stop ≡ firstOf (not v) false (not t) (not u)
 paired-stop true t u c d = operand-stop t u c d
 paired-stop false t u c d = refl
-
--- one byte is never misaligned
-byte-aligned : (a : ℕ) → eqb (a % 1) 0 ≡ true
-byte-aligned a = eq-eqb (a % 1) 0 (omega arith)
 
 long-stop : (k : Long) (m : Space) (rx b d : ℕ) (c : Cpu) (s : List ℕ)
     → longBy k m rx b d c s .turn .stop ≡ firstOf (noLong k rx) false (misalignedAt k (address (c .regs) (indexOf k (rx % 16)) b d)) (forbiddenAt k m (address (c .regs) (indexOf k (rx % 16)) b d))
