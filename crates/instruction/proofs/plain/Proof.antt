@@ -7,6 +7,9 @@ use Rattle.machine.specs.Space.{spaceBy}
 use Rattle.instruction.proofs.plain.Statement.{statement}
 use Rattle.instruction.proofs.plain.Tie as tie
 
+cast-put-step : tie.Need-cast-put-step
+cast-put-step c = search needs
+
 put-step-requires : tie.Need-put-step-requires
 put-step-requires c κs = search needs
 
@@ -26,18 +29,18 @@ same-length-2 : tie.Need-same-length-2
 same-length-2 c = search needs
 
 returns-2 : tie.Need-returns-2
-returns-2 c = λ p. rw (c .before .before .before .before .before .match .keys2) (kept (c .compare-step .ensures _))
-
-same-length-3 : tie.Need-same-length-3
-same-length-3 c = search needs
+returns-2 c = λ p. rw (c .before .before .match .keys2) (kept (c .compare-step .ensures _))
 
 returns-3 : tie.Need-returns-3
-returns-3 c = λ p. rw (row-rest (c .before .before .before .before .before .args .op) immediateRows (shiftKind (c .before .before .before .before .before .args .op)) (c .before .before .before .match .rest)) (c .shift .ensures (spaceBy p _) _)
+returns-3 c = λ p.
+    let a = c .before .before .before .before .args in
+    rw (row-rest (a .op) immediateRows (shiftKind (a .op)) (c .before .before .match .rest)) (c .shift .ensures (spaceBy p (a .map .now)) (a .s .now))
 
 pub plain-spec : {M : Type 1} → statement M
 plain-spec =
     tie.close
     (tie.spec
+    cast-put-step
     put-step-requires
     compare-step-requires
     shift-requires
@@ -45,5 +48,4 @@ plain-spec =
     returns
     same-length-2
     returns-2
-    same-length-3
     returns-3)
