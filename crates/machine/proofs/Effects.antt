@@ -102,13 +102,19 @@ long-changes multipliesBy m rx b d c s =
     (λ h. by-test (TurnChanges c _) (eqb (a % 4) 0) _ _
     (λ e. by-test (TurnChanges c _) (readable m a 4) _ _ (λ g. two c (rx / 16) (operand s a 4) _) (λ g. unchanged c _ _)) (λ e. unchanged c _ _))
     (λ h. unchanged c _ _)
-long-changes (stores n) m rx b d c s = leaves-all (λ (o : Stepped). o .turn) c (writable m (address (c .regs) (rx % 16) b d) n) (address (c .regs) (rx % 16) b d) n _ (λ j. stepped (halted j c) s) refl (λ j. refl)
+long-changes (stores n) m rx b d c s =
+    let a = address (c .regs) (rx % 16) b d in
+    leaves-all (λ (o : Stepped). o .turn) c (writable m a n) a n _ (λ j. stepped (halted j c) s) refl (λ j. refl)
 long-changes branchesTo m rx b d c s = by-test (TurnChanges c _) (asked (rx / 16) (c .code)) _ _ (λ e. unchanged c _ _) (λ e. unchanged c _ _)
 long-changes links m rx b d c s = one c (rx / 16) _ _ _
 long-changes (shifts f) m rx b d c s = one c (rx / 16) _ _ _
 long-changes addresses m rx b d c s = one c (rx / 16) _ _ _
-long-changes moves m rx b d c s = leaves-all (λ (o : Stepped). o .turn) c (writable m (address (c .regs) 0 b d) 1) (address (c .regs) 0 b d) 1 _ (λ j. stepped (halted j c) s) refl (λ j. refl)
-long-changes compares m rx b d c s = leaves-all (λ t. t) c (readable m (address (c .regs) 0 b d) 1) (address (c .regs) 0 b d) 1 _ (λ j. halted j c) refl (λ j. refl)
+long-changes moves m rx b d c s =
+    let a = address (c .regs) 0 b d in
+    leaves-all (λ (o : Stepped). o .turn) c (writable m a 1) a 1 _ (λ j. stepped (halted j c) s) refl (λ j. refl)
+long-changes compares m rx b d c s =
+    let a = address (c .regs) 0 b d in
+    leaves-all (λ t. t) c (readable m a 1) a 1 _ (λ j. halted j c) refl (λ j. refl)
 long-changes unlistedLong m rx b d c s = unchanged c _ _
 
 -- ── the kind and the fields of the instruction at the counter ──

@@ -273,7 +273,10 @@ pub fn compare_step(g: Given, map: &[usize; MAP], s: &[u8]) -> Next
 {
     let w = g.b as usize;
     if is_readable(map, w, 1) {
-        return go(alu::compare_logical(base::load(s, w, 1), g.rx as u32), g.at + 4);
+        return go(
+            alu::compare_logical(base::load(s, w, 1), g.rx as u32),
+            g.at + 4,
+        );
     }
     halt(2, g.code, g.at)
 }

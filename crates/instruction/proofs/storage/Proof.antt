@@ -39,7 +39,9 @@ same-length-4 : tie.Need-same-length-4
 same-length-4 c = search needs
 
 returns-4 : tie.Need-returns-4
-returns-4 c = λ p. rw (row-rest (c .before .before .before .before .before .args .op) storeRows (readKind (c .before .before .before .before .before .args .op)) (c .before .before .before .match .rest)) (c .reading .ensures p)
+returns-4 c = λ p.
+    let op = c .before .before .before .before .before .args .op in
+    rw (row-rest op storeRows (readKind op) (c .before .before .before .match .rest)) (c .reading .ensures p)
 
 pub storage-spec : {M : Type 1} → statement M
 storage-spec =
