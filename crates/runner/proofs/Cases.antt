@@ -68,29 +68,3 @@ pub case-7-reads : summary 2 8200 (ran case-7 100) ≡ 0 ∷ 1 ∷ 4104 ∷ 0 �
 unfolding runner form objectText hexDigit bytesOf numberFrom readObject readData atLast onSegment push isLast isData isProgram dataAt programAt afterData
     afterProgram byteOf twoOf digitOf isContentFrame loaded spaceOf run onward step
 case-7-reads = refl
-
--- the byte functions: LA names the word, IC takes its first byte and leaves the address's other 24 bits, STC and MVI store a byte each, LTR finds zero, CLI a byte
--- above #7F
-abbrev byte-functions : List Segment
-byte-functions =
-    program (
-    0x41 ∷ 0x10 ∷ 0xe0 ∷ 0x10
-    ∷ 0x43 ∷ 0x10 ∷ 0xe0 ∷ 0x10
-    ∷ 0x42 ∷ 0x10 ∷ 0xe0 ∷ 0x11
-    ∷ 0x92 ∷ 0xc1 ∷ 0xe0 ∷ 0x13
-    ∷ 0x12 ∷ 0x20
-    ∷ 0x95 ∷ 0x7f ∷ 0xe0 ∷ 0x10
-    ∷ 0x0a ∷ 0x00 ∷ []
-    )
-    ∷ cells (replicate 16 0 ++ (0xab ∷ 0xcd ∷ 0xef ∷ 0x01 ∷ [])) 16 20 ∷ []
-
-pub byte-functions-run : summary 1 8208 (ran byte-functions 100) ≡ 0 ∷ 1 ∷ 4118 ∷ 2 ∷ 6 ∷ 0x20ab ∷ 0xababefc1 ∷ []
-unfolding runner form objectText hexDigit bytesOf numberFrom readObject readData atLast onSegment push isLast isData isProgram dataAt programAt afterData
-    afterProgram byteOf twoOf digitOf isContentFrame loaded spaceOf run onward step
-byte-functions-run = refl
-
--- after five the code is LTR's
-pub byte-functions-tested : summary 2 8208 (ran byte-functions 5) ≡ 0 ∷ 0 ∷ 4114 ∷ 0 ∷ 5 ∷ 0 ∷ 0xababefc1 ∷ []
-unfolding runner form objectText hexDigit bytesOf numberFrom readObject readData atLast onSegment push isLast isData isProgram dataAt programAt afterData
-    afterProgram byteOf twoOf digitOf isContentFrame loaded spaceOf run onward step
-byte-functions-tested = refl
