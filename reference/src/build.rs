@@ -2,13 +2,25 @@
 //! and labels in force, of protected and written registers, of room and of the code's length. A builder that is made
 //! careless breaks a rule now and then.
 
+use crate::functions::{Function, Takes, FUNCTIONS};
+use crate::grammar::Type;
 use crate::kinds::{only, RegisterSet, DATA_BASE, PROGRAM_BASE};
 use crate::layout::next_multiple;
 use crate::random::Random;
 use crate::spell::{any_value, number};
+use crate::BYTE_FUNCTIONS;
 use std::collections::HashSet;
 
-const POOL: [&str; 44] = [
+/// Names to be declared.
+fn pool() -> &'static [&'static str] {
+    if BYTE_FUNCTIONS {
+        &POOL
+    } else {
+        &POOL[..44]
+    }
+}
+
+const POOL: [&str; 52] = [
     "A",
     "B",
     "C",
@@ -53,6 +65,14 @@ const POOL: [&str; 44] = [
     "LONGESTNAME",
     "LONGESTNAMES",
     "B2",
+    "IC",
+    "LA",
+    "SET",
+    "TEST",
+    "LTR",
+    "MVC",
+    "BYTES",
+    "CHARACTERS",
 ];
 
 const LABEL_POOL: [&str; 10] = ["L", "M", "N", "L1", "A", "R1", "LOOPSTARTS", "LOOPSTARTSX", "OUT", "P"];
@@ -60,8 +80,9 @@ const LABEL_POOL: [&str; 10] = ["L", "M", "N", "L1", "A", "R1", "LOOPSTARTS", "L
 #[derive(Clone, Copy, PartialEq)]
 pub enum Thing {
     Register(u8),
-    Cell { short: bool, count: Option<usize> },
+    Cell { of: Type, count: Option<usize> },
     Procedure { register: u8, writes: RegisterSet, open: bool },
+    Function(Function),
 }
 
 /// A block, or the body of a procedure, which ends the search for labels.
@@ -72,6 +93,14 @@ struct Scope {
     protected: RegisterSet,
     segment: usize,
     is_body: bool,
+}
+
+/// What a function takes in one of its parentheses.
+#[derive(Clone, Copy, PartialEq)]
+enum Argument {
+    Register,
+    Number,
+    Cell,
 }
 
 /// What an operand is for the code table.
@@ -98,6 +127,16 @@ pub struct Builder<'a> {
     nesting: usize,
     /// In how many of 1,000 choices a rule is left aside.
     careless: usize,
+}
+
+/// The words that a type is declared by; INTEGER has LOGICAL beside it.
+pub fn type_words(of: Type) -> &'static str {
+    match of {
+        Type::Integer => "INTEGER",
+        Type::Short => "SHORT INTEGER",
+        Type::Byte => "BYTE",
+        Type::Character => "CHARACTER",
+    }
 }
 
 /// The first 10 characters.
@@ -219,7 +258,7 @@ impl<'a> Builder<'a> {
         loop {
             let name = match self.random.below(8) {
                 0 => format!("V{}", self.random.below(1000)),
-                _ => self.random.of(&POOL).to_string(),
+                _ => self.random.of(pool()).to_string(),
             };
             let slip = self.slips();
             if slip || self.here().names.iter().all(|(other, _)| counted(other) != counted(&name)) {
@@ -259,9 +298,9 @@ impl<'a> Builder<'a> {
 
     fn cells(&mut self) {
         let count = if self.random.chance(1, 2) { Some(self.array_count()) } else { None };
-        let short = self.random.chance(1, 2);
+        let of = self.cell_type();
         let segment = self.here().segment;
-        let size = if short { 2 } else { 4 };
+        let size = of.size();
         let items = self.random.range(1, 3);
         let needed = items * (size * count.unwrap_or(1) + 3);
         if self.ends[segment] + needed > 3000 && !self.slips() {
@@ -272,19 +311,30 @@ impl<'a> Builder<'a> {
             let value = if self.slips() { any_value(self.random) } else { count as u32 };
             self.in_parentheses(value);
         }
-        let words = if short { "SHORT INTEGER" } else { *self.random.of(&["INTEGER", "LOGICAL"]) };
+        let words = if of == Type::Integer { *self.random.of(&["INTEGER", "LOGICAL"]) } else { type_words(of) };
         self.put_all(words);
         for item in 0..items {
             if item > 0 {
                 self.put(",");
             }
             let name = self.new_name();
-            self.declare(name, Thing::Cell { short, count });
+            self.declare(name, Thing::Cell { of, count });
             let offset = next_multiple(self.ends[segment], size);
             self.ends[segment] = offset + size * count.unwrap_or(1);
-            self.values(short, count.unwrap_or(1));
+            self.values(of, count.unwrap_or(1));
         }
         self.put(";");
+    }
+
+    fn cell_type(&mut self) -> Type {
+        if BYTE_FUNCTIONS && self.random.chance(2, 5) {
+            return *self.random.of(&[Type::Byte, Type::Character]);
+        }
+        if self.random.chance(1, 2) {
+            Type::Short
+        } else {
+            Type::Integer
+        }
     }
 
     fn array_count(&mut self) -> usize {
@@ -298,14 +348,14 @@ impl<'a> Builder<'a> {
         }
     }
 
-    fn values(&mut self, short: bool, count: usize) {
+    fn values(&mut self, of: Type, count: usize) {
         let most = count.min(5) + usize::from(self.slips());
         let values = if self.random.chance(1, 2) { self.random.range(0, most) } else { 0 };
         for _ in 0..values {
-            let value = if short && !self.slips() {
-                (self.random.below(98304) as u32).wrapping_sub(32768)
-            } else {
-                any_value(self.random)
+            let value = match of {
+                Type::Short if !self.slips() => (self.random.below(98304) as u32).wrapping_sub(32768),
+                Type::Byte | Type::Character if !self.slips() => self.random.below(256) as u32,
+                _ => any_value(self.random),
             };
             self.in_parentheses(value);
         }
@@ -389,6 +439,8 @@ impl<'a> Builder<'a> {
                 names.push((name, Thing::Register(register as u8)));
             }
         }
+        let standard = FUNCTIONS.iter().filter(|function| BYTE_FUNCTIONS && !seen.contains(function.name));
+        names.extend(standard.map(|function| (function.name.to_string(), Thing::Function(*function))));
         names
     }
 
@@ -405,7 +457,7 @@ impl<'a> Builder<'a> {
         let names = self.in_force();
         if self.slips() {
             let name = match self.random.below(3) {
-                0 => self.random.of(&POOL).to_string(),
+                0 => self.random.of(pool()).to_string(),
                 _ => self.random.of(&names).0.clone(),
             };
             return Some((name, Thing::Register(self.random.below(16) as u8)));
@@ -449,6 +501,9 @@ impl<'a> Builder<'a> {
     }
 
     fn simple(&mut self) {
+        if BYTE_FUNCTIONS && self.random.chance(1, 4) {
+            return self.function();
+        }
         match self.random.below(20) {
             0..=7 => {
                 self.assignment(false);
@@ -549,10 +604,69 @@ impl<'a> Builder<'a> {
         }
     }
 
+    /// The use of a function; where no cell is in force, of one that takes none.
+    fn function(&mut self) {
+        let no_cell = !self.in_force().iter().any(|(_, thing)| matches!(thing, Thing::Cell { .. }));
+        let fits = |thing: &Thing| match thing {
+            Thing::Function(function) => function.takes == Takes::TwoRegisters || !no_cell,
+            _ => false,
+        };
+        let (name, function) = match self.name(fits) {
+            Some((name, Thing::Function(function))) => (name, function),
+            Some((name, _)) => (name, *self.random.of(&FUNCTIONS)),
+            None => return self.put("NULL"),
+        };
+        self.put(&name);
+        let mut arguments = match function.takes {
+            Takes::RegisterAndCell => vec![Argument::Register, Argument::Cell],
+            Takes::TwoRegisters => vec![Argument::Register, Argument::Register],
+            Takes::NumberAndCell => vec![Argument::Number, Argument::Cell],
+            Takes::Cell(_) => vec![Argument::Cell],
+        };
+        if self.slips() {
+            let other = *self.random.of(&[Argument::Register, Argument::Number, Argument::Cell]);
+            match self.random.below(3) {
+                0 => arguments.push(other),
+                1 => arguments[0] = other,
+                _ => drop(arguments.pop()),
+            }
+        }
+        let may_be_indexed = function.takes == Takes::RegisterAndCell;
+        for (position, argument) in arguments.into_iter().enumerate() {
+            self.put("(");
+            self.argument(argument, function.writes_first && position == 0, may_be_indexed);
+            self.put(")");
+        }
+        self.length += if function.takes == Takes::TwoRegisters { 2 } else { 4 };
+    }
+
+    fn argument(&mut self, argument: Argument, written: bool, may_be_indexed: bool) {
+        match argument {
+            Argument::Register => {
+                let (name, register) = self.register(|register, protected| !written || protected & only(register) == 0);
+                if written {
+                    self.write(only(register));
+                }
+                self.put(&name);
+            }
+            Argument::Number => {
+                let value = if self.slips() { any_value(self.random) } else { self.random.below(256) as u32 };
+                let token = number(self.random, value);
+                self.put(&token);
+            }
+            Argument::Cell => match self.name(|thing| matches!(thing, Thing::Cell { .. })) {
+                Some((name, Thing::Cell { of, count })) => self.designator(&name, of, count, may_be_indexed),
+                Some((name, _)) => self.put(&name),
+                None => self.put("R1"),
+            },
+        }
+    }
+
     fn store(&mut self) {
-        match self.name(|thing| matches!(thing, Thing::Cell { .. })) {
-            Some((name, Thing::Cell { short, count })) => {
-                self.designator(&name, short, count);
+        let bytes_too = BYTE_FUNCTIONS && self.slips();
+        match self.name(|thing| matches!(thing, Thing::Cell { of, .. } if bytes_too || !of.is_byte())) {
+            Some((name, Thing::Cell { of, count })) => {
+                self.designator(&name, of, count, true);
                 self.put(":=");
                 let (name, _) = self.register(|_, _| true);
                 self.put(&name);
@@ -624,11 +738,11 @@ impl<'a> Builder<'a> {
     }
 
     fn product_by_short(&mut self) {
-        if let Some((name, Thing::Cell { short: true, count })) =
-            self.name(|thing| matches!(thing, Thing::Cell { short: true, .. }))
+        if let Some((name, Thing::Cell { of: Type::Short, count })) =
+            self.name(|thing| matches!(thing, Thing::Cell { of: Type::Short, .. }))
         {
             self.put("*");
-            self.designator(&name, true, count);
+            self.designator(&name, Type::Short, count, true);
             self.length += 4;
         }
     }
@@ -654,11 +768,15 @@ impl<'a> Builder<'a> {
     }
 
     fn cell_operand(&mut self, short_too: bool) -> Sort {
-        let fits = |thing: &Thing| matches!(thing, Thing::Cell { short, .. } if short_too || !short);
+        let bytes_too = BYTE_FUNCTIONS && self.slips();
+        let fits = |thing: &Thing| match thing {
+            Thing::Cell { of, .. } => (*of == Type::Integer) || (short_too && *of == Type::Short) || bytes_too,
+            _ => false,
+        };
         match self.name(fits) {
-            Some((name, Thing::Cell { short, count })) => {
-                self.designator(&name, short, count);
-                if short {
+            Some((name, Thing::Cell { of, count })) => {
+                self.designator(&name, of, count, true);
+                if of == Type::Short {
                     Sort::Short
                 } else {
                     Sort::Integer
@@ -676,19 +794,18 @@ impl<'a> Builder<'a> {
         }
     }
 
-    fn designator(&mut self, name: &str, short: bool, count: Option<usize>) {
+    fn designator(&mut self, name: &str, of: Type, count: Option<usize>, may_be_indexed: bool) {
         self.put(name);
         let slip = self.slips();
         if count.is_none() && !slip {
             return;
         }
         if self.random.chance(1, 2) {
-            let size = if short { 2 } else { 4 };
-            let element = size * self.random.below(count.unwrap_or(2)) as u32;
+            let element = of.size() as u32 * self.random.below(count.unwrap_or(2)) as u32;
             let value = if slip { element.wrapping_add(any_value(self.random)) } else { element };
             self.in_parentheses(value);
         }
-        if self.random.chance(1, 3) {
+        if (may_be_indexed || self.slips()) && self.random.chance(1, 3) {
             let (index, _) = self.register(|register, _| register != 0);
             self.put("(");
             self.put(&index);

@@ -1,5 +1,6 @@
 //! Code: the instructions of a program without violations, as records that say what they name, and their bytes.
 
+use crate::functions::{Function, Takes};
 use crate::grammar::*;
 use crate::kinds::{meaning, Meaning, DATA_BASE, PROGRAM_BASE};
 use crate::layout::{Layout, Place, FIRST_DATA, LAST_DATA};
@@ -25,6 +26,8 @@ pub enum Instruction {
     Registers { opcode: u8, r: u8, s: u8 },
     /// "Four bytes: opcode, r·16+index, base·16 + displacement/256, displacement mod 256."
     Storage { opcode: u8, r: u8, index: u8, address: Address },
+    /// Four bytes: opcode, the number, then base and displacement as above.
+    Immediate { opcode: u8, number: u8, address: Address },
     /// "`89 r0 00 n`"
     ShiftByNumber { opcode: u8, r: u8, amount: u8 },
     /// "or by register `89 r0 s0 00`"
@@ -85,12 +88,12 @@ const RETURN: u8 = 0x07;
 /// "always is mask 15"
 const ALWAYS: u8 = 15;
 
-/// Of a line of the code table, the opcode for storage.
-fn for_storage(opcodes: Opcodes, short: bool) -> u8 {
-    if short {
-        opcodes.short
-    } else {
-        opcodes.integer
+/// Of a line of the code table, the opcode for storage; it has no column for byte cells.
+fn for_storage(opcodes: Opcodes, of: Type) -> u8 {
+    match of {
+        Type::Integer => opcodes.integer,
+        Type::Short => opcodes.short,
+        Type::Byte | Type::Character => NONE,
     }
 }
 
@@ -145,7 +148,7 @@ fn operator_opcodes(operator: Kind) -> Opcodes {
 #[derive(Clone, Copy)]
 enum Source {
     Register(u8),
-    Storage { short: bool, index: u8, address: Address },
+    Storage { of: Type, index: u8, address: Address },
 }
 
 pub fn code(program: &Block, findings: Findings) -> Code {
@@ -275,7 +278,10 @@ impl Writer<'_> {
     fn statement(&mut self, statement: &Statement) {
         match statement {
             Statement::Assignment(assignment) => self.assignment(assignment),
-            Statement::Call(name) => self.call(*name),
+            Statement::Use(used) => match self.meaning(used.name) {
+                Meaning::Function(function) => self.function(function, &used.arguments),
+                _ => self.call(used.name),
+            },
             Statement::Block(block) => self.block(block),
             Statement::Goto(name) => self.goto(*name),
             Statement::Null => {}
@@ -294,6 +300,37 @@ impl Writer<'_> {
         {
             let to = self.entry(token);
             self.add(Instruction::Branch { opcode: CALL, field: register, to });
+        }
+    }
+
+    /// "IC 43, STC 42, LA 41, MVI 92, CLI 95, SET (MVI with FF), RESET (MVI with 00), TEST (CLI with FF). LTR 12".
+    fn function(&mut self, function: Function, arguments: &[Operand]) {
+        let opcode = function.opcode;
+        let last = arguments.last().expect("a function has an argument");
+        match (function.takes, &arguments[0], self.source(last)) {
+            (Takes::TwoRegisters, first, Source::Register(s)) => {
+                let r = self.register_argument(first);
+                self.registers(opcode, r, s);
+            }
+            (Takes::RegisterAndCell, first, Source::Storage { index, address, .. }) => {
+                let r = self.register_argument(first);
+                self.add(Instruction::Storage { opcode, r, index, address });
+            }
+            (Takes::NumberAndCell, Operand::Number(number), Source::Storage { address, .. }) => {
+                let number = self.value(*number) as u8;
+                self.add(Instruction::Immediate { opcode, number, address });
+            }
+            (Takes::Cell(number), _, Source::Storage { address, .. }) => {
+                self.add(Instruction::Immediate { opcode, number, address });
+            }
+            _ => unreachable!("an argument that was judged to fit"),
+        }
+    }
+
+    fn register_argument(&self, argument: &Operand) -> u8 {
+        match self.source(argument) {
+            Source::Register(register) => register,
+            Source::Storage { .. } => unreachable!("storage where a register was judged to be"),
         }
     }
 
@@ -371,9 +408,9 @@ impl Writer<'_> {
                     self.link(r, link);
                 }
             }
-            Source::Storage { short, index, address } => {
+            Source::Storage { of, index, address } => {
                 if let Source::Register(r) = self.source(&assignment.first) {
-                    self.add(Instruction::Storage { opcode: for_storage(STORE, short), r, index, address });
+                    self.add(Instruction::Storage { opcode: for_storage(STORE, of), r, index, address });
                 }
             }
         }
@@ -398,7 +435,7 @@ impl Writer<'_> {
         }
         let source = self.source(&link.operand);
         // "1C and 5C name the register below the target."
-        let by_short = matches!(source, Source::Storage { short: true, .. });
+        let by_short = matches!(source, Source::Storage { of: Type::Short, .. });
         let named = if operator == Kind::Times && !by_short { r - 1 } else { r };
         self.operate(operator_opcodes(operator), named, source);
     }
@@ -419,8 +456,8 @@ impl Writer<'_> {
     fn operate(&mut self, opcodes: Opcodes, r: u8, source: Source) {
         match source {
             Source::Register(s) => self.registers(opcodes.register, r, s),
-            Source::Storage { short, index, address } => {
-                self.add(Instruction::Storage { opcode: for_storage(opcodes, short), r, index, address });
+            Source::Storage { of, index, address } => {
+                self.add(Instruction::Storage { opcode: for_storage(opcodes, of), r, index, address });
             }
         }
     }
@@ -428,7 +465,7 @@ impl Writer<'_> {
     fn source(&self, operand: &Operand) -> Source {
         match operand {
             Operand::Number(number) => {
-                Source::Storage { short: false, index: 0, address: Address::Literal(self.value(*number)) }
+                Source::Storage { of: Type::Integer, index: 0, address: Address::Literal(self.value(*number)) }
             }
             Operand::Designator(designator) => self.designated(designator),
         }
@@ -440,10 +477,10 @@ impl Writer<'_> {
         let subscript = designator.subscript.map_or(0, |subscript| self.value(subscript) as usize);
         match (self.meaning(designator.name), self.findings.found[designator.name]) {
             (Meaning::Register(register), _) => Source::Register(register),
-            (Meaning::Cell { short, .. }, Found::Declared(token)) => {
+            (Meaning::Cell { of, .. }, Found::Declared(token)) => {
                 let cell = self.findings.layout.cells[token].expect("every cell has a place");
                 let place = Place { segment: cell.segment, offset: cell.offset + subscript };
-                Source::Storage { short, index, address: Address::Cell(place) }
+                Source::Storage { of, index, address: Address::Cell(place) }
             }
             (other, _) => unreachable!("{other:?} where a register or cell was judged to be"),
         }
@@ -476,17 +513,22 @@ pub fn literals(instructions: &[Instruction]) -> Vec<u32> {
 pub fn program_bytes(code: &Code, literals: &[u32], first_literal: usize) -> Vec<u8> {
     let offsets: HashMap<u32, usize> =
         literals.iter().enumerate().map(|(position, &value)| (value, first_literal + 4 * position)).collect();
+    let placed = |address| match address {
+        Address::Cell(place) => place,
+        Address::Literal(value) => Place { segment: FIRST_DATA, offset: offsets[&value] },
+        Address::Table(segment) => Place { segment: FIRST_DATA, offset: 4 * segment },
+    };
     let mut bytes = Vec::with_capacity(code.length);
     for instruction in &code.instructions {
         match *instruction {
             Instruction::Registers { opcode, r, s } => bytes.extend([opcode, r * 16 + s]),
             Instruction::Storage { opcode, r, index, address } => {
-                let place = match address {
-                    Address::Cell(place) => place,
-                    Address::Literal(value) => Place { segment: FIRST_DATA, offset: offsets[&value] },
-                    Address::Table(segment) => Place { segment: FIRST_DATA, offset: 4 * segment },
-                };
+                let place = placed(address);
                 bytes.extend(four_bytes(opcode, r, index, code.bases[place.segment], place.offset));
+            }
+            Instruction::Immediate { opcode, number, address } => {
+                let place = placed(address);
+                bytes.extend(four_bytes(opcode, number / 16, number % 16, code.bases[place.segment], place.offset));
             }
             Instruction::ShiftByNumber { opcode, r, amount } => bytes.extend([opcode, r * 16, 0, amount]),
             Instruction::ShiftByRegister { opcode, r, s } => bytes.extend([opcode, r * 16, s * 16, 0]),

@@ -5,6 +5,7 @@ use crate::gen::right_text;
 use crate::objread;
 use crate::random::Random;
 use crate::translate::translate;
+use crate::BYTE_FUNCTIONS;
 
 /// What stands in the text, IBM's name of the instruction, the opcode.
 type Row = (&'static str, &'static str, u8);
@@ -50,6 +51,12 @@ const SHORT_CELL: [Row; 6] = [
 
 const SHIFTS: [Row; 4] = [("SHLL", "sll", 0x89), ("SHRL", "srl", 0x88), ("SHLA", "sla", 0x8B), ("SHRA", "sra", 0x8A)];
 const SIGNS: [Row; 3] = [("ABS", "lpr", 0x10), ("NEG", "lcr", 0x13), ("NEG ABS", "lnr", 0x11)];
+/// Document 02, 1/13: on registers, with a cell that may be indexed, with a number and a cell.
+const ON_REGISTERS: [Row; 1] = [("LTR", "ltr", 0x12)];
+const WITH_REGISTER: [Row; 3] = [("IC", "ic", 0x43), ("STC", "stc", 0x42), ("LA", "la", 0x41)];
+const WITH_NUMBER: [Row; 2] = [("MVI", "mvi", 0x92), ("CLI", "cli", 0x95)];
+const NUMBERS: [u8; 8] = [0x00, 0x01, 0x10, 0x7F, 0x80, 0xC1, 0xFE, 0xFF];
+
 const BRANCH: Row = ("branch", "bc", 0x47);
 const RETURN: Row = ("return", "bcr", 0x07);
 const CALL: Row = ("call", "bal", 0x45);
@@ -62,7 +69,9 @@ const BASES: [u8; 5] = [0, 1, 12, 14, 15];
 /// IBM's name for a listed opcode.
 pub fn mnemonic(opcode: u8) -> Option<&'static str> {
     let rows = REGISTER.iter().chain(&INTEGER_CELL).chain(&SHORT_CELL).chain(&SHIFTS).chain(&SIGNS);
-    rows.chain(&[BRANCH, RETURN, CALL, END]).find(|row| row.2 == opcode).map(|row| row.1)
+    let functions = ON_REGISTERS.iter().chain(&WITH_REGISTER).chain(&WITH_NUMBER).filter(|_| BYTE_FUNCTIONS);
+    let rows = rows.chain(functions).chain(&[BRANCH, RETURN, CALL, END]);
+    rows.clone().find(|row| row.2 == opcode).map(|row| row.1)
 }
 
 /// Lines `bytes, name, assembler's line`, tabs between them.
@@ -101,8 +110,36 @@ pub fn lines() -> String {
             line(two(RETURN.2, mask, target), RETURN.1, format!("{mask},{target}"));
         }
     }
+    if BYTE_FUNCTIONS {
+        functions(&mut line);
+    }
     line(two(END.2, 0, 0), END.1, "0".to_string());
     text
+}
+
+/// The instructions of the standard functions.
+fn functions(line: &mut impl FnMut(Vec<u8>, &str, String)) {
+    for r in 0..16 {
+        for &(_, name, opcode) in &ON_REGISTERS {
+            (0..16).for_each(|s| line(two(opcode, r, s), name, format!("{r},{s}")));
+        }
+        for &(_, name, opcode) in &WITH_REGISTER {
+            for (index, base, displacement) in addresses() {
+                let operands = format!("{r},{displacement}({index},{base})");
+                line(four(opcode, r, index, base, displacement), name, operands);
+            }
+        }
+    }
+    for &(_, name, opcode) in &WITH_NUMBER {
+        for number in NUMBERS {
+            for base in 0..16 {
+                for displacement in DISPLACEMENTS {
+                    let operands = format!("{displacement}({base}),{number}");
+                    line(four(opcode, number / 16, number % 16, base, displacement), name, operands);
+                }
+            }
+        }
+    }
 }
 
 /// Lines `bytes, name` for every instruction of the programs that `count` generated texts translate to.

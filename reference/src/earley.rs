@@ -1,12 +1,12 @@
-//! A second opinion on refusal 4: a general recognizer (Earley's) of the grammar as document 01 writes it. It knows
+//! A second opinion on refusal 4: a general recognizer (Earley's) of the grammar as the papers write it. It knows
 //! nothing of how the grammar is best read.
 
-use crate::token::{Kind, RESERVED, SIGNS};
+use crate::token::{reserved, Kind, SIGNS};
 use std::collections::{HashMap, HashSet};
 
 /// Document 01's grammar. `{ }` is any number of times, `[ ]` once or not at all, `|` stands for "or"; words in small
 /// letters are rules, save name and number, which are tokens like all others.
-pub const GRAMMAR: &str = "
+pub const DOCUMENT_01: &str = "
     program = block @
     block = BEGIN { declaration ; } { statement ; | name : } END
     declaration = integer_or_logical REGISTER name ( number ) { , name ( number ) }
@@ -29,6 +29,25 @@ pub const GRAMMAR: &str = "
     condition = name relation operand | relation | OVERFLOW
     relation = BARE_EQUALS | ^= | < | <= | >= | >
 ";
+
+/// What document 02 says in place of these rules, 1/13: "Add BYTE and CHARACTER cells"; "A use is a simple statement: the name,
+/// then each argument in its own parentheses." An argument is an operand; a call is the use that has none.
+pub const BYTE_RULES: [(&str, &str); 2] = [
+    ("type = INTEGER | LOGICAL | SHORT INTEGER", "type = INTEGER | LOGICAL | SHORT INTEGER | BYTE | CHARACTER"),
+    (
+        "simple = assignment | name | block | GOTO name | NULL",
+        "simple = assignment | use | block | GOTO name | NULL use = name { ( argument ) } argument = operand",
+    ),
+];
+
+/// The grammar in force.
+pub fn grammar() -> String {
+    let rules: &[_] = if crate::BYTE_FUNCTIONS { &BYTE_RULES } else { &[] };
+    rules.iter().fold(DOCUMENT_01.to_string(), |grammar, (before, now)| {
+        assert!(grammar.contains(before));
+        grammar.replace(before, now)
+    })
+}
 
 #[derive(Clone, Copy, PartialEq, Eq, Hash, Debug)]
 enum Symbol {
@@ -72,8 +91,9 @@ impl Default for Recognizer {
 
 impl Recognizer {
     pub fn new() -> Self {
+        let grammar = grammar();
         let mut reader = GrammarReader {
-            words: GRAMMAR.split_ascii_whitespace().collect(),
+            words: grammar.split_ascii_whitespace().collect(),
             at: 0,
             numbers: HashMap::new(),
             productions: Vec::new(),
@@ -185,7 +205,7 @@ fn empty_rules(productions: &[Production], rules: usize) -> Vec<bool> {
     }
 }
 
-/// Makes productions out of `GRAMMAR`.
+/// Makes productions out of the grammar.
 struct GrammarReader<'a> {
     words: Vec<&'a str>,
     at: usize,
@@ -244,13 +264,13 @@ impl GrammarReader<'_> {
     }
 
     fn symbol(&mut self, word: &str) -> Symbol {
-        if let Some((_, kind)) = RESERVED.iter().chain(&SIGNS).find(|(spelled, _)| *spelled == word) {
+        if let Some((_, kind)) = reserved().iter().chain(&SIGNS).find(|(spelled, _)| *spelled == word) {
             return Symbol::Terminal(*kind);
         }
         match word {
             "name" => Symbol::Terminal(Kind::Name),
             "number" => Symbol::Terminal(Kind::Number),
-            // The sign = stands in GRAMMAR between a rule and what it is, so as a token it has a word.
+            // The sign = stands in the grammar between a rule and what it is, so as a token it has a word.
             "BARE_EQUALS" => Symbol::Terminal(Kind::Equal),
             rule => Symbol::Rule(self.rule(rule)),
         }

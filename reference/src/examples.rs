@@ -1,6 +1,6 @@
 //! The examples in `examples/`: what they are answered, run and show, in the plain form in which the results are stored beside them.
 
-use crate::grammar::{program, Block, Declaration, Item, Statement};
+use crate::grammar::{program, Block, Declaration, Item, Statement, Type};
 use crate::help;
 use crate::layout::{layout, Place};
 use crate::machine::origin;
@@ -19,8 +19,8 @@ use std::path::Path;
 /// Instructions that a run may take unless its line says otherwise.
 const BUDGET: u32 = 1_000_000;
 
-/// A declared cell or array: where it begins, and whether it is short.
-type Cells = HashMap<Spelling, (Place, bool)>;
+/// A declared cell or array: where it begins, and of what type it is.
+type Cells = HashMap<Spelling, (Place, Type)>;
 
 /// The cells of an accepted text; of several with one name the first.
 fn cells(text: &[u8]) -> Option<Cells> {
@@ -28,19 +28,19 @@ fn cells(text: &[u8]) -> Option<Cells> {
     let program = program(tokens).ok()?;
     let layout = layout(&program, tokens, &mut Violations::new(tokens));
     let mut cells = HashMap::new();
-    declared(&program, &mut |name, short| {
+    declared(&program, &mut |name, of| {
         if let Some(place) = layout.cells[name] {
-            cells.entry(tokens[name].name).or_insert((place, short));
+            cells.entry(tokens[name].name).or_insert((place, of));
         }
     });
     Some(cells)
 }
 
 /// Every declared cell of a block and of those inside it, in text order.
-fn declared(block: &Block, each: &mut dyn FnMut(usize, bool)) {
+fn declared(block: &Block, each: &mut dyn FnMut(usize, Type)) {
     for declaration in &block.declarations {
         match declaration {
-            Declaration::Cells(cells) => cells.items.iter().for_each(|item| each(item.name, cells.short)),
+            Declaration::Cells(cells) => cells.items.iter().for_each(|item| each(item.name, cells.of)),
             Declaration::Procedure(procedure) => inside(&procedure.body, each),
             Declaration::Registers(_) | Declaration::Base(_) => {}
         }
@@ -52,7 +52,7 @@ fn declared(block: &Block, each: &mut dyn FnMut(usize, bool)) {
     }
 }
 
-fn inside(statement: &Statement, each: &mut dyn FnMut(usize, bool)) {
+fn inside(statement: &Statement, each: &mut dyn FnMut(usize, Type)) {
     match statement {
         Statement::Block(block) => declared(block, each),
         Statement::If { then, otherwise, .. } => {
@@ -87,13 +87,13 @@ impl Finished {
             Some((name, offset)) => (name, offset.strip_suffix(')')?.parse().ok()?),
             None => (name, 0),
         };
-        let (place, short) = self.cells.get(&spelling(name.as_bytes()))?;
+        let (place, of) = self.cells.get(&spelling(name.as_bytes()))?;
         let at = origin(place.segment) as usize + place.offset + offset;
         let bytes = self.storage.get(at..)?;
-        Some(if *short {
-            i64::from(i16::from_be_bytes(bytes.get(..2)?.try_into().ok()?))
-        } else {
-            i64::from(i32::from_be_bytes(bytes.get(..4)?.try_into().ok()?))
+        Some(match of {
+            Type::Integer => i64::from(i32::from_be_bytes(bytes.get(..4)?.try_into().ok()?)),
+            Type::Short => i64::from(i16::from_be_bytes(bytes.get(..2)?.try_into().ok()?)),
+            Type::Byte | Type::Character => i64::from(*bytes.first()?),
         })
     }
 }

@@ -1,11 +1,14 @@
 //! Generated source texts: right ones, careless ones, ones at the limits, and mutated ones, so that every refusal that
 //! a text can have comes up, each at least once in 200 texts, and at least a third of the texts are accepted.
 
-use crate::build::Builder;
+use crate::build::{type_words, Builder};
+use crate::functions::{Takes, FUNCTIONS};
+use crate::grammar::Type;
 use crate::layout::next_multiple;
 use crate::random::Random;
 use crate::spell::{any_value, number, number_out_of_range, set_in_lines, text};
-use crate::token::{RESERVED, SIGNS, TEXT_LIMIT};
+use crate::token::{reserved, SIGNS, TEXT_LIMIT};
+use crate::BYTE_FUNCTIONS;
 
 /// The text with this number under the seed.
 pub fn case(seed: u64, number: u64) -> Vec<u8> {
@@ -13,6 +16,9 @@ pub fn case(seed: u64, number: u64) -> Vec<u8> {
 }
 
 fn any_text(random: &mut Random) -> Vec<u8> {
+    if BYTE_FUNCTIONS && random.chance(1, 10) {
+        return rows(random);
+    }
     match random.below(1000) {
         0..=349 => right_text(random),
         350..=579 => careless_text(random),
@@ -105,7 +111,7 @@ pub fn mutated_tokens(random: &mut Random) -> Vec<u8> {
 }
 
 fn is_name(token: &str) -> bool {
-    token.starts_with(|first: char| first.is_ascii_uppercase()) && RESERVED.iter().all(|(word, _)| *word != token)
+    token.starts_with(|first: char| first.is_ascii_uppercase()) && reserved().iter().all(|(word, _)| *word != token)
 }
 
 fn is_number(token: &str) -> bool {
@@ -115,14 +121,18 @@ fn is_number(token: &str) -> bool {
 const OPERATORS: [&str; 12] = ["+", "-", "*", "++", "--", "AND", "OR", "XOR", "SHLL", "SHRL", "SHLA", "SHRA"];
 const RELATIONS: [&str; 6] = ["=", "^=", "<", "<=", ">=", ">"];
 const TYPES: [&str; 2] = ["INTEGER", "LOGICAL"];
+const ALL_TYPES: [&str; 4] = ["INTEGER", "LOGICAL", "BYTE", "CHARACTER"];
 
 /// A token in place of another of its kind, so that the text stays a program.
 fn replace_alike(random: &mut Random, tokens: &mut [String]) {
+    let types = if BYTE_FUNCTIONS { &ALL_TYPES[..] } else { &TYPES };
     let names: Vec<String> = tokens.iter().filter(|token| is_name(token)).cloned().collect();
     for _ in 0..20 {
         let at = random.below(tokens.len());
         let old = tokens[at].as_str();
-        let new = if is_name(old) {
+        let new = if BYTE_FUNCTIONS && is_name(old) && random.chance(1, 6) {
+            random.of(&FUNCTIONS).name.to_string()
+        } else if is_name(old) {
             match random.below(4) {
                 0 => format!("R{}", random.of(b"0123456789ABCDEF".map(char::from).as_slice())),
                 1 => "UNKNOWN".to_string(),
@@ -131,7 +141,7 @@ fn replace_alike(random: &mut Random, tokens: &mut [String]) {
         } else if is_number(old) {
             let value = any_value(random);
             number(random, value)
-        } else if let Some(list) = [&OPERATORS[..], &RELATIONS, &TYPES].into_iter().find(|list| list.contains(&old)) {
+        } else if let Some(list) = [&OPERATORS[..], &RELATIONS, types].into_iter().find(|list| list.contains(&old)) {
             random.of(list).to_string()
         } else {
             continue;
@@ -143,13 +153,16 @@ fn replace_alike(random: &mut Random, tokens: &mut [String]) {
 
 /// Any token of the language.
 fn any_token(random: &mut Random) -> String {
+    if BYTE_FUNCTIONS && random.chance(1, 12) {
+        return random.of(&FUNCTIONS).name.to_string();
+    }
     match random.below(10) {
         0..=1 => random.of(&["A", "R1", "R0", "RE", "P", "L", "X"]).to_string(),
         2 => {
             let value = any_value(random);
             number(random, value)
         }
-        3..=6 => random.of(&RESERVED).0.to_string(),
+        3..=6 => random.of(reserved()).0.to_string(),
         _ => random.of(&SIGNS).0.to_string(),
     }
 }
@@ -349,8 +362,15 @@ fn full_segment(random: &mut Random) -> Vec<u8> {
     let over = *random.of(&[0, 0, 1, 1, 1]);
     let mut item = 0;
     loop {
-        let short = random.chance(1, 2);
-        let size = if short { 2 } else { 4 };
+        let byte = BYTE_FUNCTIONS && random.chance(1, 3);
+        let of = if byte {
+            Type::Byte
+        } else if random.chance(1, 2) {
+            Type::Short
+        } else {
+            Type::Integer
+        };
+        let size = of.size();
         let start = next_multiple(end, size);
         let fitting = (4096 - start.min(4096)) / size;
         let last = item > 5 || random.chance(1, 3);
@@ -363,7 +383,7 @@ fn full_segment(random: &mut Random) -> Vec<u8> {
             continue;
         }
         end = start + size * count;
-        let words = if short { "SHORT INTEGER" } else { "INTEGER" };
+        let words = type_words(of);
         let phrase = format!("ARRAY ( {count} ) {words} A{item} ;");
         tokens.extend(phrase.split(' ').map(str::to_string));
         if last || end > 4096 {
@@ -477,7 +497,7 @@ const FEW_REGISTERS: [&str; 8] = ["R3", "R4", "R5", "R6", "R7", "R8", "RB", "RC"
 
 /// Procedures that write or return by few registers, and calls among them.
 fn protected(random: &mut Random) -> Vec<u8> {
-    let mut phrase = "BEGIN ".to_string();
+    let mut phrase = if BYTE_FUNCTIONS { "BEGIN BYTE B ; " } else { "BEGIN " }.to_string();
     let procedures = random.range(2, 5);
     for procedure in 0..procedures {
         let own = *random.of(&FEW_REGISTERS);
@@ -496,6 +516,10 @@ fn protected(random: &mut Random) -> Vec<u8> {
 /// up to the `callable`th may be called.
 fn written_somehow(random: &mut Random, callable: usize, depth: usize) -> String {
     let register = *random.of(&FEW_REGISTERS);
+    if BYTE_FUNCTIONS && random.chance(1, 4) {
+        let (name, second) = *random.of(&[("IC", "B"), ("LA", "B"), ("LTR", "R1"), ("STC", "B"), ("LTR", "RE")]);
+        return format!("{name} ( {register} ) ( {second} )");
+    }
     match random.below(11) {
         0 => format!("{register} := R1"),
         1 => format!("BEGIN SEGMENT BASE {register} ; END"),
@@ -516,6 +540,92 @@ fn written_somehow(random: &mut Random, callable: usize, depth: usize) -> String
     }
 }
 
+/// What stands before statements that begin with a name and a parenthesis; at times a function is hidden.
+const BEFORE_ROWS: &str = "BEGIN ARRAY ( 8 ) BYTE A ; BYTE B , F ; INTEGER I ; ARRAY ( 4 ) INTEGER W ; \
+    ARRAY ( 4 ) SHORT INTEGER H ; INTEGER REGISTER Z ( 0 ) , E ( 14 ) ; PROCEDURE P ( R5 ) ; NULL ;";
+const HIDDEN: [&str; 5] = ["", "", "BYTE SET ;", "INTEGER REGISTER LTR ( 3 ) ;", "PROCEDURE IC ( R7 ) ; NULL ;"];
+
+/// What a parenthesis may hold, right for some function or for none.
+const IN_PARENTHESES: &str = "R1|R2|R5|RE|RF|Z|E|5|0|255|256|_1|#FF|A|A ( 4 )|A ( R1 )|A ( 4 ) ( R2 )|\
+    A ( 8 )|A ( R0 )|A ( X )|B|F|I|W ( 4 )|W ( 2 )|H ( 6 ) ( R3 )|B ( R1 )|P|IC|X";
+
+/// What nearly fits where a cell belongs.
+const NEARLY_CELLS: &str =
+    "A|A ( 7 )|A ( 8 )|A ( _1 )|A ( R1 )|A ( 4 ) ( R2 )|A ( R0 )|A ( Z )|A ( X )|B|B ( 0 )|B ( R1 )|\
+    W ( 2 )|W ( 4 ) ( R1 )|H ( 6 )|H ( 8 )|R1|X|P|LA";
+
+/// One of the parts of a list with bars between them.
+fn one_of<'a>(random: &mut Random, list: &'a str) -> &'a str {
+    let parts: Vec<&str> = list.split('|').collect();
+    *random.of(&parts)
+}
+
+/// Statements that begin with a name and a row of parentheses: uses of functions and assignments, right, nearly right, and
+/// what is neither.
+pub fn rows(random: &mut Random) -> Vec<u8> {
+    let mut phrase = format!("{BEFORE_ROWS} {} ", random.of(&HIDDEN));
+    for _ in 0..random.range(1, 4) {
+        phrase += &match random.below(6) {
+            0..=2 => right_row(random),
+            3..=4 => near_row(random),
+            _ => any_row(random),
+        };
+    }
+    phrase += "END @";
+    let mut tokens: Vec<String> = phrase.split_ascii_whitespace().map(str::to_string).collect();
+    match random.below(8) {
+        0 => disturb(random, &mut tokens),
+        1 => replace_alike(random, &mut tokens),
+        _ => {}
+    }
+    text(random, &tokens)
+}
+
+fn right_row(random: &mut Random) -> String {
+    let register = *random.of(&["R1", "R2", "R9", "Z"]);
+    let cell = *random.of(&["A", "A ( 7 )", "B", "I", "W ( 4 )", "H ( 2 )", "F"]);
+    let indexed = *random.of(&["A ( R1 )", "A ( 3 ) ( R2 )", "W ( RE )", "H ( 6 ) ( R3 )", cell]);
+    let value = random.below(256);
+    match random.below(9) {
+        0 => format!("IC ( {register} ) ( {indexed} ) ; "),
+        1 => format!("STC ( {register} ) ( {indexed} ) ; "),
+        2 => format!("LA ( {register} ) ( {indexed} ) ; "),
+        3 => format!("LTR ( {register} ) ( R4 ) ; "),
+        4 => format!("MVI ( {value} ) ( {cell} ) ; "),
+        5 => format!("CLI ( {value} ) ( {cell} ) ; "),
+        6 => format!("{} ( {cell} ) ; ", random.of(&["SET", "RESET", "TEST"])),
+        7 => format!("{} := {register} ; ", random.of(&["W ( 8 )", "W ( R1 )", "H ( 2 ) ( R3 )", "I"])),
+        _ => "P ; ".to_string(),
+    }
+}
+
+/// The use of a function with arguments of the right sort, in which something may be wrong all the same.
+fn near_row(random: &mut Random) -> String {
+    let function = random.of(&FUNCTIONS);
+    let register = *random.of(&["R1", "R2", "RE", "RF", "E", "Z", "X", "I", "5", "R1 ( 4 )"]);
+    let value = *random.of(&["0", "255", "256", "_1", "#FF", "R1", "B"]);
+    let cell = one_of(random, NEARLY_CELLS);
+    let name = function.name;
+    match function.takes {
+        Takes::RegisterAndCell => format!("{name} ( {register} ) ( {cell} ) ; "),
+        Takes::TwoRegisters => format!("{name} ( {register} ) ( {} ) ; ", random.of(&["R1", "RE", "X", "B"])),
+        Takes::NumberAndCell => format!("{name} ( {value} ) ( {cell} ) ; "),
+        Takes::Cell(_) => format!("{name} ( {cell} ) ; "),
+    }
+}
+
+fn any_row(random: &mut Random) -> String {
+    let mut row = match random.below(3) {
+        0 => random.of(&["A", "B", "W", "H", "P", "R1", "X", "L"]).to_string(),
+        _ => random.of(&FUNCTIONS).name.to_string(),
+    };
+    for _ in 0..random.below(4) {
+        row += &format!(" ( {} )", one_of(random, IN_PARENTHESES));
+    }
+    let behind = one_of(random, ";|;|;|;|:= R1 ;|:= 5 ;|:= R1 + R2 ;|:|+ R1 ;|( ) ;|, R1 ;|R1 ;");
+    format!("{row} {behind} ")
+}
+
 /// A few bytes only.
 fn tiny(random: &mut Random) -> Vec<u8> {
     let mut text = Vec::new();
@@ -523,7 +633,7 @@ fn tiny(random: &mut Random) -> Vec<u8> {
         match random.below(4) {
             0 => text.push(random.next() as u8),
             1 => text.extend(random.of(&SIGNS).0.as_bytes()),
-            2 => text.extend(random.of(&RESERVED).0.as_bytes()),
+            2 => text.extend(random.of(reserved()).0.as_bytes()),
             _ => text.extend(random.of(&["BEGIN ", "END ", "@", " ", "COMMENT", "COMMENT;", "\n", "R1"]).as_bytes()),
         }
     }

@@ -10,6 +10,7 @@ use crate::random::Random;
 use crate::runcase::Case;
 use crate::runner::{self, STORAGE_NEEDED};
 use crate::translate::translate;
+use crate::BYTE_FUNCTIONS;
 
 /// A 32-bit value, most often one at an edge.
 pub fn value(random: &mut Random) -> u32 {
@@ -54,10 +55,20 @@ const CALL: u8 = 0x45;
 const RETURN: u8 = 0x07;
 const END: [u8; 2] = [0x0A, 0x00];
 
-/// All that have an operand in storage, a shift amount or a target, then all on registers: for random code.
-const LISTED: [u8; 38] = [
+/// All that are listed: for random code.
+fn listed() -> &'static [u8] {
+    if BYTE_FUNCTIONS {
+        &LISTED
+    } else {
+        &LISTED[..38]
+    }
+}
+
+/// Document 01's, then those of document 02, 1/13.
+const LISTED: [u8; 44] = [
     0x07, 0x0A, 0x10, 0x11, 0x13, 0x14, 0x16, 0x17, 0x18, 0x19, 0x1A, 0x1B, 0x1C, 0x1E, 0x1F, 0x40, 0x45, 0x47, 0x48,
     0x49, 0x4A, 0x4B, 0x4C, 0x50, 0x54, 0x56, 0x57, 0x58, 0x59, 0x5A, 0x5B, 0x5C, 0x5E, 0x5F, 0x88, 0x89, 0x8A, 0x8B,
+    0x12, 0x41, 0x42, 0x43, 0x92, 0x95,
 ];
 
 /// Registers 0 to 5 are worked with, 6 and 7 steer loops and calls, 8 to 11 are indexes, 12 and 13 the bases of segments 2 and 3.
@@ -276,6 +287,9 @@ fn branch_somewhere(random: &mut Random, program: &mut [Vec<u8>]) {
 
 /// Any instruction but a branch that is taken, its operand most often legal.
 fn plain(random: &mut Random, segments: &[DataSegment]) -> Vec<u8> {
+    if BYTE_FUNCTIONS && random.chance(1, 4) {
+        return on_bytes(random, segments);
+    }
     match random.below(24) {
         0..=7 => on_registers(random),
         8..=12 => {
@@ -307,6 +321,32 @@ fn target(random: &mut Random, op: u8) -> u8 {
         register & 14
     } else {
         register
+    }
+}
+
+/// One of document 02, 1/13.
+fn on_bytes(random: &mut Random, segments: &[DataSegment]) -> Vec<u8> {
+    let op = *random.of(&[0x12, 0x41, 0x42, 0x43, 0x92, 0x95]);
+    match op {
+        0x12 => two(op, target(random, op), random.below(16) as u8),
+        0x41 if random.chance(1, 2) => {
+            let displacement = if random.chance(1, 2) { random.below(4096) } else { *random.of(&[0, 1, 4095]) };
+            four(op, target(random, op), random.below(16) as u8, random.below(16) as u8, displacement as u16)
+        }
+        0x41 | 0x43 => in_storage(random, segments, op, 1, false),
+        0x42 => in_storage(random, segments, op, 1, true),
+        _ => {
+            let mut instruction = in_storage(random, segments, op, 1, op == 0x92);
+            // No index: the base is where it stands, even if it changed places.
+            if instruction[2] < 0x10 && !random.chance(1, 12) {
+                instruction[2] += 16 * (instruction[1] % 16);
+            }
+            let offset = usize::from(instruction[2] % 16) * 256 + usize::from(instruction[3]);
+            let there = segments[0].bytes.get(offset).copied().unwrap_or(0);
+            let near = there.wrapping_add(*random.of(&[0, 0, 1, 255, 128]));
+            instruction[1] = if random.chance(1, 2) { near } else { *random.of(&[0, 1, 0x7F, 0x80, 0xFE, 0xFF]) };
+            instruction
+        }
     }
 }
 
@@ -359,7 +399,7 @@ fn in_storage(random: &mut Random, segments: &[DataSegment], op: u8, size: usize
 fn listed_bytes(random: &mut Random) -> Vec<u8> {
     let mut bytes = Vec::new();
     for _ in 0..random.range(1, 12) {
-        let op = *random.of(&LISTED);
+        let op = *random.of(listed());
         let length = if op < 0x40 { 2 } else { 4 };
         bytes.push(op);
         bytes.extend((1..length).map(|_| random.next() as u8));

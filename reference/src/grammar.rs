@@ -2,6 +2,7 @@
 //! The tree holds token numbers; a token number is what `TokenNo` counts from 0.
 
 use crate::token::{Kind, Refusal, Token};
+use crate::BYTE_FUNCTIONS;
 
 pub type TokenNo = usize;
 
@@ -35,8 +36,33 @@ pub struct RegisterItem {
 pub struct Cells {
     /// The count of ARRAY (count).
     pub count: Option<TokenNo>,
-    pub short: bool,
+    pub of: Type,
     pub items: Vec<CellItem>,
+}
+
+/// What the cells of a declaration are; "LOGICAL follows every rule of INTEGER".
+#[derive(Clone, Copy, PartialEq, Eq, Debug)]
+pub enum Type {
+    Integer,
+    Short,
+    Byte,
+    Character,
+}
+
+impl Type {
+    /// "4, or 2 for short"; BYTE and CHARACTER cells are "one byte".
+    pub fn size(self) -> usize {
+        match self {
+            Type::Integer => 4,
+            Type::Short => 2,
+            Type::Byte | Type::Character => 1,
+        }
+    }
+
+    /// A byte cell, of either word.
+    pub fn is_byte(self) -> bool {
+        matches!(self, Type::Byte | Type::Character)
+    }
 }
 
 pub struct CellItem {
@@ -53,13 +79,19 @@ pub struct Procedure {
 
 pub enum Statement {
     Assignment(Assignment),
-    Call(TokenNo),
+    Use(Use),
     Block(Block),
     Goto(TokenNo),
     Null,
     If { opening: TokenNo, condition: Condition, then: Box<Statement>, otherwise: Option<Box<Statement>> },
     While { opening: TokenNo, condition: Condition, body: Box<Statement> },
     For { opening: TokenNo, assignment: Assignment, step: TokenNo, limit: Operand, body: Box<Statement> },
+}
+
+/// "the name, then each argument in its own parentheses": a call has none.
+pub struct Use {
+    pub name: TokenNo,
+    pub arguments: Vec<Operand>,
 }
 
 pub struct Assignment {
@@ -205,7 +237,7 @@ impl Reader<'_> {
 
     fn declaration_begins(&self) -> bool {
         use Kind::*;
-        matches!(self.kind(), Integer | Logical | Short | Array | Procedure | Segment)
+        matches!(self.kind(), Integer | Logical | Short | Byte | Character | Array | Procedure | Segment)
     }
 
     /// "declaration = (INTEGER or LOGICAL) REGISTER name(number) {, name(number)}; or [ARRAY (number)] type item
@@ -250,28 +282,29 @@ impl Reader<'_> {
             count = Some(self.expect(Kind::Number)?);
             self.expect(Kind::Close)?;
         }
-        let short = self.type_is_short()?;
+        let of = self.cell_type()?;
         let mut items = vec![self.cell_item()?];
         while self.kind() == Kind::Comma {
             self.take();
             items.push(self.cell_item()?);
         }
-        Ok(Declaration::Cells(Cells { count, short, items }))
+        Ok(Declaration::Cells(Cells { count, of, items }))
     }
 
-    /// "type = INTEGER, LOGICAL or SHORT INTEGER"
-    fn type_is_short(&mut self) -> Read<bool> {
-        match self.kind() {
-            Kind::Integer | Kind::Logical => {
-                self.take();
-                Ok(false)
-            }
+    /// "type = INTEGER, LOGICAL or SHORT INTEGER", and "Add BYTE and CHARACTER cells".
+    fn cell_type(&mut self) -> Read<Type> {
+        let of = match self.kind() {
+            Kind::Integer | Kind::Logical => Type::Integer,
+            Kind::Byte => Type::Byte,
+            Kind::Character => Type::Character,
             _ => {
                 self.expect(Kind::Short)?;
                 self.expect(Kind::Integer)?;
-                Ok(true)
+                return Ok(Type::Short);
             }
-        }
+        };
+        self.take();
+        Ok(of)
     }
 
     /// "item = name {(number)}."
@@ -298,12 +331,13 @@ impl Reader<'_> {
         Ok(Declaration::Procedure(Procedure { opening, name, register, body }))
     }
 
-    /// "simple = assignment, name (a call), block, GOTO name, NULL."
+    /// "simple = assignment, name (a call), block, GOTO name, NULL.", and the uses of functions.
     fn simple(&mut self) -> Read<Statement> {
         match self.kind() {
             Kind::Name => match self.next_kind() {
-                Some(Kind::Assign | Kind::Open) => Ok(Statement::Assignment(self.assignment()?)),
-                _ => Ok(Statement::Call(self.take())),
+                Some(Kind::Assign) => Ok(Statement::Assignment(self.assignment()?)),
+                Some(Kind::Open) if !BYTE_FUNCTIONS => Ok(Statement::Assignment(self.assignment()?)),
+                _ => self.use_or_assignment(),
             },
             Kind::Begin => Ok(Statement::Block(self.block()?)),
             Kind::Goto => {
@@ -315,6 +349,22 @@ impl Reader<'_> {
                 Ok(Statement::Null)
             }
             _ => self.unexpected(),
+        }
+    }
+
+    /// "A use is a simple statement: the name, then each argument in its own parentheses." Up to a `:=` it may still become
+    /// an assignment, if what has been read is a designator; if not, no program goes on with the `:=`.
+    fn use_or_assignment(&mut self) -> Read<Statement> {
+        let name = self.take();
+        let mut arguments = Vec::new();
+        while self.kind() == Kind::Open {
+            self.take();
+            arguments.push(self.operand()?);
+            self.expect(Kind::Close)?;
+        }
+        match designator_of(name, &arguments) {
+            Some(target) if self.kind() == Kind::Assign => Ok(Statement::Assignment(self.assigned(target)?)),
+            _ => Ok(Statement::Use(Use { name, arguments })),
         }
     }
 
@@ -369,6 +419,11 @@ impl Reader<'_> {
     /// "assignment = designator `:=` [ABS, NEG or NEG ABS] operand {operator operand}."
     fn assignment(&mut self) -> Read<Assignment> {
         let target = self.designator()?;
+        self.assigned(target)
+    }
+
+    /// An assignment from its `:=` on.
+    fn assigned(&mut self, target: Designator) -> Read<Assignment> {
         self.expect(Kind::Assign)?;
         let sign = self.sign();
         let first = self.operand()?;
@@ -434,6 +489,21 @@ impl Reader<'_> {
         let relation = self.take();
         let operand = self.operand()?;
         Ok(Condition::Comparison { register, relation, operand })
+    }
+}
+
+/// The designator that a name with these parentheses behind it is, if it is one of the four forms.
+fn designator_of(name: TokenNo, arguments: &[Operand]) -> Option<Designator> {
+    let (subscript, index) = match arguments {
+        [] => (None, None),
+        [Operand::Number(number)] => (Some(*number), None),
+        [Operand::Designator(index)] => (None, Some(index)),
+        [Operand::Number(number), Operand::Designator(index)] => (Some(*number), Some(index)),
+        _ => return None,
+    };
+    match index {
+        Some(Designator { subscript: Some(_), .. } | Designator { index: Some(_), .. }) => None,
+        _ => Some(Designator { name, subscript, index: index.map(|index| index.name) }),
     }
 }
 

@@ -11,21 +11,37 @@ use crate::objread;
 use crate::random::Random;
 use crate::runcase::{answer_line, Case, STORAGE_BEFORE};
 use crate::runner::{self, RunAnswer, STORAGE_NEEDED};
+use crate::BYTE_FUNCTIONS;
 use std::io::{self, Write};
 use std::path::Path;
 
 const SEED: u64 = 370;
-/// How many instructions are tried: those of the list in turn, then the end, then products with an odd field.
-const TRIED: usize = 18_500;
+/// How often each instruction of the list is tried, in turn; then come the end and products with an odd field.
+const EACH: usize = if BYTE_FUNCTIONS { 510 } else { 500 };
 const ENDS: usize = 50;
 const ODD_PRODUCTS: usize = 450;
-/// How many of them are stored for others to be held against.
-pub const STORED: usize = 3_700;
+/// How many of each are stored for others to be held against.
+const STORED_EACH: usize = 100;
+
+/// How many are stored in all.
+pub fn stored() -> usize {
+    STORED_EACH * opcodes().len()
+}
 
 /// The listed opcodes that complete: all but the end.
-const OPCODES: [u8; 37] = [
+fn opcodes() -> &'static [u8] {
+    if BYTE_FUNCTIONS {
+        &OPCODES
+    } else {
+        &OPCODES[..37]
+    }
+}
+
+/// Document 01's, then those of document 02, 1/13.
+const OPCODES: [u8; 43] = [
     0x07, 0x10, 0x11, 0x13, 0x14, 0x16, 0x17, 0x18, 0x19, 0x1A, 0x1B, 0x1C, 0x1E, 0x1F, 0x40, 0x45, 0x47, 0x48, 0x49,
-    0x4A, 0x4B, 0x4C, 0x50, 0x54, 0x56, 0x57, 0x58, 0x59, 0x5A, 0x5B, 0x5C, 0x5E, 0x5F, 0x88, 0x89, 0x8A, 0x8B,
+    0x4A, 0x4B, 0x4C, 0x50, 0x54, 0x56, 0x57, 0x58, 0x59, 0x5A, 0x5B, 0x5C, 0x5E, 0x5F, 0x88, 0x89, 0x8A, 0x8B, 0x12,
+    0x41, 0x42, 0x43, 0x92, 0x95,
 ];
 
 const CORE: usize = 1 << 24;
@@ -90,7 +106,7 @@ struct Trial {
 /// The same trials at every call.
 fn trials() -> Vec<Trial> {
     let mut random = Random::new(SEED, 0);
-    let listed = (0..TRIED).map(|i| OPCODES[i % OPCODES.len()]);
+    let listed = (0..EACH * opcodes().len()).map(|i| opcodes()[i % opcodes().len()]);
     let products = (0..ODD_PRODUCTS).map(|i| [0x1C, 0x5C][i % 2]);
     let mut all: Vec<Trial> = listed.map(|op| trial(&mut random, op, false)).collect();
     all.extend((0..ENDS).map(|_| trial(&mut random, 0x0A, false)));
@@ -126,8 +142,32 @@ fn trial(random: &mut Random, op: u8, odd: bool) -> Trial {
             addressed(random, &mut regs, op, r1, target)
         }
         0x88..=0x8B => shift(random, op, r1),
+        0x41 => {
+            let address = match random.below(3) {
+                0 => *random.of(&[0, 1, 4095, 4096, 0x7F_FFFF, 0x80_0000, 0xFF_FFFE, 0xFF_FFFF]),
+                1 => origin(1) + random.below(CELLS_1) as u32,
+                _ => random.next() as u32 & 0xFF_FFFF,
+            };
+            addressed(random, &mut regs, op, r1, address)
+        }
+        0x92 | 0x95 => {
+            let at = random.below(CELLS_1 + CELLS_2);
+            let address = if at < CELLS_1 { origin(1) + at as u32 } else { origin(2) + (at - CELLS_1) as u32 };
+            let mut instruction = without_index(random, &mut regs, op, address);
+            // Loading writes the table's words over the first twelve bytes of the cells.
+            if at >= 12 && random.chance(1, 2) {
+                cells[at] = *random.of(&[0, 1, 0x7F, 0x80, 0xFE, 0xFF]);
+            }
+            let near = cells[at].wrapping_add(*random.of(&[0, 0, 0, 1, 0xFF, 0x80, 0x7F]));
+            instruction[1] = if random.chance(2, 3) { near } else { random.next() as u8 };
+            instruction
+        }
         _ => {
-            let size = if op < 0x50 { 2 } else { 4 };
+            let size = match op {
+                0x42 | 0x43 => 1,
+                0x00..=0x4F => 2,
+                _ => 4,
+            };
             let at = random.below((CELLS_1 + CELLS_2) / size) * size;
             let address = if at < CELLS_1 { origin(1) + at as u32 } else { origin(2) + (at - CELLS_1) as u32 };
             let instruction = addressed(random, &mut regs, op, r1, address);
@@ -205,6 +245,24 @@ fn addressed(random: &mut Random, regs: &mut [u32; 16], op: u8, r1: u8, address:
             continue;
         }
         return four(op, r1, index as u8, base as u8, displacement as u16);
+    }
+}
+
+/// The instruction with some base and displacement that give the address; its second byte is still to be set.
+fn without_index(random: &mut Random, regs: &mut [u32; 16], op: u8, address: u32) -> Vec<u8> {
+    let displacement = if random.chance(1, 2) { random.below(4096) } else { *random.of(&[0, 1, 2, 2047, 4094, 4095]) };
+    let base = if random.chance(1, 4) { 14 } else { random.range(1, 13) };
+    if base < 14 {
+        regs[base] = address.wrapping_sub(displacement as u32).wrapping_add((random.next() as u32) << 24);
+        return four(op, 0, 0, base as u8, displacement as u16);
+    }
+    // Segment 2 lies past what register 14 reaches: register 13 takes its place there.
+    match address.checked_sub(regs[14]) {
+        Some(offset) if offset < 4096 => four(op, 0, 0, 14, offset as u16),
+        _ => {
+            regs[13] = address;
+            four(op, 0, 0, 13, 0)
+        }
     }
 }
 
@@ -372,8 +430,8 @@ fn emulated(trial: &Trial, record: &[u8]) -> Result<(RunAnswer, Vec<u8>), String
 pub fn compare(path: &str) -> io::Result<(String, bool)> {
     let core = std::fs::read(path)?;
     let (mut same, mut report) = (0, String::new());
-    let mut stored = Vec::new();
-    let mut opcodes = [[0; 4]; 256];
+    let mut kept = Vec::new();
+    let mut codes_of = [[0; 4]; 256];
     let trials = trials();
     for (i, trial) in trials.iter().enumerate() {
         let (answer, storage) = trial.case.run();
@@ -383,18 +441,18 @@ pub fn compare(path: &str) -> io::Result<(String, bool)> {
             .unwrap_or_else(|wrong| wrong);
         if here == there {
             same += 1;
-            opcodes[trial.instruction[0] as usize][answer.cc as usize] += 1;
+            codes_of[trial.instruction[0] as usize][answer.cc as usize] += 1;
         } else {
             report +=
                 &format!("{:02X?} differs\n  {}here  {here}\n  there {there}\n", trial.instruction, given(&trial.case));
         }
-        if i < STORED {
-            trial.case.write(&mut stored)?;
-            writeln!(stored, "{there}")?;
+        if i < stored() {
+            trial.case.write(&mut kept)?;
+            writeln!(kept, "{there}")?;
         }
     }
-    std::fs::write(Path::new(path).with_file_name("hercules-runs"), stored)?;
-    for (opcode, codes) in opcodes.iter().enumerate().filter(|(_, codes)| codes.iter().sum::<usize>() > 0) {
+    std::fs::write(Path::new(path).with_file_name("hercules-runs"), kept)?;
+    for (opcode, codes) in codes_of.iter().enumerate().filter(|(_, codes)| codes.iter().sum::<usize>() > 0) {
         let [zero, one, two, three] = codes;
         let total: usize = codes.iter().sum();
         report += &format!("opcode {opcode:02X}: {total} equal, code after 0 to 3: {zero} {one} {two} {three}\n");
@@ -411,11 +469,11 @@ fn given(case: &Case) -> String {
 
 /// The stored cases with this machine's answers: the same file that `compare` makes of the emulator's.
 pub fn stored_runs() -> io::Result<Vec<u8>> {
-    let mut stored = Vec::new();
-    for trial in trials().iter().take(STORED) {
+    let mut kept = Vec::new();
+    for trial in trials().iter().take(stored()) {
         let (answer, storage) = trial.case.run();
-        trial.case.write(&mut stored)?;
-        writeln!(stored, "{}", answer_line(&answer, &storage))?;
+        trial.case.write(&mut kept)?;
+        writeln!(kept, "{}", answer_line(&answer, &storage))?;
     }
-    Ok(stored)
+    Ok(kept)
 }

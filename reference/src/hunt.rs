@@ -6,6 +6,7 @@ use crate::kinds::{only, RegisterSet, DATA_BASE, PROGRAM_BASE};
 use crate::random::Random;
 use crate::slips::Slip;
 use crate::spell::text;
+use crate::BYTE_FUNCTIONS;
 
 /// How deep procedures and blocks may stand inside each other.
 const DEPTH: usize = 9;
@@ -125,7 +126,8 @@ impl Hunter<'_> {
     }
 
     fn cells(&mut self) {
-        let (words, size) = *self.random.of(&[("INTEGER", 4), ("SHORT INTEGER", 2)]);
+        let byte = BYTE_FUNCTIONS && self.random.chance(1, 3);
+        let (words, size) = if byte { ("BYTE", 1) } else { *self.random.of(&[("INTEGER", 4), ("SHORT INTEGER", 2)]) };
         let name = self.name('C');
         let elements = if self.random.chance(1, 4) { Some(self.random.range(1, 8)) } else { None };
         if let Some(count) = elements {
@@ -188,7 +190,7 @@ impl Hunter<'_> {
             self.put(&format!("PROCEDURE {name} ( R{register:X} ) ; BEGIN"));
             let mut writes = only(register);
             if let Some((callee, inside)) = earlier {
-                let before = self.cell().unwrap_or_else(|| "0".to_string());
+                let before = self.cell(false).unwrap_or_else(|| "0".to_string());
                 self.put(&format!("R0 := {before} ; {callee} ; R0 := R0 + R{register:X} ;"));
                 writes |= inside;
             }
@@ -223,6 +225,10 @@ impl Hunter<'_> {
     /// Inside IF only a simple one may stand before ELSE.
     fn statement(&mut self, any: bool) {
         self.statements = self.statements.saturating_sub(1);
+        let often = if self.slip == Slip::FunctionsForgotten { 4 } else { 10 };
+        if BYTE_FUNCTIONS && self.random.chance(1, often) {
+            return self.function();
+        }
         match self.random.below(20) {
             0..=5 => self.call(),
             6..=8 => self.load(),
@@ -275,12 +281,42 @@ impl Hunter<'_> {
         }
     }
 
-    /// A cell in force, mostly as it is.
-    fn cell(&mut self) -> Option<String> {
+    /// The use of a function that writes a register, or a cell.
+    fn function(&mut self) {
+        let target = match self.slip {
+            Slip::FunctionsForgotten => Some(*self.random.of(&self.pool)),
+            _ => self.target(),
+        };
+        let source = self.source();
+        let value = self.random.below(256);
+        let phrase = match (self.random.below(8), target, self.cell(true)) {
+            (0..=1, Some(target), _) => format!("LTR ( R{target:X} ) ( {source} )"),
+            (2..=3, Some(target), Some(cell)) => format!("IC ( R{target:X} ) ( {cell} )"),
+            (4, Some(target), Some(cell)) => format!("LA ( R{target:X} ) ( {cell} )"),
+            (5, _, Some(cell)) => return self.put(&format!("STC ( {source} ) ( {cell} )")),
+            (_, _, Some(cell)) if !cell.contains("( R") => {
+                let name = *self.random.of(&["SET", "RESET", "TEST"]);
+                let with_number = format!("{} ( {value} )", self.random.of(&["MVI", "CLI"]));
+                let front = if self.random.chance(1, 2) { name.to_string() } else { with_number };
+                return self.put(&format!("{front} ( {cell} )"));
+            }
+            _ => return self.put("NULL"),
+        };
+        self.put(&phrase);
+        if let (Some(target), true) = (target, self.slip != Slip::FunctionsForgotten) {
+            self.write(only(target));
+        }
+    }
+
+    /// A cell in force, mostly as it is; a byte cell only where one may stand.
+    fn cell(&mut self, bytes_too: bool) -> Option<String> {
         let mut cells = Vec::new();
         for (name, thing) in self.scopes.iter().flat_map(|scope| &scope.things) {
-            if let Thing::Cell { elements, size } = thing {
-                cells.push((name.clone(), *elements, *size));
+            match thing {
+                Thing::Cell { elements, size } if *size > 1 || bytes_too => {
+                    cells.push((name.clone(), *elements, *size))
+                }
+                _ => {}
             }
         }
         let (mut name, elements, size) = self.random.pick(&cells)?.clone();
@@ -296,7 +332,7 @@ impl Hunter<'_> {
     }
 
     fn load(&mut self) {
-        match (self.target(), self.cell()) {
+        match (self.target(), self.cell(false)) {
             (Some(target), Some(cell)) => {
                 self.put(&format!("R{target:X} := {cell}"));
                 self.write(only(target));
@@ -306,7 +342,7 @@ impl Hunter<'_> {
     }
 
     fn store(&mut self) {
-        match self.cell() {
+        match self.cell(false) {
             Some(cell) => {
                 let source = self.source();
                 self.put(&format!("{cell} := {source}"));

@@ -2,8 +2,9 @@
 //!
 //! A rule that hangs on a refused declaration is judged with any meaning of it: what it could add lies later.
 
+use crate::functions::{Function, Takes};
 use crate::grammar::*;
-use crate::layout::{cell_size, COUNT_LIMIT};
+use crate::layout::COUNT_LIMIT;
 use crate::names::Found;
 use crate::slips::Slip;
 use crate::token::{Kind, Token};
@@ -28,7 +29,7 @@ pub enum Meaning {
     Register(u8),
     /// `count` is the number of elements of an array, None for a cell that is none.
     Cell {
-        short: bool,
+        of: Type,
         count: Option<usize>,
     },
     /// `writes` is all that a call writes.
@@ -36,6 +37,7 @@ pub enum Meaning {
         register: u8,
         writes: RegisterSet,
     },
+    Function(Function),
 }
 
 /// The meaning of every declared name, by its token.
@@ -57,6 +59,7 @@ pub fn meaning(found: &[Found], meanings: &[Meaning], name: TokenNo) -> Meaning 
     match found[name] {
         Found::Nothing => Meaning::Unknown,
         Found::Standard(register) => Meaning::Register(register),
+        Found::Function(function) => Meaning::Function(function),
         Found::Declared(declaration) => meanings[declaration],
     }
 }
@@ -151,10 +154,10 @@ impl Judge<'_, '_> {
             count = Some(number.clamp(1, COUNT_LIMIT) as usize);
         }
         for item in &cells.items {
-            self.meanings[item.name] = Meaning::Cell { short: cells.short, count };
+            self.meanings[item.name] = Meaning::Cell { of: cells.of, count };
             for (position, &value) in item.values.iter().enumerate() {
                 let too_many = position >= count.unwrap_or(1);
-                let bad = cells.short && !is_short_value(self.tokens[value].signed());
+                let bad = !is_value(cells.of, self.tokens[value].signed());
                 self.violations.add_if(too_many || bad, 11, value);
             }
         }
@@ -178,7 +181,7 @@ impl Judge<'_, '_> {
     fn statement(&mut self, statement: &Statement, protected: RegisterSet) {
         match statement {
             Statement::Assignment(assignment) => self.assignment(assignment, protected),
-            Statement::Call(name) => self.call(*name, protected),
+            Statement::Use(used) => self.used(used, protected),
             Statement::Block(block) => self.block(block, protected),
             Statement::Goto(_) | Statement::Null => {}
             Statement::If { condition, then, otherwise, .. } => {
@@ -201,9 +204,12 @@ impl Judge<'_, '_> {
         }
     }
 
-    fn call(&mut self, name: TokenNo, protected: RegisterSet) {
+    /// A call, or the use of a function. What else has arguments does not fit, nor has what has none and is no procedure.
+    fn used(&mut self, used: &Use, protected: RegisterSet) {
+        let name = used.name;
         match self.meaning(name) {
-            Meaning::Procedure { register, writes } => {
+            Meaning::Function(function) => self.function(function, used, protected),
+            Meaning::Procedure { register, writes } if used.arguments.is_empty() => {
                 let before = self.written;
                 self.writes(writes, name, protected);
                 if self.slip == Slip::CallsForgotten {
@@ -212,6 +218,67 @@ impl Judge<'_, '_> {
             }
             Meaning::Unknown => {}
             _ => self.violations.add(8, name),
+        }
+    }
+
+    /// "... is refusal 8, as is a wrong kind of argument, or a wrong count at the function's name."
+    fn function(&mut self, function: Function, used: &Use, protected: RegisterSet) {
+        if used.arguments.len() != function.arguments() {
+            return self.violations.add(8, used.name);
+        }
+        let (first, last) = (&used.arguments[0], &used.arguments[used.arguments.len() - 1]);
+        match function.takes {
+            Takes::RegisterAndCell | Takes::TwoRegisters => {
+                self.register_argument(first, function.writes_first, protected);
+            }
+            Takes::NumberAndCell => self.number_argument(first),
+            Takes::Cell(_) => {}
+        }
+        match function.takes {
+            Takes::TwoRegisters => self.register_argument(last, false, protected),
+            Takes::RegisterAndCell => self.cell_argument(last, true),
+            Takes::NumberAndCell | Takes::Cell(_) => self.cell_argument(last, false),
+        }
+    }
+
+    /// "IC, LA and LTR write the first, so the protected rule counts it."
+    fn register_argument(&mut self, argument: &Operand, written: bool, protected: RegisterSet) {
+        match argument {
+            Operand::Number(number) => self.violations.add(8, *number),
+            Operand::Designator(designator) => {
+                self.designator(designator);
+                self.register(designator.name);
+                if let Meaning::Register(register) = self.meaning(designator.name) {
+                    if written && self.slip != Slip::FunctionsForgotten {
+                        self.writes(only(register), designator.name, protected);
+                    }
+                }
+            }
+        }
+    }
+
+    /// "MVI and CLI take a number 0 to 255, else 11"
+    fn number_argument(&mut self, argument: &Operand) {
+        match argument {
+            Operand::Number(number) => {
+                let fits = is_value(Type::Byte, self.tokens[*number].signed());
+                self.violations.add_if(!fits, 11, *number);
+            }
+            Operand::Designator(designator) => self.violations.add(8, designator.name),
+        }
+    }
+
+    /// "a cell that may be indexed", or one of which "an index there is refusal 8": the index is what does not fit.
+    fn cell_argument(&mut self, argument: &Operand, may_be_indexed: bool) {
+        match argument {
+            Operand::Number(number) => self.violations.add(8, *number),
+            Operand::Designator(designator) => {
+                let meaning = self.designator(designator);
+                self.violations.add_if(matches!(meaning, Meaning::Register(_)), 8, designator.name);
+                if let (Some(index), false) = (designator.index, may_be_indexed) {
+                    self.violations.add(8, index);
+                }
+            }
         }
     }
 
@@ -225,8 +292,9 @@ impl Judge<'_, '_> {
                     self.link(link, target, protected);
                 }
             }
+            Meaning::Cell { of, .. } if of.is_byte() => self.violations.add(8, assignment.target.name),
             Meaning::Cell { .. } => self.store(assignment),
-            Meaning::Procedure { .. } | Meaning::Unknown => {}
+            Meaning::Procedure { .. } | Meaning::Function(_) | Meaning::Unknown => {}
         }
     }
 
@@ -278,7 +346,7 @@ impl Judge<'_, '_> {
     /// "`*` by a number, or by what begins with the name of a register or integer cell, needs an odd target and also
     /// writes the register below."
     fn product(&mut self, times: TokenNo, operand: Meaning, target: u8, protected: RegisterSet) {
-        let by_pair = matches!(operand, Meaning::Register(_) | Meaning::Cell { short: false, .. });
+        let by_pair = matches!(operand, Meaning::Register(_) | Meaning::Cell { of: Type::Integer, .. });
         if !by_pair {
             return;
         }
@@ -293,7 +361,7 @@ impl Judge<'_, '_> {
     fn no_short(&mut self, operand: &Operand) {
         let meaning = self.operand(operand);
         if let Operand::Designator(designator) = operand {
-            let short = matches!(meaning, Meaning::Cell { short: true, .. });
+            let short = matches!(meaning, Meaning::Cell { of: Type::Short, .. });
             self.violations.add_if(short, 8, designator.name);
         }
     }
@@ -306,11 +374,17 @@ impl Judge<'_, '_> {
         }
     }
 
-    /// The meaning of the operand's name; a number has that of an integer cell.
+    /// The meaning of the operand's name; a number has that of an integer cell. "A byte cell in an assignment or condition, or
+    /// as a FOR limit, is refusal 8."
     fn operand(&mut self, operand: &Operand) -> Meaning {
         match operand {
-            Operand::Number(_) => Meaning::Cell { short: false, count: None },
-            Operand::Designator(designator) => self.designator(designator),
+            Operand::Number(_) => Meaning::Cell { of: Type::Integer, count: None },
+            Operand::Designator(designator) => {
+                let meaning = self.designator(designator);
+                let byte = matches!(meaning, Meaning::Cell { of, .. } if of.is_byte());
+                self.violations.add_if(byte, 8, designator.name);
+                meaning
+            }
         }
     }
 
@@ -321,13 +395,13 @@ impl Judge<'_, '_> {
         let meaning = self.meaning(designator.name);
         match meaning {
             Meaning::Unknown => {}
-            Meaning::Procedure { .. } => self.violations.add(8, designator.name),
+            Meaning::Procedure { .. } | Meaning::Function(_) => self.violations.add(8, designator.name),
             Meaning::Register(_) | Meaning::Cell { count: None, .. } => {
                 self.violations.add_if(subscripted, 8, designator.name);
             }
-            Meaning::Cell { short, count: Some(count) } => {
+            Meaning::Cell { of, count: Some(count) } => {
                 if let Some(subscript) = designator.subscript {
-                    let inside = is_element(self.tokens[subscript].signed(), cell_size(short), count);
+                    let inside = is_element(self.tokens[subscript].signed(), of.size(), count);
                     self.violations.add_if(!inside, 11, subscript);
                 }
             }
@@ -339,9 +413,13 @@ impl Judge<'_, '_> {
     }
 }
 
-/// "A value for a short cell has signed value -32768 to 65535"
-fn is_short_value(value: i32) -> bool {
-    (-32768..=65535).contains(&value)
+/// "A value for a short cell has signed value -32768 to 65535", one for a byte cell is "0 to 255".
+fn is_value(of: Type, value: i32) -> bool {
+    match of {
+        Type::Integer => true,
+        Type::Short => (-32768..=65535).contains(&value),
+        Type::Byte | Type::Character => (0..=255).contains(&value),
+    }
 }
 
 fn is_element(subscript: i32, size: usize, count: usize) -> bool {

@@ -70,7 +70,7 @@ impl Search<'_, '_> {
         match statement {
             Statement::Goto(name) => self.goto(*name),
             Statement::Block(block) => self.block(block),
-            Statement::Assignment(_) | Statement::Call(_) | Statement::Null => {}
+            Statement::Assignment(_) | Statement::Use(_) | Statement::Null => {}
             Statement::If { then, otherwise, .. } => {
                 self.statement(then);
                 if let Some(otherwise) = otherwise {

@@ -48,15 +48,6 @@ pub fn layout(program: &Block, tokens: &[Token], violations: &mut Violations) ->
     layer.layout
 }
 
-/// "4, or 2 for short"
-pub fn cell_size(short: bool) -> usize {
-    if short {
-        2
-    } else {
-        4
-    }
-}
-
 /// The next multiple of `size`, from `offset` on.
 pub fn next_multiple(offset: usize, size: usize) -> usize {
     (offset + size - 1) / size * size
@@ -98,9 +89,9 @@ impl Layer<'_, '_> {
         self.layout.last
     }
 
-    /// "Cells take the next multiple of their size (4, or 2 for short)."
+    /// "Cells take the next multiple of their size (4, or 2 for short)."; byte cells stand at "any offset".
     fn cells(&mut self, cells: &Cells, segment: usize) {
-        let size = cell_size(cells.short);
+        let size = cells.of.size();
         let count = cells.count.map_or(1, |count| count_in_range(self.tokens[count].signed()));
         for item in &cells.items {
             let offset = next_multiple(self.layout.ends[segment], size);
@@ -121,7 +112,7 @@ impl Layer<'_, '_> {
                 }
             }
             Statement::While { body, .. } | Statement::For { body, .. } => self.statement(body, segment),
-            Statement::Assignment(_) | Statement::Call(_) | Statement::Goto(_) | Statement::Null => {}
+            Statement::Assignment(_) | Statement::Use(_) | Statement::Goto(_) | Statement::Null => {}
         }
     }
 }

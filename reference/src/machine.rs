@@ -1,4 +1,6 @@
-//! The machine: one instruction of document 01's list, as System/360 carries it out.
+//! The machine: one instruction of document 01's list, or of document 02's 1/13, as System/360 carries it out.
+
+use crate::BYTE_FUNCTIONS;
 
 /// "Segment k goes to 4096·(k+1)".
 pub const SEGMENT_ROOM: u32 = 4096;
@@ -86,6 +88,11 @@ fn two_bytes(state: &mut State, [opcode, fields]: [u8; 2]) -> Result<(), Stop> {
         0x10 => (state.regs[r1], state.cc) = positive(state.regs[r2]),
         0x11 => (state.regs[r1], state.cc) = negative(state.regs[r2]),
         0x13 => (state.regs[r1], state.cc) = complement(state.regs[r2]),
+        // LTR: the code by the signed value.
+        0x12 if BYTE_FUNCTIONS => {
+            state.regs[r1] = state.regs[r2];
+            state.cc = sign_code(state.regs[r1]);
+        }
         // NR, OR, XR
         0x14 => (state.regs[r1], state.cc) = and(state.regs[r1], state.regs[r2]),
         0x16 => (state.regs[r1], state.cc) = or(state.regs[r1], state.regs[r2]),
@@ -122,6 +129,21 @@ fn four_bytes(state: &mut State, map: &Map, storage: &mut [u8], instruction: [u8
             let address = indexed(state, instruction);
             writable(map, address, 2)?;
             store(storage, address, (state.regs[r1] as u16).to_be_bytes());
+        }
+        // LA: the address itself, high byte zero; storage is not touched.
+        0x41 if BYTE_FUNCTIONS => state.regs[r1] = indexed(state, instruction),
+        // STC: the low byte.
+        0x42 if BYTE_FUNCTIONS => {
+            let address = indexed(state, instruction);
+            writable(map, address, 1)?;
+            store(storage, address, [state.regs[r1] as u8]);
+        }
+        // IC: the low byte; the other 24 bits stay.
+        0x43 if BYTE_FUNCTIONS => {
+            let address = indexed(state, instruction);
+            readable(map, address, 1)?;
+            let [byte] = bytes(storage, address);
+            state.regs[r1] = (state.regs[r1] & 0xFFFF_FF00) | u32::from(byte);
         }
         // BAL: the address is formed before the link is stored.
         0x45 => {
@@ -189,6 +211,19 @@ fn four_bytes(state: &mut State, map: &Map, storage: &mut [u8], instruction: [u8
             let amount = shift_amount(state, instruction);
             (state.regs[r1], state.cc) = shift_left_arithmetic(state.regs[r1], amount);
         }
+        // MVI: the second byte into storage.
+        0x92 if BYTE_FUNCTIONS => {
+            let address = unindexed(state, instruction);
+            writable(map, address, 1)?;
+            store(storage, address, [fields]);
+        }
+        // CLI: the byte in storage is the first operand, the second byte the other; both unsigned.
+        0x95 if BYTE_FUNCTIONS => {
+            let address = unindexed(state, instruction);
+            readable(map, address, 1)?;
+            let [byte] = bytes(storage, address);
+            state.cc = compare(u32::from(byte), u32::from(fields));
+        }
         _ => return Err(Stop::Instruction),
     }
     state.counter = next;
@@ -236,6 +271,13 @@ fn indexed(state: &State, instruction: [u8; 4]) -> u32 {
     let (base, displacement) = base_and_displacement(instruction);
     let sum = base_value(state, base).wrapping_add(base_value(state, index)).wrapping_add(displacement);
     sum & ADDRESS_BITS
+}
+
+/// The address that base and displacement give, of an instruction that has a number in place of register and index.
+#[inline(always)]
+fn unindexed(state: &State, instruction: [u8; 4]) -> u32 {
+    let (base, displacement) = base_and_displacement(instruction);
+    base_value(state, base).wrapping_add(displacement) & ADDRESS_BITS
 }
 
 /// A shift's amount: the low six bits of base plus displacement; the field beside the register is ignored.

@@ -2,6 +2,7 @@
 //! which registers it may write and where control goes from it. Read off the tree by document 01's "Code", with neither
 //! opcodes nor masks nor displacements.
 
+use crate::functions::{Cell, Function, Takes};
 use crate::grammar::*;
 use crate::kinds::{meaning, meanings, only, Meaning, RegisterSet};
 use crate::labels::labels;
@@ -30,17 +31,24 @@ pub enum Named {
 #[derive(Clone, Copy, PartialEq, Eq, Debug)]
 pub struct InStorage {
     pub named: Named,
-    /// In bytes: 4, or 2 for a short cell.
+    /// In bytes: 4, 2 for a short cell, 1 under a function, whatever its cell is.
     pub size: usize,
     /// What is named is only where an index register counts from.
     pub indexed: bool,
     pub stored: bool,
+    /// The instruction has a number in place of register and index.
+    pub immediate: bool,
 }
 
 #[derive(Clone, Copy, PartialEq, Eq, Debug)]
 pub enum Does {
     OnRegisters,
     WithOperand(InStorage),
+    /// Puts the address of what is named into this register and touches no storage.
+    Address {
+        operand: InStorage,
+        register: u8,
+    },
     /// Goes to a point (None where the text names no label there is) unless the condition code is one of these.
     Branch {
         unless: Codes,
@@ -249,7 +257,7 @@ impl Reader<'_> {
     /// "Base declaration for segment k: `58 r0 E0`, 4k."
     fn base(&mut self, name: TokenNo) {
         let segment = self.layout.bases[name].unwrap_or(FIRST_DATA);
-        let entry = InStorage { named: Named::Entry(segment), size: 4, indexed: false, stored: false };
+        let entry = whole(Named::Entry(segment));
         self.add(4, Does::WithOperand(entry), only(self.register(name)));
     }
 
@@ -268,7 +276,10 @@ impl Reader<'_> {
     fn statement(&mut self, statement: &Statement) {
         match statement {
             Statement::Assignment(assignment) => self.assignment(assignment),
-            Statement::Call(name) => self.call(*name),
+            Statement::Use(used) => match self.meaning(used.name) {
+                Meaning::Function(function) => self.function(function, &used.arguments),
+                _ => self.call(used.name),
+            },
             Statement::Block(block) => self.block(block),
             Statement::Goto(name) => {
                 let to = self.labels[*name].map(|label| self.label(label));
@@ -364,7 +375,7 @@ impl Reader<'_> {
         match operand {
             Operand::Number(_) => false,
             Operand::Designator(designator) => {
-                matches!(self.meaning(designator.name), Meaning::Cell { short: true, .. })
+                matches!(self.meaning(designator.name), Meaning::Cell { of: Type::Short, .. })
             }
         }
     }
@@ -386,21 +397,56 @@ impl Reader<'_> {
 
     fn number(&mut self, number: TokenNo, writes: RegisterSet) {
         let named = Named::Number(self.tokens[number].value);
-        self.add(4, Does::WithOperand(InStorage { named, size: 4, indexed: false, stored: false }), writes);
+        self.add(4, Does::WithOperand(whole(named)), writes);
+    }
+
+    fn designator(&mut self, designator: &Designator, stored: bool, writes: RegisterSet) {
+        match self.cell(designator) {
+            Some(operand) => self.add(4, Does::WithOperand(InStorage { stored, ..operand }), writes),
+            None => self.add(2, Does::OnRegisters, writes),
+        }
     }
 
     /// "A subscript is a byte offset"; "An array name alone is its first element."
-    fn designator(&mut self, designator: &Designator, stored: bool, writes: RegisterSet) {
+    fn cell(&self, designator: &Designator) -> Option<InStorage> {
         match (self.meaning(designator.name), self.found[designator.name]) {
-            (Meaning::Cell { short, .. }, Found::Declared(token)) => {
+            (Meaning::Cell { of, .. }, Found::Declared(token)) => {
                 let Place { segment, offset } = self.layout.cells[token].expect("every cell has a place");
                 let subscript = designator.subscript.map_or(0, |subscript| self.tokens[subscript].value as usize);
                 let named = Named::Cell(Place { segment, offset: offset + subscript });
-                let size = if short { 2 } else { 4 };
-                let indexed = designator.index.is_some();
-                self.add(4, Does::WithOperand(InStorage { named, size, indexed, stored }), writes);
+                Some(InStorage { size: of.size(), indexed: designator.index.is_some(), ..whole(named) })
             }
-            _ => self.add(2, Does::OnRegisters, writes),
+            _ => None,
         }
     }
+
+    /// "IC, STC and LA take a register, then a cell that may be indexed; LTR takes two registers; IC, LA and LTR write the
+    /// first", the others take a number or have one, then a cell. Of the cell they mean the first byte.
+    fn function(&mut self, function: Function, arguments: &[Operand]) {
+        let register = match arguments.first() {
+            Some(Operand::Designator(designator)) => self.register(designator.name),
+            _ => 0,
+        };
+        let writes = if function.writes_first { only(register) } else { 0 };
+        let cell = match arguments.last() {
+            Some(Operand::Designator(designator)) => self.cell(designator),
+            _ => None,
+        };
+        let operand = match cell {
+            Some(cell) => InStorage { size: 1, ..cell },
+            None => return self.add(2, Does::OnRegisters, writes),
+        };
+        let stored = function.cell == Cell::Stored;
+        let immediate = !matches!(function.takes, Takes::RegisterAndCell);
+        let does = match function.cell {
+            Cell::Named => Does::Address { operand, register },
+            _ => Does::WithOperand(InStorage { stored, immediate, ..operand }),
+        };
+        self.add(4, does, writes);
+    }
+}
+
+/// A word that is read, not indexed.
+fn whole(named: Named) -> InStorage {
+    InStorage { named, size: 4, indexed: false, stored: false, immediate: false }
 }

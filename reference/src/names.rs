@@ -1,5 +1,6 @@
 //! Names: for every name that is used, the declaration that it means. Refusal 6 for names, 7 and 13 for declarations.
 
+use crate::functions::{self, Function};
 use crate::grammar::*;
 use crate::token::{Spelling, Token};
 use crate::violations::Violations;
@@ -14,6 +15,8 @@ pub enum Found {
     Nothing,
     /// One of R0 to RF of the block around the program.
     Standard(u8),
+    /// One of the standard functions, which are declared there too.
+    Function(Function),
     /// A declaration of the program, by the token that it declares.
     Declared(TokenNo),
 }
@@ -109,7 +112,10 @@ impl Search<'_, '_> {
     fn statement(&mut self, statement: &Statement) {
         match statement {
             Statement::Assignment(assignment) => self.assignment(assignment),
-            Statement::Call(name) => self.name(*name),
+            Statement::Use(Use { name, arguments }) => {
+                self.name(*name);
+                arguments.iter().for_each(|argument| self.operand(argument));
+            }
             Statement::Block(block) => self.block(block),
             Statement::Goto(_) | Statement::Null => {}
             Statement::If { condition, then, otherwise, .. } => {
@@ -160,11 +166,11 @@ impl Search<'_, '_> {
     }
 }
 
-/// "R0 to R9 and RA to RF are declared in a block around the program."
+/// "R0 to R9 and RA to RF are declared in a block around the program.", and so are the standard functions.
 fn standard(name: Spelling) -> Found {
     match name {
         [b'R', digit @ b'0'..=b'9', 0, ..] => Found::Standard(digit - b'0'),
         [b'R', letter @ b'A'..=b'F', 0, ..] => Found::Standard(letter - b'A' + 10),
-        _ => Found::Nothing,
+        _ => functions::standard(name).map_or(Found::Nothing, Found::Function),
     }
 }

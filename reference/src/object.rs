@@ -1,7 +1,7 @@
 //! Object text: the bytes of the segments, and the lines of frames that hold them.
 
 use crate::grammar::*;
-use crate::layout::{cell_size, Layout, Place, FIRST_DATA, LAST_DATA};
+use crate::layout::{Layout, Place, FIRST_DATA, LAST_DATA};
 use crate::token::Token;
 use std::ops::Range;
 
@@ -50,7 +50,7 @@ impl Values<'_> {
     fn block(&mut self, block: &Block) {
         for declaration in &block.declarations {
             match declaration {
-                Declaration::Cells(cells) => cells.items.iter().for_each(|item| self.item(item, cells.short)),
+                Declaration::Cells(cells) => cells.items.iter().for_each(|item| self.item(item, cells.of)),
                 Declaration::Procedure(procedure) => self.statement(&procedure.body),
                 Declaration::Registers(_) | Declaration::Base(_) => {}
             }
@@ -62,13 +62,13 @@ impl Values<'_> {
         }
     }
 
-    /// "A value for a short cell ... keeps its low 16 bits."
-    fn item(&mut self, item: &CellItem, short: bool) {
+    /// "A value for a short cell ... keeps its low 16 bits."; one for a byte cell its low 8.
+    fn item(&mut self, item: &CellItem, of: Type) {
         let Place { segment, offset } = match self.layout.cells[item.name] {
             Some(place) => place,
             None => return,
         };
-        let size = cell_size(short);
+        let size = of.size();
         for (position, &value) in item.values.iter().enumerate() {
             let bytes = self.tokens[value].value.to_be_bytes();
             let at = offset + size * position;
@@ -86,7 +86,7 @@ impl Values<'_> {
                 }
             }
             Statement::While { body, .. } | Statement::For { body, .. } => self.statement(body),
-            Statement::Assignment(_) | Statement::Call(_) | Statement::Goto(_) | Statement::Null => {}
+            Statement::Assignment(_) | Statement::Use(_) | Statement::Goto(_) | Statement::Null => {}
         }
     }
 }

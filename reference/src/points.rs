@@ -1,6 +1,9 @@
 //! The points on which document 01 can be read in more than one way, decided in docs/DECISIONS.md: each with its letter
 //! and number, a text, the number and place that answer it, and the program's bytes where they tell the readings apart.
 
+use crate::byte_points::BYTE_POINTS;
+use crate::BYTE_FUNCTIONS;
+
 pub struct Point {
     pub name: &'static str,
     pub text: &'static [u8],
@@ -10,11 +13,22 @@ pub struct Point {
     pub code: &'static str,
 }
 
-const fn point(name: &'static str, text: &'static [u8], number: u32, place: usize, code: &'static str) -> Point {
+pub(crate) const fn point(
+    name: &'static str,
+    text: &'static [u8],
+    number: u32,
+    place: usize,
+    code: &'static str,
+) -> Point {
     Point { name, text, number, place, code }
 }
 
-pub const POINTS: &[Point] = &[
+/// All that are decided of the language in force.
+pub fn points() -> impl Iterator<Item = &'static Point> {
+    POINTS.iter().chain(BYTE_POINTS.iter().filter(|_| BYTE_FUNCTIONS))
+}
+
+const POINTS: &[Point] = &[
     point("T2", b"BEGIN IF R1 = 5THEN NULL; END @", 0, 0, ""),
     point("T3", b"BEGIN R1 := #FFOR R2; END @", 0, 0, ""),
     point("T3", b"BEGIN R1 := #1AND R2; END @", 4, 15, ""),

@@ -7,6 +7,12 @@ use Kind::*;
 
 type TokenNo = usize;
 
+/// A name at a statement's start with the first tokens of what stands in its parentheses, where no `:=` follows.
+struct Applied {
+    name: TokenNo,
+    arguments: Vec<TokenNo>,
+}
+
 /// A range of tokens, both ends included.
 #[derive(Clone, Copy, PartialEq)]
 struct Range {
@@ -24,9 +30,29 @@ impl Range {
 enum What {
     Nothing,
     Register(i32),
-    Cell { short: bool, array: bool, count: i32 },
+    Cell {
+        size: i32,
+        array: bool,
+        count: i32,
+    },
     Procedure(TokenNo),
+    /// A standard function, by its place in the list of document 02.
+    Function(usize),
 }
+
+/// Document 02, 1/13: each function with a letter for each argument (R a register that is written, r one that is read, n a number
+/// 0 to 255, x a cell that may be indexed, c one that may not).
+const FUNCTIONS: [(&str, &str); 9] = [
+    ("IC", "Rx"),
+    ("STC", "rx"),
+    ("LA", "Rx"),
+    ("MVI", "nc"),
+    ("CLI", "nc"),
+    ("SET", "c"),
+    ("RESET", "c"),
+    ("TEST", "c"),
+    ("LTR", "Rr"),
+];
 
 struct Declared {
     token: TokenNo,
@@ -47,6 +73,7 @@ pub struct Rules<'a> {
     declared: Vec<Declared>,
     labels: Vec<TokenNo>,
     bases: Vec<TokenNo>,
+    applied: Vec<Applied>,
 }
 
 /// All (place, number) that break one of the rules 6 to 13.
@@ -127,6 +154,7 @@ impl<'a> Rules<'a> {
             declared: Vec::new(),
             labels: Vec::new(),
             bases: Vec::new(),
+            applied: Vec::new(),
         };
         for at in 0..tokens.len() {
             match tokens[at].kind {
@@ -143,7 +171,43 @@ impl<'a> Rules<'a> {
         for at in 0..tokens.len() {
             rules.declarations_at(at);
         }
+        for at in 0..tokens.len() {
+            if rules.is_use(at) && precedes_statement(rules.before(at)) {
+                rules.applied_at(at);
+            }
+        }
         rules
+    }
+
+    /// The name at a statement's start with its row of parentheses, if it is no target: no `:=` stands behind them.
+    fn applied_at(&mut self, name: TokenNo) {
+        let (mut behind, mut arguments) = (name + 1, Vec::new());
+        while self.kind(behind) == Open {
+            arguments.push(behind + 1);
+            let mut open = 0;
+            loop {
+                open += i32::from(self.kind(behind) == Open) - i32::from(self.kind(behind) == Close);
+                behind += 1;
+                if open == 0 {
+                    break;
+                }
+            }
+        }
+        if self.kind(behind) != Assign {
+            self.applied.push(Applied { name, arguments });
+        }
+    }
+
+    /// The letter of `FUNCTIONS` for the first token in a parenthesis of such a name: blank where it has none, as it is where a
+    /// function has a wrong count. None for all other tokens.
+    fn argument(&self, at: TokenNo) -> Option<char> {
+        let one = self.applied.iter().find(|one| one.arguments.contains(&at))?;
+        let fits = match self.what(one.name) {
+            What::Function(function) if FUNCTIONS[function].1.len() == one.arguments.len() => FUNCTIONS[function].1,
+            _ => "",
+        };
+        let place = one.arguments.iter().position(|&argument| argument == at)?;
+        Some(fits.chars().nth(place).unwrap_or(' '))
     }
 
     fn kind(&self, at: TokenNo) -> Kind {
@@ -184,18 +248,23 @@ impl<'a> Rules<'a> {
         if self.kind(at) == Procedure {
             return self.declare(at + 1, What::Procedure(at + 1));
         }
-        if !matches!(self.kind(at), Integer | Logical | Short | Array) {
+        if !matches!(self.kind(at), Integer | Logical | Short | Byte | Character | Array) {
             return;
         }
         let all: Vec<TokenNo> = (at..statement_end(self.tokens, at)).collect();
         let has = |wanted| all.iter().any(|&token| self.kind(token) == wanted);
-        let (short, array, register) = (has(Short), has(Array), has(Register));
+        let (array, register) = (has(Array), has(Register));
+        let size = match (has(Short), has(Byte) || has(Character)) {
+            (true, _) => 2,
+            (_, true) => 1,
+            _ => 4,
+        };
         let count = if array { self.value(at + 2) } else { 1 };
         for token in all {
             if self.kind(token) == Name {
                 let what = match register {
                     true => What::Register(self.value(token + 2)),
-                    false => What::Cell { short, array, count },
+                    false => What::Cell { size, array, count },
                 };
                 self.declare(token, what);
             }
@@ -212,7 +281,7 @@ impl<'a> Rules<'a> {
     }
 
     /// What a name that is used stands for: of the declarations before it, in blocks around it, the one of the smallest
-    /// block; or one of the sixteen registers.
+    /// block; or one of the sixteen registers, or of the nine functions.
     fn what(&self, at: TokenNo) -> What {
         let in_force = self
             .declared
@@ -228,7 +297,10 @@ impl<'a> Rules<'a> {
         let spelled: Vec<u8> = self.tokens[at].name.iter().copied().filter(|&byte| byte != 0).collect();
         match (0..16).find(|register| format!("R{register:X}").as_bytes() == spelled) {
             Some(register) => What::Register(register),
-            None => What::Nothing,
+            None => {
+                let function = FUNCTIONS.iter().position(|(name, _)| name.as_bytes() == spelled);
+                function.filter(|_| crate::BYTE_FUNCTIONS).map_or(What::Nothing, What::Function)
+            }
         }
     }
 
@@ -259,7 +331,16 @@ impl<'a> Rules<'a> {
     }
 
     fn is_index(&self, at: TokenNo) -> bool {
-        self.is_use(at) && self.before(at) == Open && !self.is_return(at)
+        self.is_use(at) && self.before(at) == Open && !self.is_return(at) && self.argument(at).is_none()
+    }
+
+    /// The name of the designator that has this index.
+    fn indexed(&self, index: TokenNo) -> TokenNo {
+        if self.kind(index - 2) == Close {
+            index - 5
+        } else {
+            index - 2
+        }
     }
 
     fn is_compared(&self, at: TokenNo) -> bool {
@@ -274,12 +355,16 @@ impl<'a> Rules<'a> {
         self.is_use(at) && precedes_statement(self.before(at))
     }
 
+    fn is_applied(&self, at: TokenNo) -> bool {
+        self.applied.iter().any(|one| one.name == at)
+    }
+
     fn is_call(&self, at: TokenNo) -> bool {
-        self.begins_statement(at) && matches!(self.kind(at + 1), Semicolon | Else)
+        self.is_applied(at) && matches!(self.kind(at + 1), Semicolon | Else)
     }
 
     fn is_target(&self, at: TokenNo) -> bool {
-        (self.begins_statement(at) && !self.is_call(at)) || self.is_for_target(at)
+        (self.begins_statement(at) && !self.is_applied(at)) || self.is_for_target(at)
     }
 
     fn is_operand(&self, at: TokenNo) -> bool {
@@ -291,7 +376,7 @@ impl<'a> Rules<'a> {
     }
 
     fn is_designator(&self, at: TokenNo) -> bool {
-        self.is_target(at) || self.is_operand(at)
+        self.is_target(at) || self.is_operand(at) || (self.is_use(at) && self.argument(at).is_some())
     }
 
     /// The token behind a designator or number.
@@ -351,6 +436,18 @@ impl<'a> Rules<'a> {
                 wrong.extend(self.beyond_one_register(target));
             }
         }
+        // "a wrong count at the function's name"
+        let wrong_count = |one: &&Applied| match self.what(one.name) {
+            What::Function(function) => FUNCTIONS[function].1.len() != one.arguments.len(),
+            _ => false,
+        };
+        wrong.extend(self.applied.iter().filter(wrong_count).map(|one| one.name));
+        // "a wrong kind of argument": a number where none belongs, or no number where one belongs; an index where none belongs.
+        wrong.extend(self.all(|at| match self.argument(at) {
+            Some(' ') | None => false,
+            Some(letter) => (letter == 'n') != (self.kind(at) == Number),
+        }));
+        wrong.extend(self.all(|at| self.is_index(at) && self.argument(self.indexed(at)) == Some('c')));
         wrong
     }
 
@@ -358,17 +455,25 @@ impl<'a> Rules<'a> {
         let what = self.what(at);
         let is_register = matches!(what, What::Register(_));
         let is_procedure = matches!(what, What::Procedure(_));
+        let is_function = matches!(what, What::Function(_));
+        let is_cell = matches!(what, What::Cell { .. });
         let is_array = matches!(what, What::Cell { array: true, .. });
-        let is_short = matches!(what, What::Cell { short: true, .. });
+        let is_short = matches!(what, What::Cell { size: 2, .. });
+        let is_byte = matches!(what, What::Cell { size: 1, .. });
+        let argument = self.argument(at);
         let asks_register = self.is_return(at)
             || self.is_base(at)
             || self.is_index(at)
             || self.is_compared(at)
             || self.is_for_target(at)
-            || is_shift(self.before(at));
+            || is_shift(self.before(at))
+            || matches!(argument, Some('R' | 'r'));
+        let called = if self.is_call(at) { is_procedure || is_function } else { is_function };
         (asks_register && !is_register)
-            || (self.is_call(at) && !is_procedure)
-            || (self.is_designator(at) && is_procedure)
+            || (self.is_applied(at) && !called)
+            || (matches!(argument, Some('x' | 'c')) && !is_cell)
+            || ((self.is_target(at) || self.is_operand(at)) && is_byte)
+            || (self.is_designator(at) && (is_procedure || is_function))
             || (self.is_designator(at) && self.kind(at + 1) == Open && !is_array)
             || (matches!(self.before(at), And | Or | Xor | PlusPlus | MinusMinus) && is_short)
     }
@@ -412,7 +517,7 @@ impl<'a> Rules<'a> {
         for times in self.all(|at| self.kind(at) == Times) {
             let by = times + 1;
             let by_pair =
-                self.kind(by) == Number || matches!(self.what(by), What::Register(_) | What::Cell { short: false, .. });
+                self.kind(by) == Number || matches!(self.what(by), What::Register(_) | What::Cell { size: 4, .. });
             if let (true, Some(target)) = (by_pair, self.register(self.target_of(times))) {
                 products.push((times, target));
             }
@@ -431,7 +536,7 @@ impl<'a> Rules<'a> {
 
     /// Every token that writes a register, with the register; calls aside.
     fn writes(&self) -> Vec<(TokenNo, i32)> {
-        let names = self.all(|at| self.is_target(at) || self.is_base(at));
+        let names = self.all(|at| self.is_target(at) || self.is_base(at) || self.argument(at) == Some('R'));
         let mut writes: Vec<(TokenNo, i32)> =
             names.into_iter().filter_map(|at| Some((at, self.register(at)?))).collect();
         writes.extend(self.products().into_iter().map(|(times, target)| (times, target - 1)));
@@ -500,6 +605,11 @@ impl<'a> Rules<'a> {
         if self.before(number) != Open {
             return false;
         }
+        match self.argument(number) {
+            Some('n') => return !(0..256).contains(&value),
+            Some(_) => return false,
+            None => {}
+        }
         if self.kind(number - 2) == Array {
             return !(1..=2048).contains(&value);
         }
@@ -511,15 +621,17 @@ impl<'a> Rules<'a> {
             earlier += 1;
         }
         match self.declared.iter().find(|declared| declared.token == name) {
-            Some(Declared { what: What::Cell { short, count, .. }, .. }) => {
-                earlier >= *count || (*short && !(-32768..65536).contains(&value))
+            Some(Declared { what: What::Cell { size, count, .. }, .. }) => {
+                let fits = match size {
+                    1 => (0..256).contains(&value),
+                    2 => (-32768..65536).contains(&value),
+                    _ => true,
+                };
+                earlier >= *count || !fits
             }
             Some(_) => false,
             None => match self.what(name) {
-                What::Cell { short, array: true, count } => {
-                    let size = if short { 2 } else { 4 };
-                    !(0..count.min(2048)).any(|element| element * size == value)
-                }
+                What::Cell { size, array: true, count } => !(0..count.min(2048)).any(|element| element * size == value),
                 _ => false,
             },
         }
@@ -531,13 +643,13 @@ impl<'a> Rules<'a> {
         let mut ends = vec![0; self.bases.len() + 1];
         ends[0] = 16;
         for declared in &self.declared {
-            if let What::Cell { short, count, .. } = declared.what {
-                let size = if short { 2 } else { 4 };
+            if let What::Cell { size, count, .. } = declared.what {
+                let size = i64::from(size);
                 let end = &mut ends[self.segment(declared.token)];
                 while *end % size != 0 {
                     *end += 1;
                 }
-                *end += i64::from(size as i32) * i64::from(count);
+                *end += size * i64::from(count);
                 if *end > 4096 {
                     broken.push(declared.token);
                 }

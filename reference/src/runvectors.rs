@@ -1,10 +1,12 @@
 //! Stored runs: cases with their answers, for others to be held against.
 
 use crate::assemble::{data, four, text, two};
+use crate::byte_points::BYTE_RUNS;
 use crate::genrun;
 use crate::hercules;
 use crate::runcase::{answer_line, Case};
 use crate::runner::STORAGE_NEEDED;
+use crate::BYTE_FUNCTIONS;
 use std::io::{self, Write};
 use std::path::Path;
 
@@ -60,12 +62,15 @@ fn manifest(cases: usize, counts: &Counts, runs: usize, emulated: usize) -> Stri
          and the line that answers it (`number place stop counter cc count r0 … r15 hash`).\n\
          runs are the papers' cases 1, 6 and 8, the edges of storage and budget around them, and generated ones from seed {SEED}.\n\
          Made again by `reference runvectors DIR`.\n",
-        hercules::STORED
+        hercules::stored()
     )
 }
 
 fn cases() -> Vec<Case> {
     let mut cases = papers_cases();
+    if BYTE_FUNCTIONS {
+        cases.extend(BYTE_RUNS.iter().flat_map(|run| [0, 1, 2, 10_000].map(|budget| run.case(budget))));
+    }
     let short = genrun::cases(SEED).filter(|case| case.object.len() <= LONGEST).take(GENERATED);
     cases.extend(short);
     let long = genrun::cases(SEED).filter(|case| case.object.len() > LONGEST).take(LONG);

@@ -23,10 +23,20 @@ pub enum Slip {
     GotoToOuter,
     /// `<` negated as mask 10, so that state 3 is misread.
     LessAsTen,
+    /// "IC, LA and LTR write the first, so the protected rule counts it" left out.
+    FunctionsForgotten,
 }
 
 /// All that are wrong.
-pub const SLIPS: [Slip; 9] = [
+pub fn slips() -> &'static [Slip] {
+    if crate::BYTE_FUNCTIONS {
+        &SLIPS
+    } else {
+        &SLIPS[..9]
+    }
+}
+
+const SLIPS: [Slip; 10] = [
     Slip::ReturnsFree,
     Slip::BasesFreeInside,
     Slip::NestedForgotten,
@@ -36,4 +46,5 @@ pub const SLIPS: [Slip; 9] = [
     Slip::GotoOutOfBody,
     Slip::GotoToOuter,
     Slip::LessAsTen,
+    Slip::FunctionsForgotten,
 ];

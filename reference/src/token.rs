@@ -68,12 +68,23 @@ pub enum Kind {
     Open,
     Close,
     At,
+    Byte,
+    Character,
     /// Stands behind the last token of a text that has no `@`; it is no token of any program.
     TextEnd,
 }
 
 /// "Reserved, compared whole" (COMMENT, which opens a comment and is no token, aside).
-pub const RESERVED: [(&str, Kind); 30] = [
+pub fn reserved() -> &'static [(&'static str, Kind)] {
+    if crate::BYTE_FUNCTIONS {
+        &RESERVED
+    } else {
+        &RESERVED[..30]
+    }
+}
+
+/// Document 01's words, then "BYTE and CHARACTER" of document 02, 1/13.
+const RESERVED: [(&str, Kind); 32] = [
     ("BEGIN", Kind::Begin),
     ("END", Kind::End),
     ("IF", Kind::If),
@@ -104,6 +115,8 @@ pub const RESERVED: [(&str, Kind); 30] = [
     ("SHLA", Kind::Shla),
     ("SHRA", Kind::Shra),
     ("OVERFLOW", Kind::Overflow),
+    ("BYTE", Kind::Byte),
+    ("CHARACTER", Kind::Character),
 ];
 
 /// "Signs, longest first"
@@ -210,9 +223,9 @@ fn one_token(rest: &[u8], place: usize) -> Result<(Token, usize), Refusal> {
 }
 
 fn word(text: &[u8], place: usize) -> Token {
-    for (reserved, kind) in RESERVED {
+    for (reserved, kind) in reserved() {
         if text == reserved.as_bytes() {
-            return plain(kind, place);
+            return plain(*kind, place);
         }
     }
     Token { name: spelling(text), ..plain(Kind::Name, place) }

@@ -1,7 +1,7 @@
 //! Stored texts with their answers and object texts, for others to be held against.
 
 use crate::gen;
-use crate::points::POINTS;
+use crate::points::points;
 use crate::random::Random;
 use crate::translate::{translate, Answer};
 
@@ -34,7 +34,7 @@ pub fn case(text: Vec<u8>, room: usize) -> Case {
 /// Document 01's cases, limits and slips, the points decided, then generated texts.
 pub fn cases() -> Vec<Case> {
     let mut cases: Vec<Case> = papers_texts().into_iter().map(|text| case(text.into_bytes(), UNLIMITED)).collect();
-    cases.extend(POINTS.iter().map(|point| case(point.text.to_vec(), UNLIMITED)));
+    cases.extend(points().map(|point| case(point.text.to_vec(), UNLIMITED)));
     cases.extend([138, 137, 0].map(|room| case(CASE_1.into(), room)));
     generated(&mut cases);
     cases

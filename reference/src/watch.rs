@@ -201,11 +201,15 @@ impl Watcher<'_> {
         self.ask(in_order, Clause::OneRun, || format!("{:?}", after.answer))?;
         let one = self.written(before)?;
         let mut stored = 0..0;
-        if let Does::WithOperand(operand) = one.does {
-            let place = self.operand(before, one, operand)?;
-            if operand.stored {
-                stored = place;
+        match one.does {
+            Does::WithOperand(operand) => {
+                let place = self.operand(before, one, operand)?;
+                if operand.stored {
+                    stored = place;
+                }
             }
+            Does::Address { operand, register } => self.address(before, after, one, operand, register)?,
+            _ => {}
         }
         self.same_bytes(before, one)?;
         let next = self.next(one, before.answer.cc)?;
@@ -224,7 +228,7 @@ impl Watcher<'_> {
     fn next(&mut self, one: Written, cc: u64) -> Result<usize, Cry> {
         let in_line = one.offset + one.length;
         match one.does {
-            Does::OnRegisters | Does::WithOperand(_) => Ok(in_line),
+            Does::OnRegisters | Does::WithOperand(_) | Does::Address { .. } => Ok(in_line),
             Does::Branch { unless, .. } if unless.contains(&cc) => {
                 self.told.not_taken += 1;
                 Ok(in_line)
@@ -255,7 +259,33 @@ impl Watcher<'_> {
 
     /// Where the operand lies in storage; one that is not indexed is wholly what the text names.
     fn operand(&mut self, state: &Seen, one: Written, operand: InStorage) -> Result<Range<usize>, Cry> {
-        let (address, unindexed) = addresses(state);
+        let address = self.named(state, one, operand)?;
+        if operand.indexed {
+            let allowed = self.allowed(address, operand).is_ok();
+            self.ask(allowed, Clause::Stops, || format!("{address} at {} is passed", one.offset))?;
+        }
+        Ok(address as usize..address as usize + operand.size)
+    }
+
+    /// An address that is put into a register: one that is not indexed lies in the cell that the text names.
+    fn address(
+        &mut self,
+        before: &Seen,
+        after: &Seen,
+        one: Written,
+        operand: InStorage,
+        register: u8,
+    ) -> Result<(), Cry> {
+        let address = self.named(before, one, operand)?;
+        let found = after.answer.regs[usize::from(register)];
+        self.ask(found == address, Clause::Named, || {
+            format!("register {register} holds {found} after {}, not {address}", one.offset)
+        })
+    }
+
+    /// The operand's address; what it is without an index has to be what the text names.
+    fn named(&mut self, state: &Seen, one: Written, operand: InStorage) -> Result<u32, Cry> {
+        let (address, unindexed) = addresses(state, operand);
         let named = match operand.named {
             Named::Cell(place) => unindexed == origin(place.segment) + place.offset as u32,
             Named::Entry(segment) => {
@@ -272,8 +302,6 @@ impl Watcher<'_> {
         self.ask(named, Clause::Named, || format!("{unindexed} at {}, not {:?}", one.offset, operand.named))?;
         if operand.indexed {
             self.told.indexed += 1;
-            let allowed = self.allowed(address, operand).is_ok();
-            self.ask(allowed, Clause::Stops, || format!("{address} at {} is passed", one.offset))?;
         } else {
             self.ask(address == unindexed, Clause::Named, || format!("an index at {}", one.offset))?;
             match operand.named {
@@ -282,7 +310,7 @@ impl Watcher<'_> {
                 Named::Entry(_) => self.told.entries += 1,
             }
         }
-        Ok(address as usize..address as usize + operand.size)
+        Ok(address)
     }
 
     /// "What is read must lie wholly in one data segment's bytes, what is stored in its writable part." Else the stop.
@@ -352,7 +380,7 @@ impl Watcher<'_> {
         match (stop, one.does) {
             (1, Does::End) => {}
             (2 | 3, Does::WithOperand(operand)) if operand.indexed => {
-                let (address, _) = addresses(last);
+                let (address, _) = addresses(last, operand);
                 let expected = self.allowed(address, operand);
                 self.ask(expected == Err(stop), clause, || format!("{stop} for {address}, not {expected:?}"))?;
             }
@@ -374,14 +402,16 @@ fn word(state: &Seen, address: u32) -> Option<u32> {
     Some(u32::from_be_bytes(bytes.try_into().ok()?))
 }
 
-/// The address that the four bytes at the counter form by base, index and displacement, and without the index.
-fn addresses(state: &Seen) -> (u32, u32) {
+/// The address that the four bytes at the counter form by base, index and displacement, and without the index; one that has a
+/// number in its second byte has no index.
+fn addresses(state: &Seen, operand: InStorage) -> (u32, u32) {
     let at = state.answer.counter as usize;
     let bytes = &state.storage[at..at + 4];
     let content = |register: u8| if register == 0 { 0 } else { state.answer.regs[register as usize] };
     let displacement = u32::from(bytes[2] % 16) * 256 + u32::from(bytes[3]);
     let unindexed = content(bytes[2] / 16).wrapping_add(displacement);
-    (unindexed.wrapping_add(content(bytes[1] % 16)) & 0x00FF_FFFF, unindexed & 0x00FF_FFFF)
+    let index = if operand.immediate { 0 } else { bytes[1] % 16 };
+    (unindexed.wrapping_add(content(index)) & 0x00FF_FFFF, unindexed & 0x00FF_FFFF)
 }
 
 /// Anything in the registers, often what an index or a loop can do with; any code; mostly a short run.

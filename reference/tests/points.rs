@@ -2,11 +2,11 @@
 
 mod helpers;
 use helpers::*;
-use reference::points::POINTS;
+use reference::points::points;
 
 #[test]
 fn every_point_is_read_as_decided() {
-    for point in POINTS {
+    for point in points() {
         assert_eq!(verdict(point.text), (point.number, point.place), "{}: {}", point.name, show(point.text));
         if !point.code.is_empty() {
             let program = segment(&answer(point.text).object, 0);

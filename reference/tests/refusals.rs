@@ -3,6 +3,7 @@
 mod helpers;
 use helpers::*;
 use reference::translate::translate;
+use reference::BYTE_FUNCTIONS;
 
 fn all_refused(number: u32, texts: &[&str]) {
     for text in texts {
@@ -132,9 +133,7 @@ fn refusal_4_program() {
             "BEGIN !5 := R1; END @",
             "BEGIN A(!) := R1; END @",
             "BEGIN A(R1!+ 4) := R1; END @",
-            "BEGIN A(4)!; END @",
-            "BEGIN A(R1) !(R2) := R3; END @",
-            "BEGIN A(4)(R1) !(R2) := R3; END @",
+            "BEGIN A(R1!, 4) := R3; END @",
             "BEGIN GOTO !5; END @",
             "BEGIN GOTO !BEGIN END; END @",
             "BEGIN IF !THEN NULL; END @",
@@ -190,6 +189,13 @@ fn refusal_4_program() {
             "BEGIN BEGIN END !END @",
         ],
     );
+    // Document 02, 1/13, has uses with arguments; there the `:=` is what does not go on.
+    if BYTE_FUNCTIONS {
+        all_refused(4, &["BEGIN A(R1)(R2) !:= R3; END @", "BEGIN A(4)(R1)(R2) !:= R3; END @"]);
+    } else {
+        let rows = ["BEGIN A(4)!; END @", "BEGIN A(R1) !(R2) := R3; END @", "BEGIN A(4)(R1) !(R2) := R3; END @"];
+        all_refused(4, &rows);
+    }
     all_accepted(&[
         "BEGIN L: END @",
         "BEGIN L: M: NULL; N: END @",

@@ -3,6 +3,7 @@ use reference::genrun::{cases, histogram};
 use reference::objread::{read, DataSegment};
 use reference::runcase::{Case, STORAGE_BEFORE};
 use reference::runner::STORAGE_NEEDED;
+use reference::BYTE_FUNCTIONS;
 
 const SEED: u64 = 2024;
 
@@ -30,7 +31,7 @@ fn every_answer_is_well_represented() {
 #[test]
 fn every_opcode_with_every_code() {
     let text = histogram(SEED, 20_000);
-    let never: [(&str, &[usize]); 14] = [
+    let never: [(&str, &[usize]); 16] = [
         ("10", &[1]),
         ("11", &[2, 3]),
         ("14", &[2, 3]),
@@ -45,9 +46,11 @@ fn every_opcode_with_every_code() {
         ("59", &[3]),
         ("5F", &[0]),
         ("8A", &[3]),
+        ("12", &[3]),
+        ("95", &[3]),
     ];
     let rows: Vec<&str> = text.lines().filter(|line| line.starts_with("opcode")).collect();
-    assert_eq!(rows.len(), 37);
+    assert_eq!(rows.len(), if BYTE_FUNCTIONS { 43 } else { 37 });
     for row in rows {
         let opcode = &row[7..9];
         let times: Vec<u64> = row.split(": ").nth(1).unwrap().split(' ').map(|n| n.parse().unwrap()).collect();

@@ -8,12 +8,13 @@ use reference::meant::{meant, Does, Named};
 use reference::objread;
 use reference::random::Random;
 use reference::runcase::Case;
-use reference::slips::{Slip, SLIPS};
+use reference::slips::{slips, Slip};
 use reference::translate::{translate, translate_with};
 use reference::watch::{watch, Clause, Cry, Given, Seen, Text, Watched};
 use reference::watching::{
     campaign, reference_runner, reference_translator, try_changed_bytes, try_slip, Tally, Texts,
 };
+use reference::BYTE_FUNCTIONS;
 
 const STORAGE: usize = 20_480;
 
@@ -147,13 +148,23 @@ fn a_text_is_read_as_it_is_translated() {
             let (length, kind) = match one.does {
                 Does::OnRegisters => (if opcode < 0x40 { 2 } else { 4 }, 0),
                 Does::WithOperand(operand) => {
-                    assert_eq!(matches!(opcode, 0x40 | 0x50), operand.stored);
-                    assert_eq!(if opcode < 0x50 { 2 } else { 4 }, operand.size);
-                    assert_eq!(bytes[1] % 16 != 0, operand.indexed);
+                    assert_eq!(matches!(opcode, 0x40 | 0x42 | 0x50 | 0x92), operand.stored);
+                    let size = match opcode {
+                        0x42 | 0x43 | 0x92 | 0x95 => 1,
+                        0x00..=0x4F => 2,
+                        _ => 4,
+                    };
+                    assert_eq!(size, operand.size);
+                    assert_eq!(opcode >= 0x90, operand.immediate);
+                    assert_eq!(bytes[1] % 16 != 0 && !operand.immediate, operand.indexed);
                     if let Named::Entry(segment) = operand.named {
                         assert_eq!(target, 4 * segment as u32);
                     }
                     (4, 1)
+                }
+                Does::Address { operand, register } => {
+                    assert_eq!((bytes[1] / 16, bytes[1] % 16 != 0), (register, operand.indexed));
+                    (4 * usize::from(opcode == 0x41), 1)
                 }
                 Does::Branch { .. } => (4 * usize::from(opcode == 0x47), 2),
                 Does::Call(_) => (4 * usize::from(opcode == 0x45), 3),
@@ -214,8 +225,8 @@ fn one_changed_byte_is_cried_out_for_wherever_it_matters() {
 
 #[test]
 fn wrong_translators_are_cried_out_for_and_nothing_else_is() {
-    for slip in SLIPS {
-        let trial = try_slip(slip, Texts::Hunted, 17, 250);
+    for &slip in slips() {
+        let trial = try_slip(slip, Texts::Hunted, 17, if BYTE_FUNCTIONS { 1_000 } else { 250 });
         assert!(trial.false_cries.is_empty(), "{}", trial.report("slip"));
         assert!(trial.wrong > 0, "{slip:?}: {}", trial.report("slip"));
         assert_eq!(trial.cried() == 0, slip == Slip::NestedForgotten, "{slip:?}: {}", trial.report("slip"));

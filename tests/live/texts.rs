@@ -20,6 +20,8 @@ const BEFORE: (u8, u64, u32) = (165, 165, 165);
 fn kind_number(kind: Kind) -> u8 {
     match kind {
         Kind::TextEnd => 0,
+        Kind::Byte => 34,
+        Kind::Character => 35,
         kind if (kind as u8) < Kind::Integer as u8 => kind as u8 + 1,
         kind if (kind as u8) < Kind::Assign as u8 => kind as u8 + 2,
         kind => kind as u8 - Kind::Assign as u8 + 64,

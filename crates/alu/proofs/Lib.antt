@@ -3,3 +3,4 @@ pub mod Signed
 pub mod Unsigned
 pub mod Products
 pub mod Shifts
+pub mod Cases

@@ -7,12 +7,12 @@ use mathlib.Core.Bool.{Bool, true, false}
 use native.Mathlib.Omega.{arith}
 use native.Mathlib.Decide.{decLe}
 use lib.Dec.{ltb, leb, eqb}
-use lib.IntN.{ℤ, pos, negsuc, _+ℤ_, _-ℤ_, negℤ, subℕ, natAbs, +ℤ-assoc, +ℤ-comm, +ℤ-idl}
+use lib.IntN.{ℤ, pos, negsuc, _+ℤ_, _-ℤ_, negℤ, subℕ, natAbs, +ℤ-assoc, +ℤ-comm, +ℤ-idl, +ℤ-idr}
 use lib.Signed.{mag}
 use borrow.Author.Tests.{lt-ltb, le-ltb, ltb-true, ltb-false, eq-eqb, ne-eqb, eqb-true, eqb-false}
 use Rattle.base.specs.Choose.{choose}
 use Rattle.base.proofs.Tests.{cases}
-use Rattle.alu.specs.Word.{signed, lowBits, signCode, resultCode, settled, added, subtracted, complemented, madePositive, madeNegative, comparedCode}
+use Rattle.alu.specs.Word.{signed, lowBits, signCode, resultCode, settled, added, subtracted, complemented, madePositive, madeNegative, comparedCode, tested}
 use Rattle.alu.specs.Biased.{biased, codeBy}
 use Rattle.alu.specs.declared.Made.{Made}
 
@@ -182,6 +182,9 @@ module _ {a b x y : ℕ} (ha : a < 2 ^ 32) (hb : b < 2 ^ 32) (ex : x ≡ biased 
   compare-more h n = sym (by-sign ∙ rw (le-ltb (x + (2 ^ 32 - y)) (2 ^ 32) (omega arith), ne-eqb (x + (2 ^ 32 - y)) (2 ^ 32) (λ q. n (omega arith))))
 
 pub ruleset compares = (compare-less, compare-same, compare-more)
+
+pub test-made : (b : ℕ) {k : ℕ} → k ≡ comparedCode b 0 → _≡_ {A = Made} (record { value = b; code = k }) (tested b)
+test-made b e = made refl (e ∙ ap signCode (+ℤ-idr (signed b)))
 
 pub complement-made : (b : ℕ) {r : Made} → r ≡ subtracted 0 b → r ≡ complemented b
 complement-made b e = e ∙ ap settled (+ℤ-idl (negℤ (signed b)))

@@ -49,6 +49,18 @@ madeNegative b = settled (negℤ (pos (natAbs (signed b))))
 abbrev pub comparedCode : ℕ → ℕ → ℕ
 comparedCode a b = signCode (signed a -ℤ signed b)
 
+-- LOAD AND TEST: the word unchanged; "the sign and magnitude" of it determine the code, 0, 1 or 2
+abbrev pub tested : ℕ → Made
+tested b = record { value = b; code = signCode (signed b) }
+
+-- COMPARE LOGICAL: both as numbers without sign; 0 equal, 1 "first operand is low", 2 "first operand is high"
+abbrev pub comparedLogical : ℕ → ℕ → ℕ
+comparedLogical a b = choose (ltb a b) 1 (choose (eqb a b) 0 2)
+
+-- INSERT CHARACTER: the byte stands in the last eight bits of the word, "the remaining bits … remain unchanged"
+abbrev pub inserted : ℕ → ℕ → ℕ
+inserted a b = a / 2 ^ 8 * 2 ^ 8 + b % 2 ^ 8
+
 -- 0 zero, 1 not zero
 abbrev pub zeroCode : ℕ → ℕ
 zeroCode v = choose (eqb v 0) 0 1

@@ -4,7 +4,7 @@ ghost use Prim.Native.Nat.{_<_, _≤_};
 ghost use lib.Bits.{bitAnd, bitOr, bitXor};
 ghost use lib.IntN.{pos, negℤ};
 ghost use Rattle.alu.specs.Biased.{biased as biasedOf, codeBy};
-ghost use Rattle.alu.specs.Word.{added, subtracted, complemented, madePositive, madeNegative, comparedCode, addedLogical, subtractedLogical, zeroCode, bitsMade, distanceOf, lowBits, product as productOf, halfProduct, shiftedLeftLogical, shiftedRightLogical, shiftedLeft, shiftedRight};
+ghost use Rattle.alu.specs.Word.{added, subtracted, complemented, madePositive, madeNegative, comparedCode, tested, comparedLogical, inserted, addedLogical, subtractedLogical, zeroCode, bitsMade, distanceOf, lowBits, product as productOf, halfProduct, shiftedLeftLogical, shiftedRightLogical, shiftedLeft, shiftedRight};
 
 const TOP: u32 = 2147483648;
 
@@ -97,6 +97,33 @@ pub fn compare(a: u32, b: u32) -> u64
         return 0;
     }
     2
+}
+
+pub fn test(b: u32) -> Made
+    ensures { λ r. ⌜ r ≡ tested b ⌝ }
+{
+    Made {
+        value: b,
+        code: compare(b, 0),
+    }
+}
+
+pub fn compare_logical(a: u32, b: u32) -> u64
+    ensures { λ r. ⌜ r ≡ comparedLogical a b ⌝ }
+{
+    if a < b {
+        return 1;
+    }
+    if a == b {
+        return 0;
+    }
+    2
+}
+
+pub fn insert(a: u32, b: u32) -> u32
+    ensures { λ r. ⌜ r ≡ inserted a b ⌝ }
+{
+    a / 256 * 256 + b % 256
 }
 
 pub fn add_logical(a: u32, b: u32) -> Made

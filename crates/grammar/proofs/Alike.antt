@@ -3,8 +3,8 @@
 use mathlib.Core.Path.{_≡_, refl, sym, _∙_, subst}
 use mathlib.Core.Logic.{_⊎_, inl, inr}
 use mathlib.Core.List.{List, [], _∷_}
-use mathlib.Core.Bool.{Bool, true, false, _&&_, _||_, not}
-use mathlib.Core.Option.{Option, none}
+use mathlib.Core.Bool.{Bool, true, false, _&&_, not}
+use mathlib.Core.Option.{Option, none, some}
 use Prim.Native.Nat.{ℕ, zero, suc, _+_, _≤_, _<_}
 use native.Mathlib.Omega.{arith}
 use native.Mathlib.Decide.{decLe}
@@ -15,14 +15,14 @@ use Rattle.base.specs.Choose.{if_then_else_}
 use Rattle.base.specs.Lists.{member}
 use Rattle.base.proofs.Tests.{cases}
 use Rattle.token.specs.Kinds as K
-use Rattle.grammar.specs.Tree.{Width, full, short, Condition, Statement, Body, procedure, Items}
+use Rattle.grammar.specs.Tree.{Designator, Width, full, short, byte, Condition, Statement, Body, procedure, Items}
 use Rattle.grammar.specs.Reader.{Result, ok, bad, Reader, andThen, look, next, want, wantOne}
-use Rattle.grammar.specs.Grammar.{compounds, inParens, designatorOf, operand, condition, operators, terms, signOf, assignmentOf, numbers, cellItem, registerItem, listOf, typeOf, cellsOf, afterType, declaration, afterName, openers, statementOf, itemsOf, Procedure, declarators, bodyOf, ifOf, constructOf, statement, procedureOf}
+use Rattle.grammar.specs.Grammar.{compounds, inParens, designatorOf, operand, condition, operators, terms, signOf, assignedTo, assignmentOf, numbers, cellItem, registerItem, listOf, typeOf, cellsOf, afterType, declaration, arguments, targetOf, assignOr, useOf, afterName, openers, statementOf, itemsOf, Procedure, declarators, bodyOf, ifOf, constructOf, statement, procedureOf}
 use Rattle.grammar.specs.Derives.{SameBefore, Inside, InsideBody, InsideItems}
 use Rattle.grammar.proofs.Tests.{no-token}
 use Rattle.grammar.proofs.Sequences.{reach}
 use Rattle.grammar.proofs.Complete.{programIn}
-use Rattle.grammar.proofs.Rules.{onward-terms, onward-numbers, onward-cells, onward-registers, onward-items, onward-body}
+use Rattle.grammar.proofs.Rules.{onward-terms, onward-numbers, onward-arguments, onward-cells, onward-registers, onward-items, onward-body}
 
 -- ── whatever a reader gives ──
 
@@ -236,11 +236,25 @@ module _ (kinds others : List ℕ) (k : ℕ) (same : SameBefore (k + 1) kinds ot
       stop ks zero i z = refl
       stop ks (suc f) i z = rw z
 
+  assigned-alike : (d : Designator) (i : ℕ) → Alike Never i (assignedTo d kinds i) (assignedTo d others i)
+  unfolding assignedTo andThen
+  assigned-alike d i = wants K.BECOMES i _ _ (λ b. after _ _ (sign-alike (i + 1)) (λ s p le. after _ _ (operand-alike p) (λ a q le. after _ _ (terms-alike q) (λ ts j le. gives))))
+
   assignment-alike : (n i : ℕ) → Alike Never i (assignmentOf n kinds i) (assignmentOf n others i)
   unfolding assignmentOf andThen
-  assignment-alike n i = after _ _ (designator-alike n i) (λ d m le.
-      wants K.BECOMES m _ _ (λ b. after _ _ (sign-alike (m + 1)) (λ s p le.
-      after _ _ (operand-alike p) (λ a q le. after _ _ (terms-alike q) (λ ts j le. gives)))))
+  assignment-alike n i = after _ _ (designator-alike n i) (λ d m le. assigned-alike d m)
+
+  arguments-alike : (i : ℕ) → Alike Never i (arguments (suc (length kinds)) kinds i) (arguments (suc (length others)) others i)
+  unfolding arguments andThen look next
+  arguments-alike i = list-alike Never arguments arguments (λ i. ok [] i) (stop kinds) (stop others) (λ f i n. onward-arguments kinds f i)
+      (λ f f′ i again. here (λ z. eqb z K.OPEN) i _ _ _ _
+      (λ o. nexts (after _ _ (operand-alike (i + 1)) (λ a m le. wants K.CLOSE m _ _ (λ c. after _ _ (again (m + 1) (omega arith)) (λ xs j le. gives)))))
+      (λ o. gives))
+      (suc (length kinds)) (suc (length others)) i (omega arith) (omega arith)
+    where
+      stop : (ks : List ℕ) (f i : ℕ) → getD ks i 0 ≡ 0 → arguments f ks i ≡ ok [] i
+      stop ks zero i z = refl
+      stop ks (suc f) i z = rw z
 
   numbers-alike : (i : ℕ) → Alike Never i (numbers (suc (length kinds)) kinds i) (numbers (suc (length others)) others i)
   unfolding numbers andThen look
@@ -281,7 +295,8 @@ module _ (kinds others : List ℕ) (k : ℕ) (same : SameBefore (k + 1) kinds ot
 
   type-alike : (i : ℕ) → Alike Never i (typeOf kinds i) (typeOf others i)
   unfolding typeOf andThen look
-  type-alike i = wants-one _ i _ _ (λ t. either (λ z. eqb z K.SHORT) i (i + 1) _ _ _ _ (omega arith) (λ s. wants K.INTEGER (i + 1) _ _ (λ n. gives)) (λ s. gives))
+  type-alike i = wants-one _ i _ _ (λ t. either (λ z. eqb z K.SHORT) i (i + 1) _ _ _ _ (omega arith) (λ s. wants K.INTEGER (i + 1) _ _ (λ n. gives))
+      (λ s. either (λ z. eqb z K.BYTE) i (i + 1) _ _ _ _ (omega arith) (λ b. gives) (λ b. either (λ z. eqb z K.CHARACTER) i (i + 1) _ _ _ _ (omega arith) (λ c. gives) (λ c. gives))))
 
   cells-alike : (c : Option ℕ) (w : Width) (i : ℕ) → Alike Never i (cellsOf c w kinds i) (cellsOf c w others i)
   unfolding cellsOf andThen
@@ -290,6 +305,7 @@ module _ (kinds others : List ℕ) (k : ℕ) (same : SameBefore (k + 1) kinds ot
   after-type-alike : (w : Width) (i : ℕ) → Alike Never i (afterType w kinds i) (afterType w others i)
   unfolding afterType andThen look next
   after-type-alike short i = cells-alike none short i
+  after-type-alike (byte c) i = cells-alike none (byte c) i
   after-type-alike full i = here (λ z. eqb z K.REGISTER) i _ _ _ _
       (λ r. nexts (after _ _ (items-of-alike registerItem register-alike register-stop (onward-registers kinds) (i + 1)) (λ rs j le. gives)))
       (λ r. cells-alike none full i)
@@ -315,9 +331,14 @@ module _ (kinds others : List ℕ) (k : ℕ) (same : SameBefore (k + 1) kinds ot
   ProcedureAt zero t p = t + 1 ≡ p .name
   ProcedureAt (suc room) t p = Inside (p .body) room t
 
+  assign-or-alike : {In : ℕ → Statement → Type 0} (d : Option Designator) (s : Statement) (i : ℕ) → Alike In i (assignOr d s kinds i) (assignOr d s others i)
+  unfolding assignOr andThen
+  assign-or-alike none s i = gives
+  assign-or-alike (some d) s i = after _ _ (assigned-alike d i) (λ a j le. gives)
+
   name-alike : {In : ℕ → Statement → Type 0} (n i : ℕ) → Alike In i (afterName n kinds i) (afterName n others i)
   unfolding afterName andThen look
-  name-alike n i = here (λ z. eqb z K.BECOMES || eqb z K.OPEN) i _ _ _ _ (λ b. after _ _ (assignment-alike n i) (λ a j le. gives)) (λ b. gives)
+  name-alike n i = after _ _ (arguments-alike i) (λ xs j le. here (λ z. eqb z K.BECOMES) j _ _ _ _ (λ b. assign-or-alike (targetOf n xs) (useOf n xs) j) (λ b. gives))
 
   statement-of-alike : (room : ℕ) (c c′ : Reader Statement) (i : ℕ) → Alike (StatementAt room) i (c kinds i) (c′ others i)
       → Alike (StatementAt room) i (statementOf c kinds i) (statementOf c′ others i)

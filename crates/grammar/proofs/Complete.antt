@@ -3,7 +3,7 @@
 use mathlib.Core.Path.{_≡_, refl, sym, subst, _∙_}
 use mathlib.Core.Logic.{_⊎_, inl, inr}
 use mathlib.Core.List.{List, [], _∷_}
-use mathlib.Core.Bool.{Bool, true, false, _||_}
+use mathlib.Core.Bool.{Bool, true, false}
 use mathlib.Core.Option.{Option, none, some}
 use Prim.Native.Nat.{ℕ, zero, suc, _+_, _≤_, _<_}
 use native.Mathlib.Omega.{arith}
@@ -13,11 +13,12 @@ use Rattle.base.specs.Choose.{if_then_else_}
 use Rattle.base.specs.Lists.{member}
 use Rattle.base.proofs.Tests.{never-true}
 use Rattle.token.specs.Kinds as K
-use Rattle.grammar.specs.Tree.{Designator, Operand, number, place, Sign, plain, abs, neg, negAbs, Term, Assignment, Condition, compared, bare, Width, full, short, Register, Item, Declaration, registers, cells, base, Statement, assign, call, block, goto, null, ifThen, ifElse, while, for, Body, declare, procedure, items, Items, ended, label, item}
+use Rattle.grammar.specs.Tree.{Designator, Operand, number, place, Sign, plain, abs, neg, negAbs, Term, Assignment, Condition, compared, bare, Width, full, short, byte, Register, Item, Declaration, registers, cells, base, Statement, assign, call, apply, block, goto, null, ifThen, ifElse, while, for, Body, declare, procedure, items, Items, ended, label, item}
 use Rattle.grammar.specs.Reader.{Result, ok, Reader, andThen, look, next, want, wantOne, give, refuse, _>>=_, _>>_}
-use Rattle.grammar.specs.Grammar.{compounds, designatorOf, operand, relations, condition, operators, terms, signOf, assignmentOf, numbers, cellItem, registerItem, listOf, typeOf, cellsOf, afterType, declaration, afterName, statementOf, itemsOf, Procedure, declarators, bodyOf, ifOf, constructOf, statement, procedureOf}
-use Rattle.grammar.specs.Derives.{Part, isShape, isDesignator, isOperand, isCondition, isSign, areTerms, isAssignment, areNumbers, isItem, isRegister, areMore, areSome, integerOrLogical, isType, isDeclaration, simple, isStatement, isBody, isItems, isBlock, isProgram, nestingOf, bodyNesting, itemsNesting}
-use Rattle.grammar.proofs.Tests.{has, real, oneAt, one-real, isnt-one, passes, fails, inside, isnt}
+use Rattle.grammar.specs.Grammar.{compounds, designatorOf, operand, relations, condition, operators, terms, signOf, assignedTo, assignmentOf, numbers, cellItem, registerItem, listOf, typeWords, typeOf, cellsOf, afterType, declaration, arguments, targetOf, assignOr, useOf, afterName, statementOf, itemsOf, Procedure, declarators, bodyOf, ifOf, constructOf, statement, procedureOf}
+use Rattle.grammar.specs.Derives.{Part, _⟫_, _▸_, isShape, isDesignator, isOperand, isCondition, isSign, areTerms, isAssignment, areNumbers, isItem, isRegister, areMore, areSome, integerOrLogical, isType, isDeclaration, simple, areArguments, isStatement, isBody, isItems, isBlock, isProgram, nestingOf, bodyNesting, itemsNesting}
+use Rattle.grammar.proofs.Tests.{has, real, oneAt, one-real, isnt-one, fails, inside, isnt}
+use Rattle.grammar.proofs.Pinned.{pinned-designator}
 use Rattle.grammar.proofs.Kept.{keep-operand, keep-item, keep-register, keep-declaration, keep-statement}
 
 -- the reader of programs, with any room for constructs
@@ -25,6 +26,20 @@ abbrev pub programIn : ℕ → Reader Statement
 programIn room = do
   k ← look
   if eqb k K.BEGIN then (do b ← statement room; want K.AT; give b) else refuse 4
+
+-- a designator behind its name, as a row of arguments
+rowOf : (subscript index : Option ℕ) → List Operand
+rowOf none none = []
+rowOf none (some x) = place (record { name = x; subscript = none; index = none }) ∷ []
+rowOf (some s) none = number s ∷ []
+rowOf (some s) (some x) = number s ∷ place (record { name = x; subscript = none; index = none }) ∷ []
+
+row-target : (n : ℕ) (s x : Option ℕ) → targetOf n (rowOf s x) ≡ some (record { name = n; subscript = s; index = x })
+unfolding rowOf targetOf
+row-target n none none = refl
+row-target n none (some x) = refl
+row-target n (some s) none = refl
+row-target n (some s) (some x) = refl
 
 module _ (kinds : List ℕ) where
   -- ── "designator = name, name(number), name(name), name(number)(name). operand = number or designator." ──
@@ -46,7 +61,7 @@ module _ (kinds : List ℕ) where
   complete-shape n (some s) none i j (e, h, (o, (y, z, (c, q)))) f = rw (e, y, ← q, o, z, c, rw (← q) at f)
   complete-shape n (some s) (some x) i j (e, h, (o, (y, z, (c, (p, (u, v, (d, q))))))) f = rw (e, y, u, ← q, o, z, c, p, p, v, d)
 
-  complete-designator : (d : Designator) (i j : ℕ) → isDesignator kinds d i j → has kinds j K.OPEN ≡ false → designatorOf i kinds (i + 1) ≡ ok d j
+  pub complete-designator : (d : Designator) (i j : ℕ) → isDesignator kinds d i j → has kinds j K.OPEN ≡ false → designatorOf i kinds (i + 1) ≡ ok d j
   unfolding isDesignator
   complete-designator d i j h f = complete-shape (d .name) (d .subscript) (d .index) i j h f
 
@@ -77,6 +92,10 @@ module _ (kinds : List ℕ) where
   complete-sign (neg t) i j (e, h, q) f = rw (e, h, q, isnt-one kinds j (K.NUMBER ∷ K.NAME ∷ []) K.ABS f refl)
   complete-sign (negAbs t) i j (e, h, (a, q)) f = rw (e, ← q, h, a)
 
+  -- what follows an assignment's target
+  abbrev Assigned : Assignment → Part
+  Assigned a = _▸_ kinds K.BECOMES (isSign kinds (a .sign) ⟫ isOperand kinds (a .first) ⟫ areTerms kinds (a .rest))
+
   -- what follows an operand or an assignment does not go on with it
   terms-first : (ts : List Term) (i j : ℕ) → areTerms kinds ts i j → has kinds j K.OPEN ≡ false → has kinds i K.OPEN ≡ false
   unfolding areTerms
@@ -93,16 +112,19 @@ module _ (kinds : List ℕ) where
       let le = keep-operand {kinds = kinds} {others = kinds} (t .operand) .rises h in
       rw (z, complete-operand (t .operand) (i + 1) m h (terms-first ts m j hs f), complete-terms ts fuel m j hs (omega arith) f o, ← e)
 
-  complete-assignment : (a : Assignment) (i j : ℕ) → isAssignment kinds a i j → has kinds j K.OPEN ≡ false → member (getD kinds j 0) operators ≡ false → assignmentOf i kinds (i + 1) ≡ ok a j
-  unfolding assignmentOf isAssignment andThen want
-  complete-assignment a i j (m, h, (b, (n, hs, (p, ho, ht)))) f o =
+  complete-assigned : (a : Assignment) (i j : ℕ) → Assigned a i j → has kinds j K.OPEN ≡ false → member (getD kinds j 0) operators ≡ false → assignedTo (a .target) kinds i ≡ ok a j
+  unfolding assignedTo andThen want
+  complete-assigned a i j (b, (n, hs, (p, ho, ht))) f o =
       rw (
-        complete-designator (a .target) i m h (isnt kinds m K.OPEN b refl),
         b,
-        complete-sign (a .sign) (m + 1) n hs (operand-first (a .first) n p ho),
+        complete-sign (a .sign) (i + 1) n hs (operand-first (a .first) n p ho),
         complete-operand (a .first) n p ho (terms-first (a .rest) p j ht f),
         complete-terms (a .rest) (suc (length kinds)) p j ht (omega arith) f o,
       )
+
+  complete-assignment : (a : Assignment) (i j : ℕ) → isAssignment kinds a i j → has kinds j K.OPEN ≡ false → member (getD kinds j 0) operators ≡ false → assignmentOf i kinds (i + 1) ≡ ok a j
+  unfolding assignmentOf isAssignment andThen
+  complete-assignment a i j (m, h, r) f o = rw (complete-designator (a .target) i m h (isnt kinds m K.OPEN (r .0) refl), complete-assigned a m j r f o)
 
   -- ── "declaration = (INTEGER or LOGICAL) REGISTER name(number) {, name(number)}; or [ARRAY (number)] type item {, item}; or … SEGMENT BASE name. type =
   -- INTEGER, LOGICAL or SHORT INTEGER; item = name {(number)}." ──
@@ -145,13 +167,24 @@ module _ (kinds : List ℕ) where
 
   complete-type : (w : Width) (i j : ℕ) → isType kinds w i j → typeOf kinds i ≡ ok w j
   unfolding typeOf isType look andThen want wantOne
-  complete-type full i j (z, q) = rw (inside kinds i integerOrLogical (K.INTEGER ∷ K.LOGICAL ∷ K.SHORT ∷ []) z refl, isnt-one kinds i integerOrLogical K.SHORT z refl, q)
+  complete-type full i j (z, q) =
+      rw (
+        inside kinds i integerOrLogical typeWords z refl,
+        isnt-one kinds i integerOrLogical K.SHORT z refl,
+        isnt-one kinds i integerOrLogical K.BYTE z refl,
+        isnt-one kinds i integerOrLogical K.CHARACTER z refl,
+        q,
+      )
   complete-type short i j (s, (t, q)) = rw (s, t, q)
+  complete-type (byte false) i j (s, q) = rw (s, q)
+  complete-type (byte true) i j (s, q) = rw (s, q)
 
-  type-first : (w : Width) (i j : ℕ) → isType kinds w i j → oneAt kinds i (K.INTEGER ∷ K.LOGICAL ∷ K.SHORT ∷ [])
+  type-first : (w : Width) (i j : ℕ) → isType kinds w i j → oneAt kinds i typeWords
   unfolding isType
-  type-first full i j (z, q) = inside kinds i integerOrLogical (K.INTEGER ∷ K.LOGICAL ∷ K.SHORT ∷ []) z refl
+  type-first full i j (z, q) = inside kinds i integerOrLogical typeWords z refl
   type-first short i j (s, r) = rw s
+  type-first (byte false) i j (s, q) = rw s
+  type-first (byte true) i j (s, q) = rw s
 
   list-first : (xs : List Item) (i j : ℕ) → areSome kinds (isItem kinds) xs i j → getD kinds i 0 ≡ K.NAME
   unfolding areSome isItem
@@ -162,6 +195,7 @@ module _ (kinds : List ℕ) where
   unfolding afterType cellsOf look andThen
   complete-after-type full xs i j h s = rw (list-first xs i j h, complete-cells xs i j h s)
   complete-after-type short xs i j h s = rw (complete-cells xs i j h s)
+  complete-after-type (byte c) xs i j h s = rw (complete-cells xs i j h s)
 
   complete-declaration : (d : Declaration) (i j : ℕ) → isDeclaration kinds d i j → getD kinds j 0 ≡ K.SEMICOLON → declaration kinds i ≡ ok d j
   unfolding declaration isDeclaration isType afterType cellsOf look next andThen want
@@ -169,8 +203,8 @@ module _ (kinds : List ℕ) where
       rw (isnt-one kinds i integerOrLogical K.SEGMENT z refl, isnt-one kinds i integerOrLogical K.ARRAY z refl, complete-type full i (i + 1) (z, refl), r, complete-registers rs (i + 1 + 1) j hs s)
   complete-declaration (cells none w xs) i j (m, h, hs) s =
       rw (
-        isnt-one kinds i (K.INTEGER ∷ K.LOGICAL ∷ K.SHORT ∷ []) K.SEGMENT (type-first w i m h) refl,
-        isnt-one kinds i (K.INTEGER ∷ K.LOGICAL ∷ K.SHORT ∷ []) K.ARRAY (type-first w i m h) refl,
+        isnt-one kinds i typeWords K.SEGMENT (type-first w i m h) refl,
+        isnt-one kinds i typeWords K.ARRAY (type-first w i m h) refl,
         complete-type w i m h,
         complete-after-type w xs m j hs s,
       )
@@ -190,6 +224,25 @@ module _ (kinds : List ℕ) where
   unfolding isAssignment
   assignment-name a i j (m, h, r) = designator-name (a .target) i m h
 
+  -- ── a row of arguments, which every designator is behind its name ──
+
+  complete-arguments : (xs : List Operand) (fuel i j : ℕ) → areArguments kinds xs i j → length kinds < fuel + i → has kinds j K.OPEN ≡ false → arguments fuel kinds i ≡ ok xs j
+  unfolding arguments areArguments look next andThen want
+  complete-arguments [] zero i j q n f = rw q
+  complete-arguments [] (suc fuel) i j q n f = rw (q, f)
+  complete-arguments (a ∷ xs) zero i j (o, r) n f = absurd (let l = real kinds i K.OPEN (omega arith) o in omega arith)
+  complete-arguments (a ∷ xs) (suc fuel) i j (o, (m, h, (c, hs))) n f =
+      let le = keep-operand {kinds = kinds} {others = kinds} a .rises h in
+      rw (o, complete-operand a (i + 1) m h (isnt kinds m K.OPEN c refl), c, complete-arguments xs fuel (m + 1) j hs (omega arith) f)
+
+  shape-row : (n : ℕ) (s x : Option ℕ) (i j : ℕ) → isShape kinds n s x i j → areArguments kinds (rowOf s x) (i + 1) j
+  unfolding rowOf areArguments isOperand isDesignator
+  shape-row n none none i j (e, h, q) = q
+  shape-row n none (some x) i j (e, h, (o, (y, z, (c, q)))) = (o, (i + 1 + 1 + 1, (y, z, refl), (c, q)))
+  shape-row n (some s) none i j (e, h, (o, (y, z, (c, q)))) = (o, (i + 1 + 1 + 1, (y, z, refl), (c, q)))
+  shape-row n (some s) (some x) i j (e, h, (o, (y, z, (c, (p, (u, v, (d, q))))))) =
+      (o, (i + 1 + 1 + 1, (y, z, refl), (c, (p, (i + 1 + 1 + 1 + 1 + 1 + 1, (u, v, refl), (d, q))))))
+
   assignment-second : (a : Assignment) (i j : ℕ) → isAssignment kinds a i j → oneAt kinds (i + 1) (K.BECOMES ∷ K.OPEN ∷ [])
   unfolding isAssignment isDesignator
   assignment-second a i j (m, h, (b, r)) = go (a .target .name) (a .target .subscript) (a .target .index) h
@@ -200,17 +253,39 @@ module _ (kinds : List ℕ) where
       go n (some s) none (e, h, (o, r)) = rw o
       go n (some s) (some x) (e, h, (o, r)) = rw o
 
-  complete-assign : (a : Assignment) (i j : ℕ) → isAssignment kinds a i j → oneAt kinds j stops → afterName i kinds (i + 1) ≡ ok (assign a) j
-  unfolding afterName look andThen
-  complete-assign a i j h f =
+  -- a designator with `:=` behind it is a target
+  pub name-target : (d : Designator) (i m : ℕ) → isDesignator kinds d i m → getD kinds m 0 ≡ K.BECOMES
+      → afterName i kinds (i + 1) ≡ andThen (assignedTo d kinds m) (λ a j. ok (assign a) j)
+  unfolding afterName assignOr isDesignator look andThen
+  name-target d i m h b =
       rw (
-        passes (λ k. eqb k K.BECOMES || eqb k K.OPEN) (K.BECOMES ∷ K.OPEN ∷ []) refl (getD kinds (i + 1) 0) (assignment-second a i j h),
-        complete-assignment a i j h (isnt-one kinds j stops K.OPEN f refl) (fails kinds j (λ k. member k operators) stops f refl),
+        complete-arguments (rowOf (d .subscript) (d .index)) (suc (length kinds)) (i + 1) m (shape-row (d .name) (d .subscript) (d .index) i m h) (omega arith) (isnt kinds m K.OPEN b refl),
+        b,
+        ← pinned-designator kinds d i m h .0,
+        row-target (d .name) (d .subscript) (d .index),
       )
 
-  complete-call : (i : ℕ) → oneAt kinds (i + 1) stops → afterName i kinds (i + 1) ≡ ok (call i) (i + 1)
+  complete-assign : (a : Assignment) (i j : ℕ) → isAssignment kinds a i j → oneAt kinds j stops → afterName i kinds (i + 1) ≡ ok (assign a) j
+  unfolding isAssignment andThen
+  complete-assign a i j (m, h, r) f =
+      rw (
+        name-target (a .target) i m h (r .0),
+        complete-assigned a m j r (isnt-one kinds j stops K.OPEN f refl) (fails kinds j (λ k. member k operators) stops f refl),
+      )
+
+  -- a call or a use
+  complete-use : (xs : List Operand) (i j : ℕ) → areArguments kinds xs (i + 1) j → oneAt kinds j stops → afterName i kinds (i + 1) ≡ ok (useOf i xs) j
   unfolding afterName look andThen
-  complete-call i f = rw (fails kinds (i + 1) (λ k. eqb k K.BECOMES || eqb k K.OPEN) stops f refl)
+  complete-use xs i j h f =
+      rw (complete-arguments xs (suc (length kinds)) (i + 1) j h (omega arith) (isnt-one kinds j stops K.OPEN f refl), isnt-one kinds j stops K.BECOMES f refl)
+
+  complete-call : (i : ℕ) → oneAt kinds (i + 1) stops → afterName i kinds (i + 1) ≡ ok (call i) (i + 1)
+  unfolding areArguments
+  complete-call i f = complete-use [] i (i + 1) refl f
+
+  arguments-open : (a : Operand) (xs : List Operand) (i j : ℕ) → areArguments kinds (a ∷ xs) i j → getD kinds i 0 ≡ K.OPEN
+  unfolding areArguments
+  arguments-open a xs i j h = h .0
 
   -- a statement that begins with a name is read from after it, and no colon follows; another begins with a word
   Named : Statement → Part
@@ -220,6 +295,7 @@ module _ (kinds : List ℕ) where
   unfolding isStatement Named
   statement-first (assign a) i j h f = inl (assignment-name a i j h, isnt-one kinds (i + 1) (K.BECOMES ∷ K.OPEN ∷ []) K.COLON (assignment-second a i j h) refl, complete-assign a i j h f)
   statement-first (call n) i j (e, h, q) f = let g = rw (← q) at f in inl (h, isnt-one kinds (i + 1) stops K.COLON g refl, rw (e, ← q, complete-call i g))
+  statement-first (apply n a xs) i j (e, h, hs) f = inl (h, isnt kinds (i + 1) K.COLON (arguments-open a xs (i + 1) j hs) refl, rw (e, complete-use (a ∷ xs) i j hs f))
   statement-first (block t b) i j h f = inr (rw (h .1))
   statement-first (goto t n) i j h f = inr (rw (h .1))
   statement-first null i j h f = inr (rw (h .0))
@@ -232,6 +308,7 @@ module _ (kinds : List ℕ) where
   unfolding isStatement
   simple-first (assign a) i j h e = rw (assignment-name a i j h)
   simple-first (call n) i j h e = rw (h .1)
+  simple-first (apply n a xs) i j h e = rw (h .1)
   simple-first (block t b) i j h e = rw (h .1)
   simple-first (goto t n) i j h e = rw (h .1)
   simple-first null i j h e = rw (h .0)
@@ -327,7 +404,7 @@ module _ (kinds : List ℕ) where
   declaration-first : (d : Declaration) (i j : ℕ) → isDeclaration kinds d i j → oneAt kinds i declarators
   unfolding isDeclaration
   declaration-first (registers rs) i j (z, r) = inside kinds i integerOrLogical declarators z refl
-  declaration-first (cells none w xs) i j (m, h, r) = inside kinds i (K.INTEGER ∷ K.LOGICAL ∷ K.SHORT ∷ []) declarators (type-first w i m h) refl
+  declaration-first (cells none w xs) i j (m, h, r) = inside kinds i typeWords declarators (type-first w i m h) refl
   declaration-first (cells (some c) w xs) i j (a, r) = rw a
   declaration-first (base n) i j (a, r) = rw a
 
@@ -371,6 +448,7 @@ module _ (kinds : List ℕ) where
         → (has kinds j K.ELSE ≡ true → simple x ≡ true) → statement room kinds i ≡ ok x j
     complete-statement (assign a) room i j h n f g = in-any-room room i _ (λ c. name-step c _ i j (assignment-name a i j h) (complete-assign a i j h f))
     complete-statement (call t) room i j (e, h, q) n f g = rw (e, ← q, in-any-room room i _ (λ c. name-step c _ i (i + 1) h (complete-call i (rw (← q) at f))))
+    complete-statement (apply t a xs) room i j (e, h, hs) n f g = rw (e, in-any-room room i _ (λ c. name-step c _ i j h (complete-use (a ∷ xs) i j hs f)))
     complete-statement (goto t l) room i j (e, h, (y, z, q)) n f g = rw (e, y, ← q, in-any-room room i _ (λ c. goto-step c i h z))
     complete-statement null room i j (h, q) n f g = rw (← q, in-any-room room i _ (λ c. null-step c i h))
     complete-statement (block t b) zero i j h n f g = absurd (omega arith)

@@ -2,16 +2,16 @@
 -- before its end are the same. Assumes nothing.
 use mathlib.Core.Path.{_≡_, _∙_}
 use mathlib.Core.List.{List, [], _∷_}
-use mathlib.Core.Bool.{Bool, true}
+use mathlib.Core.Bool.{Bool, true, false}
 use mathlib.Core.Option.{Option, none, some}
 use Prim.Native.Nat.{ℕ, _≤_, _<_}
 use native.Mathlib.Omega.{arith}
 use lib.ListN.{getD}
 use Rattle.base.specs.Lists.{member}
 use Rattle.token.specs.Kinds as K
-use Rattle.grammar.specs.Tree.{Designator, Operand, number, place, Sign, plain, abs, neg, negAbs, Term, Assignment, Condition, compared, bare, Width, full, short, Register, Item, Declaration, registers, cells, base, Statement, assign, call, block, goto, null, ifThen, ifElse, while, for, Body, declare, procedure, items, Items, ended, label, item}
+use Rattle.grammar.specs.Tree.{Designator, Operand, number, place, Sign, plain, abs, neg, negAbs, Term, Assignment, Condition, compared, bare, Width, full, short, byte, Register, Item, Declaration, registers, cells, base, Statement, assign, call, apply, block, goto, null, ifThen, ifElse, while, for, Body, declare, procedure, items, Items, ended, label, item}
 use Rattle.grammar.specs.Grammar.{relations, operators}
-use Rattle.grammar.specs.Derives.{integerOrLogical, Part, end, never, _⟫_, only, _▸_, _#_▸_, _∋▸_, _∋_▸_, isShape, isDesignator, isOperand, isCondition, isSign, areTerms, isAssignment, areNumbers, isItem, isRegister, areMore, areSome, isType, isDeclaration, simple, isProcedure, isStatement, isBody, isItems, isBlock, isProgram, within, SameBefore}
+use Rattle.grammar.specs.Derives.{integerOrLogical, Part, end, never, _⟫_, only, _▸_, _#_▸_, _∋▸_, _∋_▸_, isShape, isDesignator, isOperand, isCondition, isSign, areTerms, isAssignment, areNumbers, isItem, isRegister, areMore, areSome, isType, isDeclaration, simple, isProcedure, areArguments, isStatement, isBody, isItems, isBlock, isProgram, within, SameBefore}
 
 -- what p says of a list of kinds begins no later than it ends, and q says it of another where the tokens before the end are the same
 pub record Kept (kinds others : List ℕ) (p q : Part) : Type 0 where
@@ -133,6 +133,8 @@ module _ {kinds others : List ℕ} where
   unfolding isType
   keep-type full = keep-one integerOrLogical keep-end
   keep-type short = keep-token _ (keep-token _ keep-end)
+  keep-type (byte false) = keep-token _ keep-end
+  keep-type (byte true) = keep-token _ keep-end
 
   pub keep-declaration : (d : Declaration) → Kept kinds others (isDeclaration kinds d) (isDeclaration others d)
   unfolding isDeclaration
@@ -144,12 +146,18 @@ module _ {kinds others : List ℕ} where
   pub keep-procedure : (n r : ℕ) {p q : Part} → Kept kinds others p q → Kept kinds others (isProcedure kinds n r p) (isProcedure others n r q)
   keep-procedure n r h = keep-token _ (keep-number _ n (keep-token _ (keep-number _ r (keep-token _ (keep-token _ h)))))
 
+  pub keep-arguments : (xs : List Operand) → Kept kinds others (areArguments kinds xs) (areArguments others xs)
+  unfolding areArguments
+  keep-arguments [] = keep-end
+  keep-arguments (a ∷ xs) = keep-token _ (keep-then (keep-operand a) (keep-token _ (keep-arguments xs)))
+
   mutual
     unfolding isStatement
 
     pub keep-statement : (x : Statement) → Kept kinds others (isStatement kinds x) (isStatement others x)
     keep-statement (assign a) = keep-assignment a
     keep-statement (call n) = keep-number _ n keep-end
+    keep-statement (apply n a xs) = keep-number _ n (keep-arguments (a ∷ xs))
     keep-statement (block t b) = keep-number _ t (keep-body b)
     keep-statement (goto t n) = keep-number _ t (keep-number _ n keep-end)
     keep-statement null = keep-token _ keep-end

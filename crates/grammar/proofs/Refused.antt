@@ -9,7 +9,7 @@ use native.Mathlib.Omega.{arith}
 use native.Mathlib.Nat.{le-antisymm}
 use lib.ListN.{getD}
 use Rattle.base.specs.Lists.{member}
-use Rattle.grammar.specs.Tree.{Statement, assign, call, block, goto, null, ifThen, ifElse, while, for, Body, declare, procedure, items, Items, ended, label, item}
+use Rattle.grammar.specs.Tree.{Statement, assign, call, apply, block, goto, null, ifThen, ifElse, while, for, Body, declare, procedure, items, Items, ended, label, item}
 use Rattle.grammar.specs.Reader.{Result, ok, bad}
 use Rattle.grammar.specs.Grammar.{nesting, program}
 use Rattle.grammar.specs.Derives.{isProgram, nestingOf, bodyNesting, itemsNesting, Inside, InsideBody, InsideItems, isProgramWithin, Begins, constructs}
@@ -55,6 +55,7 @@ mutual
   inside-nesting : (x : Statement) (n t : ℕ) → Inside x n t → n < nestingOf x
   inside-nesting (assign a) n t h = absurd h
   inside-nesting (call a) n t h = absurd h
+  inside-nesting (apply a b xs) n t h = absurd h
   inside-nesting (block a b) zero t h = omega arith
   inside-nesting (block a b) (suc n) t h = (let l = inside-body b n t h in omega arith)
   inside-nesting (goto a l) n t h = absurd h

@@ -3,7 +3,7 @@
 use mathlib.Core.Path.{_≡_, refl, sym, _∙_}
 use mathlib.Core.Logic.{inr}
 use mathlib.Core.List.{List, [], _∷_}
-use mathlib.Core.Bool.{true, false, _&&_, _||_, not}
+use mathlib.Core.Bool.{true, false, _&&_, not}
 use mathlib.Core.Option.{Option, none, some}
 use Prim.Native.Nat.{ℕ, zero, suc, _+_, _≤_, _<_}
 use native.Mathlib.Omega.{arith}
@@ -14,12 +14,12 @@ use Rattle.base.specs.Lists.{member}
 use Rattle.base.proofs.Tests.{cases, never-true, not-true, both}
 use Rattle.base.proofs.Lists.{each}
 use Rattle.token.specs.Kinds as K
-use Rattle.grammar.specs.Tree.{Designator, Operand, number, place, Sign, plain, abs, neg, negAbs, Term, Assignment, Condition, compared, bare, Width, full, short, Register, Item, Declaration, registers, cells, base, Statement, assign, call, block, goto, null, ifThen, ifElse, while, for, Body, declare, procedure, items, Items, ended, label, item}
+use Rattle.grammar.specs.Tree.{Designator, Operand, number, place, Sign, plain, abs, neg, negAbs, Term, Assignment, Condition, compared, bare, Width, full, short, byte, Register, Item, Declaration, registers, cells, base, Statement, assign, call, apply, block, goto, null, ifThen, ifElse, while, for, Body, declare, procedure, items, Items, ended, label, item}
 use Rattle.grammar.specs.Reader.{Result, ok, bad, Reader, andThen, look, next, want}
-use Rattle.grammar.specs.Grammar.{compounds, designatorOf, operand, relations, condition, operators, terms, signOf, assignmentOf, numbers, cellItem, registerItem, listOf, typeOf, cellsOf, afterType, declaration, afterName, openers, statementOf, itemsOf, Procedure, declarators, bodyOf, ifOf, constructOf, statement, procedureOf, nesting, program}
-use Rattle.grammar.specs.Derives.{Part, Begins, only, within, constructs, nestingOf, bodyNesting, itemsNesting, isDesignator, isOperand, isCondition, isSign, areTerms, isAssignment, areNumbers, isItem, isRegister, areMore, areSome, integerOrLogical, isType, isDeclaration, simple, isProcedure, isStatement, isBody, isItems, isBlock, isProgram, isProgramWithin}
+use Rattle.grammar.specs.Grammar.{compounds, designatorOf, operand, relations, condition, operators, terms, signOf, assignedTo, assignmentOf, numbers, cellItem, registerItem, listOf, typeWords, typeOf, cellsOf, afterType, declaration, arguments, indexed, targetOf, assignOr, useOf, afterName, openers, statementOf, itemsOf, Procedure, declarators, bodyOf, ifOf, constructOf, statement, procedureOf, nesting, program}
+use Rattle.grammar.specs.Derives.{Part, Begins, only, within, constructs, nestingOf, bodyNesting, itemsNesting, isShape, isDesignator, isOperand, isCondition, isSign, areTerms, isAssignment, areNumbers, isItem, isRegister, areMore, areSome, integerOrLogical, isType, isDeclaration, simple, isProcedure, areArguments, isStatement, isBody, isItems, isBlock, isProgram, isProgramWithin}
 use Rattle.grammar.proofs.Tests.{has, real, later, the-one, second, first}
-use Rattle.grammar.proofs.Kept.{keep-designator, keep-operand, keep-condition, keep-sign, keep-terms, keep-assignment, keep-numbers, keep-item, keep-register, keep-some, keep-type, keep-declaration, keep-procedure, keep-statement, keep-body, keep-items, keep-only, keep-within, keep-block}
+use Rattle.grammar.proofs.Kept.{keep-designator, keep-operand, keep-condition, keep-sign, keep-terms, keep-assignment, keep-numbers, keep-item, keep-register, keep-some, keep-type, keep-declaration, keep-arguments, keep-procedure, keep-statement, keep-body, keep-items, keep-only, keep-within, keep-block}
 use Rattle.grammar.proofs.Sequences.{Rule, Plain, always, plainly, Sequence, reach, right-onward, made, token, oneOf, part, parens, Each, Leads, Right, leads-token, leads-one, leads-part, leads-begins, part-begins, starts, gives, refuses, needs, wants, wants-one, wants-parens, reads, either}
 
 -- ── "designator = name, name(number), name(name), name(number)(name). operand = number or designator." ──
@@ -45,7 +45,7 @@ abbrev designators : Rule Designator
 designators = plainly (record { is = isDesignator; kept = keep-designator; some = λ kinds i. leads-begins 0 (as-name i) })
 
 module _ (kinds : List ℕ) where
-  right-designator : (n : ℕ) → getD kinds n 0 ≡ K.NAME → Right (always isDesignator) kinds n (designatorOf n kinds (n + 1))
+  pub right-designator : (n : ℕ) → getD kinds n 0 ≡ K.NAME → Right (always isDesignator) kinds n (designatorOf n kinds (n + 1))
   unfolding designatorOf andThen look next
   right-designator n h = either (has kinds (n + 1) K.OPEN) _ _ _
       (λ p. let o = eqb-true _ _ p in
@@ -158,11 +158,16 @@ module _ (kinds : List ℕ) where
       (λ e. reads _ (leads-one (as-term i) e) (right-operand kinds (i + 1)) (λ a m h l. reads _ l (right-terms fuel m) (λ ts j hs. gives)))
       (λ e. gives (as-no-term i))
 
+  -- a target stands from n up to m
+  right-assigned : (n m : ℕ) (d : Designator) → isDesignator kinds d n m → Right (always isAssignment) kinds n (assignedTo d kinds m)
+  unfolding assignedTo
+  right-assigned n m d h =
+      wants _ (leads-part (as-assignment n) h) (λ b l. reads _ l (right-sign (m + 1)) (λ s p hs l.
+      reads _ l (right-operand kinds p) (λ a q ha l. reads _ l (right-terms (suc (length kinds)) q) (λ ts j hts. gives))))
+
   right-assignment : (n : ℕ) → getD kinds n 0 ≡ K.NAME → Right (always isAssignment) kinds n (assignmentOf n kinds (n + 1))
   unfolding assignmentOf
-  right-assignment n h =
-      reads _ (as-assignment n) (right-designator kinds n h) (λ d m hd l. wants _ l (λ b l. reads _ l (right-sign (m + 1)) (λ s p hs l.
-      reads _ l (right-operand kinds p) (λ a q ha l. reads _ l (right-terms (suc (length kinds)) q) (λ ts j hts. gives)))))
+  right-assignment n h = reads _ (as-assignment n) (right-designator kinds n h) (λ d m hd l. right-assigned n m d hd)
 
 -- ── "declaration = (INTEGER or LOGICAL) REGISTER name(number) {, name(number)}; or [ARRAY (number)] type item {, item}; or … SEGMENT BASE name. type =
 -- INTEGER, LOGICAL or SHORT INTEGER; item = name {(number)}." ──
@@ -255,6 +260,14 @@ module _ {kinds : List ℕ} (i : ℕ) where
   unfolding Each isType
   as-short = starts (λ _ o s t. (s, (t, refl)))
 
+  as-byte : Leads (always isType) kinds i (token K.BYTE (λ t. made (byte false))) i
+  unfolding Each isType
+  as-byte = starts (λ _ o t. (t, refl))
+
+  as-character : Leads (always isType) kinds i (token K.CHARACTER (λ t. made (byte true))) i
+  unfolding Each isType
+  as-character = starts (λ _ o t. (t, refl))
+
 abbrev types : Rule Width
 types = plainly (record { is = isType; kept = keep-type; some = λ kinds i. leads-begins 0 (as-full i) })
 
@@ -285,15 +298,18 @@ abbrev declarations : Rule Declaration
 declarations = plainly (record { is = isDeclaration; kept = keep-declaration; some = λ kinds i. leads-begins 0 (as-base i) })
 
 module _ (kinds : List ℕ) where
-  -- a type is full, of which REGISTER may follow, or short
+  -- a type is full, of which REGISTER may follow, short or a byte
   right-type : (i : ℕ) → Right (always isType) kinds i (typeOf kinds i)
   unfolding typeOf andThen look
   right-type i = wants-one _ _ (as-full i) (λ m. either (has kinds i K.SHORT) _ _ _
       (λ e. wants _ (leads-token (as-short i) (eqb-true _ _ e)) (λ t. gives))
-      (λ e. gives (leads-one (as-full i) (full-type (getD kinds i 0) m e))))
+      (λ e. either (has kinds i K.BYTE) _ _ _ (λ b. gives (leads-token (as-byte i) (eqb-true _ _ b)))
+      (λ b. either (has kinds i K.CHARACTER) _ _ _ (λ c. gives (leads-token (as-character i) (eqb-true _ _ c)))
+      (λ c. gives (leads-one (as-full i) (full-type (getD kinds i 0) m e b c))))))
     where
-      full-type : (k : ℕ) → member k (K.INTEGER ∷ K.LOGICAL ∷ K.SHORT ∷ []) ≡ true → eqb k K.SHORT ≡ false → member k integerOrLogical ≡ true
-      full-type k h e = each (λ z. eqb z K.SHORT ≡ false → member z integerOrLogical ≡ true) (K.INTEGER ∷ K.LOGICAL ∷ K.SHORT ∷ []) (λ d. refl, (λ d. refl, (λ d. sym d, tt))) k h e
+      full-type : (k : ℕ) → member k typeWords ≡ true → eqb k K.SHORT ≡ false → eqb k K.BYTE ≡ false → eqb k K.CHARACTER ≡ false → member k integerOrLogical ≡ true
+      full-type k h e b c = each (λ z. eqb z K.SHORT ≡ false → eqb z K.BYTE ≡ false → eqb z K.CHARACTER ≡ false → member z integerOrLogical ≡ true) typeWords
+          (λ d u v. refl, (λ d u v. refl, (λ d u v. sym d, (λ d u v. sym u, (λ d u v. sym v, tt))))) k h e b c
 
   right-cells : (i p : ℕ) (c : Option ℕ) (w : Width) → Leads (always isDeclaration) kinds i (part cellLists (λ xs. made (cells c w xs))) p → Right (always isDeclaration) kinds i (cellsOf c w kinds p)
   unfolding cellsOf
@@ -302,6 +318,7 @@ module _ (kinds : List ℕ) where
   right-after-type : (i p : ℕ) (w : Width) → isType kinds w i p → Right (always isDeclaration) kinds i (afterType w kinds p)
   unfolding afterType isType andThen look next
   right-after-type i p short h = right-cells i p none short (leads-part (as-cells i) h)
+  right-after-type i p (byte c) h = right-cells i p none (byte c) (leads-part (as-cells i) h)
   right-after-type i p full h = either (has kinds p K.REGISTER) _ _ _
       (λ r. reads _ (leads-token (rw (h .1) at (leads-one {kinds = kinds} (as-registers i) (h .0))) (eqb-true _ _ r))
       (right-list registerItems kinds _ (right-register kinds) (length kinds) (p + 1) (omega arith)) (λ rs j hs. gives))
@@ -314,6 +331,63 @@ module _ (kinds : List ℕ) where
       (λ s. either (has kinds i K.ARRAY) _ _ _
       (λ a. wants-parens _ (leads-token (as-array i) (eqb-true _ _ a)) (λ l. reads _ l (right-type (i + 1 + 1 + 1 + 1)) (λ w m h. right-cells i m _ w)))
       (λ a. reads _ (as-cells i) (right-type i) (λ w m h l. right-after-type i m w h)))
+
+-- ── a row of arguments, and the designator that it is with its name, if it is one ──
+
+module _ {kinds : List ℕ} (i : ℕ) where
+  as-no-argument : Leads (always areArguments) kinds i (made []) i
+  unfolding Each areArguments
+  as-no-argument = starts (λ _ o. refl)
+
+abbrev rows : Rule (List Operand)
+rows = plainly (record { is = areArguments; kept = keep-arguments; some = λ kinds i. leads-begins 0 (as-no-argument i) })
+
+module _ {kinds : List ℕ} (i : ℕ) where
+  as-argument : Leads (always areArguments) kinds i (token K.OPEN (λ o. part operands (λ a. token K.CLOSE (λ c. part rows (λ xs. made (a ∷ xs)))))) i
+  unfolding Each areArguments
+  as-argument = starts (λ _ o p a m h c xs j hs. (p, (m, h, (c, hs))))
+
+module _ (kinds : List ℕ) where
+  pub right-arguments : (fuel i : ℕ) → Right (always areArguments) kinds i (arguments fuel kinds i)
+  unfolding arguments andThen look next
+  right-arguments zero i = gives (as-no-argument i)
+  right-arguments (suc fuel) i = either (has kinds i K.OPEN) _ _ _
+      (λ e. reads _ (leads-token (as-argument i) (eqb-true _ _ e)) (right-operand kinds (i + 1)) (λ a m h l.
+      wants _ l (λ c l. reads _ l (right-arguments fuel (m + 1)) (λ xs j hs. gives))))
+      (λ e. gives (as-no-argument i))
+
+  -- a designator, if there is one, stands from n up to j
+  abbrev pub Targets : (n j : ℕ) → Option Designator → Type 0
+  Targets n j none = Unit {0}
+  Targets n j (some d) = isDesignator kinds d n j
+
+  indexed-targets : (n j x : ℕ) (t y : Option ℕ) (p : ℕ) → getD kinds n 0 ≡ K.NAME → getD kinds (n + 1) 0 ≡ K.OPEN → isShape kinds x t y (n + 1 + 1) p
+      → getD kinds p 0 ≡ K.CLOSE → p + 1 ≡ j → Targets n j (indexed n none x t y)
+  unfolding isDesignator
+  indexed-targets n j x none none p h o (e, y, u) c v = (refl, h, (o, (e, y, (rw u c, omega arith))))
+  indexed-targets n j x none (some y) p h o s c v = tt
+  indexed-targets n j x (some t) none p h o s c v = tt
+  indexed-targets n j x (some t) (some y) p h o s c v = tt
+
+  both-targets : (n j s x : ℕ) (t y : Option ℕ) (p : ℕ) → getD kinds n 0 ≡ K.NAME → getD kinds (n + 1) 0 ≡ K.OPEN → s ≡ n + 1 + 1
+      → getD kinds (n + 1 + 1) 0 ≡ K.NUMBER → getD kinds (n + 1 + 1 + 1) 0 ≡ K.CLOSE → getD kinds (n + 1 + 1 + 1 + 1) 0 ≡ K.OPEN
+      → isShape kinds x t y (n + 1 + 1 + 1 + 1 + 1) p → getD kinds p 0 ≡ K.CLOSE → p + 1 ≡ j → Targets n j (indexed n (some s) x t y)
+  unfolding isDesignator
+  both-targets n j s x none none p h o e z c q (f, y, u) d v = (refl, h, (o, (e, z, (c, (q, (f, y, (rw u d, omega arith)))))))
+  both-targets n j s x none (some y) p h o e z c q g d v = tt
+  both-targets n j s x (some t) none p h o e z c q g d v = tt
+  both-targets n j s x (some t) (some y) p h o e z c q g d v = tt
+
+  pub row-targets : (n j : ℕ) (xs : List Operand) → getD kinds n 0 ≡ K.NAME → areArguments kinds xs (n + 1) j → Targets n j (targetOf n xs)
+  unfolding targetOf areArguments isOperand isDesignator
+  row-targets n j [] h q = (refl, h, q)
+  row-targets n j (number s ∷ []) h (o, (p, (e, y, u), (c, q))) = (refl, h, (o, (e, y, (rw u c, omega arith))))
+  row-targets n j (number s ∷ (number t ∷ xs)) h r = tt
+  row-targets n j (number s ∷ (place d ∷ [])) h (o, (p, (e, y, u), (c, (b, (m, g, (z, q)))))) =
+      both-targets n j s (d .name) (d .subscript) (d .index) m h o e y (rw u c) (rw u b) (rw (← u) at g) z q
+  row-targets n j (number s ∷ (place d ∷ (a ∷ xs))) h r = tt
+  row-targets n j (place d ∷ []) h (o, (p, g, (c, q))) = indexed-targets n j (d .name) (d .subscript) (d .index) p h o g c q
+  row-targets n j (place d ∷ (a ∷ xs)) h r = tt
 
 -- ── "simple = assignment, name (a call), block, GOTO name, NULL.", and what holds constructs, with room for so many one inside the other ──
 
@@ -382,14 +456,20 @@ procedures room = record {
   some = λ d kinds i. leads-begins d (as-procedure room i);
 }
 
+is-use : (kinds : List ℕ) (room d i : ℕ) → getD kinds i 0 ≡ K.NAME → (xs : List Operand) (j : ℕ) → areArguments kinds xs (i + 1) j → statementIn room d kinds (useOf i xs) i j
+unfolding isStatement nestingOf areArguments
+is-use kinds room d i n [] j h = (omega arith, (refl, n, h))
+is-use kinds room d i n (a ∷ xs) j h = (omega arith, (refl, n, h))
+
 module _ {kinds : List ℕ} (room i : ℕ) where
   as-assign : Leads (statementIn room) kinds i (part assignments (λ a. made (assign a))) i
   unfolding Each isStatement nestingOf
   as-assign = starts (λ d o a j h. (omega arith, h))
 
-  as-call : Leads (statementIn room) kinds i (token K.NAME (λ n. made (call n))) i
-  unfolding Each isStatement nestingOf
-  as-call = starts (λ d o n. (omega arith, (refl, n, refl)))
+  -- a call or a use
+  as-use : Leads (statementIn room) kinds i (token K.NAME (λ n. part rows (λ xs. made (useOf n xs)))) i
+  unfolding Each
+  as-use = starts (λ d o n xs j h. is-use o room d i n xs j h)
 
   as-goto : Leads (statementIn room) kinds i (token K.GOTO (λ t. token K.NAME (λ n. made (goto t n)))) i
   unfolding Each isStatement nestingOf
@@ -466,6 +546,7 @@ simple-begin : (kinds : List ℕ) (s : Statement) (i j : ℕ) → isStatement ki
 unfolding isStatement
 simple-begin kinds (assign a) i j h n = refl
 simple-begin kinds (call t) i j h n = refl
+simple-begin kinds (apply t a xs) i j h n = refl
 simple-begin kinds (block t b) i j h n = refl
 simple-begin kinds (goto t l) i j h n = refl
 simple-begin kinds null i j h n = refl
@@ -475,11 +556,16 @@ simple-begin kinds (while t c s) i j h n = sym n ∙ rw (h .1)
 simple-begin kinds (for t a v l s) i j h n = sym n ∙ rw (h .1)
 
 module _ (kinds : List ℕ) where
+  right-assign-or : (room n j : ℕ) (d : Option Designator) (s : Statement) → Targets kinds n j d → Leads (statementIn room) kinds n (made s) j
+      → Right (statementIn room) kinds n (assignOr d s kinds j)
+  unfolding assignOr
+  right-assign-or room n j none s h l = gives l
+  right-assign-or room n j (some d) s h l = reads _ (as-assign room n) (right-assigned kinds n j d h) (λ a m ha. gives)
+
   right-after-name : (room n : ℕ) → getD kinds n 0 ≡ K.NAME → Right (statementIn room) kinds n (afterName n kinds (n + 1))
   unfolding afterName andThen look
-  right-after-name room n h = either (has kinds (n + 1) K.BECOMES || has kinds (n + 1) K.OPEN) _ _ _
-      (λ e. reads _ (as-assign room n) (right-assignment kinds n h) (λ a j ha. gives))
-      (λ e. gives (leads-token (as-call room n) h))
+  right-after-name room n h = reads _ (leads-token (as-use room n) h) (right-arguments kinds (suc (length kinds)) (n + 1)) (λ xs j hs l.
+      either (has kinds j K.BECOMES) _ _ _ (λ b. right-assign-or room n j (targetOf n xs) (useOf n xs) (row-targets kinds n j xs h hs) l) (λ b. gives l))
 
   right-statement-of : (room : ℕ) (construct : Reader Statement) (i : ℕ)
       → (member (getD kinds i 0) openers ≡ true → Right (statementIn room) kinds i (construct kinds i))
@@ -654,6 +740,9 @@ module _ (kinds : List ℕ) where
 
   pub onward-numbers : (fuel i : ℕ) → i ≤ reach (numbers fuel kinds i)
   onward-numbers fuel i = right-onward keep-numbers (right-numbers kinds fuel i)
+
+  pub onward-arguments : (fuel i : ℕ) → i ≤ reach (arguments fuel kinds i)
+  onward-arguments fuel i = right-onward keep-arguments (right-arguments kinds fuel i)
 
   pub onward-cells : (fuel i : ℕ) → length kinds ≤ fuel + i → i ≤ reach (listOf cellItem (suc fuel) kinds i)
   onward-cells fuel i enough = right-onward (lists cellItems .kept {d = 0}) (right-list cellItems kinds _ (right-item kinds) fuel i (omega arith))

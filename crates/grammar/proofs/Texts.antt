@@ -7,9 +7,9 @@ use Prim.Native.Nat.{ℕ, _+_, _≤_, _<_}
 use native.Mathlib.Omega.{arith}
 use lib.ListN.{length, getD}
 use Rattle.token.specs.Kinds as K
-use Rattle.grammar.specs.Tree.{Designator, Operand, number, place, Sign, plain, abs, neg, negAbs, Term, Assignment, Condition, compared, bare, Width, Register, Item, Declaration, registers, cells, base, Statement, assign, call, block, goto, null, ifThen, ifElse, while, for, Body, declare, procedure, items, Items, ended, label, item}
-use Rattle.grammar.specs.Derives.{Part, isDesignator, isOperand, isCondition, isSign, areTerms, isAssignment, areNumbers, isItem, isRegister, areMore, areSome, isType, isDeclaration, isStatement, isBody, isItems, isProgram}
-use Rattle.grammar.specs.Events.{Edge, opened, closed, entered, left, Route, labelled, sent, Entry, named, celled, itemed, valued, based, Phrase, aimed, driven, signed, given, joined, tested, limited, called, Mark, Event, edge, route, entry, phrase, mark, each, eventsValue, eventsItem, eventsRegister, eventsDeclaration, eventsSign, eventsTerm, eventsChain, labelsOnto, labelsOf, eventsStatement, eventsBody, eventsItems, eventsOf}
+use Rattle.grammar.specs.Tree.{Designator, Operand, number, place, Sign, plain, abs, neg, negAbs, Term, Assignment, Condition, compared, bare, Width, Register, Item, Declaration, registers, cells, base, Statement, assign, call, apply, block, goto, null, ifThen, ifElse, while, for, Body, declare, procedure, items, Items, ended, label, item}
+use Rattle.grammar.specs.Derives.{Part, isDesignator, isOperand, isCondition, isSign, areTerms, isAssignment, areNumbers, isItem, isRegister, areMore, areSome, isType, isDeclaration, areArguments, isStatement, isBody, isItems, isProgram}
+use Rattle.grammar.specs.Events.{Edge, opened, closed, entered, left, Route, labelled, sent, Entry, named, celled, itemed, valued, based, Phrase, aimed, driven, signed, given, joined, tested, limited, called, applied, argued, counted, Mark, Event, edge, route, entry, phrase, mark, each, eventsValue, eventsItem, eventsRegister, eventsDeclaration, eventsSign, eventsTerm, eventsChain, eventsArguments, labelsOnto, labelsOf, eventsStatement, eventsBody, eventsItems, eventsOf}
 use Rattle.grammar.specs.Places.{Block, Frame, within, body, Place, after, afterAll, along, Along}
 use Rattle.grammar.specs.Texts.{InBlock, Fits, isEntry, isEvent, Stands, Text}
 use Rattle.grammar.proofs.Places.{Appends}
@@ -111,6 +111,14 @@ module _ (kinds : List ℕ) (j : ℕ) where
 
   -- ── statements ──
 
+  -- the arguments of a use, and its end behind the last
+  arguments : (n c : ℕ) (xs : List Operand) (p : Place) (k : List Event) (i m : ℕ) → areArguments kinds xs i m → Text kinds k p m j → Text kinds (eventsArguments n c xs k) p i j
+  unfolding areArguments eventsArguments
+  arguments n c [] p k i m h t = put (phrase (counted n c)) p k i i tt refl (omega arith) (sooner k _ _ _ (omega arith) t)
+  arguments n c (a ∷ xs) p k i m (o, (v, h, (z, hs))) t =
+      let l = up (keep-operand a) h in
+      put (phrase (argued n c a)) p _ i (v + 1) tt (o, (v, h, (z, refl))) (omega arith) (arguments n (c + 1) xs p k (v + 1) m hs t)
+
   -- a mark stands between two tokens
   marked : (m : Mark) (p : Place) (k : List Event) (i : ℕ) → Text kinds k p i j → Text kinds (mark m ∷ k) p i j
   marked m p k i t = put (mark m) p k i i tt refl (omega arith) t
@@ -125,6 +133,7 @@ module _ (kinds : List ℕ) (j : ℕ) where
     statement : (x : Statement) (p : Place) (k : List Event) (i m : ℕ) → isStatement kinds x i m → Text kinds k p m j → Text kinds (eventsStatement x k) p i j
     statement (assign a) p k i m h t = assignment (aimed (a .target)) a p k i m (λ u v q. q) h t
     statement (call n) p k i m (e, y, h) t = put (phrase (called n)) p k i m tt (e, y, h) (omega arith) t
+    statement (apply n a xs) p k i m (e, y, h) t = put (phrase (applied n)) p _ i (i + 1) tt (e, y, refl) (omega arith) (arguments n 0 (a ∷ xs) p k (i + 1) m h t)
     statement (block n b) p k i m (e, y, h) t =
         put (edge (opened n (labelsOf b []))) p _ i (i + 1) tt (e, y, refl) (omega arith)
         (bodied b _ p _ _ m refl h (λ b′ u w. put (edge (closed n)) _ k m m (u, w) refl (omega arith) t))

@@ -6,7 +6,7 @@ use Prim.Native.Nat.{ℕ, _+_, _≤_}
 use native.Mathlib.Omega.{arith}
 use Rattle.grammar.specs.Tree.{Designator, Operand, number, place, Sign, Condition, compared, bare}
 use Rattle.grammar.specs.Derives.{isShape, isDesignator, isOperand, isCondition, isProcedure}
-use Rattle.grammar.specs.Events.{Edge, opened, closed, entered, left, Entry, named, celled, itemed, valued, based, Phrase, aimed, driven, signed, given, joined, tested, limited, called, Event, edge, route, entry, phrase, mark, indexNames, designatorNames, operandNames, conditionNames, phraseUses, edgeUses, entryUses, uses}
+use Rattle.grammar.specs.Events.{Edge, opened, closed, entered, left, Entry, named, celled, itemed, valued, based, Phrase, aimed, driven, signed, given, joined, tested, limited, called, applied, argued, counted, Event, edge, route, entry, phrase, mark, indexNames, designatorNames, operandNames, conditionNames, phraseUses, edgeUses, entryUses, uses}
 use Rattle.grammar.specs.Texts.{isEvent}
 
 -- from token i on and before j
@@ -20,6 +20,10 @@ none-rise i j h = h
 sooner : (ts : List ℕ) (i i′ j : ℕ) → i′ ≤ i → Rise ts i j → Rise ts i′ j
 sooner [] i i′ j l h = omega arith
 sooner (t ∷ ts) i i′ j l (g, h) = (omega arith, h)
+
+further : (ts : List ℕ) (i j j′ : ℕ) → j ≤ j′ → Rise ts i j → Rise ts i j′
+further [] i j j′ l h = omega arith
+further (t ∷ ts) i j j′ l (g, h) = (g, further ts (t + 1) j j′ l h)
 
 module _ (kinds : List ℕ) where
   shape-rises : (n : ℕ) (s x : Option ℕ) (i j : ℕ) → isShape kinds n s x i j → Rise (n ∷ indexNames x) i j
@@ -51,6 +55,9 @@ module _ (kinds : List ℕ) where
   phrase-rises (tested t c) i j l h = sooner (conditionNames c) _ _ j (omega arith) (condition-rises c _ j (h .1))
   phrase-rises (limited d v a) i j l h = sooner (operandNames a) _ _ j (omega arith) (operand-rises a _ j (h .1 .2 .1))
   phrase-rises (called n) i j l (e, y, q) = (omega arith, omega arith)
+  phrase-rises (applied n) i j l (e, y, q) = (omega arith, omega arith)
+  phrase-rises (argued n p a) i j l (o, (m, h, (c, q))) = sooner (operandNames a) _ _ j (omega arith) (further (operandNames a) _ m j (omega arith) (operand-rises a _ m h))
+  phrase-rises (counted n c) i j l h = l
 
   pub uses-rise : (e : Event) (i j : ℕ) → i ≤ j → isEvent kinds e i j → Rise (uses e) i j
   uses-rise (edge (opened t ls)) i j l h = l

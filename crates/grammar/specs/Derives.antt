@@ -9,7 +9,7 @@ use Prim.Native.Nat.{ℕ, zero, suc, _+_, _≤_, _<_, max}
 use lib.ListN.{getD}
 use Rattle.base.specs.Lists.{member}
 use Rattle.token.specs.Kinds as K
-use Rattle.grammar.specs.Tree.{Designator, Operand, number, place, Sign, plain, abs, neg, negAbs, Term, Assignment, Condition, compared, bare, Width, full, short, Register, Item, Declaration, registers, cells, base, Statement, assign, call, block, goto, null, ifThen, ifElse, while, for, Body, declare, procedure, items, Items, ended, label, item}
+use Rattle.grammar.specs.Tree.{Designator, Operand, number, place, Sign, plain, abs, neg, negAbs, Term, Assignment, Condition, compared, bare, Width, full, short, byte, Register, Item, Declaration, registers, cells, base, Statement, assign, call, apply, block, goto, null, ifThen, ifElse, while, for, Body, declare, procedure, items, Items, ended, label, item}
 use Rattle.grammar.specs.Grammar.{relations, operators}
 
 -- what stands from one token up to, but not including, another
@@ -33,10 +33,11 @@ _⟫_ p q i j = (m : ℕ) × p i m × q m j
 abbrev pub only : Bool → Part → Part
 only holds p i j = (holds ≡ true) × p i j
 
--- "simple = assignment, name (a call), block, GOTO name, NULL."
+-- "simple = assignment, name (a call), block, GOTO name, NULL." Document 02, 1/13: "A use is a simple statement".
 abbrev pub simple : Statement → Bool
 simple (assign a) = true
 simple (call n) = true
+simple (apply n a xs) = true
 simple (block t b) = true
 simple (goto t n) = true
 simple null = true
@@ -107,7 +108,7 @@ module _ (kinds : List ℕ) where
   isAssignment a = isDesignator (a .target) ⟫ K.BECOMES ▸ isSign (a .sign) ⟫ isOperand (a .first) ⟫ areTerms (a .rest)
 
   -- ── "declaration = (INTEGER or LOGICAL) REGISTER name(number) {, name(number)}; or [ARRAY (number)] type item {, item}; or PROCEDURE name(name) ;
-  -- statement; or SEGMENT BASE name. type = INTEGER, LOGICAL or SHORT INTEGER; item = name {(number)}." ──
+  -- statement; or SEGMENT BASE name. type = INTEGER, LOGICAL or SHORT INTEGER; item = name {(number)}." Document 02, 1/13: "BYTE and CHARACTER cells". ──
 
   -- "{(number)}"
   unfoldable pub areNumbers : List ℕ → Part
@@ -134,6 +135,8 @@ module _ (kinds : List ℕ) where
   unfoldable pub isType : Width → Part
   isType full = integerOrLogical ∋▸ end
   isType short = K.SHORT ▸ K.INTEGER ▸ end
+  isType (byte false) = K.BYTE ▸ end
+  isType (byte true) = K.CHARACTER ▸ end
 
   -- all but "PROCEDURE name(name) ; statement", which stands with the blocks
   unfoldable pub isDeclaration : Declaration → Part
@@ -149,10 +152,16 @@ module _ (kinds : List ℕ) where
   abbrev pub isProcedure : (name return : ℕ) (isIts : Part) → Part
   isProcedure n r isIts = K.PROCEDURE ▸ K.NAME # n ▸ K.OPEN ▸ K.NAME # r ▸ K.CLOSE ▸ K.SEMICOLON ▸ isIts
 
+  -- document 02, 1/13: "each argument in its own parentheses"; an argument is an operand
+  unfoldable pub areArguments : List Operand → Part
+  areArguments [] = end
+  areArguments (a ∷ xs) = K.OPEN ▸ isOperand a ⟫ K.CLOSE ▸ areArguments xs
+
   unfoldable mutual
     pub isStatement : Statement → Part
     isStatement (assign a) = isAssignment a
     isStatement (call n) = K.NAME # n ▸ end
+    isStatement (apply n a xs) = K.NAME # n ▸ areArguments (a ∷ xs)
     isStatement (block t b) = K.BEGIN # t ▸ isBody b
     isStatement (goto t n) = K.GOTO # t ▸ K.NAME # n ▸ end
     isStatement null = K.NULL ▸ end
@@ -188,6 +197,7 @@ unfoldable mutual
   pub nestingOf : Statement → ℕ
   nestingOf (assign a) = 0
   nestingOf (call n) = 0
+  nestingOf (apply n a xs) = 0
   nestingOf (block t b) = suc (bodyNesting b)
   nestingOf (goto t n) = 0
   nestingOf null = 0
@@ -211,6 +221,7 @@ unfoldable mutual
   pub Inside : Statement → (n t : ℕ) → Type 0
   Inside (assign a) n t = ⊥
   Inside (call a) n t = ⊥
+  Inside (apply a b xs) n t = ⊥
   Inside (block a b) zero t = t ≡ a
   Inside (block a b) (suc n) t = InsideBody b n t
   Inside (goto a l) n t = ⊥

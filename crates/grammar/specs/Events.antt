@@ -2,8 +2,8 @@
 -- says of each event, at the place where the event stands (Places).
 use mathlib.Core.List.{List, [], _∷_}
 use mathlib.Core.Option.{Option, none, some}
-use Prim.Native.Nat.{ℕ}
-use Rattle.grammar.specs.Tree.{Designator, Operand, number, place, Sign, plain, abs, neg, negAbs, Term, Assignment, Condition, compared, bare, Width, Register, Item, Declaration, registers, cells, base, Statement, assign, call, block, goto, null, ifThen, ifElse, while, for, Body, declare, procedure, items, Items, ended, label, item}
+use Prim.Native.Nat.{ℕ, _+_}
+use Rattle.grammar.specs.Tree.{Designator, Operand, number, place, Sign, plain, abs, neg, negAbs, Term, Assignment, Condition, compared, bare, Width, Register, Item, Declaration, registers, cells, base, Statement, assign, call, apply, block, goto, null, ifThen, ifElse, while, for, Body, declare, procedure, items, Items, ended, label, item}
 
 -- ── what stands in a text ──
 
@@ -27,7 +27,7 @@ pub data Entry : Type 0 where
   valued : (number : ℕ) → Entry
   based : (name : ℕ) → Entry
 
--- what statements are made of. What follows a target has it.
+-- what statements are made of. What follows a target has it; an argument has the name of its use and its position from 0 on, and the end of a use how many there were.
 pub data Phrase : Type 0 where
   aimed driven : Designator → Phrase
   signed : (target : Designator) → Sign → Phrase
@@ -35,7 +35,9 @@ pub data Phrase : Type 0 where
   joined : (target : Designator) → Term → Phrase
   tested : (at : ℕ) → Condition → Phrase
   limited : (target : Designator) → (step : ℕ) → Operand → Phrase
-  called : (name : ℕ) → Phrase
+  called applied : (name : ℕ) → Phrase
+  argued : (name position : ℕ) → Operand → Phrase
+  counted : (name count : ℕ) → Phrase
 
 -- where statements begin, part and end that hold others: only the code heeds them
 pub data Mark : Type 0 where
@@ -83,6 +85,9 @@ phraseUses (joined d t) = operandNames (t .operand)
 phraseUses (tested t c) = conditionNames c
 phraseUses (limited d v a) = operandNames a
 phraseUses (called n) = n ∷ []
+phraseUses (applied n) = n ∷ []
+phraseUses (argued n p a) = operandNames a
+phraseUses (counted n c) = []
 
 abbrev pub edgeUses : Edge → List ℕ
 edgeUses (opened t ls) = []
@@ -153,6 +158,11 @@ eventsTerm d t k = phrase (joined d t) ∷ k
 unfoldable pub eventsChain : Assignment → List Event → List Event
 eventsChain a k = eventsSign (a .target) (a .sign) (phrase (given (a .target) (a .first)) ∷ each (eventsTerm (a .target)) (a .rest) k)
 
+-- the arguments of a use from position p on, and its end
+unfoldable pub eventsArguments : (name position : ℕ) → List Operand → List Event → List Event
+eventsArguments n p [] k = phrase (counted n p) ∷ k
+eventsArguments n p (a ∷ xs) k = phrase (argued n p a) ∷ eventsArguments n (p + 1) xs k
+
 -- the labels among items, the newest first, before those set earlier
 abbrev pub labelsOnto : Items → List ℕ → List ℕ
 labelsOnto ended earlier = earlier
@@ -169,6 +179,7 @@ unfoldable mutual
   pub eventsStatement : Statement → List Event → List Event
   eventsStatement (assign a) k = phrase (aimed (a .target)) ∷ eventsChain a k
   eventsStatement (call n) k = phrase (called n) ∷ k
+  eventsStatement (apply n a xs) k = phrase (applied n) ∷ eventsArguments n 0 (a ∷ xs) k
   eventsStatement (block t b) k = edge (opened t (labelsOf b [])) ∷ eventsBody b (edge (closed t) ∷ k)
   eventsStatement (goto t n) k = route (sent t n) ∷ k
   eventsStatement null k = k

@@ -1,7 +1,7 @@
 -- Document 01, "Grammar": a reader for each rule, the last rule first. "4: no program begins with the tokens up to here" is given at the first token that no
 -- rule has there; "5: BEGIN, IF, WHILE, FOR or PROCEDURE inside 64 such constructs" where the room for them is used up. What the grammar lacks is left out.
 use mathlib.Core.List.{List, [], _∷_}
-use mathlib.Core.Bool.{_&&_, _||_, not}
+use mathlib.Core.Bool.{true, false, _&&_, not}
 use mathlib.Core.Option.{Option, none, some}
 use Prim.Native.Nat.{ℕ, zero, suc}
 use lib.Dec.{eqb}
@@ -9,7 +9,7 @@ use lib.ListN.{length}
 use Rattle.base.specs.Choose.{if_then_else_}
 use Rattle.base.specs.Lists.{member}
 use Rattle.token.specs.Kinds as K
-use Rattle.grammar.specs.Tree.{Designator, Operand, number, place, Sign, plain, abs, neg, negAbs, Term, Assignment, Condition, compared, bare, Width, full, short, Register, Item, Declaration, registers, cells, base, Statement, assign, call, block, goto, null, ifThen, ifElse, while, for, Body, declare, procedure, items, Items, ended, label, item}
+use Rattle.grammar.specs.Tree.{Designator, Operand, number, place, Sign, plain, abs, neg, negAbs, Term, Assignment, Condition, compared, bare, Width, full, short, byte, Register, Item, Declaration, registers, cells, base, Statement, assign, call, apply, block, goto, null, ifThen, ifElse, while, for, Body, declare, procedure, items, Items, ended, label, item}
 use Rattle.grammar.specs.Reader.{Reader, _>>=_, _>>_, give, refuse, look, next, want, wantOne}
 
 -- a reader that is handed, as fuel for a list "{…}", the number of all tokens and one more, which no list uses up
@@ -101,18 +101,24 @@ signOf = do
         if eqb l K.ABS then (do next; give (negAbs t)) else give (neg t))
       else give plain
 
--- what follows the name of an assignment's target
-unfoldable pub assignmentOf : ℕ → Reader Assignment
-assignmentOf n = do
-  d ← designatorOf n
+-- what follows an assignment's target
+unfoldable pub assignedTo : Designator → Reader Assignment
+assignedTo d = do
   want K.BECOMES
   s ← signOf
   a ← operand
   ts ← fuelled terms
   give (record { target = d; sign = s; first = a; rest = ts })
 
+-- what follows the name of an assignment's target
+unfoldable pub assignmentOf : ℕ → Reader Assignment
+assignmentOf n = do
+  d ← designatorOf n
+  assignedTo d
+
 -- ── "declaration = (INTEGER or LOGICAL) REGISTER name(number) {, name(number)}; or [ARRAY (number)] type item {, item}; or PROCEDURE name(name) ;
--- statement; or SEGMENT BASE name. type = INTEGER, LOGICAL or SHORT INTEGER; item = name {(number)}." Procedures stand below, since they hold a statement ──
+-- statement; or SEGMENT BASE name. type = INTEGER, LOGICAL or SHORT INTEGER; item = name {(number)}." Document 02, 1/13: "BYTE and CHARACTER cells". Procedures stand below,
+-- since they hold a statement ──
 
 unfoldable pub numbers : ℕ → Reader (List ℕ)
 numbers zero = give []
@@ -150,11 +156,18 @@ listOf one (suc fuel) = do
         give (a ∷ more))
       else give (a ∷ [])
 
+-- the words with which a type begins
+abbrev pub typeWords : List ℕ
+typeWords = K.INTEGER ∷ K.LOGICAL ∷ K.SHORT ∷ K.BYTE ∷ K.CHARACTER ∷ []
+
 unfoldable pub typeOf : Reader Width
 typeOf = do
   k ← look
-  wantOne (K.INTEGER ∷ K.LOGICAL ∷ K.SHORT ∷ [])
-  if eqb k K.SHORT then (do want K.INTEGER; give short) else give full
+  wantOne typeWords
+  if eqb k K.SHORT then (do want K.INTEGER; give short) else
+      if eqb k K.BYTE then give (byte false) else
+      if eqb k K.CHARACTER then give (byte true) else
+      give full
 
 unfoldable pub cellsOf : Option ℕ → Width → Reader Declaration
 cellsOf count w = do
@@ -164,6 +177,7 @@ cellsOf count w = do
 -- what follows a type with which no array was announced: only INTEGER and LOGICAL go with REGISTER
 unfoldable pub afterType : Width → Reader Declaration
 afterType short = cellsOf none short
+afterType (byte c) = cellsOf none (byte c)
 afterType full = do
   k ← look
   if eqb k K.REGISTER
@@ -192,17 +206,57 @@ declaration = do
         w ← typeOf
         afterType w)
 
--- ── "simple = assignment, name (a call), block, GOTO name, NULL." ──
+-- ── "simple = assignment, name (a call), block, GOTO name, NULL." Document 02, 1/13: "A use is a simple statement: the name, then each argument in its own parentheses." ──
 
--- an assignment or a call, its name read
+-- document 02, 1/13: "each argument in its own parentheses"
+unfoldable pub arguments : ℕ → Reader (List Operand)
+arguments zero = give []
+arguments (suc fuel) = do
+  k ← look
+  if eqb k K.OPEN
+      then (do
+        next
+        a ← operand
+        want K.CLOSE
+        xs ← arguments fuel
+        give (a ∷ xs))
+      else give []
+
+-- a name x in the last parentheses of a designator, with nothing more
+abbrev pub indexed : (name : ℕ) (subscript : Option ℕ) (x : ℕ) (itsSubscript itsIndex : Option ℕ) → Option Designator
+indexed n s x none none = some (record { name = n; subscript = s; index = some x })
+indexed n s x none (some y) = none
+indexed n s x (some t) none = none
+indexed n s x (some t) (some y) = none
+
+-- the designator that a name with a row of arguments is, if it is one: "name, name(number), name(name), name(number)(name)"
+unfoldable pub targetOf : ℕ → List Operand → Option Designator
+targetOf n [] = some (record { name = n; subscript = none; index = none })
+targetOf n (number s ∷ []) = some (record { name = n; subscript = some s; index = none })
+targetOf n (number s ∷ (number t ∷ xs)) = none
+targetOf n (number s ∷ (place d ∷ [])) = indexed n (some s) (d .name) (d .subscript) (d .index)
+targetOf n (number s ∷ (place d ∷ (a ∷ xs))) = none
+targetOf n (place d ∷ []) = indexed n none (d .name) (d .subscript) (d .index)
+targetOf n (place d ∷ (a ∷ xs)) = none
+
+-- an assignment to d; without one, a statement that has been read
+unfoldable pub assignOr : Option Designator → Statement → Reader Statement
+assignOr none s = give s
+assignOr (some d) s = do
+  a ← assignedTo d
+  give (assign a)
+
+-- a name with a row of arguments; with none it is a call
+abbrev pub useOf : (name : ℕ) → List Operand → Statement
+useOf n [] = call n
+useOf n (a ∷ xs) = apply n a xs
+
+-- an assignment, a call or a use, its name read: which of them shows behind the row of arguments, since every designator is one
 unfoldable pub afterName : ℕ → Reader Statement
 afterName n = do
+  xs ← fuelled arguments
   k ← look
-  if eqb k K.BECOMES || eqb k K.OPEN
-      then (do
-        a ← assignmentOf n
-        give (assign a))
-      else give (call n)
+  if eqb k K.BECOMES then assignOr (targetOf n xs) (useOf n xs) else give (useOf n xs)
 
 abbrev pub openers : List ℕ
 openers = K.BEGIN ∷ K.IF ∷ K.WHILE ∷ K.FOR ∷ []
@@ -241,7 +295,7 @@ pub record Procedure : Type 0 where
   pub body : Statement
 
 abbrev pub declarators : List ℕ
-declarators = K.INTEGER ∷ K.LOGICAL ∷ K.SHORT ∷ K.ARRAY ∷ K.SEGMENT ∷ []
+declarators = K.INTEGER ∷ K.LOGICAL ∷ K.SHORT ∷ K.BYTE ∷ K.CHARACTER ∷ K.ARRAY ∷ K.SEGMENT ∷ []
 
 -- what follows BEGIN; `proc` reads a procedure in the block
 unfoldable pub bodyOf : Reader Statement → Reader Procedure → ℕ → Reader Body

@@ -6,8 +6,8 @@ use mathlib.Core.Option.{none, some}
 use Prim.Native.Nat.{ℕ, _+_, _≤_}
 use Rattle.token.specs.Kinds as K
 use Rattle.grammar.specs.Grammar.{operators}
-use Rattle.grammar.specs.Derives.{Part, end, _▸_, _#_▸_, _∋_▸_, isDesignator, isOperand, isCondition, isSign, isRegister, isType, isProcedure}
-use Rattle.grammar.specs.Events.{Edge, opened, closed, entered, left, Route, labelled, sent, Entry, named, celled, itemed, valued, based, Phrase, aimed, driven, signed, given, joined, tested, limited, called, Event, edge, route, entry, phrase, mark}
+use Rattle.grammar.specs.Derives.{Part, end, _⟫_, _▸_, _#_▸_, _∋_▸_, isDesignator, isOperand, isCondition, isSign, isRegister, isType, isProcedure}
+use Rattle.grammar.specs.Events.{Edge, opened, closed, entered, left, Route, labelled, sent, Entry, named, celled, itemed, valued, based, Phrase, aimed, driven, signed, given, joined, tested, limited, called, applied, argued, counted, Event, edge, route, entry, phrase, mark}
 use Rattle.grammar.specs.Places.{within, body, Place, after}
 
 -- ── the place that an event asks for ──
@@ -75,6 +75,9 @@ module _ (kinds : List ℕ) where
   isPhrase (tested t c) = λ i j. (t ≡ i) × isCondition kinds c (i + 1) j
   isPhrase (limited d v a) = _▸_ kinds K.STEP (_#_▸_ kinds K.NUMBER v (_▸_ kinds K.UNTIL (isOperand kinds a)))
   isPhrase (called n) = _#_▸_ kinds K.NAME n end
+  isPhrase (applied n) = _#_▸_ kinds K.NAME n end
+  isPhrase (argued n p a) = _▸_ kinds K.OPEN (isOperand kinds a ⟫ _▸_ kinds K.CLOSE end)
+  isPhrase (counted n c) = end
 
   abbrev pub isEvent : Event → Part
   isEvent (edge x) = isEdge x

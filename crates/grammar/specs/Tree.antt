@@ -1,6 +1,7 @@
 -- Document 01, "Grammar": the tree of a program. What stands in it for a name, a number, a word or a sign is the number of its token; tokens are
 -- looked up later, and places last of all.
 use mathlib.Core.List.{List}
+use mathlib.Core.Bool.{Bool}
 use mathlib.Core.Option.{Option}
 use Prim.Native.Nat.{ℕ}
 
@@ -37,9 +38,11 @@ pub data Condition : Type 0 where
   compared : (name relation : ℕ) → Operand → Condition
   bare : (relation : ℕ) → Condition
 
--- "type = INTEGER, LOGICAL or SHORT INTEGER": "LOGICAL follows every rule of INTEGER", so an element is full or short
+-- "type = INTEGER, LOGICAL or SHORT INTEGER": "LOGICAL follows every rule of INTEGER", so an element is full or short. Document 02, 1/13: "BYTE and CHARACTER cells (one
+-- byte, any offset …)", which are alike; the word stays with the cell.
 pub data Width : Type 0 where
   full short : Width
+  byte : (character : Bool) → Width
 
 -- "REGISTER name(number)"
 pub record Register : Type 0 where
@@ -59,10 +62,11 @@ pub data Declaration : Type 0 where
 
 mutual
   -- "simple = assignment, name (a call), block, GOTO name, NULL"; "statement = simple; IF …; WHILE …; FOR …". A construct has the token that
-  -- opens it, and an ELSE its own.
+  -- opens it, and an ELSE its own. Document 02, 1/13: "A use is a simple statement: the name, then each argument in its own parentheses"; with no argument it is a call.
   pub data Statement : Type 0 where
     assign : Assignment → Statement
     call : (name : ℕ) → Statement
+    apply : (name : ℕ) → (first : Operand) → (more : List Operand) → Statement
     block : (at : ℕ) → Body → Statement
     goto : (at name : ℕ) → Statement
     null : Statement

@@ -1,11 +1,11 @@
-// Document 01, "Runner": one instruction, from its bytes. Every opcode has an arm of its own that calls a shared function with a constant.
+// Document 01, "Runner", with the byte functions of document 02, 1/13: one instruction, from its bytes. Every opcode has an arm of its own that calls a shared function with a constant.
 ghost use mathlib.Core.Path.{_≡_};
 ghost use mathlib.Core.List.{List};
 ghost use Prim.Native.Nat.{ℕ, _+_, _*_, _/_, _%_, _<_, _≤_};
 ghost use lib.ListN.{length};
 ghost use Rattle.machine.specs.Space.{room, needed, displacements, Space, spaceBy};
 ghost use Rattle.machine.specs.Step.{address as addressOf, cpu, stepped, shortOn, longOn, step as stepOf};
-ghost use Rattle.machine.specs.Instructions.{shortKind, shiftKind, readKind, storageKind};
+ghost use Rattle.machine.specs.Instructions.{shortKind, shiftKind, plainKind, readKind, storageKind};
 ghost use Rattle.machine.specs.Lent.{given, turn};
 use machine::Fun;
 use machine::Given;
@@ -16,6 +16,7 @@ use machine::Shift;
 use machine::address;
 use machine::branch_register_step;
 use machine::branch_step;
+use machine::compare_step;
 use machine::execute;
 use machine::get;
 use machine::halt;
@@ -24,6 +25,7 @@ use machine::load_step;
 use machine::lower;
 use machine::multiply_step;
 use machine::multiply_word_step;
+use machine::put_step;
 use machine::service_step;
 use machine::shift_step;
 use machine::store_step;
@@ -39,6 +41,7 @@ fn short(op: u8, g: Given, regs: &mut [u32; 16]) -> Next
         0x0A => service_step(g),
         0x10 => execute(Fun::Positive, 2, g, regs),
         0x11 => execute(Fun::Negative, 2, g, regs),
+        0x12 => execute(Fun::Test, 2, g, regs),
         0x13 => execute(Fun::Complement, 2, g, regs),
         0x14 => execute(Fun::And, 2, g, regs),
         0x16 => execute(Fun::Or, 2, g, regs),
@@ -67,12 +70,14 @@ fn shift(op: u8, g: Given, regs: &mut [u32; 16]) -> Next
     }
 }
 
-// What stores nothing: of two bytes of storage, the branches, of four bytes of storage.
+// What stores nothing: the address itself and one byte of storage, of two bytes and the branches, of four bytes.
 fn reading(op: u8, g: Given, map: &[usize; MAP], regs: &mut [u32; 16], s: &[u8]) -> Next
     requires { ⌜ (g .at < 2 * room) × (needed ≤ length (now s)) ⌝ }
     ensures { λ q. ⌜ ((p : ℕ) → stepped (turn q (now (regs .exit))) (now (s .entry)) ≡ longOn (readKind op) (spaceBy p (now (map .entry))) (g .rx) (g .b) (given g (now (regs .entry))) (now (s .entry))) ⌝ }
 {
     match op {
+        0x41 => execute(Fun::Load, 4, g, regs),
+        0x43 => load_step(Fun::Insert, 1, g, map, regs, s),
         0x45 => link_step(g, regs),
         0x47 => branch_step(g),
         0x48 => load_step(Fun::Load, 2, g, map, regs, s),
@@ -101,8 +106,21 @@ fn storage(op: u8, g: Given, map: &[usize; MAP], regs: &mut [u32; 16], s: &mut [
 {
     match op {
         0x40 => store_step(2, g, map, regs, s),
+        0x42 => store_step(1, g, map, regs, s),
         0x50 => store_step(4, g, map, regs, s),
         _ => reading(op, g, map, regs, s),
+    }
+}
+
+// What names an address without one: a number to storage or compared with it, and the shifts.
+fn plain(op: u8, g: Given, map: &[usize; MAP], regs: &mut [u32; 16], s: &mut [u8]) -> Next
+    requires { ⌜ (g .at < 2 * room) × (needed ≤ length (now s)) ⌝ }
+    ensures { λ q. ⌜ ((p : ℕ) → stepped (turn q (now (regs .exit))) (now (s .exit)) ≡ longOn (plainKind op) (spaceBy p (now (map .entry))) (g .rx) (g .b) (given g (now (regs .entry))) (now (s .entry))) ⌝ }
+{
+    match op {
+        0x92 => put_step(1, g.rx as u32, g, map, s),
+        0x95 => compare_step(g, map, s),
+        _ => shift(op, g, regs),
     }
 }
 
@@ -174,7 +192,7 @@ pub fn step(
             s,
         );
     }
-    shift(
+    plain(
         op,
         Given {
             rx: rx,
@@ -182,6 +200,8 @@ pub fn step(
             code: code,
             at: at,
         },
+        map,
         regs,
+        s,
     )
 }

@@ -13,7 +13,7 @@ use Rattle.base.specs.Runs.{runLen, indexOf}
 use Rattle.token.specs.Kinds as K
 use Rattle.static_rules.specs.Rules.{shifts, fullOnly}
 use Rattle.machine.specs.declared.Fun.{Fun}
-use Rattle.machine.specs.declared.Fun.the-variants.{Load, Add, Subtract, AddLogical, SubtractLogical, And, Or, ExclusiveOr, Compare, Positive, Negative, Complement, MultiplyHalf}
+use Rattle.machine.specs.declared.Fun.the-variants.{Load, Add, Subtract, AddLogical, SubtractLogical, And, Or, ExclusiveOr, Compare, Positive, Negative, Complement, MultiplyHalf, Insert, Test}
 use Rattle.machine.specs.declared.Shift.{Shift}
 use Rattle.machine.specs.declared.Shift.the-variants.{RightLogical, LeftLogical, Right, Left}
 use Rattle.machine.specs.Instructions as M
@@ -35,6 +35,8 @@ writes-only Positive r x (inl e) = e
 writes-only Negative r x (inl e) = e
 writes-only Complement r x (inl e) = e
 writes-only MultiplyHalf r x (inl e) = e
+writes-only Insert r x (inl e) = e
+writes-only Test r x (inl e) = e
 
 -- ── the place of a number in a table: where it stands, or the table's end ──
 

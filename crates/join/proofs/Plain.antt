@@ -33,7 +33,7 @@ use Rattle.translation.specs.Layout.{Layout, offsetOf}
 use Rattle.translation.proofs.Rooms.{CellAt}
 use Rattle.join.specs.Writes.{writes, writesShort, writesLong}
 use Rattle.join.specs.Points.{Within, Writes, Point}
-use Rattle.join.proofs.Safe.{PlainShort, Reads, Serves, InCell, FitsDatum, Fits, Plain}
+use Rattle.join.proofs.Safe.{PlainShort, Reads, Serves, InCell, served-all, FitsDatum, Fits, Plain}
 use Rattle.join.proofs.Opcodes.{writes-only, AppliesShort, AppliesLong, Row, ShortRow, load-row, add-row, operator-row, short-row, shift-kind}
 
 -- register r may be written at p
@@ -64,7 +64,7 @@ module _ (l : Layout) (p : Point) where
   Stored w (entry k) = ⊥
 
   datum-fits : (k : Long) (r : ℕ) (w : Width) (a : Datum) → Reads k (elementSize w) r → Stored w a → FitsDatum l p k r a
-  datum-fits k r w (element c o x) h (i, e) = (i, inl (subst (λ (y : Width). Reads k (elementSize y) r) e h))
+  datum-fits k r w (element c o x) h (i, e) = (i, served-all (inl (subst (λ (y : Width). Reads k (elementSize y) r) e h)))
   datum-fits k r w (literal v) h e = subst (λ (y : Width). Reads k (elementSize y) r) e h
   datum-fits k r w (entry n) h e = absurd e
 
@@ -128,9 +128,9 @@ module _ (l : Layout) (p : Point) where
   plain-store : (r : ℕ) (w : Width) (c : Cell) (o x : ℕ) → Stored w (element c o x) → All (Plain l p) (apply storeRow r (stored w (element c o x)))
   unfolding opcode
   plain-store r full c o x (i, e) =
-      (plain-by (rx 0x50 r (element c o x)) (omega arith, (i, subst (λ (y : Width). Serves (longKind 0x50) (elementSize y) r) e (inr refl))) (λ y k. absurd k), tt)
+      (plain-by (rx 0x50 r (element c o x)) (omega arith, (i, served-all (subst (λ (y : Width). Serves (longKind 0x50) (elementSize y) r) e (inr refl)))) (λ y k. absurd k), tt)
   plain-store r short c o x (i, e) =
-      (plain-by (rx 0x40 r (element c o x)) (omega arith, (i, subst (λ (y : Width). Serves (longKind 0x40) (elementSize y) r) e (inr refl))) (λ y k. absurd k), tt)
+      (plain-by (rx 0x40 r (element c o x)) (omega arith, (i, served-all (subst (λ (y : Width). Serves (longKind 0x40) (elementSize y) r) e (inr refl)))) (λ y k. absurd k), tt)
 
   -- ── a step of FOR ──
 

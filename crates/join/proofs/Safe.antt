@@ -1,6 +1,6 @@
 -- What the rules on names, kinds and registers give for a text, by its structure: `Safe`.
-use mathlib.Core.Path.{_≡_}
-use mathlib.Core.Logic.{_⊎_}
+use mathlib.Core.Path.{_≡_, refl}
+use mathlib.Core.Logic.{_⊎_, inl}
 use mathlib.Core.List.{List, [], _∷_, _++_, map}
 use mathlib.Core.Option.{Option, none, some}
 use Prim.Native.Nat.{ℕ, _+_, _*_, _%_, _<_, _≤_}
@@ -54,8 +54,17 @@ pub record InCell (l : Layout) (p : Point) (c : Cell) (o x : ℕ) : Type 0 where
   pub whole : o + elementSize (c .width) ≤ elementSize (c .width) * c .elements
   pub at : CellAt c (l .ends) (offsetOf (l .placed) (c .name))
 
+-- an instruction of a kind takes the whole element of w bytes or, if it is about bytes, the first one of it
+pub record Served (k : Long) (w r : ℕ) : Type 0 where
+  pub bytes : ℕ
+  pub part : (bytes ≡ w) ⊎ (bytes ≡ 1)
+  pub serves : Serves k bytes r
+
+pub served-all : {k : Long} {w r : ℕ} → Serves k w r → Served k w r
+served-all {w = w} h = record { bytes = w; part = inl refl; serves = h }
+
 abbrev pub FitsDatum : Layout → Point → Long → ℕ → Datum → Type 0
-FitsDatum l p k r (element c o x) = InCell l p c o x × Serves k (elementSize (c .width)) r
+FitsDatum l p k r (element c o x) = InCell l p c o x × Served k (elementSize (c .width)) r
 FitsDatum l p k r (literal v) = Reads k 4 r
 FitsDatum l p k r (entry n) = ⊥
 

@@ -23,7 +23,7 @@ use Rattle.static_rules.proofs.Elements.{size-positive}
 use Rattle.machine.specs.declared.Shift.{Shift}
 use Rattle.machine.specs.declared.Fun.the-variants.{Load}
 use Rattle.machine.specs.Space.{Space, room, origin, needed, displacements, readable, writable}
-use Rattle.machine.specs.Instructions.{Short, Long, appliesTo, multipliesBy, stores, branchesTo, links, shifts, unlistedLong, branches, ends, shortKind, longKind}
+use Rattle.machine.specs.Instructions.{Short, Long, appliesTo, multipliesBy, stores, branchesTo, links, shifts, addresses, moves, compares, unlistedLong, branches, ends, shortKind, longKind}
 use Rattle.machine.specs.Operands.{operandAddress, operandBytes}
 use Rattle.machine.specs.Writes.{writesShort, writesLong}
 use Rattle.machine.specs.Step as M
@@ -40,7 +40,7 @@ use Rattle.translation.proofs.Rooms.{startOf, CellAt}
 use Rattle.join.specs.Writes.{writes}
 use Rattle.join.specs.Points.{Within, Writes, Point, withBase, Placed}
 use Rattle.join.specs.Operands.{namedFrom, namedBytes, namedAt, Whole, Named, Indexed}
-use Rattle.join.proofs.Safe.{Spared, Counted, Guarded, InCell, Fits, Plain, Basing}
+use Rattle.join.proofs.Safe.{Spared, Counted, Guarded, InCell, Served, Fits, Plain, Basing}
 use Rattle.join.proofs.Flows.{Under, Good, Enters, Calls, Onward, Opens, Returns, Branches, Goes, Flows}
 use Rattle.join.proofs.Chain.{Holds, afterCall, Chain, outermost, called}
 use Rattle.join.proofs.ChainMoves.{chain-holds, chain-kept, chain-at, chain-under, chain-call, Back, chain-return}
@@ -111,6 +111,15 @@ aligned-at : (w : Width) (k a b : ℕ) → a % elementSize w ≡ 0 → b % eleme
 aligned-at full k a b h g = omega arith
 aligned-at short k a b h g = omega arith
 
+-- a part of an element: it has bytes, it is inside, and it is aligned where the element is
+part-inside : (w : Width) (z : ℕ) → (z ≡ elementSize w) ⊎ (z ≡ 1) → (0 < z) × (z ≤ elementSize w)
+part-inside w z (inl e) = let h = size-positive w in (omega arith, omega arith)
+part-inside w z (inr e) = let h = size-positive w in (omega arith, omega arith)
+
+part-aligned : (w : Width) (z k a b : ℕ) → (z ≡ elementSize w) ⊎ (z ≡ 1) → a % elementSize w ≡ 0 → b % elementSize w ≡ 0 → (origin k + (a + b)) % z ≡ 0
+part-aligned w z k a b (inl e) h g = rw e (aligned-at w k a b h g)
+part-aligned w z k a b (inr e) h g = rw e (omega arith)
+
 reads-some : (k : Long) (z r : ℕ) → Reads k z r → operandBytes k ≡ z
 reads-some (appliesTo n f) z r h = h
 reads-some multipliesBy z r h = sym (h .0)
@@ -118,6 +127,9 @@ reads-some (stores n) z r h = absurd h
 reads-some branchesTo z r h = absurd h
 reads-some links z r h = absurd h
 reads-some (shifts f) z r h = absurd h
+reads-some addresses z r h = absurd h
+reads-some moves z r h = absurd h
+reads-some compares z r h = absurd h
 reads-some unlistedLong z r h = absurd h
 
 serves-bytes : (k : Long) (z r : ℕ) → Serves k z r → operandBytes k ≡ z
@@ -357,24 +369,27 @@ module _ (n : ℕ) (l : Layout) (e : ℕ) (w : List Placed) (m : Space) (s₀ : 
           let g1 = g .1 in
           address-based (c .regs) (d .base .register) place (origin (d .base .segment)) (g .2) (base-holds (d .base) (i .based)) (omega arith)
 
-      reach : (y : ℕ) → y ≡ x
-          → (0 < y) ⊎ ((address (c .regs) y (d .base .register) place % width ≡ 0) × (readable m (address (c .regs) y (d .base .register) place) width ≡ true)
-          × (writable m (address (c .regs) y (d .base .register) place) width ≡ true))
-      reach zero e =
+      -- z bytes of the element, unless it is indexed
+      reach : (z : ℕ) → (z ≡ width) ⊎ (z ≡ 1) → (y : ℕ) → y ≡ x
+          → (0 < y) ⊎ ((address (c .regs) y (d .base .register) place % z ≡ 0) × (readable m (address (c .regs) y (d .base .register) place) z ≡ true)
+          × (writable m (address (c .regs) y (d .base .register) place) z ≡ true))
+      reach z t zero e =
           let a = cell-address in
           let g = segment-is in
           let lo = i .at .low in
-          let k = p .map .cells (d .base .segment) place width (g .0) (g .1) (omega arith) (size-positive (d .width)) cell-place in
+          let b = part-inside (d .width) z t in
+          let f = cell-place in
+          let k = p .map .cells (d .base .segment) place z (g .0) (g .1) (omega arith) (b .0) (omega arith) in
           inr (
-            ap (λ (b : ℕ). b % width) a ∙ aligned-at (d .width) (d .base .segment) (offsetOf (l .placed) (d .name)) o (i .at .aligned) (i .aligned),
-            ap (λ (b : ℕ). readable m b width) a ∙ k .0,
-            ap (λ (b : ℕ). writable m b width) a ∙ k .1,
+            ap (λ (b : ℕ). b % z) a ∙ part-aligned (d .width) z (d .base .segment) (offsetOf (l .placed) (d .name)) o t (i .at .aligned) (i .aligned),
+            ap (λ (b : ℕ). readable m b z) a ∙ k .0,
+            ap (λ (b : ℕ). writable m b z) a ∙ k .1,
           )
-      reach (suc y) e = inl (omega arith)
+      reach z t (suc y) e = inl (omega arith)
 
-      cell-fine : (op r : ℕ) → here .instruction ≡ rx op r (element d o x) → 64 ≤ op → Serves (longKind op) width r → Onward l w here → Fine n w m s₀ c s (rx op r (element d o x))
+      cell-fine : (op r : ℕ) → here .instruction ≡ rx op r (element d o x) → 64 ≤ op → Served (longKind op) width r → Onward l w here → Fine n w m s₀ c s (rx op r (element d o x))
       unfolding encode
-      cell-fine op r q h k u = go (reach x refl) k
+      cell-fine op r q h k u = go (reach z (k .part) x refl) (k .serves)
         where
           st : step m c s ≡ longBy (longKind op) m (r * 16 + x) (d .base .register) place c s
           st = decode (rx op r (element d o x)) op r x (d .base .register) place q refl refl h cell-near
@@ -382,11 +397,14 @@ module _ (n : ℕ) (l : Layout) (e : ℕ) (w : List Placed) (m : Space) (s₀ : 
           A : ℕ
           A = address (c .regs) x (d .base .register) place
 
-          go : (0 < x) ⊎ ((A % width ≡ 0) × (readable m A width ≡ true) × (writable m A width ≡ true)) → Serves (longKind op) width r → Fine n w m s₀ c s (rx op r (element d o x))
-          go (inl g) (inl t) = reads-fine op r (element d o x) x (d .base .register) place width q (i .index) st t (inl g) u
-          go (inl g) (inr t) = stores-fine op r (element d o x) x (d .base .register) place width q (i .index) st t (inl g) u
-          go (inr g) (inl t) = reads-fine op r (element d o x) x (d .base .register) place width q (i .index) st t (inr (g .0, g .1)) u
-          go (inr g) (inr t) = stores-fine op r (element d o x) x (d .base .register) place width q (i .index) st t (inr (g .0, g .2)) u
+          z : ℕ
+          z = k .bytes
+
+          go : (0 < x) ⊎ ((A % z ≡ 0) × (readable m A z ≡ true) × (writable m A z ≡ true)) → Serves (longKind op) z r → Fine n w m s₀ c s (rx op r (element d o x))
+          go (inl g) (inl t) = reads-fine op r (element d o x) x (d .base .register) place z q (i .index) st t (inl g) u
+          go (inl g) (inr t) = stores-fine op r (element d o x) x (d .base .register) place z q (i .index) st t (inl g) u
+          go (inr g) (inl t) = reads-fine op r (element d o x) x (d .base .register) place z q (i .index) st t (inr (g .0, g .1)) u
+          go (inr g) (inr t) = stores-fine op r (element d o x) x (d .base .register) place z q (i .index) st t (inr (g .0, g .2)) u
 
     -- ── branches ──
 
@@ -540,7 +558,7 @@ module _ (n : ℕ) (l : Layout) (e : ℕ) (w : List Placed) (m : Space) (s₀ : 
     whole op r a b d q en h ad z pos k wi =
         let by = subst (λ (bs : List ℕ). StandAt s (c .counter) bs) en (stand (rx op r a) q) in
         let o : operandBytes (longKind (getD s (c .counter) 0)) ≡ z = ap (λ (y : ℕ). operandBytes (longKind y)) (decode-opcode m c s op r 0 b d by) ∙ k in
-        record { at = decode-address m c s op r 0 b d (omega arith) h by ∙ ad; some = omega arith; inside = omega arith }
+        record { at = decode-address m c s op r b d h by ∙ ad; some = omega arith; inside = omega arith }
 
     named : (i : Instruction) → here .instruction ≡ i → Goes n l e w here i → Named l (here .segment) c s i
     unfolding encode
@@ -550,8 +568,11 @@ module _ (n : ℕ) (l : Layout) (e : ℕ) (w : List Placed) (m : Space) (s₀ : 
         let i = f .1 .0 in
         let en : encode l (rx op r (element d o x)) ≡ fourBytes op r 0 (d .base .register) (offsetOf (l .placed) (d .name) + o) =
         ap (λ (y : ℕ). fourBytes op r y (d .base .register) (offsetOf (l .placed) (d .name) + o)) h in
-        whole op r (element d o x) (d .base .register) (offsetOf (l .placed) (d .name) + o) q en (cell-near d o x i) (cell-address d o x i ∙ omega arith) (elementSize (d .width))
-        (size-positive (d .width)) (serves-bytes (longKind op) (elementSize (d .width)) r (f .1 .1)) (i .whole)
+        let t = f .1 .1 in
+        let b = part-inside (d .width) (t .bytes) (t .part) in
+        let v = i .whole in
+        whole op r (element d o x) (d .base .register) (offsetOf (l .placed) (d .name) + o) q en (cell-near d o x i) (cell-address d o x i ∙ omega arith) (t .bytes)
+        (b .0) (serves-bytes (longKind op) (t .bytes) r (t .serves)) (omega arith)
     named (rx op r (literal y)) q u = λ h.
         let f = fits (rx op r (literal y)) q u in
         let j = literal-place op r y q in
@@ -566,13 +587,13 @@ module _ (n : ℕ) (l : Layout) (e : ℕ) (w : List Placed) (m : Space) (s₀ : 
     named (shift op r x d) q u = tt
     named (branch k t) q u =
         let b = good-near t (here .point) (u .to) in
-        decode-address m c s 0x47 k 0 programBase t (omega arith) (b .0) (stand (branch k t) q) ∙ from-base t (b .1)
+        decode-address m c s 0x47 k programBase t (b .0) (stand (branch k t) q) ∙ from-base t (b .1)
     named (link r t) q u =
         let nr = near (u .body .to) (u .body .one) t (u .body .at) in
         let sh = nr .short in
         let sm = nr .small in
         let sg : u .body .to .segment ≡ here .segment = u .body .segment ∙ u .segment in
-        decode-address m c s 0x45 r 0 programBase t (omega arith) sh (stand (link r t) q) ∙ from-base t (omega arith)
+        decode-address m c s 0x45 r programBase t sh (stand (link r t) q) ∙ from-base t (omega arith)
     named stop q u = tt
 
     pub operand-named : Named l (v .x .segment) c s (v .x .instruction)

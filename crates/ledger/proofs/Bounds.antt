@@ -13,9 +13,9 @@ use Rattle.base.specs.Lists.{All}
 use Rattle.base.proofs.Lists.{all-getD}
 use Rattle.base.proofs.Tests.{never-true}
 use Rattle.base.proofs.Numbers.{one-less}
-use Rattle.grammar.specs.Tree.{Designator, Sign, plain, abs, neg, negAbs, Term, Assignment, Width, full, short, Register, Item, Declaration, registers, cells, base, Statement, assign, call, block, goto, null, ifThen, ifElse, while, for, Body, declare, procedure, items, Items, ended, label, item}
+use Rattle.grammar.specs.Tree.{Designator, Operand, Sign, plain, abs, neg, negAbs, Term, Assignment, Width, Register, Item, Declaration, registers, cells, base, Statement, assign, call, apply, block, goto, null, ifThen, ifElse, while, for, Body, declare, procedure, items, Items, ended, label, item}
 use Rattle.grammar.specs.Derives.{isProgram, isRegister, nestingOf, bodyNesting, itemsNesting}
-use Rattle.grammar.specs.Events.{Edge, opened, closed, entered, left, Route, labelled, sent, Entry, named, celled, itemed, valued, based, Event, edge, route, entry, phrase, mark, aimed, driven, signed, given, joined, tested, limited, called, looped, endedIf, otherwise, endedElse, endedWhile, endedFor, each, eventsValue, eventsItem, eventsRegister, eventsDeclaration, eventsSign, eventsTerm, eventsChain, eventsStatement, eventsBody, eventsItems, eventsOf}
+use Rattle.grammar.specs.Events.{Edge, opened, closed, entered, left, Route, labelled, sent, Entry, named, celled, itemed, valued, based, Event, edge, route, entry, phrase, mark, aimed, driven, signed, given, joined, tested, limited, called, applied, argued, counted, looped, endedIf, otherwise, endedElse, endedWhile, endedFor, each, eventsValue, eventsItem, eventsRegister, eventsDeclaration, eventsSign, eventsTerm, eventsChain, eventsArguments, eventsStatement, eventsBody, eventsItems, eventsOf}
 use Rattle.grammar.specs.Places.{Place, after}
 use Rattle.grammar.specs.Texts.{Stands, Text}
 use Rattle.grammar.proofs.Texts.{program-text, text-rises}
@@ -24,7 +24,7 @@ use Rattle.tape.specs.Numbers.{EDGE, ROUTE, ENTRY, layerAt}
 use Rattle.tape.specs.Names.{declaring}
 use Rattle.tape.specs.Tape.{event, tapeStatement}
 use Rattle.tape.specs.Written.{layerOf, opOf, tokenOf, tapeOf}
-use Rattle.tape.proofs.Numbers.{op-fits, other-layer}
+use Rattle.tape.proofs.Numbers.{by-width, op-fits, other-layer}
 use Rattle.tape.proofs.Pass.{event-op, event-token}
 use Rattle.tape.proofs.Written.{tree-tape}
 use Rattle.ledger.specs.Bounds.{noted, Narrow, blocksOpen, proceduresOpen, Nested}
@@ -111,6 +111,11 @@ module _ (most : ℕ) where
         quiet-sign (a .target) (a .sign) _
         (quiet (phrase (given (a .target) (a .first))) refl _ (quiet-each (eventsTerm (a .target)) (λ t. quiet (phrase (joined (a .target) t)) refl) (a .rest) k n))
 
+    quiet-arguments : (t c : ℕ) (xs : List Operand) → Quiet (eventsArguments t c xs)
+    unfolding eventsArguments
+    quiet-arguments t c [] k n = quiet (phrase (counted t c)) refl k n
+    quiet-arguments t c (a ∷ xs) k n = quiet (phrase (argued t c a)) refl _ (quiet-arguments t (c + 1) xs k n)
+
   -- what is inside goes no deeper than the nesting
   abbrev Goes : ℕ → (List Event → List Event) → Type 0
   Goes nesting out = (b p : ℕ) (k : List Event) → b + (p + nesting) ≤ most → Deep b p k → Deep b p (out k)
@@ -121,6 +126,7 @@ module _ (most : ℕ) where
     deep-statement : (x : Statement) → Goes (nestingOf x) (eventsStatement x)
     deep-statement (assign a) b p k h n = quiet b p (phrase (aimed (a .target))) refl _ (quiet-chain b p a k n)
     deep-statement (call t) b p k h n = quiet b p (phrase (called t)) refl k n
+    deep-statement (apply t a xs) b p k h n = quiet b p (phrase (applied t)) refl _ (quiet-arguments b p t 0 (a ∷ xs) k n)
     deep-statement (block t s) b p k h n =
         record {
           is = (
@@ -180,10 +186,8 @@ module _ (kinds : List ℕ) where
   noted-before (route (labelled l)) p i s h = let a = s .is in omega arith
   noted-before (route (sent t n)) p i s h = never-true h
   noted-before (entry (named r)) p i s h = let a = s .is in omega arith
-  noted-before (entry (celled none full)) p i s h = never-true h
-  noted-before (entry (celled none short)) p i s h = never-true h
-  noted-before (entry (celled (some c) full)) p i s h = never-true h
-  noted-before (entry (celled (some c) short)) p i s h = never-true h
+  noted-before (entry (celled none w)) p i s h = by-width (λ f. noted (E.SINGLE-FULL + f) ≡ true → 0 < s .to) never-true never-true never-true never-true w h
+  noted-before (entry (celled (some c) w)) p i s h = by-width (λ f. noted (E.ARRAY-FULL + f) ≡ true → c < s .to) never-true never-true never-true never-true w h
   noted-before (entry (itemed c w x)) p i s h = let a = s .is in omega arith
   noted-before (entry (valued t)) p i s h = never-true h
   noted-before (entry (based n)) p i s h = never-true h

@@ -14,12 +14,12 @@ use Rattle.base.specs.Choose.{choose}
 use Rattle.base.specs.Lists.{_∈_}
 use Rattle.base.proofs.Tests.{by-test, never-true}
 use Rattle.machine.specs.declared.Fun.{Fun}
-use Rattle.machine.specs.declared.Fun.the-variants.{Load, Add, Subtract, AddLogical, SubtractLogical, And, Or, ExclusiveOr, Compare, Positive, Negative, Complement, MultiplyHalf}
+use Rattle.machine.specs.declared.Fun.the-variants.{Load, Add, Subtract, AddLogical, SubtractLogical, And, Or, ExclusiveOr, Compare, Positive, Negative, Complement, MultiplyHalf, Insert, Test}
 use Rattle.machine.specs.declared.Shift.{Shift}
 use Rattle.machine.specs.Space.{Space, origin, readable, writable}
-use Rattle.machine.specs.Instructions.{Short, applies, multiplies, branches, ends, unlisted, Long, appliesTo, multipliesBy, stores, branchesTo, links, shifts, unlistedLong, shortKind, longKind}
+use Rattle.machine.specs.Instructions.{Short, applies, multiplies, branches, ends, unlisted, Long, appliesTo, multipliesBy, stores, branchesTo, links, shifts, addresses, moves, compares, unlistedLong, shortKind, longKind}
 use Rattle.machine.specs.Writes.{writesBy, writesShort, writesLong}
-use Rattle.machine.specs.Step.{Cpu, cpu, Turn, Stepped, stepped, went, halted, moved, executed, paired, completed, forbidden, misaligned, address, asked, link, operand, onOperand, shortBy, longBy, step}
+use Rattle.machine.specs.Step.{Cpu, cpu, Turn, Stepped, stepped, went, halted, moved, executed, paired, completed, forbidden, misaligned, address, asked, link, operand, onOperand, indexOf, shortBy, longBy, step}
 
 -- ── registers ──
 
@@ -59,6 +59,8 @@ executes c Positive r b a = one c r _ _ a
 executes c Negative r b a = one c r _ _ a
 executes c Complement r b a = one c r _ _ a
 executes c MultiplyHalf r b a = one c r _ _ a
+executes c Insert r b a = one c r _ _ a
+executes c Test r b a = one c r _ _ a
 
 -- of an answer
 abbrev TurnChanges : Cpu → List ℕ → Turn → Type 0
@@ -76,6 +78,19 @@ short-changes unlisted rx c = unchanged c _ _
 abbrev StepChanges : Cpu → List ℕ → Stepped → Type 0
 StepChanges c ws o = Changes c ws (o .turn .cpu)
 
+-- an operand that is stored or compared leaves the registers, whether it is allowed or not
+leaves-all : {A : Type 0} (f : A → Turn) (c : Cpu) (ok : Bool) (a n : ℕ) (done : A) (halt : ℕ → A) → f done .cpu .regs ≡ c .regs → ((k : ℕ) → f (halt k) .cpu .regs ≡ c .regs)
+    → Changes c [] (f (onOperand ok a n done halt) .cpu)
+leaves-all {A} f c ok a n done halt d h = go (eqb (a % n) 0) ok
+  where
+    as-was : (t : Turn) → t .cpu .regs ≡ c .regs → Changes c [] (t .cpu)
+    as-was t e = record { long = ap length e; others = λ q i. ap (λ (l : List ℕ). getD l q 0) e }
+
+    go : (p q : Bool) → Changes c [] (f (choose p (choose q done (halt forbidden)) (halt misaligned)) .cpu)
+    go true true = as-was (f done) d
+    go true false = as-was (f (halt forbidden)) (h forbidden)
+    go false q = as-was (f (halt misaligned)) (h misaligned)
+
 pub long-changes : (k : Long) (m : Space) (rx b d : ℕ) (c : Cpu) (s : List ℕ) → Changes c (writesLong k (rx / 16)) (longBy k m rx b d c s .turn .cpu)
 long-changes (appliesTo n f) m rx b d c s =
     let a = address (c .regs) (rx % 16) b d in
@@ -89,11 +104,17 @@ long-changes multipliesBy m rx b d c s =
     (λ h. unchanged c _ _)
 long-changes (stores n) m rx b d c s =
     let a = address (c .regs) (rx % 16) b d in
-    by-test (StepChanges c _) (eqb (a % n) 0) _ _
-    (λ e. by-test (StepChanges c _) (writable m a n) _ _ (λ g. unchanged c _ _) (λ g. unchanged c _ _)) (λ e. unchanged c _ _)
+    leaves-all (λ (o : Stepped). o .turn) c (writable m a n) a n _ (λ j. stepped (halted j c) s) refl (λ j. refl)
 long-changes branchesTo m rx b d c s = by-test (TurnChanges c _) (asked (rx / 16) (c .code)) _ _ (λ e. unchanged c _ _) (λ e. unchanged c _ _)
 long-changes links m rx b d c s = one c (rx / 16) _ _ _
 long-changes (shifts f) m rx b d c s = one c (rx / 16) _ _ _
+long-changes addresses m rx b d c s = one c (rx / 16) _ _ _
+long-changes moves m rx b d c s =
+    let a = address (c .regs) 0 b d in
+    leaves-all (λ (o : Stepped). o .turn) c (writable m a 1) a 1 _ (λ j. stepped (halted j c) s) refl (λ j. refl)
+long-changes compares m rx b d c s =
+    let a = address (c .regs) 0 b d in
+    leaves-all (λ t. t) c (readable m a 1) a 1 _ (λ j. halted j c) refl (λ j. refl)
 long-changes unlistedLong m rx b d c s = unchanged c _ _
 
 -- ── the kind and the fields of the instruction at the counter ──
@@ -151,6 +172,9 @@ Reads (stores n) z r = ⊥
 Reads branchesTo z r = ⊥
 Reads links z r = ⊥
 Reads (shifts f) z r = ⊥
+Reads addresses z r = ⊥
+Reads moves z r = ⊥
+Reads compares z r = ⊥
 Reads unlistedLong z r = ⊥
 
 -- one that reads or stores z bytes
@@ -174,6 +198,10 @@ operand-ends {A} {X} f c ok a n done halt o e h = go (eqb (a % n) 0) ok refl ref
     go false q p r (inl x) = off (inr (e misaligned)) x
     go false q p r (inr g) = never-true (sym p ∙ eq-eqb (a % n) 0 (g .0))
 
+one-byte : {X : Type 0} (a : ℕ) (ok : Bool) → X ⊎ (ok ≡ true) → X ⊎ ((a % 1 ≡ 0) × (ok ≡ true))
+one-byte a ok (inl x) = inl x
+one-byte a ok (inr e) = inr (omega arith, e)
+
 pub read-ends : {X : Type 0} (k : Long) (z : ℕ) (m : Space) (rx b d : ℕ) (c : Cpu) (s : List ℕ) → Reads k z (rx / 16)
     → X ⊎ ((address (c .regs) (rx % 16) b d % z ≡ 0) × (readable m (address (c .regs) (rx % 16) b d) z ≡ true)) → Ended c (longBy k m rx b d c s .turn) X
 read-ends (appliesTo n f) z m rx b d c s e h =
@@ -189,6 +217,9 @@ read-ends (stores n) z m rx b d c s e h = absurd e
 read-ends branchesTo z m rx b d c s e h = absurd e
 read-ends links z m rx b d c s e h = absurd e
 read-ends (shifts f) z m rx b d c s e h = absurd e
+read-ends addresses z m rx b d c s e h = absurd e
+read-ends moves z m rx b d c s e h = absurd e
+read-ends compares z m rx b d c s e h = absurd e
 read-ends unlistedLong z m rx b d c s e h = absurd e
 
 pub store-ends : {X : Type 0} (z : ℕ) (m : Space) (rx b d : ℕ) (c : Cpu) (s : List ℕ)
@@ -196,6 +227,36 @@ pub store-ends : {X : Type 0} (z : ℕ) (m : Space) (rx b d : ℕ) (c : Cpu) (s 
 store-ends z m rx b d c s h =
     let a = address (c .regs) (rx % 16) b d in
     operand-ends (λ (o : Stepped). o .turn) c (writable m a z) a z _ (λ j. stepped (halted j c) s) (record { stop = refl; counter = refl }) (λ j. refl) h
+
+-- an address is formed and nothing is touched
+pub address-onward : (m : Space) (rx b d : ℕ) (c : Cpu) (s : List ℕ) → Onward 4 c (longBy addresses m rx b d c s .turn)
+address-onward m rx b d c s = record { stop = refl; counter = refl }
+
+-- what takes a number has no index, and one byte is never misaligned
+pub move-ends : {X : Type 0} (m : Space) (rx b d : ℕ) (c : Cpu) (s : List ℕ) → X ⊎ (writable m (address (c .regs) 0 b d) 1 ≡ true)
+    → Ended c (longBy moves m rx b d c s .turn) X
+move-ends {X} m rx b d c s h =
+    let a = address (c .regs) 0 b d in
+    operand-ends (λ (o : Stepped). o .turn) c (writable m a 1) a 1 _ (λ j. stepped (halted j c) s) (record { stop = refl; counter = refl }) (λ j. refl) (one-byte a _ h)
+
+pub compare-ends : {X : Type 0} (m : Space) (rx b d : ℕ) (c : Cpu) (s : List ℕ) → X ⊎ (readable m (address (c .regs) 0 b d) 1 ≡ true)
+    → Ended c (longBy compares m rx b d c s .turn) X
+compare-ends {X} m rx b d c s h =
+    let a = address (c .regs) 0 b d in
+    operand-ends (λ t. t) c (readable m a 1) a 1 _ (λ j. halted j c) (record { stop = refl; counter = refl }) (λ j. refl) (one-byte a _ h)
+
+-- an index field of 0 is no index, by whatever kind
+pub index-none : (k : Long) → indexOf k 0 ≡ 0
+index-none (appliesTo n f) = refl
+index-none multipliesBy = refl
+index-none (stores n) = refl
+index-none branchesTo = refl
+index-none links = refl
+index-none (shifts f) = refl
+index-none addresses = refl
+index-none moves = refl
+index-none compares = refl
+index-none unlistedLong = refl
 
 -- ── branches ──
 

@@ -6,3 +6,4 @@ pub mod Resumes
 pub mod Outside
 pub mod Effects
 pub mod Rows
+pub mod Cases

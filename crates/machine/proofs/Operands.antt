@@ -6,8 +6,8 @@ use mathlib.Core.List.{List}
 use native.Mathlib.Omega.{arith}
 use native.Mathlib.Nat.{div-add-mod', mul-le-mul-right, suc-mul}
 use native.Mathlib.Decide.{decLe}
-use lib.Dec.{leb}
-use borrow.Author.Tests.{lt-leb}
+use lib.Dec.{leb, eqb}
+use borrow.Author.Tests.{lt-leb, eq-eqb}
 use Rattle.machine.specs.Step.{Turn, Stepped, stepped}
 
 -- an answer beside storage that stays
@@ -34,6 +34,10 @@ no-bytes o n h = sym (lt-leb (o + n) 0 (omega arith))
 pub no-room : (b : Bool) (o n : ℕ) → 0 < n → false ≡ (b && leb (o + n) 0)
 no-room true o n h = no-bytes o n h
 no-room false o n h = refl
+
+-- one byte is aligned wherever it is
+pub byte-aligned : (a : ℕ) → eqb (a % 1) 0 ≡ true
+byte-aligned a = eq-eqb (a % 1) 0 (omega arith)
 
 pub half-word : {v n : ℕ} → v < 256 ^ n → n ≡ 2 → v < 65536
 half-word {v} h e = subst (λ (k : ℕ). v < 256 ^ k) e h

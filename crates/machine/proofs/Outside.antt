@@ -18,8 +18,8 @@ use Rattle.base.proofs.Numbers.{length-stored, length-bytesOf}
 use Rattle.machine.specs.declared.Fun.{Fun}
 use Rattle.machine.specs.declared.Shift.{Shift}
 use Rattle.machine.specs.Space.{Space, room, origin, writable}
-use Rattle.machine.specs.Instructions.{Long, appliesTo, multipliesBy, stores, branchesTo, links, shifts, unlistedLong, halfwordRows, wordRows, storageRows, shiftRows, longKind}
-use Rattle.machine.specs.Step.{Cpu, Turn, Stepped, stepped, went, halted, moved, address, longBy, step}
+use Rattle.machine.specs.Instructions.{Long, appliesTo, multipliesBy, stores, branchesTo, links, shifts, addresses, moves, compares, unlistedLong, halfwordRows, wordRows, storageRows, plainRows, longKind}
+use Rattle.machine.specs.Step.{Cpu, Turn, Stepped, stepped, went, halted, moved, address, storeStep, longBy, step}
 use Rattle.machine.specs.Run.{onward, after, run}
 use Rattle.machine.proofs.Rows.{row-is}
 
@@ -28,8 +28,9 @@ pub byte-elsewhere : (s : List ℕ) (at n v a : ℕ) → (a < at) ⊎ (at + n �
 byte-elsewhere s at n v a (inl h) = sets-before s at (bytesOf n v) a 0 h
 byte-elsewhere s at n v a (inr h) = sets-after s at (bytesOf n v) a 0 (rw (length-bytesOf n v) h)
 
--- what is stored has two or four bytes
+-- what is stored has one, two or four bytes
 data Sized : Long → Type 0 where
+  byte : Sized (stores 1)
   two : Sized (stores 2)
   four : Sized (stores 4)
   loads : {n : ℕ} {f : Fun} → Sized (appliesTo n f)
@@ -37,16 +38,24 @@ data Sized : Long → Type 0 where
   branch : Sized branchesTo
   link : Sized links
   shift : {f : Shift} → Sized (shifts f)
+  plain : Sized addresses
+  move : Sized moves
+  compare : Sized compares
   none : Sized unlistedLong
 
+abbrev Size : ℕ → Type 0
+Size n = (n ≡ 1) ⊎ ((n ≡ 2) ⊎ (n ≡ 4))
+
+-- an aligned operand ends in the page in which it begins
+in-page : (w n : ℕ) → Size n → w % n ≡ 0 → w % room + n ≤ room
+in-page w n (inl q) r = rw q (omega arith)
+in-page w n (inr (inl q)) r = let e : w % 2 ≡ 0 = rw q at r in rw q (omega arith)
+in-page w n (inr (inr q)) r = let e : w % 4 ≡ 0 = rw q at r in rw q (omega arith)
+
 -- a byte of an aligned operand that is writable is writable
-module _ (m : Space) (w n a : ℕ) (z : (n ≡ 2) ⊎ (n ≡ 4)) (e : w % n ≡ 0) (h : w ≤ a) (l : a < w + n) where
+module _ (m : Space) (w n a : ℕ) (z : Size n) (e : w % n ≡ 0) (h : w ≤ a) (l : a < w + n) where
   page : (a / room ≡ w / room) × (a % room + w ≡ w % room + a) × (w % room ≤ a % room) × (a % room + 1 ≤ w % room + n)
-  page = go z e l
-    where
-      go : (n ≡ 2) ⊎ (n ≡ 4) → w % n ≡ 0 → a < w + n → (a / room ≡ w / room) × (a % room + w ≡ w % room + a) × (w % room ≤ a % room) × (a % room + 1 ≤ w % room + n)
-      go (inl q) r k = let r′ : w % 2 ≡ 0 = rw q at r in let k′ : a < w + 2 = rw q at k in rw q (omega arith)
-      go (inr q) r k = let r′ : w % 4 ≡ 0 = rw q at r in let k′ : a < w + 4 = rw q at k in rw q (omega arith)
+  page = let i = in-page w n z e in (omega arith, omega arith, omega arith, omega arith)
 
   byte-writable : writable m w n ≡ true → writable m a 1 ≡ true
   byte-writable o =
@@ -66,7 +75,7 @@ pub record Keeps (m : Space) (s t : List ℕ) : Type 0 where
 pub keeps-all : (m : Space) (s : List ℕ) → Keeps m s s
 keeps-all m s = record { long = refl; kept = λ a h. refl }
 
-stores-keep : (m : Space) (s : List ℕ) (w n v : ℕ) → (n ≡ 2) ⊎ (n ≡ 4) → w % n ≡ 0 → writable m w n ≡ true → Keeps m s (stored s w n v)
+stores-keep : (m : Space) (s : List ℕ) (w n v : ℕ) → Size n → w % n ≡ 0 → writable m w n ≡ true → Keeps m s (stored s w n v)
 stores-keep m s w n v z e o = record { long = length-stored s w n v; kept = λ a h. go a h (decLe w a) (decLe (w + n) a) }
   where
     go : (a : ℕ) → writable m a 1 ≡ false → Dec (w ≤ a) → Dec (w + n ≤ a) → getD (stored s w n v) a 0 ≡ getD s a 0
@@ -85,23 +94,25 @@ either : {m : Space} {s : List ℕ} (t : Bool) {a b : Stepped} → StepKeeps m s
 either true p q = p
 either false p q = q
 
-store-keeps : (m : Space) (rx b d : ℕ) (c : Cpu) (s : List ℕ) (n : ℕ) → (n ≡ 2) ⊎ (n ≡ 4) → StepKeeps m s (longBy (stores n) m rx b d c s)
-store-keeps m rx b d c s n z =
-    let w = address (c .regs) (rx % 16) b d in
-    let v = getD (c .regs) (rx / 16) 0 in
+store-keeps : (m : Space) (c : Cpu) (s : List ℕ) (n v w : ℕ) → Size n → StepKeeps m s (storeStep m c n v w s)
+store-keeps m c s n v w z =
     let on = stepped (went (moved c (c .counter + 4))) (stored s w n v) in
     by-test (StepKeeps m s) (eqb (w % n) 0) (choose (writable m w n) on (stepped (halted 2 c) s)) (stepped (halted 3 c) s)
     (λ e. by-test (StepKeeps m s) (writable m w n) on (stepped (halted 2 c) s) (λ f. record { keeps = stores-keep m s w n v z (eqb-true (w % n) 0 e) f }) (λ f. untouched))
     (λ e. untouched)
 
 long-keeps : {k : Long} → Sized k → (m : Space) (rx b d : ℕ) (c : Cpu) (s : List ℕ) → StepKeeps m s (longBy k m rx b d c s)
-long-keeps two m rx b d c s = store-keeps m rx b d c s 2 (inl refl)
-long-keeps four m rx b d c s = store-keeps m rx b d c s 4 (inr refl)
+long-keeps byte m rx b d c s = store-keeps m c s 1 (getD (c .regs) (rx / 16) 0) (address (c .regs) (rx % 16) b d) (inl refl)
+long-keeps two m rx b d c s = store-keeps m c s 2 (getD (c .regs) (rx / 16) 0) (address (c .regs) (rx % 16) b d) (inr (inl refl))
+long-keeps four m rx b d c s = store-keeps m c s 4 (getD (c .regs) (rx / 16) 0) (address (c .regs) (rx % 16) b d) (inr (inr refl))
 long-keeps loads m rx b d c s = untouched
 long-keeps product m rx b d c s = untouched
 long-keeps branch m rx b d c s = untouched
 long-keeps link m rx b d c s = untouched
 long-keeps shift m rx b d c s = untouched
+long-keeps plain m rx b d c s = untouched
+long-keeps move m rx b d c s = store-keeps m c s 1 rx (address (c .regs) 0 b d) (inl refl)
+long-keeps compare m rx b d c s = untouched
 long-keeps none m rx b d c s = untouched
 
 all-sized : (op : ℕ) → Sized (longKind op)
@@ -109,13 +120,22 @@ all-sized op =
     row-is Sized storageRows (
       two,
       (
-        four,
-        all-both (λ (x : ℕ × Long). Sized (x .1)) halfwordRows wordRows
-            (link, (branch, (loads, (loads, (loads, (loads, (loads, tt)))))))
-            (loads, (loads, (loads, (loads, (loads, (loads, (loads, (product, (loads, (loads, tt)))))))))),
+        byte,
+        (
+          four,
+          (
+            plain,
+            (
+              loads,
+              all-both (λ (x : ℕ × Long). Sized (x .1)) halfwordRows wordRows
+                  (link, (branch, (loads, (loads, (loads, (loads, (loads, tt)))))))
+                  (loads, (loads, (loads, (loads, (loads, (loads, (loads, (product, (loads, (loads, tt)))))))))),
+            ),
+          ),
+        ),
       ),
     ) op
-    (row-is Sized shiftRows (shift, (shift, (shift, (shift, tt)))) op none)
+    (row-is Sized plainRows (move, (compare, (shift, (shift, (shift, (shift, tt)))))) op none)
 
 -- a step leaves the length of storage and every byte that is not writable
 pub step-keeps : (m : Space) (c : Cpu) (s : List ℕ) → Keeps m s (step m c s .store)

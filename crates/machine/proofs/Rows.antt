@@ -1,5 +1,5 @@
 -- Rows of the tables of opcodes: what holds of every row holds of what is found (`row-is`), an opcode that is none of theirs finds what is said further on
--- (`row-rest`), and from 128 on opcodes are shifts, which have no index (`step-storage`, `step-shift`). Assumes nothing.
+-- (`row-rest`), and from 128 on opcodes are those that have no index (`step-storage`, `step-plain`). Assumes nothing.
 use Prim.Native.Nat.{ℕ, suc, _+_, _*_, _/_, _%_, _<_, _≤_}
 use mathlib.Core.Path.{_≡_, refl, sym, ap, _∙_}
 use mathlib.Core.Bool.{Bool, true, false}
@@ -12,7 +12,7 @@ use Rattle.base.specs.Lists.{All}
 use Rattle.base.specs.Tables.{every}
 use Rattle.base.proofs.Tests.{never-true, is-true, and-left, and-right}
 use Rattle.machine.specs.Space.{Space, origin}
-use Rattle.machine.specs.Instructions.{Long, unlistedLong, rowOf, storageRows, shiftRows, storageKind, shiftKind}
+use Rattle.machine.specs.Instructions.{Long, unlistedLong, rowOf, storageRows, plainRows, storageKind, plainKind}
 use Rattle.machine.specs.Step.{Cpu, Stepped, address, longOn, indexOf, step}
 use Rattle.machine.proofs.Effects.{step-long}
 
@@ -71,13 +71,13 @@ module _ (m : Space) (c : Cpu) (s : List ℕ) (even : c .counter % 2 ≡ 0) (low
   pub step-storage : op < 128 → longOn (storageKind op) m rx (at (rx % 16)) c s ≡ step m c s
   step-storage h =
       row-is (Indexed (rx % 16)) storageRows
-      (refl, (refl, (refl, (refl, (refl, (refl, (refl, (refl, (refl, (refl, (refl, (refl, (refl, (refl, (refl, (refl, (refl, (refl, (refl, tt))))))))))))))))))) op
+      (refl, (refl, (refl, (refl, (refl, (refl, (refl, (refl, (refl, (refl, (refl, (refl, (refl, (refl, (refl, (refl, (refl, (refl, (refl, (refl, (refl, (refl, tt)))))))))))))))))))))) op
       refl
-      ∙ ap (λ (k : Long). byKind (rowOf storageRows op k)) (sym (row-other (λ k. leb 128 k) shiftRows 0 op unlistedLong tt (lt-leb 128 op h)))
+      ∙ ap (λ (k : Long). byKind (rowOf storageRows op k)) (sym (row-other (λ k. leb 128 k) plainRows 0 op unlistedLong tt (lt-leb 128 op h)))
       ∙ sym (step-long m c s even low op refl is fits)
 
-  pub step-shift : 128 ≤ op → longOn (shiftKind op) m rx (at 0) c s ≡ step m c s
-  step-shift h =
-      row-is (Indexed 0) shiftRows (refl, (refl, (refl, (refl, tt)))) op refl
-      ∙ ap byKind (sym (row-other (λ k. ltb k 128) storageRows 0 op (shiftKind op) tt (le-ltb op 128 h)))
+  pub step-plain : 128 ≤ op → longOn (plainKind op) m rx (at 0) c s ≡ step m c s
+  step-plain h =
+      row-is (Indexed 0) plainRows (refl, (refl, (refl, (refl, (refl, (refl, tt)))))) op refl
+      ∙ ap byKind (sym (row-other (λ k. ltb k 128) storageRows 0 op (plainKind op) tt (le-ltb op 128 h)))
       ∙ sym (step-long m c s even low op refl is fits)

@@ -9,7 +9,7 @@ use lib.ListN.{getD}
 use borrow.Author.Tests.{ne-eqb}
 use Rattle.base.specs.Choose.{choose}
 use Rattle.machine.specs.Space.{Space, origin, readable, writable}
-use Rattle.machine.specs.Instructions.{Short, applies, multiplies, branches, ends, unlisted, Long, appliesTo, multipliesBy, stores, branchesTo, links, shifts, unlistedLong, shortKind, longKind}
+use Rattle.machine.specs.Instructions.{Short, applies, multiplies, branches, ends, unlisted, Long, appliesTo, multipliesBy, stores, branchesTo, links, shifts, addresses, moves, compares, unlistedLong, shortKind, longKind}
 use Rattle.machine.specs.Step.{Cpu, Turn, Stepped, stepped, went, halted, completed, address, asked, shortBy, longBy, step}
 use Rattle.machine.specs.Run.{onward, after, run}
 
@@ -56,6 +56,9 @@ long-ends (stores n) m rx b d c s = let a = address (c .regs) (rx % 16) b d in e
 long-ends branchesTo m rx b d c s = turns (asked (rx / 16) (c .code)) on on
 long-ends links m rx b d c s = on
 long-ends (shifts f) m rx b d c s = on
+long-ends addresses m rx b d c s = on
+long-ends moves m rx b d c s = let a = address (c .regs) 0 b d in either (eqb (a % 1) 0) (either (writable m a 1) on forbidden) misaligned
+long-ends compares m rx b d c s = let a = address (c .regs) 0 b d in turns (eqb (a % 1) 0) (turns (readable m a 1) on forbidden) misaligned
 long-ends unlistedLong m rx b d c s = no-instruction
 
 pub step-ends : (m : Space) (c : Cpu) (s : List ℕ) → Ends c s (step m c s)

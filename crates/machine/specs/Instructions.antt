@@ -1,10 +1,10 @@
--- The opcodes of document 01, in two steps: where an instruction's operand is, and what is done with it.
+-- The opcodes of document 01 and of the byte functions (document 02, 1/13), in two steps: where an instruction's operand is, and what is done with it.
 use Prim.Native.Nat.{ℕ}
 use mathlib.Core.List.{List, [], _∷_, _++_}
 use lib.Dec.{eqb}
 use Rattle.base.specs.Choose.{choose}
 use Rattle.machine.specs.declared.Fun.{Fun}
-use Rattle.machine.specs.declared.Fun.the-variants.{Load, Add, Subtract, AddLogical, SubtractLogical, And, Or, ExclusiveOr, Compare, Positive, Negative, Complement, MultiplyHalf}
+use Rattle.machine.specs.declared.Fun.the-variants.{Load, Add, Subtract, AddLogical, SubtractLogical, And, Or, ExclusiveOr, Compare, Positive, Negative, Complement, MultiplyHalf, Insert, Test}
 use Rattle.machine.specs.declared.Shift.{Shift}
 use Rattle.machine.specs.declared.Shift.the-variants.{RightLogical, LeftLogical, Right, Left}
 
@@ -16,7 +16,7 @@ pub data Short : Type 0 where
   ends : Short
   unlisted : Short
 
--- four bytes: opcode, r·16+index, base·16 + displacement/256, displacement mod 256
+-- four bytes: opcode, r·16+index, base·16 + displacement/256, displacement mod 256; of those that take a number, opcode, the number, then base and displacement
 pub data Long : Type 0 where
   appliesTo : (size : ℕ) → Fun → Long  -- register r and an operand of so many bytes
   multipliesBy : Long
@@ -24,6 +24,9 @@ pub data Long : Type 0 where
   branchesTo : Long
   links : Long
   shifts : Shift → Long
+  addresses : Long  -- register r gets the address itself
+  moves : Long  -- the number to a byte of storage
+  compares : Long  -- a byte of storage with the number
   unlistedLong : Long
 
 -- an opcode's row in a table, or else what is said of it further on
@@ -37,6 +40,7 @@ registerRows =
     ∷ (0x0A, ends)
     ∷ (0x10, applies Positive)
     ∷ (0x11, applies Negative)
+    ∷ (0x12, applies Test)
     ∷ (0x13, applies Complement)
     ∷ (0x14, applies And)
     ∷ (0x16, applies Or)
@@ -53,9 +57,13 @@ registerRows =
 abbrev pub shortKind : ℕ → Short
 shortKind op = rowOf registerRows op unlisted
 
--- what is stored, of two bytes and of four
+-- what a register stores, of two bytes, one and four
 abbrev pub storeRows : List (ℕ × Long)
-storeRows = (0x40, stores 2) ∷ (0x50, stores 4) ∷ []
+storeRows = (0x40, stores 2) ∷ (0x42, stores 1) ∷ (0x50, stores 4) ∷ []
+
+-- the address, and one byte of storage
+abbrev pub byteRows : List (ℕ × Long)
+byteRows = (0x41, addresses) ∷ (0x43, appliesTo 1 Insert) ∷ []
 
 -- of two bytes of storage, and the branches
 abbrev pub halfwordRows : List (ℕ × Long)
@@ -95,9 +103,20 @@ shiftRows =
 abbrev pub shiftKind : ℕ → Long
 shiftKind op = rowOf shiftRows op unlistedLong
 
+-- those that take a number where others name registers
+abbrev pub immediateRows : List (ℕ × Long)
+immediateRows = (0x92, moves) ∷ (0x95, compares) ∷ []
+
+-- all that names an address without an index
+abbrev pub plainRows : List (ℕ × Long)
+plainRows = immediateRows ++ shiftRows
+
+abbrev pub plainKind : ℕ → Long
+plainKind op = rowOf plainRows op unlistedLong
+
 -- all that stores nothing, and all that names an address with an index
 abbrev pub readRows : List (ℕ × Long)
-readRows = halfwordRows ++ wordRows
+readRows = byteRows ++ (halfwordRows ++ wordRows)
 
 abbrev pub readKind : ℕ → Long
 readKind op = rowOf readRows op unlistedLong
@@ -109,4 +128,4 @@ abbrev pub storageKind : ℕ → Long
 storageKind op = rowOf storageRows op unlistedLong
 
 abbrev pub longKind : ℕ → Long
-longKind op = rowOf storageRows op (shiftKind op)
+longKind op = rowOf storageRows op (plainKind op)

@@ -7,14 +7,14 @@ use lib.Dec.{ltb, leb, eqb}
 use lib.ListN.{getD, set}
 use Rattle.base.specs.Choose.{choose}
 use Rattle.base.specs.Numbers.{valueAt, stored}
-use Rattle.alu.specs.Word.{added, subtracted, complemented, madePositive, madeNegative, comparedCode, addedLogical, subtractedLogical, bitsMade, product, halfProduct, shiftedLeftLogical, shiftedRightLogical, shiftedLeft, shiftedRight}
+use Rattle.alu.specs.Word.{added, subtracted, complemented, madePositive, madeNegative, comparedCode, tested, comparedLogical, inserted, addedLogical, subtractedLogical, bitsMade, product, halfProduct, shiftedLeftLogical, shiftedRightLogical, shiftedLeft, shiftedRight}
 use Rattle.alu.specs.declared.Made.{Made}
 use Rattle.machine.specs.declared.Fun.{Fun}
-use Rattle.machine.specs.declared.Fun.the-variants.{Load, Add, Subtract, AddLogical, SubtractLogical, And, Or, ExclusiveOr, Compare, Positive, Negative, Complement, MultiplyHalf}
+use Rattle.machine.specs.declared.Fun.the-variants.{Load, Add, Subtract, AddLogical, SubtractLogical, And, Or, ExclusiveOr, Compare, Positive, Negative, Complement, MultiplyHalf, Insert, Test}
 use Rattle.machine.specs.declared.Shift.{Shift}
 use Rattle.machine.specs.declared.Shift.the-variants.{RightLogical, LeftLogical, Right, Left}
 use Rattle.machine.specs.Space.{Space, origin, readable, writable}
-use Rattle.machine.specs.Instructions.{Short, applies, multiplies, branches, ends, unlisted, Long, appliesTo, multipliesBy, stores, branchesTo, links, shifts, unlistedLong, shortKind, longKind}
+use Rattle.machine.specs.Instructions.{Short, applies, multiplies, branches, ends, unlisted, Long, appliesTo, multipliesBy, stores, branchesTo, links, shifts, addresses, moves, compares, unlistedLong, shortKind, longKind}
 
 -- ── states ──
 
@@ -80,6 +80,8 @@ applied Positive a b k = madePositive b
 applied Negative a b k = madeNegative b
 applied Complement a b k = complemented b
 applied MultiplyHalf a b k = record { value = halfProduct a b; code = k }
+applied Insert a b k = record { value = inserted a b; code = k }
+applied Test a b k = tested b
 
 abbrev pub shiftedBy : Shift → ℕ → ℕ → ℕ → Made
 shiftedBy RightLogical a n k = record { value = shiftedRightLogical a n; code = k }
@@ -131,11 +133,23 @@ operand s a n = extended n (valueAt s a n)
 abbrev pub loadTurn : Space → Cpu → Fun → ℕ → ℕ → ℕ → List ℕ → Turn
 loadTurn m c f n r a s = onOperand (readable m a n) a n (went (executed c f r (operand s a n) (c .counter + 4))) (λ k. halted k c)
 
+-- the low n bytes of v are stored: a register's, or the number of MVI
 abbrev pub storeStep : Space → Cpu → ℕ → ℕ → ℕ → List ℕ → Stepped
-storeStep m c n r a s =
+storeStep m c n v a s =
     onOperand (writable m a n) a n
-    (stepped (went (moved c (c .counter + 4))) (stored s a n (getD (c .regs) r 0)))
+    (stepped (went (moved c (c .counter + 4))) (stored s a n v))
     (λ k. stepped (halted k c) s)
+
+-- CLI: the byte in storage is the first operand, the number v the second
+abbrev pub compareTurn : Space → Cpu → ℕ → ℕ → List ℕ → Turn
+compareTurn m c v a s =
+    onOperand (readable m a 1) a 1
+    (went (cpu (c .regs) (comparedLogical (operand s a 1) v) (c .counter + 4)))
+    (λ k. halted k c)
+
+-- LA: "no storage references for operands take place"; 24 bits of address, so the high byte is zero
+abbrev pub addressTurn : Cpu → ℕ → ℕ → Turn
+addressTurn c r a = went (executed c Load r a (c .counter + 4))
 
 abbrev pub multiplyTurn : Cpu → ℕ → ℕ → Turn
 multiplyTurn c r b = pairedFrom r (went (paired c r b (c .counter + 2))) (halted noInstruction c)
@@ -185,17 +199,20 @@ shortOn unlisted rx b c = halted noInstruction c
 abbrev pub shortBy : Short → ℕ → Cpu → Turn
 shortBy k rx c = shortOn k rx (getD (c .regs) (rx % 16) 0) c
 
--- by kind, with the register fields and the address that the other fields name
+-- by kind, with the register fields or the number, and the address that the other fields name
 abbrev pub longOn : Long → Space → ℕ → ℕ → Cpu → List ℕ → Stepped
 longOn (appliesTo n f) m rx a c s = stepped (loadTurn m c f n (rx / 16) a s) s
 longOn multipliesBy m rx a c s = stepped (multiplyByTurn m c (rx / 16) a s) s
-longOn (stores n) m rx a c s = storeStep m c n (rx / 16) a s
+longOn (stores n) m rx a c s = storeStep m c n (getD (c .regs) (rx / 16) 0) a s
 longOn branchesTo m rx a c s = stepped (branchTurn c (rx / 16) a) s
 longOn links m rx a c s = stepped (linkTurn c (rx / 16) a) s
 longOn (shifts f) m rx a c s = stepped (shiftTurn c f (rx / 16) a) s
+longOn addresses m rx a c s = stepped (addressTurn c (rx / 16) a) s
+longOn moves m rx a c s = storeStep m c 1 rx a s
+longOn compares m rx a c s = stepped (compareTurn m c rx a s) s
 longOn unlistedLong m rx a c s = stepped (halted noInstruction c) s
 
--- the index of a kind: a shift has none
+-- the index of a kind: a shift and what takes a number have none
 abbrev pub indexOf : Long → ℕ → ℕ
 indexOf (appliesTo n f) x = x
 indexOf multipliesBy x = x
@@ -203,6 +220,9 @@ indexOf (stores n) x = x
 indexOf branchesTo x = x
 indexOf links x = x
 indexOf (shifts f) x = 0
+indexOf addresses x = x
+indexOf moves x = 0
+indexOf compares x = 0
 indexOf unlistedLong x = x
 
 abbrev pub longBy : Long → Space → ℕ → ℕ → ℕ → Cpu → List ℕ → Stepped

@@ -2,8 +2,8 @@
 use mathlib.Core.List.{List, [], _∷_}
 use Prim.Native.Nat.{ℕ, _+_}
 use Rattle.machine.specs.declared.Fun.{Fun}
-use Rattle.machine.specs.declared.Fun.the-variants.{Load, Add, Subtract, AddLogical, SubtractLogical, And, Or, ExclusiveOr, Compare, Positive, Negative, Complement, MultiplyHalf}
-use Rattle.machine.specs.Instructions.{Short, applies, multiplies, branches, ends, unlisted, Long, appliesTo, multipliesBy, stores, branchesTo, links, shifts, unlistedLong}
+use Rattle.machine.specs.declared.Fun.the-variants.{Load, Add, Subtract, AddLogical, SubtractLogical, And, Or, ExclusiveOr, Compare, Positive, Negative, Complement, MultiplyHalf, Insert, Test}
+use Rattle.machine.specs.Instructions.{Short, applies, multiplies, branches, ends, unlisted, Long, appliesTo, multipliesBy, stores, branchesTo, links, shifts, addresses, moves, compares, unlistedLong}
 
 -- a comparison leaves its register as it was
 abbrev pub writesBy : Fun → ℕ → List ℕ
@@ -20,6 +20,8 @@ writesBy Positive r = r ∷ []
 writesBy Negative r = r ∷ []
 writesBy Complement r = r ∷ []
 writesBy MultiplyHalf r = r ∷ []
+writesBy Insert r = r ∷ []
+writesBy Test r = r ∷ []
 
 -- a product takes two registers
 abbrev pub writesShort : Short → ℕ → List ℕ
@@ -36,4 +38,7 @@ writesLong (stores n) r = []
 writesLong branchesTo r = []
 writesLong links r = r ∷ []
 writesLong (shifts f) r = r ∷ []
+writesLong addresses r = r ∷ []
+writesLong moves r = []
+writesLong compares r = []
 writesLong unlistedLong r = []

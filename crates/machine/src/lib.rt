@@ -7,7 +7,7 @@ ghost use Prim.Native.Nat.{ℕ, _+_, _*_, _/_, _%_, _^_, _<_, _≤_};
 ghost use lib.Dec.{leb};
 ghost use lib.ListN.{length, getD};
 ghost use Rattle.machine.specs.Space.{room, needed, displacements, spaceBy, readable, writable};
-ghost use Rattle.machine.specs.Step.{completed, went, stepped, applied, shiftedBy, part as partOf, address as addressOf, extended, executed, paired, asked, loadTurn, storeStep, multiplyTurn, multiplyByTurn, branchTurn, branchRegisterTurn, linkTurn, shiftTurn, endStop};
+ghost use Rattle.machine.specs.Step.{completed, went, stepped, applied, shiftedBy, part as partOf, address as addressOf, extended, executed, paired, asked, loadTurn, storeStep, compareTurn, multiplyTurn, multiplyByTurn, branchTurn, branchRegisterTurn, linkTurn, shiftTurn, endStop};
 ghost use Rattle.machine.specs.Lent.{given, turn, ended};
 use alu::Made;
 
@@ -46,6 +46,8 @@ pub enum Fun {
     Negative,
     Complement,
     MultiplyHalf,
+    Insert,
+    Test,
 }
 
 pub enum Shift {
@@ -151,6 +153,11 @@ fn apply(f: Fun, a: u32, b: u32, code: u64) -> Made
             value: alu::half_product(a, b),
             code: code,
         },
+        Fun::Insert => Made {
+            value: alu::insert(a, b),
+            code: code,
+        },
+        Fun::Test => alu::test(b),
     }
 }
 
@@ -235,17 +242,41 @@ pub fn load_step(
     halt(2, g.code, g.at)
 }
 
-pub fn store_step(n: usize, g: Given, map: &[usize; MAP], regs: &[u32; 16], s: &mut [u8]) -> Next
+// Of a number.
+pub fn put_step(n: usize, v: u32, g: Given, map: &[usize; MAP], s: &mut [u8]) -> Next
     requires { ⌜ (g .at < 2 * room) × (needed ≤ length (now s)) × (0 < n) × (n ≤ 4) × (needed % n ≡ 0) ⌝ }
-    ensures { λ q. ⌜ stepped (turn q (now (regs .entry))) (now (s .exit)) ≡ storeStep (spaceBy 0 (now (map .entry))) (given g (now (regs .entry))) n (g .rx / 16) (g .b) (now (s .entry)) ⌝ }
+    ensures { λ q. ⌜ ((rs : List ℕ) → stepped (turn q rs) (now (s .exit)) ≡ storeStep (spaceBy 0 (now (map .entry))) (given g rs) n v (g .b) (now (s .entry))) ⌝ }
 {
     let w = g.b as usize;
     if w % n != 0 {
         return halt(3, g.code, g.at);
     }
     if is_writable(map, w, n) {
-        base::store(s, w, n, get(regs, upper(g.rx)));
+        base::store(s, w, n, v);
         return go(g.code, g.at + 4);
+    }
+    halt(2, g.code, g.at)
+}
+
+// Of a register.
+pub fn store_step(n: usize, g: Given, map: &[usize; MAP], regs: &[u32; 16], s: &mut [u8]) -> Next
+    requires { ⌜ (g .at < 2 * room) × (needed ≤ length (now s)) × (0 < n) × (n ≤ 4) × (needed % n ≡ 0) ⌝ }
+    ensures { λ q. ⌜ stepped (turn q (now (regs .entry))) (now (s .exit)) ≡ storeStep (spaceBy 0 (now (map .entry))) (given g (now (regs .entry))) n (getD (now (regs .entry)) (g .rx / 16) 0) (g .b) (now (s .entry)) ⌝ }
+{
+    put_step(n, get(regs, upper(g.rx)), g, map, s)
+}
+
+// The byte in storage is compared with the number.
+pub fn compare_step(g: Given, map: &[usize; MAP], s: &[u8]) -> Next
+    requires { ⌜ (g .at < 2 * room) × (needed ≤ length (now s)) ⌝ }
+    ensures { λ q. ⌜ ((rs : List ℕ) → turn q rs ≡ compareTurn (spaceBy 0 (now (map .entry))) (given g rs) (g .rx) (g .b) (now (s .entry))) ⌝ }
+{
+    let w = g.b as usize;
+    if is_readable(map, w, 1) {
+        return go(
+            alu::compare_logical(base::load(s, w, 1), g.rx as u32),
+            g.at + 4,
+        );
     }
     halt(2, g.code, g.at)
 }

@@ -33,8 +33,8 @@ blank-sets (suc n) = ap₂ (λ (x : Registers) (l : List Registers). x ∷ l) se
 named-means : (n : ℕ) (bases : List ℕ) → meaningsOf (registersNamed 16 (replicate (firstToken + n) 0)) bases ≡ standard n .means
 unfolding registersNamed meaningsFrom unpacked packed numberIn isRegisterIn isRoutineIn isCellIn low
 named-means n bases =
-    let e : 17 + n ≡ suc (suc (suc (suc (suc (suc (suc (suc (suc (suc (suc (suc (suc (suc (suc (suc (suc n)))))))))))))))) = omega arith in
-    rw e (rw (blank-means n 17 bases))
+    let e : firstToken + n ≡ suc (suc (suc (suc (suc (suc (suc (suc (suc (suc (suc (suc (suc (suc (suc (suc (suc n)))))))))))))))) = omega arith in
+    rw e (rw (blank-means n firstToken bases))
 
 pub blank : (n : ℕ) (bases : List ℕ) → meantOf (registersNamed 16 (replicate (firstToken + n) 0)) bases (replicate (firstToken + n) 0) (replicate (firstToken + n) 0) 0 ≡ tabled (standard n)
 blank n bases =

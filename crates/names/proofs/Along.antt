@@ -14,7 +14,7 @@ use Rattle.tape.proofs.Pass.{pass-turn, pass-end}
 use Rattle.ledger.specs.Book.{Thin, thinOf, putFound, thinLimit}
 use Rattle.ledger.proofs.Columns.{thin-length}
 use Rattle.scopes.specs.Broken.{unbroken}
-use Rattle.scopes.specs.Search.{inBlock, find, innermost}
+use Rattle.scopes.specs.Search.{standardNames, firstToken, inBlock, find, innermost}
 use Rattle.scopes.specs.Names.{Named, noteFound, useName, declareName, mostNames}
 use Rattle.names.specs.declared.Blocks.{Blocks}
 use Rattle.scopes.specs.declared.Noted.{Noted}
@@ -85,7 +85,7 @@ pub record Going (tape keys thin₀ thin : List ℕ) (b : Blocks) (n : Noted) (i
   pub inside : i ≤ length tape
   pub rising : Rising (thinOf thin .written) (b .depth) (b .count)
   pub deep : b .depth ≤ i + 1
-  pub wide : b .count ≤ i + 16
+  pub wide : b .count ≤ i + standardNames
   pub few : n .count ≤ i
   pub same : length thin ≡ length thin₀
 
@@ -105,7 +105,7 @@ going tape keys thin b g =
     }
 
 -- there is room for one more block and one more name
-pub roomy : (tape keys thin₀ thin : List ℕ) (b : Blocks) (n : Noted) (i : ℕ) → Going tape keys thin₀ thin b n i → i < length tape → 17 + length tape ≤ length thin₀ / 4 → length thin₀ ≤ 4 * thinLimit
+pub roomy : (tape keys thin₀ thin : List ℕ) (b : Blocks) (n : Noted) (i : ℕ) → Going tape keys thin₀ thin b n i → i < length tape → firstToken + length tape ≤ length thin₀ / 4 → length thin₀ ≤ 4 * thinLimit
     → Roomy (thinOf thin) b
 roomy tape keys thin₀ thin b n i g h r w =
     let deep = g .deep in

@@ -11,7 +11,7 @@ use borrow.Author.Tests.{le-leb, ne-eqb}
 use Rattle.base.proofs.Numbers.{one-less}
 use Rattle.tape.specs.Events as E
 use Rattle.ledger.specs.Book.{Thin, putOpens, putWritten}
-use Rattle.scopes.specs.Search.{innermost, enter}
+use Rattle.scopes.specs.Search.{standardNames, innermost, enter}
 use Rattle.names.specs.declared.Blocks.{Blocks}
 use Rattle.tape.specs.Names.{declaring}
 use Rattle.names.specs.Naming.{outer, blocksAfter}
@@ -141,23 +141,23 @@ innermost-some l b start n e = rw e (go (b .depth) n)
 
 -- ── the block around the program ──
 
--- the last n of the sixteen registers
+-- the last n of the standard names
 abbrev pub standard : ℕ → List ℕ
 standard zero = []
-standard (suc n) = (16 - n) ∷ standard n
+standard (suc n) = (standardNames - n) ∷ standard n
 
--- the registers above t are entered
+-- the names above t are entered
 pub record Entering (before l : Thin) (b : Blocks) (t : ℕ) : Type 0 where
   pub is : blocksIn l b ≡ standard (b .count) ∷ []
   pub rising : Rising (l .written) (b .depth) (b .count)
   pub depth : b .depth ≡ 1
-  pub count : b .count + t ≡ 16
+  pub count : b .count + t ≡ standardNames
   pub stays : Stays before l
 
 pub stays-on : {k l m : Thin} → Stays k l → Stays l m → Stays k m
 stays-on s t = record { found-is = t .found-is ∙ s .found-is; goes-is = t .goes-is ∙ s .goes-is }
 
-pub entering : (before l : Thin) (b r : Blocks) → b .depth ≡ 0 → Changed ([] ∷ blocksIn before b) l b r → r .depth ≡ 1 → r .count ≡ 0 → Entering l l r 16
+pub entering : (before l : Thin) (b r : Blocks) → b .depth ≡ 0 → Changed ([] ∷ blocksIn before b) l b r → r .depth ≡ 1 → r .count ≡ 0 → Entering l l r standardNames
 unfolding blocksOf
 entering before l b r z c d e = record { is = c .is ∙ rw (z, e); rising = c .rising; depth = d; count = omega arith; stays = record { found-is = refl; goes-is = refl } }
 
@@ -166,7 +166,7 @@ pub entering-on :
     → Entering before m r (t - 1)
 entering-on {t = t} {b = b} g h c s d e =
     let f = g .count in
-    let w : 16 - b .count ≡ t = omega arith in
+    let w : standardNames - b .count ≡ t = omega arith in
     record {
       is = c .is ∙ rw (g .is, e, add-one (b .count), w);
       rising = c .rising;
@@ -178,7 +178,7 @@ entering-on {t = t} {b = b} g h c s d e =
 pub entering-end : {before l : Thin} {t : ℕ} {b : Blocks} → Entering before l b t → t ≤ 0 → Begun l b
 entering-end {b = b} g h =
     let f = g .count in
-    let e : b .count ≡ 16 = omega arith in
+    let e : b .count ≡ standardNames = omega arith in
     record { is = g .is ∙ rw e; rising = g .rising; depth = g .depth; count = e }
 
 -- ── an event ──

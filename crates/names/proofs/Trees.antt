@@ -6,7 +6,7 @@ use mathlib.Core.Option.{Option, none, some}
 use Prim.Native.Nat.{ℕ, _+_, _-_, _%_}
 use lib.Dec.{eqb, ltb}
 use Rattle.base.specs.Choose.{choose}
-use Rattle.grammar.specs.Tree.{Statement, full, short}
+use Rattle.grammar.specs.Tree.{Statement, full, short, byte}
 use Rattle.grammar.specs.Derives.{isProgram}
 use Rattle.grammar.specs.Events.{opened, closed, entered, left, labelled, sent, named, celled, itemed, valued, based, Event, edge, route, entry, phrase, mark, eventsOf}
 use Rattle.grammar.specs.Places.{within, body, Place, after, along}
@@ -73,8 +73,12 @@ blocks-at (route (sent t n)) p h = refl
 blocks-at (entry (named r)) (within b ∷ p) h = refl
 blocks-at (entry (celled none full)) (within b ∷ p) h = refl
 blocks-at (entry (celled none short)) (within b ∷ p) h = refl
+blocks-at (entry (celled none (byte true))) (within b ∷ p) h = refl
+blocks-at (entry (celled none (byte false))) (within b ∷ p) h = refl
 blocks-at (entry (celled (some c) full)) (within b ∷ p) h = refl
 blocks-at (entry (celled (some c) short)) (within b ∷ p) h = refl
+blocks-at (entry (celled (some c) (byte true))) (within b ∷ p) h = refl
+blocks-at (entry (celled (some c) (byte false))) (within b ∷ p) h = refl
 blocks-at (entry (itemed c w i)) (within b ∷ p) h = refl
 blocks-at (entry (valued t)) (within b ∷ p) h = refl
 blocks-at (entry (based n)) (within b ∷ p) h = refl

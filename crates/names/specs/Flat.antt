@@ -6,7 +6,7 @@ use Prim.Native.Nat.{ℕ, zero, suc, _+_, _≤_, _<_}
 use lib.Dec.{leb}
 use lib.ListN.{getD, length}
 use Rattle.base.specs.Choose.{if_then_else_}
-use Rattle.scopes.specs.Search.{around}
+use Rattle.scopes.specs.Search.{standardNames, around}
 use Rattle.scopes.specs.Names.{Named}
 use Rattle.ledger.specs.Book.{Thin, thinLimit}
 use Rattle.names.specs.declared.Blocks.{Blocks}
@@ -57,7 +57,7 @@ pub record Begun (l : Thin) (b : Blocks) : Type 0 where
   pub is : blocksIn l b ≡ around
   pub rising : Rising (l .written) (b .depth) (b .count)
   pub depth : b .depth ≡ 1
-  pub count : b .count ≡ 16
+  pub count : b .count ≡ standardNames
 
 -- ── what is found, with what stays meanwhile ──
 

@@ -10,7 +10,7 @@ ghost use lib.ListN.{length};
 ghost use Rattle.tape.specs.Pass.{pass};
 ghost use Rattle.ledger.specs.Book.{wideOf, thinOf, thinLimit};
 ghost use Rattle.ledger.specs.Bounds.{noted, Narrow};
-ghost use Rattle.scopes.specs.Search.{inBlock, find, innermost, enter};
+ghost use Rattle.scopes.specs.Search.{firstToken, inBlock, find, innermost, enter};
 ghost use Rattle.scopes.specs.Names.{useName, declareName};
 ghost use Rattle.names.specs.Judged.{entered as enteredBy, sought as soughtBy};
 ghost use Rattle.names.specs.Naming.{outer, blocksAfter, declareAt, useRegister, usePlace, useAt, nameOp, beginning};
@@ -252,13 +252,16 @@ fn use_at(op: u32, t: usize, wide: &[u64], thin: &mut [u16], b: Blocks, n: Noted
 
 // ── the tape ──
 
-// "R0 to R9 and RA to RF are declared in a block around the program."
+// How many names are declared in the block around the program.
+const STANDARD_NAMES: usize = 25;
+
+// "R0 to R9 and RA to RF are declared in a block around the program.", and so are the standard functions.
 fn open_around(thin: &mut [u16]) -> Blocks
-    requires { ⌜ 17 ≤ length (now thin) / 4 ⌝ }
+    requires { ⌜ firstToken ≤ length (now thin) / 4 ⌝ }
     ensures { λ r. ⌜ Begun (thinOf (now (thin .exit))) r × Stays (thinOf (now (thin .entry))) (thinOf (now (thin .exit))) ⌝ }
 {
     let mut b = open_block(thin, Blocks { depth: 0, count: 0 });
-    let mut t: usize = 16;
+    let mut t: usize = STANDARD_NAMES;
     while 0 < t {
         b = enter_name(thin, t, b);
         t -= 1;
@@ -267,7 +270,7 @@ fn open_around(thin: &mut [u16]) -> Blocks
 }
 
 pub fn names(tape: &[u32], wide: &[u64], thin: &mut [u16]) -> Noted
-    requires { ⌜ Narrow (now tape) × ((17 + length (now tape) ≤ length (now thin) / 4) × (length (now thin) ≤ 4 * thinLimit)) ⌝ }
+    requires { ⌜ Narrow (now tape) × ((firstToken + length (now tape) ≤ length (now thin) / 4) × (length (now thin) ≤ 4 * thinLimit)) ⌝ }
     ensures { λ r. ⌜ (namedIn (thinOf (now (thin .exit)) .found) r ≡ pass (nameOp (wideOf (now (wide .entry)) .values))
         (beginning (thinOf (now (thin .entry)) .found)) (now (tape .entry)) .named) × (thinOf (now (thin .exit)) .goes ≡ thinOf (now (thin .entry)) .goes) ⌝ }
 {

@@ -1,11 +1,14 @@
 -- Parts of the grammar's rules that the code reads by functions of their own.
 use mathlib.Core.List.{List, _∷_}
+use mathlib.Core.Bool.{Bool, false}
 use mathlib.Core.Option.{some}
 use Prim.Native.Nat.{ℕ}
+use lib.Dec.{eqb}
+use lib.ListN.{getD}
 use Rattle.token.specs.Kinds as K
-use Rattle.grammar.specs.Tree.{Operand, Assignment, Condition, Declaration, base}
-use Rattle.grammar.specs.Reader.{Reader, _>>=_, _>>_, give, want}
-use Rattle.grammar.specs.Grammar.{inParens, operand, condition, assignmentOf, typeOf, cellsOf, afterType}
+use Rattle.grammar.specs.Tree.{Designator, Operand, Assignment, Condition, Declaration, base, Statement}
+use Rattle.grammar.specs.Reader.{Result, ok, bad, Reader, _>>=_, _>>_, give, want}
+use Rattle.grammar.specs.Grammar.{fuelled, inParens, operand, condition, assignmentOf, arguments, useOf, typeOf, cellsOf, afterType}
 use Rattle.tape.specs.Events as E
 use Rattle.tape.specs.Tape.{event}
 
@@ -30,6 +33,19 @@ abbrev pub typedOf : Reader Declaration
 typedOf = do
   w ← typeOf
   afterType w
+
+-- ── what begins with a name ──
+
+-- whether a designator has been read and `:=` stands behind it: it is a target
+abbrev pub targeted : List ℕ → Result Designator → Bool
+targeted ks (ok d j) = eqb (getD ks j 0) K.BECOMES
+targeted ks (bad n t) = false
+
+-- after a name that is no target: a call or a use
+abbrev pub usedOf : ℕ → Reader Statement
+usedOf n = do
+  xs ← fuelled arguments
+  give (useOf n xs)
 
 -- ── before the statement inside ──
 

@@ -18,6 +18,7 @@ ghost use Rattle.grammar.specs.Reader.{wantOne};
 ghost use Rattle.grammar.specs.Grammar as G;
 ghost use Rattle.tape.specs.Tape.{tapeDesignator, tapeOperand, tapeCondition, tapeTerm, tapeEach, tapeSign, tapeAssignment};
 ghost use Rattle.readers.specs.Reads.{Took, Designated, Ready, Wrote};
+ghost use Rattle.phrases.specs.Parts.{targeted};
 use token::kinds;
 
 fn number_or_name(kinds: &[u8], i: usize) -> Answer
@@ -64,6 +65,18 @@ fn designator(kinds: &[u8], n: usize) -> Answer
         return index;
     }
     read(index.at, 3)
+}
+
+// Whether the name n begins a target: a designator, and `:=` behind it.
+pub fn is_target(kinds: &[u8], n: usize) -> bool
+    requires { ⌜ n < length (now kinds) ⌝ }
+    ensures { λ r. ⌜ r ≡ targeted (now (kinds .entry)) (G.designatorOf n (now (kinds .entry)) (n + 1)) ⌝ }
+{
+    let d = designator(kinds, n);
+    if d.number != 0 {
+        return false;
+    }
+    kind_at(kinds, d.at) == kinds::BECOMES
 }
 
 // The designator that begins with the name n, with its event.

@@ -99,7 +99,7 @@ fn registers(kinds: &[u8], i: usize, tape: &mut [u32], p: usize) -> Answer
     }
 }
 
-// "type = INTEGER, LOGICAL or SHORT INTEGER", as 0 for full and 1 for short.
+// "type = INTEGER, LOGICAL or SHORT INTEGER", BYTE or CHARACTER, as its width on the tape.
 fn type_at(kinds: &[u8], i: usize) -> Answer
     requires { ⌜ i ≤ length (now kinds) ⌝ }
     ensures { λ r. ⌜ Typed (now (kinds .entry)) i r ⌝ }
@@ -110,6 +110,12 @@ fn type_at(kinds: &[u8], i: usize) -> Answer
     }
     if k == kinds::LOGICAL {
         return read(i + 1, 0);
+    }
+    if k == kinds::BYTE {
+        return read(i + 1, 2);
+    }
+    if k == kinds::CHARACTER {
+        return read(i + 1, 3);
     }
     if k != kinds::SHORT {
         return refused(4, i);

@@ -1,6 +1,7 @@
 // "simple", and what stands in a statement or a procedure before the statement inside it.
 use crate::assignments::assignment;
 use crate::assignments::condition;
+use crate::assignments::is_target;
 use crate::assignments::operand;
 use readers::events::write;
 use readers::tokens::Answer;
@@ -9,28 +10,68 @@ use readers::tokens::kind_at;
 use readers::tokens::read;
 use readers::tokens::refused;
 use readers::tokens::wanted;
+ghost use mathlib.Core.Path.{_≡_};
 ghost use Prim.Native.Nat.{_+_, _<_};
-ghost use lib.ListN.{length};
+ghost use lib.ListN.{length, getD};
+ghost use Rattle.token.specs.Kinds as K;
 ghost use Rattle.grammar.specs.Reader.{refuse};
 ghost use Rattle.grammar.specs.Grammar as G;
 ghost use Rattle.tape.specs.Events as E;
-ghost use Rattle.tape.specs.Tape.{tapeOperand, tapeCondition, tapeAssignment, tapeStatement};
+ghost use Rattle.tape.specs.Tape.{tapeOperand, tapeCondition, tapeEach, tapeArgument, tapeAssignment, tapeStatement};
 ghost use Rattle.readers.specs.Reads.{Ready, Wrote};
-ghost use Rattle.phrases.specs.Parts.{headOf, controlOf, limitOf, procedureHead, tapeOpening};
+ghost use Rattle.phrases.specs.Parts.{usedOf, headOf, controlOf, limitOf, procedureHead, tapeOpening};
 use token::kinds;
 
-// An assignment or a call that begins with the name n.
-pub fn after_name(kinds: &[u8], n: usize, tape: &mut [u32], p: usize) -> Answer
+// The arguments of a use, "each in its own parentheses"; one stands at i.
+fn arguments(kinds: &[u8], i: usize, tape: &mut [u32], p: usize) -> Answer
+    requires { ⌜ Ready (now kinds) (now tape) i p × (getD (now kinds) i 0 ≡ K.OPEN) ⌝ }
+    ensures { λ r. ⌜ Wrote (tapeEach tapeArgument) (now (kinds .entry)) i p (now (tape .entry)) (now (tape .exit)) r (G.fuelled G.arguments (now (kinds .entry)) i) × (r .value + i < r .at + p + r .number) ⌝ }
+{
+    let mut at = i;
+    let mut q = p;
+    while kind_at(kinds, at) == kinds::OPEN {
+        let a = operand(kinds, at + 1, tape::ARGUED, tape, q);
+        if a.number != 0 {
+            return a;
+        }
+        let close = wanted(kinds, a.at, kinds::CLOSE);
+        if close.number != 0 {
+            return close;
+        }
+        at = close.at;
+        q = a.value;
+    }
+    read(at, q)
+}
+
+// A call or a use that begins with the name n.
+fn used(kinds: &[u8], n: usize, tape: &mut [u32], p: usize) -> Answer
     requires { ⌜ Ready (now kinds) (now tape) n p × (n < length (now kinds)) ⌝ }
-    ensures { λ r. ⌜ Wrote tapeStatement (now (kinds .entry)) n p (now (tape .entry)) (now (tape .exit)) r (G.afterName n (now (kinds .entry)) (n + 1)) ⌝ }
+    ensures { λ r. ⌜ Wrote tapeStatement (now (kinds .entry)) n p (now (tape .entry)) (now (tape .exit)) r (usedOf n (now (kinds .entry)) (n + 1)) ⌝ }
 {
     let next = n + 1;
-    let k = kind_at(kinds, next);
-    if (k == kinds::BECOMES) | (k == kinds::OPEN) {
+    if kind_at(kinds, next) != kinds::OPEN {
+        write(tape, p, tape::CALL, n);
+        return read(next, p + 1);
+    }
+    write(tape, p, tape::APPLIED, n);
+    let row = arguments(kinds, next, tape, p + 1);
+    if row.number != 0 {
+        return refused(row.number, row.at);
+    }
+    write(tape, row.value, tape::COUNTED, n);
+    read(row.at, row.value + 1)
+}
+
+// An assignment, a call or a use that begins with the name n.
+pub fn after_name(kinds: &[u8], n: usize, tape: &mut [u32], p: usize) -> Answer
+    requires { ⌜ Ready (now kinds) (now tape) n p × ((n < length (now kinds)) × (getD (now kinds) n 0 ≡ K.NAME)) ⌝ }
+    ensures { λ r. ⌜ Wrote tapeStatement (now (kinds .entry)) n p (now (tape .entry)) (now (tape .exit)) r (G.afterName n (now (kinds .entry)) (n + 1)) ⌝ }
+{
+    if is_target(kinds, n) {
         return assignment(kinds, n, tape::TARGET, tape, p);
     }
-    write(tape, p, tape::CALL, n);
-    read(next, p + 1)
+    used(kinds, n, tape, p)
 }
 
 // A statement that is not BEGIN, IF, WHILE or FOR.

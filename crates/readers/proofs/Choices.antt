@@ -14,7 +14,7 @@ use Rattle.base.specs.Tables.{allBelow}
 use Rattle.base.proofs.Tables.{all-below}
 use Rattle.base.proofs.Tests.{never-true, both}
 use Rattle.token.specs.Kinds as K
-use Rattle.grammar.specs.Tree.{Width, full, short, registers}
+use Rattle.grammar.specs.Tree.{Width, full, short, byte, registers}
 use Rattle.grammar.specs.Reader.{ok, bad, andThen, look, next, wantOne}
 use Rattle.grammar.specs.Grammar.{fuelled, listOf, registerItem, afterType, cellsOf}
 use Rattle.tape.specs.Tape.{widthOf}
@@ -63,6 +63,8 @@ module _ (w : Width) (v : ℕ) {ks : List ℕ} {j k : ℕ} (h : Kind ks j k) (e 
       go : (w : Width) → v ≡ widthOf w → afterType w ks j ≡ andThen (fuelled (listOf registerItem) ks (j + 1)) (λ rs i. ok (registers rs) i)
       go full e = rw (← (h .is), both (eqb v 0) (eqb k K.REGISTER) f .1)
       go short e = never-true (rw e at f)
+      go (byte false) e = never-true (rw e at f)
+      go (byte true) e = never-true (rw e at f)
 
   pub after-cells : (eqb v 0 && eqb k K.REGISTER) ≡ false → afterType w ks j ≡ cellsOf none w ks j
   unfolding afterType andThen look next
@@ -71,3 +73,4 @@ module _ (w : Width) (v : ℕ) {ks : List ℕ} {j k : ℕ} (h : Kind ks j k) (e 
       go : (w : Width) → v ≡ widthOf w → afterType w ks j ≡ cellsOf none w ks j
       go full e = let g : eqb k K.REGISTER ≡ false = rw e at f in rw (← (h .is), g)
       go short e = refl
+      go (byte c) e = refl

@@ -64,7 +64,7 @@ pub record Designated (ks : List ℕ) (n : ℕ) (r : Answer) : Type 0 where
 pub record Typed (ks : List ℕ) (i : ℕ) (r : Answer) : Type 0 where
   pub read : Reads (λ w v. v ≡ widthOf w) ks i r (typeOf ks i)
   pub moved : i < r .at + r .number
-  pub small : r .value ≤ 1
+  pub small : r .value ≤ 3
 
 -- ── parts of answers ──
 

@@ -40,7 +40,8 @@ pub fn opens(k: u8) -> bool
 pub fn declares(k: u8) -> bool
     ensures { λ r. ⌜ r ≡ member k G.declarators ⌝ }
 {
-    ((kinds::INTEGER <= k) & (k <= kinds::ARRAY)) | (k == kinds::SEGMENT)
+    ((kinds::INTEGER <= k) & (k <= kinds::ARRAY))
+        | ((k == kinds::SEGMENT) | ((k == kinds::BYTE) | (k == kinds::CHARACTER)))
 }
 
 // Whether the token at `at` is an ELSE that goes with a true part of the kind k.

@@ -18,14 +18,14 @@ use Rattle.scopes.specs.Broken.{unbroken, rule, broken, _⊕_}
 use Rattle.static_rules.specs.Registers.{Registers, noRegisters, spares}
 use Rattle.static_rules.specs.Meaning.{Meaning, nothing, register, cell, routine, Based, Cell, meaningOf, registerOf, isLong, longOperand}
 use Rattle.static_rules.specs.Tables.{Tables, meaningAt, valueAt, kindAt}
-use Rattle.static_rules.specs.Rules.{isRegister, isZero, isShort, isBare, inside, shifts, fullOnly, writeRule, registerRule, zeroRule, indexRules, subscriptRules, placeBy, placeRules, operandRules, onlyRegister, shiftRules, noShort, productRules, termRules, callBy, callRules, baseRules}
-use Rattle.tables.specs.Packed.{numberIn, isRegisterIn, isRoutineIn, isCellIn, isShortIn, basedIn, cellIn, unpacked, registerIn, longIn, packedAt, setOf, setsOf}
+use Rattle.static_rules.specs.Rules.{isRegister, isZero, isShort, isBare, inside, shifts, fullOnly, writeRule, registerRule, zeroRule, indexRules, subscriptRules, placeBy, placeRules, operandRules, onlyRegister, shiftRules, noByte, noShort, productRules, termRules, callBy, callRules, baseRules}
+use Rattle.tables.specs.Packed.{numberIn, isRegisterIn, isRoutineIn, isCellIn, isShortIn, isByteIn, basedIn, cellIn, unpacked, registerIn, longIn, packedAt, setOf, setsOf}
 use Rattle.tables.specs.Stacks.{stackOf}
 use Rattle.tables.proofs.Meanings.{by-sort, as-register, as-routine, as-cell, register-is, long-is}
 use Rattle.tables.proofs.Sets.{sets-at}
 use Rattle.rules.specs.Parts.{subscriptAt, indexAt, designatorAt, operandAt, termAt}
 use Rattle.rules.specs.Shows.{Listed}
-use Rattle.rules.proofs.Sorts.{register-sort, zero-sort, short-sort, baseAt, meant-at}
+use Rattle.rules.proofs.Sorts.{register-sort, zero-sort, short-sort, byte-sort, baseAt, meant-at}
 
 or-none : (x : Bool) → x ≡ (x || false)
 or-none true = refl
@@ -108,7 +108,8 @@ module _ {f : Tables} {w : Wide} {l : Thin} (s : Listed f w l) (t m : ℕ) (e : 
   unfolding placeRules
   placed-nowhere shape n h q =
       q ∙ at (λ (y : Meaning). placeBy f y (designatorAt shape t))
-      (λ k b. by-sort (λ y. broken 8 t ≡ placeBy f y (designatorAt shape t)) k m b (λ a. never-true (sym n ∙ a)) (λ a b. refl) (λ a b c. never-true (sym h ∙ c)) (λ a b c. refl))
+      (λ k b. by-sort (λ y. broken 8 t ≡ placeBy f y (designatorAt shape t)) k m b (λ a. never-true (sym n ∙ a)) (λ a b. refl) (λ a b c. never-true (sym h ∙ c))
+      (λ a b c d. refl) (λ a b c d. refl))
 
   pub one-register : (shape : ℕ) {x : Broken} {r bare : Bool} → (shape ≡ 4 → ⊥) → r ≡ isRegisterIn m → ((u : ℕ) → bare ≡ isBare (subscriptAt shape u) (indexAt shape u)) → x ≡ rule (r && bare) 8 t
       → x ≡ onlyRegister f (operandAt shape t)
@@ -119,6 +120,10 @@ module _ {f : Tables} {w : Wide} {l : Thin} (s : Listed f w l) (t m : ℕ) (e : 
   pub not-short : (shape : ℕ) {x : Broken} {c w : Bool} → (shape ≡ 4 → ⊥) → c ≡ isCellIn m → w ≡ isShortIn m → x ≡ rule (not (c && w)) 8 t → x ≡ noShort f (operandAt shape t)
   unfolding noShort
   not-short shape n c w q = rw (a-place shape t n, meant-at s t m e) (q ∙ ap (λ (y : Bool). rule (not y) 8 t) (ap₂ (λ (y z : Bool). y && z) c w ∙ short-sort (getD (l .found) t 0) m (baseAt s t)))
+
+  pub not-byte : (shape : ℕ) {x : Broken} {c w : Bool} → c ≡ isCellIn m → w ≡ isByteIn m → x ≡ rule (not (c && w)) 8 t → x ≡ noByte f (designatorAt shape t)
+  unfolding noByte
+  not-byte shape c w q = rw (meant-at s t m e) (q ∙ ap (λ (y : Bool). rule (not y) 8 t) (ap₂ (λ (y z : Bool). y && z) c w ∙ byte-sort (getD (l .found) t 0) m (baseAt s t)))
 
   long-is-at : (shape : ℕ) (l : Bool) → l ≡ longIn m → longOperand (f .found) (f .means) (operandAt shape t) ≡ (eqb shape 4 || l)
   unfolding operandAt
@@ -166,7 +171,7 @@ module _ {f : Tables} {w : Wide} {l : Thin} (s : Listed f w l) (kept : List ℕ)
   unfolding callRules
   no-routine n q =
       q ∙ at s t m packed-is (λ (y : Meaning). callBy f y kept t)
-      (λ k b. by-sort (λ y. broken 8 t ≡ callBy f y kept t) k m b (λ a. refl) (λ a b. never-true (sym n ∙ b)) (λ a b c. refl) (λ a b c. refl))
+      (λ k b. by-sort (λ y. broken 8 t ≡ callBy f y kept t) k m b (λ a. refl) (λ a b. never-true (sym n ∙ b)) (λ a b c. refl) (λ a b c d. refl) (λ a b c d. refl))
 
 -- ── terms ──
 

@@ -13,15 +13,14 @@ use Rattle.base.specs.Choose.{choose, if_then_else_}
 use Rattle.base.specs.Lists.{member}
 use Rattle.base.proofs.Tests.{cases}
 use Rattle.base.proofs.Numbers.{one-less}
-use Rattle.grammar.specs.Tree.{full, short}
 use Rattle.ledger.specs.Book.{Wide, Thin}
 use Rattle.static_rules.specs.Registers.{Registers, has, spares}
-use Rattle.static_rules.specs.Meaning.{Meaning, nothing, register, cell, routine, Based, Cell, elementSize, isFull}
+use Rattle.static_rules.specs.Meaning.{Meaning, nothing, register, cell, routine, Based, Cell, elementSize}
 use Rattle.static_rules.specs.Tables.{Tables, meaningAt}
-use Rattle.static_rules.specs.Rules.{isRegister, isZero, isShort, isBare, inside}
-use Rattle.tables.specs.Packed.{numberIn, isRegisterIn, isCellIn, isShortIn, basedIn, cellIn, widthIn, unpacked, meaningsOf, packedAt}
+use Rattle.static_rules.specs.Rules.{isRegister, isZero, isShort, isCell, isByteCell, isBare, inside}
+use Rattle.tables.specs.Packed.{numberIn, isRegisterIn, isCellIn, sizeIn, isShortIn, isByteIn, basedIn, cellIn, widthIn, unpacked, meaningsOf, packedAt}
 use Rattle.tables.specs.Stacks.{stackOf}
-use Rattle.tables.proofs.Meanings.{by-sort, register-alone, routine-alone, meaning-at}
+use Rattle.tables.proofs.Meanings.{half-is, byte-is, by-sort, register-alone, routine-alone, meaning-at}
 use Rattle.rules.specs.Parts.{subscriptAt, indexAt}
 use Rattle.rules.specs.Shows.{Listed}
 
@@ -29,19 +28,23 @@ use Rattle.rules.specs.Shows.{Listed}
 
 module _ (n m : ℕ) (b : Based) where
   pub register-sort : isRegisterIn m ≡ isRegister (unpacked n m b)
-  register-sort = by-sort (λ x. isRegisterIn m ≡ isRegister x) n m b (λ e. e) (λ e f. e) (λ e f g. e) (λ e f g. e)
+  register-sort = by-sort (λ x. isRegisterIn m ≡ isRegister x) n m b (λ e. e) (λ e f. e) (λ e f g. e) (λ e f g h. e) (λ e f g h. e)
 
   pub zero-sort : (isRegisterIn m && eqb (numberIn m) 0) ≡ isZero (unpacked n m b)
-  zero-sort = by-sort (λ x. (isRegisterIn m && eqb (numberIn m) 0) ≡ isZero x) n m b (λ e. rw e) (λ e f. rw e) (λ e f g. rw e) (λ e f g. rw e)
+  zero-sort = by-sort (λ x. (isRegisterIn m && eqb (numberIn m) 0) ≡ isZero x) n m b (λ e. rw e) (λ e f. rw e) (λ e f g. rw e) (λ e f g h. rw e) (λ e f g h. rw e)
 
   pub short-sort : (isCellIn m && isShortIn m) ≡ isShort (unpacked n m b)
   short-sort =
       by-sort (λ x. (isCellIn m && isShortIn m) ≡ isShort x) n m b (λ e. rw (register-alone m e .1)) (λ e f. rw (routine-alone m f .1))
-      (λ e f g. rw g (full-is (isShortIn m))) (λ e f g. rw g)
-    where
-      full-is : (x : Bool) → x ≡ not (isFull (if x then short else full))
-      full-is true = refl
-      full-is false = refl
+      (λ e f g. rw g (sym (half-is (sizeIn m)))) (λ e f g h. rw g) (λ e f g h. rw g)
+
+  pub byte-sort : (isCellIn m && isByteIn m) ≡ isByteCell (unpacked n m b)
+  byte-sort =
+      by-sort (λ x. (isCellIn m && isByteIn m) ≡ isByteCell x) n m b (λ e. rw (register-alone m e .1)) (λ e f. rw (routine-alone m f .1))
+      (λ e f g. rw g (sym (byte-is (sizeIn m)))) (λ e f g h. rw g) (λ e f g h. rw g)
+
+  pub cell-sort : isCellIn m ≡ isCell (unpacked n m b)
+  cell-sort = by-sort (λ x. isCellIn m ≡ isCell x) n m b (λ e. register-alone m e .1) (λ e f. routine-alone m f .1) (λ e f g. g) (λ e f g h. g) (λ e f g h. g)
 
 module _ {f : Tables} {w : Wide} {l : Thin} (s : Listed f w l) where
   -- the base of the name at token t
@@ -79,7 +82,7 @@ within-is e v n h = cases (eqb (v % e) 0) (λ z. rw z (go (eqb-true _ _ z))) (λ
         (λ x. rw (x, le-leb (v + e) (e * n) (omega (arith, q, mul-le-mul-right {m = suc (v / e)} {n = n} e (ltb-true _ _ x)))))
         (λ x. rw (x, lt-leb (v + e) (e * n) (omega (arith, q, mul-le-mul-right {m = n} {n = v / e} e (ltb-false _ _ x)))))
 
-pub inside-is : (m e v k : ℕ) → e ≡ elementSize (widthIn m) → 2 ≤ e → k ≡ numberIn m → (n : ℕ) (b : Based) → (ltb v 2147483648 && (eqb (v % e) 0 && ltb (v / e) k)) ≡ inside (cellIn n m b) v
+pub inside-is : (m e v k : ℕ) → e ≡ elementSize (widthIn m) → 1 ≤ e → k ≡ numberIn m → (n : ℕ) (b : Based) → (ltb v 2147483648 && (eqb (v % e) 0 && ltb (v / e) k)) ≡ inside (cellIn n m b) v
 inside-is m e v k q h r n b = rw (← q, ← r, within-is e v k (omega arith), below-is v)
   where
     -- the test of the sign, either way

@@ -9,7 +9,7 @@ ghost use Rattle.scopes.specs.Broken.{unbroken, rule as ruleOf, broken as broke
 ghost use Rattle.static_rules.specs.Registers.{spares as sparesOf};
 ghost use Rattle.static_rules.specs.Meaning.{Based, cell};
 ghost use Rattle.static_rules.specs.Tables.{Tables, valueAt, meaningAt};
-ghost use Rattle.static_rules.specs.Rules.{isRegister, isZero, isShort, inside, isBare, shifts, fullOnly, writeRule, registerRule, zeroRule, indexRules, subscriptRules, placeBy, placeRules, operandRules, onlyRegister, shiftRules, noShort, productRules, termRules, callRules, baseRules};
+ghost use Rattle.static_rules.specs.Rules.{isRegister, isZero, isShort, inside, isBare, shifts, fullOnly, writeRule, registerRule, zeroRule, indexRules, subscriptRules, placeBy, placeRules, operandRules, onlyRegister, shiftRules, noByte, noShort, productRules, termRules, callRules, baseRules};
 ghost use Rattle.tables.specs.Packed.{cellIn, unpacked, setOf};
 ghost use Rattle.tables.specs.Stacks.{stackOf};
 ghost use Rattle.rules.specs.Parts.{subscriptAt, indexAt, designatorAt, operandAt, termAt};
@@ -27,6 +27,7 @@ use scopes::join;
 use scopes::rule;
 use tables::element_size;
 use tables::is_array;
+use tables::is_byte;
 use tables::is_cell;
 use tables::is_long;
 use tables::is_register;
@@ -160,6 +161,14 @@ fn place_rules(shape: u32, wide: &[u64], thin: &[u16], t: usize) -> Broken
     broken(8, t)
 }
 
+// "A byte cell in an assignment or condition, or as a FOR limit, is refusal 8."
+pub fn no_byte(wide: &[u64], thin: &[u16], t: usize) -> Broken
+    ensures { λ x. ⌜ ((f : Tables) → Listed f (wideOf (now (wide .entry))) (thinOf (now (thin .entry))) → (shape : ℕ) → x ≡ noByte f (designatorAt shape t)) ⌝ }
+{
+    let m = meaning(wide, thin, t);
+    rule(!(is_cell(m) & is_byte(m)), 8, t)
+}
+
 pub fn operand_rules(shape: u32, wide: &[u64], thin: &[u16], t: usize) -> Broken
     requires { ⌜ t < 4294967296 ⌝ }
     ensures { λ x. ⌜ ((f : Tables) → Listed f (wideOf (now (wide .entry))) (thinOf (now (thin .entry))) → x ≡ operandRules f (operandAt shape t)) ⌝ }
@@ -167,7 +176,8 @@ pub fn operand_rules(shape: u32, wide: &[u64], thin: &[u16], t: usize) -> Broken
     if shape == tape::NUMBER {
         return none();
     }
-    place_rules(shape, wide, thin, t)
+    let fits = place_rules(shape, wide, thin, t);
+    join(fits, no_byte(wide, thin, t))
 }
 
 // One register name and nothing else.

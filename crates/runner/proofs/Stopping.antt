@@ -11,9 +11,10 @@ use borrow.Author.Tests.{leb-true, le-leb, eq-eqb, ne-eqb, eqb-true, eqb-false}
 use Rattle.base.specs.Choose.{choose}
 use Rattle.base.proofs.Tests.{cases, by-test}
 use Rattle.machine.specs.Space.{Space, room, origin, readable, writable}
-use Rattle.machine.specs.Instructions.{Short, applies, multiplies, branches, ends, unlisted, Long, appliesTo, multipliesBy, stores, branchesTo, links, shifts, unlistedLong, shortKind, longKind}
-use Rattle.machine.specs.Step.{Cpu, Turn, Stepped, stepped, went, halted, address, asked, completed, shortBy, longBy, step}
+use Rattle.machine.specs.Instructions.{Short, applies, multiplies, branches, ends, unlisted, Long, appliesTo, multipliesBy, stores, branchesTo, links, shifts, addresses, moves, compares, unlistedLong, shortKind, longKind}
+use Rattle.machine.specs.Step.{Cpu, Turn, Stepped, stepped, went, halted, address, asked, completed, indexOf, shortBy, longBy, step}
 use Rattle.machine.specs.Run.{Result, result, counted, onward, run}
+use Rattle.machine.proofs.Operands.{byte-aligned}
 use Rattle.machine.proofs.Stops.{stopped-same}
 use Rattle.runner.specs.Stops.{noShort, noLong, isNone, endsAt, isEnd, misalignedAt, isMisaligned, forbiddenAt, isForbidden, firstOf, reached}
 
@@ -57,7 +58,7 @@ paired-stop true t u c d = operand-stop t u c d
 paired-stop false t u c d = refl
 
 long-stop : (k : Long) (m : Space) (rx b d : ℕ) (c : Cpu) (s : List ℕ)
-    → longBy k m rx b d c s .turn .stop ≡ firstOf (noLong k rx) false (misalignedAt k (address (c .regs) (rx % 16) b d)) (forbiddenAt k m (address (c .regs) (rx % 16) b d))
+    → longBy k m rx b d c s .turn .stop ≡ firstOf (noLong k rx) false (misalignedAt k (address (c .regs) (indexOf k (rx % 16)) b d)) (forbiddenAt k m (address (c .regs) (indexOf k (rx % 16)) b d))
 long-stop (appliesTo n f) m rx b d c s = let a = address (c .regs) (rx % 16) b d in operand-stop (eqb (a % n) 0) (readable m a n) c _
 long-stop multipliesBy m rx b d c s = let a = address (c .regs) (rx % 16) b d in paired-stop (eqb (rx / 16 % 2) 0) (eqb (a % 4) 0) (readable m a 4) c _
 long-stop (stores n) m rx b d c s = let a = address (c .regs) (rx % 16) b d in stored-stop (eqb (a % n) 0) (writable m a n) c _ s _
@@ -68,6 +69,9 @@ long-stop branchesTo m rx b d c s = go (asked (rx / 16) (c .code)) _ _
     go false e f = refl
 long-stop links m rx b d c s = refl
 long-stop (shifts f) m rx b d c s = refl
+long-stop addresses m rx b d c s = refl
+long-stop moves m rx b d c s = let a = address (c .regs) 0 b d in rw (byte-aligned a) (stored-stop true (writable m a 1) c _ s _)
+long-stop compares m rx b d c s = let a = address (c .regs) 0 b d in rw (byte-aligned a) (operand-stop true (readable m a 1) c _)
 long-stop unlistedLong m rx b d c s = refl
 
 pub first-cause : (m : Space) (c : Cpu) (s : List ℕ) → step m c s .turn .stop ≡ firstOf (isNone m c s) (isEnd c s) (isMisaligned c s) (isForbidden m c s)
@@ -204,6 +208,9 @@ module _ (c : Cpu) (s : List ℕ) where
   long-24 branchesTo m rx b d h = turns (asked (rx / 16) (c .code)) _ _ (omega arith) (omega arith)
   long-24 links m rx b d h = omega arith
   long-24 (shifts f) m rx b d h = omega arith
+  long-24 addresses m rx b d h = omega arith
+  long-24 moves m rx b d h = let a = address (c .regs) 0 b d in either (eqb (a % 1) 0) _ _ (either (writable m a 1) _ _ (omega arith) (omega arith)) (omega arith)
+  long-24 compares m rx b d h = let a = address (c .regs) 0 b d in turns (eqb (a % 1) 0) _ _ (turns (readable m a 1) _ _ (omega arith) (omega arith)) (omega arith)
   long-24 unlistedLong m rx b d h = omega arith
 
   pub step-24 : (m : Space) → m .program ≤ room → c .counter < 2 ^ 24 → step m c s .turn .cpu .counter < 2 ^ 24

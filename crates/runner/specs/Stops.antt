@@ -6,8 +6,9 @@ use lib.Dec.{ltb, leb, eqb}
 use lib.ListN.{getD}
 use Rattle.base.specs.Choose.{choose}
 use Rattle.machine.specs.Space.{Space, origin, readable, writable}
-use Rattle.machine.specs.Instructions.{Short, applies, multiplies, branches, ends, unlisted, Long, appliesTo, multipliesBy, stores, branchesTo, links, shifts, unlistedLong, shortKind, longKind}
-use Rattle.machine.specs.Step.{Cpu, address, completed, step}
+use Rattle.machine.specs.Instructions.{Short, applies, multiplies, branches, ends, unlisted, Long, appliesTo, multipliesBy, stores, branchesTo, links, shifts, addresses, moves, compares, unlistedLong, shortKind, longKind}
+use Rattle.machine.specs.Step.{Cpu, completed, step}
+use Rattle.machine.specs.Operands.{operandAddress}
 
 -- ── the instruction at the counter ──
 
@@ -23,11 +24,6 @@ isShort c s = ltb (opcode c s) 64
 
 abbrev pub size : Cpu → List ℕ → ℕ
 size c s = choose (isShort c s) 2 4
-
--- the operand's address: base·16 + displacement/256, displacement mod 256 stand in the last two bytes
-abbrev pub operandAt : Cpu → List ℕ → ℕ
-operandAt c s =
-    address (c .regs) (second c s % 16) (getD s (c .counter + 2) 0 / 16) (getD s (c .counter + 2) 0 % 16 * 256 + getD s (c .counter + 3) 0)
 
 -- ── "4 an odd counter, an instruction not wholly in the program's bytes, one not listed, or an odd register field in 1C or 5C" ──
 
@@ -52,6 +48,9 @@ noLong (stores n) rx = false
 noLong branchesTo rx = false
 noLong links rx = false
 noLong (shifts f) rx = false
+noLong addresses rx = false
+noLong moves rx = false
+noLong compares rx = false
 noLong unlistedLong rx = true
 
 abbrev pub isNone : Space → Cpu → List ℕ → Bool
@@ -79,10 +78,13 @@ misalignedAt (stores n) a = not (eqb (a % n) 0)
 misalignedAt branchesTo a = false
 misalignedAt links a = false
 misalignedAt (shifts f) a = false
+misalignedAt addresses a = false
+misalignedAt moves a = false
+misalignedAt compares a = false
 misalignedAt unlistedLong a = false
 
 abbrev pub isMisaligned : Cpu → List ℕ → Bool
-isMisaligned c s = choose (isShort c s) false (misalignedAt (longKind (opcode c s)) (operandAt c s))
+isMisaligned c s = choose (isShort c s) false (misalignedAt (longKind (opcode c s)) (operandAddress c s))
 
 -- "What is read must lie wholly in one data segment's bytes, what is stored in its writable part."
 abbrev pub forbiddenAt : Long → Space → ℕ → Bool
@@ -92,10 +94,13 @@ forbiddenAt (stores n) m a = not (writable m a n)
 forbiddenAt branchesTo m a = false
 forbiddenAt links m a = false
 forbiddenAt (shifts f) m a = false
+forbiddenAt addresses m a = false
+forbiddenAt moves m a = not (writable m a 1)
+forbiddenAt compares m a = not (readable m a 1)
 forbiddenAt unlistedLong m a = false
 
 abbrev pub isForbidden : Space → Cpu → List ℕ → Bool
-isForbidden m c s = choose (isShort c s) false (forbiddenAt (longKind (opcode c s)) m (operandAt c s))
+isForbidden m c s = choose (isShort c s) false (forbiddenAt (longKind (opcode c s)) m (operandAddress c s))
 
 -- ── "Several at once: 0 first, then 4, 1, 3, 2." ──
 

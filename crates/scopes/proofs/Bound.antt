@@ -8,7 +8,7 @@ use lib.Dec.{eqb}
 use lib.ListN.{getD}
 use Rattle.base.specs.Choose.{if_then_else_}
 use Rattle.base.specs.Lists.{_∈_}
-use Rattle.grammar.specs.Events.{Route, labelled, sent, Phrase, aimed, driven, signed, given, joined, tested, limited, called, Event, edge, route, entry, phrase, mark}
+use Rattle.grammar.specs.Events.{Route, labelled, sent, Phrase, aimed, driven, signed, given, joined, tested, limited, called, applied, argued, counted, Event, edge, route, entry, phrase, mark}
 use Rattle.grammar.specs.Places.{Place, Along}
 use Rattle.grammar.proofs.Places.{along-with}
 use Rattle.scopes.specs.Search.{inBlock, find}
@@ -35,6 +35,9 @@ module _ (found goes : List ℕ) where
   GoesPhrase (tested t c) p = Unit {0}
   GoesPhrase (limited d v a) p = Unit {0}
   GoesPhrase (called n) p = Bound (getD found n 0) (namesIn p)
+  GoesPhrase (applied n) p = Unit {0}
+  GoesPhrase (argued n q a) p = Unit {0}
+  GoesPhrase (counted n k) p = Unit {0}
 
   abbrev pub GoesRoute : Route → Place → Type 0
   GoesRoute (labelled l) p = Unit {0}
@@ -88,6 +91,9 @@ module _ (keys : List ℕ) where
     goes-phrase (tested t c) p h = tt
     goes-phrase (limited d v a) p h = tt
     goes-phrase (called n) p h = by-search _ _ (namesIn p) (h .0)
+    goes-phrase (applied n) p h = tt
+    goes-phrase (argued n q a) p h = tt
+    goes-phrase (counted n k) p h = tt
 
     goes-route : (r : Route) (p : Place) → LedRoute keys goes r p → GoesRoute found goes r p
     goes-route (labelled l) p h = tt

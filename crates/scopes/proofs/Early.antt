@@ -14,7 +14,7 @@ use Rattle.grammar.specs.Places.{within, body, Place, after, along}
 use Rattle.grammar.specs.Texts.{EdgeFits, InBlock, isEvent, Stands, Text}
 use Rattle.grammar.proofs.Uses.{Rise, uses-rise}
 use Rattle.grammar.proofs.Order.{Earlier, earlier-later, earlier-after}
-use Rattle.scopes.specs.Search.{firstToken, inBlock, find}
+use Rattle.scopes.specs.Search.{firstToken, around, inBlock, find, innermost}
 use Rattle.scopes.specs.Names.{Named, namesIn, noteFound, useName, useNames, declareNames, nameEvent}
 use Rattle.scopes.proofs.Finding.{declare-keeps}
 
@@ -47,8 +47,12 @@ module _ (kinds keys : List ℕ) where
   find-upto key [] i h a = h
   find-upto key (b ∷ bs) i h a = in-upto key b _ i (a .0) (find-upto key bs i h (a .1))
 
+  -- the standard names stand in front of the text
+  standard-early : All (λ (d : ℕ). d < firstToken) (innermost around)
+  standard-early = omega arith
+
   names-upto : (p : Place) (i : ℕ) → firstToken ≤ i → Earlier kinds i p → Upto i (namesIn p)
-  names-upto [] i h a = omega arith
+  names-upto [] i h a = (all-map (λ (d : ℕ). d < firstToken) (λ (d : ℕ). d < i) (innermost around) (λ d l. omega arith) standard-early, tt)
   names-upto (within b ∷ p) i h a = (a .0, names-upto p i h (a .2))
   names-upto (body n r ∷ p) i h a = names-upto p i h (a .2)
 

@@ -21,7 +21,8 @@ pub record Named : Type 0 where
   pub count : ℕ
   pub broken : Broken
 
--- the names in force at a place, innermost block first, by the tokens that declare them: "R0 to R9 and RA to RF are declared in a block around the program"
+-- the names in force at a place, innermost block first, by the tokens that declare them: "R0 to R9 and RA to RF are declared in a block around the program", and the
+-- standard functions beside them
 abbrev pub namesIn : Place → List (List ℕ)
 namesIn [] = around
 namesIn (within b ∷ p) = b .names ∷ namesIn p

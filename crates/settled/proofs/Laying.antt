@@ -35,11 +35,12 @@ values-end xs w t h q = ap (λ (k : List ℕ). onWide 0 (λ (l : List ℕ). k) w
 pub front-place : (t : ℕ) → 0 ≡ getD (placesOf inFront) t 0
 front-place t = all-getD (λ (v : ℕ). 0 ≡ v) (placesOf inFront) t 0 (
   refl,
-  (refl, (refl, (refl, (refl, (refl, (refl, (refl, (refl, (refl, (refl, (refl, (refl, (refl, (refl, (refl, (refl, tt)))))))))))))))),
+  (refl, (refl, (refl, (refl, (refl, (refl, (refl, (refl, (refl, (refl, (refl, (refl, (refl, (refl, (refl, (refl, (refl, (refl, (refl, (refl, (refl, (refl, (refl, (refl, (refl, tt))))))))))))))))))))))))),
 ) refl
 
 -- their keys
 pub front-key :
-    (t : ℕ) → getD (0 ∷ 972 ∷ 973 ∷ 974 ∷ 975 ∷ 976 ∷ 977 ∷ 978 ∷ 979 ∷ 980 ∷ 981 ∷ 982 ∷ 983 ∷ 984 ∷ 985 ∷ 986 ∷ 987 ∷ []) t 0 ≡ getD (valuesOf inFront) t 0
+    (t : ℕ) → getD (0 ∷ 972 ∷ 973 ∷ 974 ∷ 975 ∷ 976 ∷ 977 ∷ 978 ∷ 979 ∷ 980 ∷ 981 ∷ 982 ∷ 983 ∷ 984 ∷ 985 ∷ 986 ∷ 987 ∷ 660 ∷ 37344 ∷ 766 ∷ 29646 ∷ 16326 ∷ 36821 ∷ 46039637 ∷ 1372205 ∷ 28287 ∷ []) t 0
+    ≡ getD (valuesOf inFront) t 0
 unfolding numberFrom
 front-key t = refl

@@ -29,8 +29,8 @@ use token_lists::is_last;
 
 // ── the tokens ──
 
-// The register names stand in front of the text's own tokens.
-pub const FIRST_TOKEN: usize = 17;
+// The standard names stand in front of the text's own tokens: those of the registers, then those of the functions.
+pub const FIRST_TOKEN: usize = 26;
 
 // "source over 32,768 bytes".
 pub const TEXT_LIMIT: usize = 32768;
@@ -38,7 +38,34 @@ pub const TEXT_LIMIT: usize = 32768;
 // The rows that a text needs beside one for each byte: the names in front, and the end.
 pub const MORE_ROWS: usize = FIRST_TOKEN + 1;
 
-const FRONT_KINDS: [u8; FIRST_TOKEN] = [0, 1, 1, 1, 1, 1, 1, 1, 1, 1, 1, 1, 1, 1, 1, 1, 1];
+const FRONT_KINDS: [u8; FIRST_TOKEN] = [
+    0,
+    1,
+    1,
+    1,
+    1,
+    1,
+    1,
+    1,
+    1,
+    1,
+    1,
+    1,
+    1,
+    1,
+    1,
+    1,
+    1,
+    1,
+    1,
+    1,
+    1,
+    1,
+    1,
+    1,
+    1,
+    1,
+];
 
 const FRONT_KEYS: [u64; FIRST_TOKEN] = [
     0,
@@ -58,6 +85,15 @@ const FRONT_KEYS: [u64; FIRST_TOKEN] = [
     985,
     986,
     987,
+    660,
+    37344,
+    766,
+    29646,
+    16326,
+    36821,
+    46039637,
+    1372205,
+    28287,
 ];
 
 fn put_front(kinds: &mut [u8], wide: &mut [u64])

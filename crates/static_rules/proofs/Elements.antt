@@ -1,4 +1,4 @@
--- Elements have 4 or 2 bytes; what holds of both sizes is shown once, over the width. Ranges of numbers that are read as signed, as plain comparisons.
+-- Elements have 4, 2 or 1 bytes; what holds of all sizes is shown once, over the width. Ranges of numbers that are read as signed, as plain comparisons.
 use mathlib.Core.Path.{_≡_, refl, sym, _∙_}
 use mathlib.Core.Logic.{_⊎_, inl, inr}
 use mathlib.Core.Bool.{Bool, true, false, _&&_, _||_, not}
@@ -8,17 +8,19 @@ use lib.Dec.{eqb, leb, leb·zero}
 use borrow.Author.Tests.{eqb-true, leb-true, leb-false, lt-leb}
 use Rattle.base.specs.Choose.{if_then_else_}
 use Rattle.base.proofs.Tests.{cases, both}
-use Rattle.grammar.specs.Tree.{Width, full, short}
+use Rattle.grammar.specs.Tree.{Width, full, short, byte}
 use Rattle.static_rules.specs.Meaning.{Cell, elementSize}
 use Rattle.static_rules.specs.Rules.{negative, inRange, inside, fitsWidth}
 
-pub size-cases : (w : Width) → (elementSize w ≡ 4) ⊎ (elementSize w ≡ 2)
+pub size-cases : (w : Width) → (elementSize w ≡ 4) ⊎ ((elementSize w ≡ 2) ⊎ (elementSize w ≡ 1))
 size-cases full = inl refl
-size-cases short = inr refl
+size-cases short = inr (inl refl)
+size-cases (byte c) = inr (inr refl)
 
 pub size-positive : (w : Width) → 0 < elementSize w
 size-positive full = omega arith
 size-positive short = omega arith
+size-positive (byte c) = omega arith
 
 -- "is a multiple of the element size, and its element lies inside the array"
 pub inside-is : (c : Cell) (v : ℕ) → inside c v ≡ true → (v % elementSize (c .width) ≡ 0) × (v + elementSize (c .width) ≤ elementSize (c .width) * c .elements)

@@ -8,10 +8,11 @@ use Prim.Native.Nat.{ℕ}
 use lib.ListN.{length, length-set, getD}
 use Rattle.base.specs.Choose.{if_then_else_}
 use Rattle.grammar.specs.Tree.{Register, Item, Width}
-use Rattle.grammar.specs.Events.{Edge, opened, closed, entered, left, Entry, named, celled, itemed, valued, based, Phrase, aimed, driven, signed, given, joined, tested, limited, called, Event, edge, route, entry, phrase, mark}
+use Rattle.grammar.specs.Events.{Edge, opened, closed, entered, left, Entry, named, celled, itemed, valued, based, Phrase, aimed, driven, signed, given, joined, tested, limited, called, applied, argued, counted, Event, edge, route, entry, phrase, mark}
 use Rattle.grammar.specs.Places.{Place, outward}
 use Rattle.static_rules.specs.Registers.{Registers, noRegisters, addRegister, union}
-use Rattle.static_rules.specs.Meaning.{Meaning, nothing, register, cell, routine, registerOf, isProduct}
+use Rattle.static_rules.specs.Functions.{isWritten}
+use Rattle.static_rules.specs.Meaning.{Meaning, nothing, register, cell, routine, function, operandMeaning, registerOf, argumentOf, isProduct}
 use Rattle.static_rules.specs.Meanings.{Meant, mean, growWritten, write, writeText, callWrites, targetWrites, openBase, addCell, cellOf, meaningIn, ownIn, baseIn, meanPhrase, meanEvent}
 
 -- all but what is written is as it was
@@ -50,6 +51,7 @@ unfolding callWrites
 call-alike nothing own p s = alike s
 call-alike (register r) own p s = alike s
 call-alike (cell c) own p s = alike s
+call-alike (function k) own p s = alike s
 call-alike (routine r) own p s = then-alike (write-alike own r s) (text-alike own p (write own r s))
 
 target-alike : (m : Meaning) (g : ℕ → ℕ) (own : ℕ) (s : Meant) → Alike s (targetWrites m g own s)
@@ -58,10 +60,11 @@ target-alike nothing g own s = alike s
 target-alike (register r) g own s = write-alike own (g r) s
 target-alike (cell c) g own s = alike s
 target-alike (routine r) g own s = alike s
+target-alike (function k) g own s = alike s
 
-product-alike : (b : Bool) (m : Meaning) (g : ℕ → ℕ) (own : ℕ) (s : Meant) → Alike s (if b then targetWrites m g own s else s)
-product-alike true m g own s = target-alike m g own s
-product-alike false m g own s = alike s
+writes-alike : (b : Bool) (m : Meaning) (g : ℕ → ℕ) (own : ℕ) (s : Meant) → Alike s (if b then targetWrites m g own s else s)
+writes-alike true m g own s = target-alike m g own s
+writes-alike false m g own s = alike s
 
 module _ (kinds values found : List ℕ) where
   pub phrase-alike : (f : Phrase) (p : Place) (s : Meant) → Alike s (meanPhrase kinds values found f p s)
@@ -69,10 +72,13 @@ module _ (kinds values found : List ℕ) where
   phrase-alike (driven d) p s = target-alike (meaningIn found s (d .name)) _ (ownIn p) s
   phrase-alike (signed d g) p s = alike s
   phrase-alike (given d a) p s = alike s
-  phrase-alike (joined d t) p s = product-alike (isProduct kinds found (s .means) t) (meaningIn found s (d .name)) _ (ownIn p) s
+  phrase-alike (joined d t) p s = writes-alike (isProduct kinds found (s .means) t) (meaningIn found s (d .name)) _ (ownIn p) s
   phrase-alike (tested t c) p s = alike s
   phrase-alike (limited d v a) p s = alike s
   phrase-alike (called n) p s = call-alike (meaningIn found s n) (ownIn p) (getD found n 0) s
+  phrase-alike (applied n) p s = alike s
+  phrase-alike (argued n q a) p s = writes-alike (isWritten (argumentOf (meaningIn found s n) q)) (operandMeaning found (s .means) a) _ (ownIn p) s
+  phrase-alike (counted n k) p s = alike s
 
   -- what an event at a place makes of the tables s
   pub data Heeds (p : Place) (s : Meant) : Event → Meant → Type 0 where

@@ -2,7 +2,7 @@
 -- rise along the text.
 use mathlib.Core.Path.{_≡_, refl, sym, subst, _∙_}
 use mathlib.Core.Logic.{inl, inr}
-use mathlib.Core.List.{List, [], _∷_, map}
+use mathlib.Core.List.{List, [], _∷_, _++_, map}
 use Prim.Native.Nat.{ℕ, suc, _+_, _<_, _≤_}
 use native.Mathlib.Omega.{arith}
 use lib.ListN.{getD, set, length, replicate}
@@ -16,7 +16,8 @@ use Rattle.grammar.specs.Texts.{Stands, Text}
 use Rattle.grammar.proofs.Order.{text-keeps}
 use Rattle.scopes.specs.Search.{firstToken}
 use Rattle.static_rules.specs.Registers.{sixteen}
-use Rattle.static_rules.specs.Meaning.{Meaning, nothing, register, cell, routine, Cell}
+use Rattle.static_rules.specs.Functions.{nine}
+use Rattle.static_rules.specs.Meaning.{Meaning, nothing, register, cell, routine, function, Cell}
 use Rattle.static_rules.specs.Meanings.{Filled, Meant, mean, write, openBase, addCell, cellOf, newest, baseIn, meanEvent, standard}
 use Rattle.static_rules.proofs.Heeds.{Alike, Heeds, enters, names, adds, opens, other, heeds}
 use Rattle.static_rules.proofs.Lengths.{event-long}
@@ -35,6 +36,7 @@ Held ds nothing = Unit {0}
 Held ds (register r) = Unit {0}
 Held ds (cell c) = c ∈ map (λ (d : Filled). d .cell) ds
 Held ds (routine r) = Unit {0}
+Held ds (function k) = Unit {0}
 
 -- a cell is what its name means
 abbrev pub Told : List Meaning → Filled → Type 0
@@ -91,6 +93,7 @@ held-more d ds nothing h = tt
 held-more d ds (register r) h = tt
 held-more d ds (cell c) h = inr h
 held-more d ds (routine r) h = tt
+held-more d ds (function k) h = tt
 
 known-cell : (n j : ℕ) (c : Cell) (vs : List ℕ) (s : Meant) → n ≤ c .name → c .name < j → c .name < length (s .means) → c .base .segment ≤ 1 + s .bases → Known n s → Known j (addCell c vs s)
 unfolding addCell
@@ -159,10 +162,10 @@ known-standard n = record {
   falling = tt;
   held = (
     tt,
-    all-both (Held []) (map register sixteen) (replicate n nothing) (
+    all-both (Held []) (map register sixteen) (map function nine ++ replicate n nothing) (
       tt,
       (tt, (tt, (tt, (tt, (tt, (tt, (tt, (tt, (tt, (tt, (tt, (tt, (tt, (tt, (tt, tt))))))))))))))),
-    ) (all-replicate (Held []) n nothing tt),
+    ) (all-both (Held []) (map function nine) (replicate n nothing) (tt, (tt, (tt, (tt, (tt, (tt, (tt, (tt, (tt, tt))))))))) (all-replicate (Held []) n nothing tt)),
   );
   told = tt;
   opened = tt;

@@ -11,3 +11,4 @@ pub mod Bases
 pub mod Numbers
 pub mod Told
 pub mod Kept
+pub mod Uses

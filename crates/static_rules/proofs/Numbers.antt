@@ -8,16 +8,17 @@ use Rattle.base.specs.Choose.{choose}
 use Rattle.base.specs.Lists.{member}
 use Rattle.token.specs.Kinds as K
 use Rattle.grammar.specs.Tree.{Designator, Operand, number, place, Sign, plain, abs, neg, negAbs, Term, Condition, compared, bare, Width, Statement}
-use Rattle.grammar.specs.Events.{Edge, opened, closed, entered, left, Entry, named, celled, itemed, valued, based, Phrase, aimed, driven, signed, given, joined, tested, limited, called, Event, edge, route, entry, phrase, mark, eventsOf}
+use Rattle.grammar.specs.Events.{Edge, opened, closed, entered, left, Entry, named, celled, itemed, valued, based, Phrase, aimed, driven, signed, given, joined, tested, limited, called, applied, argued, counted, Event, edge, route, entry, phrase, mark, eventsOf}
 use Rattle.grammar.specs.Places.{Place, along}
 use Rattle.grammar.proofs.Places.{along-keeps}
 use Rattle.scopes.specs.declared.Broken.{Broken}
 use Rattle.scopes.specs.Broken.{unbroken, _⊕_}
 use Rattle.scopes.proofs.Numbers.{Ruled, ruled-none, ruled-at, ruled-rule, ruled-join}
-use Rattle.static_rules.specs.Meaning.{Meaning, nothing, register, cell, routine, Cell, longOperand}
+use Rattle.static_rules.specs.Functions.{Argument, writtenRegister, readRegister, byteNumber, indexedCell, plainCell, surplus}
+use Rattle.static_rules.specs.Meaning.{Meaning, nothing, register, cell, routine, function, Cell, argumentOf, longOperand}
 use Rattle.static_rules.specs.Meanings.{countOf}
 use Rattle.static_rules.specs.Tables.{Tables, kindAt, meaningAt}
-use Rattle.static_rules.specs.Rules.{writeRule, noSign, signBy, registerRule, zeroRule, indexRules, subscriptRules, placeBy, placeRules, operandRules, onlyRegister, shiftRules, noShort, productRules, termRules, shifts, fullOnly, targetBy, targetRules, controlRules, firstBy, termBy, conditionRules, callBy, callRules, valueRules, countRule, baseRules}
+use Rattle.static_rules.specs.Rules.{writeRule, noSign, signBy, registerRule, zeroRule, indexRules, subscriptRules, placeBy, placeRules, noByte, operandRules, onlyRegister, shiftRules, noShort, productRules, termRules, shifts, fullOnly, targetBy, targetRules, controlRules, firstBy, termBy, conditionRules, callBy, callRules, writtenRules, byteRules, cellRules, noIndex, plainRules, argumentRules, countBy, valueRules, countRule, baseRules}
 use Rattle.static_rules.specs.Kinds.{keptIn, edgeRules, entryRules, phraseRules, rulesAt, ruleEvent, rulesOf}
 
 write-ruled : (kept : List ℕ) (r t : ℕ) → Ruled (writeRule kept r t)
@@ -35,6 +36,18 @@ signed-ruled nothing g = ruled-none
 signed-ruled (register r) g = ruled-none
 signed-ruled (cell c) g = sign-ruled g
 signed-ruled (routine r) g = ruled-none
+signed-ruled (function k) g = ruled-none
+
+unindexed-ruled : (o : Option ℕ) → Ruled (noIndex o)
+unindexed-ruled none = ruled-none
+unindexed-ruled (some t) = ruled-at 8 t tt
+
+counted-ruled : (m : Meaning) (n k : ℕ) → Ruled (countBy m n k)
+counted-ruled nothing n k = ruled-at 8 n tt
+counted-ruled (register r) n k = ruled-at 8 n tt
+counted-ruled (cell c) n k = ruled-at 8 n tt
+counted-ruled (routine r) n k = ruled-at 8 n tt
+counted-ruled (function i) n k = ruled-rule _ 8 _ tt
 
 either : (b : Bool) (x y : Broken) → Ruled x → Ruled y → Ruled (choose b x y)
 either true x y p q = p
@@ -64,15 +77,20 @@ module _ (f : Tables) where
   placed-ruled (register r) d = ruled-rule _ 8 (d .name) tt
   placed-ruled (cell c) d = ruled-join _ _ (ruled-rule _ 8 (d .name) tt) (ruled-join _ _ (subscript-ruled c (d .subscript)) (index-ruled (d .index)))
   placed-ruled (routine r) d = ruled-at 8 (d .name) tt
+  placed-ruled (function k) d = ruled-at 8 (d .name) tt
 
   place-ruled : (d : Designator) → Ruled (placeRules f d)
   unfolding placeRules
   place-ruled d = placed-ruled (meaningAt f (d .name)) d
 
+  byte-ruled : (d : Designator) → Ruled (noByte f d)
+  unfolding noByte
+  byte-ruled d = ruled-rule _ 8 (d .name) tt
+
   operand-ruled : (a : Operand) → Ruled (operandRules f a)
   unfolding operandRules
   operand-ruled (number t) = ruled-none
-  operand-ruled (place d) = place-ruled d
+  operand-ruled (place d) = ruled-join _ _ (place-ruled d) (byte-ruled d)
 
   only-ruled : (a : Operand) → Ruled (onlyRegister f a)
   unfolding onlyRegister
@@ -106,10 +124,11 @@ module _ (f : Tables) where
   aimed-ruled (register r) kept t = write-ruled kept r t
   aimed-ruled (cell c) kept t = ruled-none
   aimed-ruled (routine r) kept t = ruled-none
+  aimed-ruled (function k) kept t = ruled-none
 
   target-ruled : (kept : List ℕ) (d : Designator) → Ruled (targetRules f kept d)
   unfolding targetRules
-  target-ruled kept d = ruled-join _ _ (place-ruled d) (aimed-ruled (meaningAt f (d .name)) kept (d .name))
+  target-ruled kept d = ruled-join _ _ (place-ruled d) (ruled-join _ _ (byte-ruled d) (aimed-ruled (meaningAt f (d .name)) kept (d .name)))
 
   control-ruled : (kept : List ℕ) (d : Designator) → Ruled (controlRules f kept d)
   unfolding controlRules
@@ -120,12 +139,14 @@ module _ (f : Tables) where
   first-ruled (register r) a = operand-ruled a
   first-ruled (cell c) a = only-ruled a
   first-ruled (routine r) a = ruled-none
+  first-ruled (function k) a = ruled-none
 
   joined-ruled : (m : Meaning) (kept : List ℕ) (t : Term) → Ruled (termBy f m kept t)
   joined-ruled nothing kept t = ruled-none
   joined-ruled (register r) kept t = term-ruled kept r t
   joined-ruled (cell c) kept t = ruled-at 8 (t .operator) tt
   joined-ruled (routine r) kept t = ruled-none
+  joined-ruled (function k) kept t = ruled-none
 
   condition-ruled : (c : Condition) → Ruled (conditionRules f c)
   unfolding conditionRules
@@ -137,10 +158,40 @@ module _ (f : Tables) where
   called-ruled (register r) kept n = ruled-at 8 n tt
   called-ruled (cell c) kept n = ruled-at 8 n tt
   called-ruled (routine r) kept n = ruled-join _ _ (write-ruled kept r n) (ruled-rule _ 10 n tt)
+  called-ruled (function k) kept n = ruled-at 8 n tt
 
   call-ruled : (kept : List ℕ) (n : ℕ) → Ruled (callRules f kept n)
   unfolding callRules
   call-ruled kept n = called-ruled (meaningAt f n) kept n
+
+  written-ruled : (kept : List ℕ) (a : Operand) → Ruled (writtenRules f kept a)
+  unfolding writtenRules
+  written-ruled kept (number t) = ruled-none
+  written-ruled kept (place d) = aimed-ruled (meaningAt f (d .name)) kept (d .name)
+
+  number-ruled : (a : Operand) → Ruled (byteRules f a)
+  unfolding byteRules
+  number-ruled (number t) = ruled-rule _ 11 t tt
+  number-ruled (place d) = ruled-at 8 (d .name) tt
+
+  cell-ruled : (a : Operand) → Ruled (cellRules f a)
+  unfolding cellRules
+  cell-ruled (number t) = ruled-at 8 t tt
+  cell-ruled (place d) = ruled-join _ _ (ruled-rule _ 8 (d .name) tt) (place-ruled d)
+
+  plain-ruled : (a : Operand) → Ruled (plainRules f a)
+  unfolding plainRules
+  plain-ruled (number t) = ruled-at 8 t tt
+  plain-ruled (place d) = ruled-join _ _ (cell-ruled (place d)) (unindexed-ruled (d .index))
+
+  argument-ruled : (kept : List ℕ) (x : Argument) (a : Operand) → Ruled (argumentRules f kept x a)
+  unfolding argumentRules
+  argument-ruled kept writtenRegister a = ruled-join _ _ (only-ruled a) (written-ruled kept a)
+  argument-ruled kept readRegister a = only-ruled a
+  argument-ruled kept byteNumber a = number-ruled a
+  argument-ruled kept indexedCell a = cell-ruled a
+  argument-ruled kept plainCell a = plain-ruled a
+  argument-ruled kept surplus a = ruled-none
 
   values-ruled : (w : Width) (room : ℕ) (ts : List ℕ) → Ruled (valueRules f w room ts)
   unfolding valueRules
@@ -180,6 +231,9 @@ module _ (f : Tables) where
   phrase-ruled (tested t c) p = condition-ruled c
   phrase-ruled (limited d v a) p = operand-ruled a
   phrase-ruled (called n) p = call-ruled (keptIn f p) n
+  phrase-ruled (applied n) p = ruled-none
+  phrase-ruled (argued n q a) p = argument-ruled (keptIn f p) (argumentOf (meaningAt f n) q) a
+  phrase-ruled (counted n k) p = counted-ruled (meaningAt f n) n k
 
   pub event-ruled : (e : Event) (p : Place) → Ruled (rulesAt f e p)
   event-ruled (edge x) p = edge-ruled x

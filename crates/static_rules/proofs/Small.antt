@@ -1,7 +1,7 @@
 -- Where no rule is broken, every register that a name means is one of 0 to 15, and so are the bases of cells and the return registers of procedures; a cell
 -- has at least one element.
 use mathlib.Core.Path.{sym, subst}
-use mathlib.Core.List.{List, [], _∷_, map}
+use mathlib.Core.List.{List, [], _∷_, _++_, map}
 use mathlib.Core.Option.{Option, none, some}
 use Prim.Native.Nat.{ℕ, _<_, _≤_}
 use native.Mathlib.Omega.{arith}
@@ -9,13 +9,14 @@ use lib.ListN.{getD, replicate}
 use Rattle.base.specs.Lists.{All}
 use Rattle.base.proofs.Lists.{all-set, all-getD, all-replicate, all-both}
 use Rattle.grammar.specs.Tree.{Statement}
-use Rattle.grammar.specs.Events.{Entry, named, celled, itemed, valued, based, Phrase, aimed, driven, signed, given, joined, tested, limited, called, Event, edge, route, entry, phrase, mark, eventsOf}
+use Rattle.grammar.specs.Events.{Entry, named, celled, itemed, valued, based, Phrase, aimed, driven, signed, given, joined, tested, limited, called, applied, argued, counted, Event, edge, route, entry, phrase, mark, eventsOf}
 use Rattle.grammar.specs.Places.{within, body, Place, Along}
-use Rattle.grammar.specs.Contexts.{Context, nowhere, aiming, declaring, contextAfter, phraseContext, Suits}
+use Rattle.grammar.specs.Contexts.{Context, nowhere, aiming, applying, declaring, contextAfter, phraseContext, Suits}
 use Rattle.grammar.proofs.Contexts.{program-coherent, along-keeps-in}
 use Rattle.scopes.proofs.Joins.{rule-holds}
 use Rattle.static_rules.specs.Registers.{sixteen}
-use Rattle.static_rules.specs.Meaning.{Meaning, nothing, register, cell, routine, meaningOf, registerOf}
+use Rattle.static_rules.specs.Functions.{nine}
+use Rattle.static_rules.specs.Meaning.{Meaning, nothing, register, cell, routine, function, meaningOf, registerOf}
 use Rattle.static_rules.specs.Meanings.{Meant, write, openBase, addCell, countOf, cellOf, meaningIn, newest, baseIn, meanEvent, meanProgram, standard}
 use Rattle.static_rules.specs.Tables.{Tables, valueAt}
 use Rattle.static_rules.specs.Rules.{inRange, mostElements}
@@ -28,6 +29,7 @@ Small nothing = Unit {0}
 Small (register r) = r < 16
 Small (cell c) = (c .base .register < 16) × (1 ≤ c .elements)
 Small (routine r) = r < 16
+Small (function k) = k < 9
 
 abbrev pub AllSmall : Meant → Type 0
 AllSmall s = All Small (s .means)
@@ -37,15 +39,23 @@ register-small nothing h = omega arith
 register-small (register r) h = h
 register-small (cell c) h = omega arith
 register-small (routine r) h = omega arith
+register-small (function k) h = omega arith
 
 pub meaning-small : (found : List ℕ) (ms : List Meaning) (t : ℕ) → All Small ms → Small (meaningOf found ms t)
 meaning-small found ms t h = all-getD Small ms (getD found t 0) nothing h tt
 
 pub standard-small : (n : ℕ) → AllSmall (standard n)
-standard-small n = (tt, all-both Small (map register sixteen) (replicate n nothing) small (all-replicate Small n nothing tt))
+standard-small n = (
+  tt,
+  all-both Small (map register sixteen) (map function nine ++ replicate n nothing) registers
+      (all-both Small (map function nine) (replicate n nothing) functions (all-replicate Small n nothing tt)),
+)
   where
-    small : All Small (map register sixteen)
-    small = omega arith
+    registers : All Small (map register sixteen)
+    registers = omega arith
+
+    functions : All Small (map function nine)
+    functions = omega arith
 
 module _ (f : Tables) where
   -- the register of the name at token t, in tables that are small
@@ -65,6 +75,7 @@ module _ (f : Tables) where
   abbrev Counted : Context → Type 0
   Counted nowhere = Unit {0}
   Counted (aiming d) = Unit {0}
+  Counted (applying n p) = Unit {0}
   Counted (declaring n w ts) = 1 ≤ countOf (f .values) n
 
   counted-entry : (d : Entry) (p : Place) (c : Context) → Unbroken f (entry d) p → Suits (entry d) c → Counted c → Counted (contextAfter (entry d) c)
@@ -84,13 +95,16 @@ module _ (f : Tables) where
   counted-phrase (tested t x) c h = tt
   counted-phrase (limited d v a) c h = tt
   counted-phrase (called n) c h = tt
+  counted-phrase (applied n) c h = tt
+  counted-phrase (argued n q a) c h = tt
+  counted-phrase (counted n k) c h = tt
 
-  counted : (e : Event) (p : Place) (c : Context) → Unbroken f e p → Suits e c → Counted c → Counted (contextAfter e c)
-  counted (edge x) p c q u h = tt
-  counted (route x) p c q u h = tt
-  counted (entry x) p c q u h = counted-entry x p c q u h
-  counted (phrase x) p c q u h = counted-phrase x c h
-  counted (mark x) p c q u h = tt
+  counted-event : (e : Event) (p : Place) (c : Context) → Unbroken f e p → Suits e c → Counted c → Counted (contextAfter e c)
+  counted-event (edge x) p c q u h = tt
+  counted-event (route x) p c q u h = tt
+  counted-event (entry x) p c q u h = counted-entry x p c q u h
+  counted-event (phrase x) p c q u h = counted-phrase x c h
+  counted-event (mark x) p c q u h = tt
 
   record SmallIn (c : Context) (s : Meant) : Type 0 where
     means : AllSmall s
@@ -110,6 +124,6 @@ module _ (f : Tables) where
   pub meant-small : (x : Statement) (s : Meant) → Along (Unbroken f) (eventsOf x) [] → AllSmall s → AllSmall (meanProgram (f .kinds) (f .values) (f .found) x s)
   meant-small x s q h =
       let (c, k, r) = along-keeps-in (meanEvent (f .kinds) (f .values) (f .found)) (Unbroken f) SmallIn
-      (λ e p c s q u h. record { means = heeds-small (heeds (f .kinds) (f .values) (f .found) e p s) c q u h; count = counted e p c q u (h .count) })
+      (λ e p c s q u h. record { means = heeds-small (heeds (f .kinds) (f .values) (f .found) e p s) c q u h; count = counted-event e p c q u (h .count) })
       (eventsOf x) [] nowhere s q (program-coherent x) (record { means = h; count = tt }) in
       r .means

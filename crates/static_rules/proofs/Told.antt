@@ -14,16 +14,17 @@ use Rattle.base.specs.Lists.{All}
 use Rattle.base.proofs.Tests.{never-true}
 use Rattle.grammar.specs.Tree.{Designator, Operand, number, place, Term}
 use Rattle.grammar.specs.Derives.{isRegister}
-use Rattle.grammar.specs.Events.{Edge, opened, closed, entered, left, labelled, sent, Entry, named, celled, itemed, valued, based, Phrase, aimed, driven, signed, given, joined, tested, limited, called, Event, edge, route, entry, phrase, mark, uses, operandNames}
+use Rattle.grammar.specs.Events.{Edge, opened, closed, entered, left, labelled, sent, Entry, named, celled, itemed, valued, based, Phrase, aimed, driven, signed, given, joined, tested, limited, called, applied, argued, counted, Event, edge, route, entry, phrase, mark, uses, operandNames}
 use Rattle.grammar.specs.Places.{within, body, Place, outward, enterName, enterEntry, enterLabel, after, along, Along}
 use Rattle.grammar.specs.Texts.{Stands, Text}
-use Rattle.grammar.specs.Contexts.{Context, nowhere, aiming, declaring, laterValues, Aims, Suits, contextAfter, Coherent}
+use Rattle.grammar.specs.Contexts.{Context, nowhere, aiming, applying, declaring, laterValues, Aims, Applies, Suits, contextAfter, Coherent}
 use Rattle.grammar.proofs.Texts.{text-rises}
 use Rattle.grammar.proofs.Uses.{Rise, uses-rise}
 use Rattle.grammar.proofs.Order.{Earlier, earlier-after}
 use Rattle.token.specs.Kinds as K
 use Rattle.static_rules.specs.Registers.{Registers, noRegisters, has, addRegister, union}
-use Rattle.static_rules.specs.Meaning.{Meaning, nothing, register, cell, routine, Based, Cell, registerOf, isLong, longOperand, isProduct}
+use Rattle.static_rules.specs.Functions.{Argument, isWritten}
+use Rattle.static_rules.specs.Meaning.{Meaning, nothing, register, cell, routine, function, Based, Cell, operandMeaning, registerOf, argumentOf, isLong, longOperand, isProduct}
 use Rattle.static_rules.specs.Meanings.{Meant, growWritten, write, writeText, callWrites, targetWrites, openBase, addCell, cellOf, meaningIn, ownIn, newest, baseIn, meanPhrase, meanEvent}
 use Rattle.static_rules.specs.Rules as R
 use Rattle.static_rules.proofs.Flags.{add-has, add-keeps, union-left, union-right}
@@ -67,17 +68,19 @@ target-grows nothing g own s u x h k = k
 target-grows (register r) g own s u x h k = write-grows own (g r) s u x h k
 target-grows (cell c) g own s u x h k = k
 target-grows (routine r) g own s u x h k = k
+target-grows (function i) g own s u x h k = k
 
 call-grows : (m : Meaning) (own n : ℕ) (s : Meant) → Grows s (callWrites m own n s)
 unfolding callWrites
 call-grows nothing own n s u x h k = k
 call-grows (register r) own n s u x h k = k
 call-grows (cell c) own n s u x h k = k
+call-grows (function i) own n s u x h k = k
 call-grows (routine r) own n s u x h k = text-grows own n (write own r s) u x h (write-grows own r s u x h k)
 
-product-grows : (b : Bool) (m : Meaning) (g : ℕ → ℕ) (own : ℕ) (s : Meant) → Grows s (if b then targetWrites m g own s else s)
-product-grows true m g own s = target-grows m g own s
-product-grows false m g own s = λ u x h k. k
+writes-grows : (b : Bool) (m : Meaning) (g : ℕ → ℕ) (own : ℕ) (s : Meant) → Grows s (if b then targetWrites m g own s else s)
+writes-grows true m g own s = target-grows m g own s
+writes-grows false m g own s = λ u x h k. k
 
 -- what is added to the set of a procedure is in it
 own-has : (own : ℕ) (g : Registers → Registers) (s : Meant) (x : ℕ) → own < length (s .written) → has (g (getD (s .written) own noRegisters)) x ≡ true
@@ -173,6 +176,10 @@ module _ (kinds values found : List ℕ) where
     ToldPhrase (called n) p =
         (r : ℕ) → r < 16 → meaningIn found z n ≡ routine r → 0 < getD found n 0 → NotAround (getD found n 0) p
         → WrittenBy z (ownIn p) r × ((x : ℕ) → x < 16 → WrittenBy z (getD found n 0) x → WrittenBy z (ownIn p) x)
+    ToldPhrase (applied n) p = Unit {0}
+    ToldPhrase (argued n q a) p =
+        (r : ℕ) → r < 16 → operandMeaning found (z .means) a ≡ register r → isWritten (argumentOf (meaningIn found z n) q) ≡ true → WrittenBy z (ownIn p) r
+    ToldPhrase (counted n k) p = Unit {0}
 
     abbrev pub Told : Event → Place → Type 0
     Told (edge x) p = ToldEdge x
@@ -188,10 +195,13 @@ module _ (kinds values found : List ℕ) where
   phrase-grows (driven d) p s = target-grows (meaningIn found s (d .name)) _ (ownIn p) s
   phrase-grows (signed d g) p s = λ u x h k. k
   phrase-grows (given d a) p s = λ u x h k. k
-  phrase-grows (joined d t) p s = product-grows (isProduct kinds found (s .means) t) (meaningIn found s (d .name)) _ (ownIn p) s
+  phrase-grows (joined d t) p s = writes-grows (isProduct kinds found (s .means) t) (meaningIn found s (d .name)) _ (ownIn p) s
   phrase-grows (tested t c) p s = λ u x h k. k
   phrase-grows (limited d v a) p s = λ u x h k. k
   phrase-grows (called n) p s = call-grows (meaningIn found s n) (ownIn p) (getD found n 0) s
+  phrase-grows (applied n) p s = λ u x h k. k
+  phrase-grows (argued n q a) p s = writes-grows (isWritten (argumentOf (meaningIn found s n) q)) (operandMeaning found (s .means) a) _ (ownIn p) s
+  phrase-grows (counted n k) p s = λ u x h l. l
 
   event-grows : (e : Event) (p : Place) (s : Meant) → Grows s (step e p s)
   unfolding meanEvent openBase addCell
@@ -226,29 +236,34 @@ module _ (kinds values found : List ℕ) where
   target-same (register r) g own u s n = elsewhere own u (addRegister (g r)) s n
   target-same (cell c) g own u s n = refl
   target-same (routine r) g own u s n = refl
+  target-same (function k) g own u s n = refl
 
   call-same : (m : Meaning) (own d u : ℕ) (s : Meant) → (u ≡ own → ⊥) → Same s (callWrites m own d s) u
   unfolding callWrites writeText write
   call-same nothing own d u s n = refl
   call-same (register r) own d u s n = refl
   call-same (cell c) own d u s n = refl
+  call-same (function k) own d u s n = refl
   call-same (routine r) own d u s n =
       let t = growWritten own (addRegister r) s in
       elsewhere own u (union (getD (t .written) d noRegisters)) t n ∙ elsewhere own u (addRegister r) s n
 
-  product-same : (b : Bool) (m : Meaning) (g : ℕ → ℕ) (own u : ℕ) (s : Meant) → (u ≡ own → ⊥) → Same s (if b then targetWrites m g own s else s) u
-  product-same true m g own u s n = target-same m g own u s n
-  product-same false m g own u s n = refl
+  writes-same : (b : Bool) (m : Meaning) (g : ℕ → ℕ) (own u : ℕ) (s : Meant) → (u ≡ own → ⊥) → Same s (if b then targetWrites m g own s else s) u
+  writes-same true m g own u s n = target-same m g own u s n
+  writes-same false m g own u s n = refl
 
   phrase-same : (x : Phrase) (p : Place) (s : Meant) (u : ℕ) → (u ≡ ownIn p → ⊥) → Same s (meanPhrase kinds values found x p s) u
   phrase-same (aimed d) p s u n = target-same (meaningIn found s (d .name)) _ (ownIn p) u s n
   phrase-same (driven d) p s u n = target-same (meaningIn found s (d .name)) _ (ownIn p) u s n
   phrase-same (signed d g) p s u n = refl
   phrase-same (given d a) p s u n = refl
-  phrase-same (joined d t) p s u n = product-same (isProduct kinds found (s .means) t) (meaningIn found s (d .name)) _ (ownIn p) u s n
+  phrase-same (joined d t) p s u n = writes-same (isProduct kinds found (s .means) t) (meaningIn found s (d .name)) _ (ownIn p) u s n
   phrase-same (tested t c) p s u n = refl
   phrase-same (limited d v a) p s u n = refl
   phrase-same (called m) p s u n = call-same (meaningIn found s m) (ownIn p) (getD found m 0) u s n
+  phrase-same (applied m) p s u n = refl
+  phrase-same (argued m q a) p s u n = writes-same (isWritten (argumentOf (meaningIn found s m) q)) (operandMeaning found (s .means) a) _ (ownIn p) u s n
+  phrase-same (counted m k) p s u n = refl
 
   event-same : (e : Event) (p : Place) (s : Meant) (u : ℕ) → 0 < u → NotAround u p → Same s (step e p s) u
   unfolding meanEvent openBase addCell writeText write
@@ -317,20 +332,23 @@ module _ (kinds values found : List ℕ) where
 
   -- ── what stands open ──
 
-  -- the target that stands open is before token i
+  -- the target, or the name of the use, that stands open is before token i
   abbrev Aimed : ℕ → Context → Type 0
   Aimed i nowhere = Unit {0}
   Aimed i (aiming d) = d .name < i
+  Aimed i (applying n q) = n < i
   Aimed i (declaring n w ts) = Unit {0}
 
   aimed-later : {i k : ℕ} (c : Context) → i ≤ k → Aimed i c → Aimed k c
   aimed-later nowhere h a = tt
   aimed-later (aiming d) h a = omega arith
+  aimed-later (applying n q) h a = omega arith
   aimed-later (declaring n w ts) h a = tt
 
   values-aimed : (i : ℕ) (c : Context) → Aimed i c → Aimed i (laterValues c)
   values-aimed i nowhere a = tt
   values-aimed i (aiming d) a = a
+  values-aimed i (applying n q) a = a
   values-aimed i (declaring n w []) a = tt
   values-aimed i (declaring n w (t ∷ ts)) a = tt
 
@@ -342,28 +360,38 @@ module _ (kinds values found : List ℕ) where
   uses-before : (e : Event) (p : Place) (i : ℕ) (x : Stands kinds e p i) → All (λ (t : ℕ). t < x .to) (uses e)
   uses-before e p i x = before (uses e) (x .from) (x .to) (uses-rise kinds e (x .from) (x .to) (x .rises) (x .is)) .1
 
-  aimed-after : (e : Event) (p : Place) (i : ℕ) (x : Stands kinds e p i) (c : Context) → Aimed i c → Aimed (x .to) (contextAfter e c)
-  aimed-after (edge y) p i x c a = tt
-  aimed-after (route y) p i x c a = tt
-  aimed-after (entry (named r)) p i x c a = tt
-  aimed-after (entry (celled n w)) p i x c a = tt
-  aimed-after (entry (itemed n w d)) p i x c a = tt
-  aimed-after (entry (valued t)) p i x c a = values-aimed (x .to) c (aimed-later c (omega arith) a)
-  aimed-after (entry (based n)) p i x c a = tt
-  aimed-after (phrase (aimed d)) p i x c a = uses-before (phrase (aimed d)) p i x .0
-  aimed-after (phrase (driven d)) p i x c a = uses-before (phrase (driven d)) p i x .0
-  aimed-after (phrase (signed d g)) p i x c a = aimed-later c (omega arith) a
-  aimed-after (phrase (given d b)) p i x c a = aimed-later c (omega arith) a
-  aimed-after (phrase (joined d t)) p i x c a = aimed-later c (omega arith) a
-  aimed-after (phrase (tested t y)) p i x c a = tt
-  aimed-after (phrase (limited d v b)) p i x c a = tt
-  aimed-after (phrase (called n)) p i x c a = tt
-  aimed-after (mark m) p i x c a = tt
-
   target-before : (d : Designator) (i : ℕ) (c : Context) → Aims d c → Aimed i c → d .name < i
   target-before d i nowhere h a = absurd h
   target-before d i (aiming y) h a = subst (λ (e : Designator). e .name < i) h a
+  target-before d i (applying n q) h a = absurd h
   target-before d i (declaring n w ts) h a = absurd h
+
+  use-before : (n q i : ℕ) (c : Context) → Applies n q c → Aimed i c → n < i
+  use-before n q i nowhere h a = absurd h
+  use-before n q i (aiming y) h a = absurd h
+  use-before n q i (applying m k) h a = subst (λ (e : ℕ). e < i) (h .0) a
+  use-before n q i (declaring m w ts) h a = absurd h
+
+  aimed-after : (e : Event) (p : Place) (i : ℕ) (x : Stands kinds e p i) (c : Context) → Suits e c → Aimed i c → Aimed (x .to) (contextAfter e c)
+  aimed-after (edge y) p i x c g a = tt
+  aimed-after (route y) p i x c g a = tt
+  aimed-after (entry (named r)) p i x c g a = tt
+  aimed-after (entry (celled n w)) p i x c g a = tt
+  aimed-after (entry (itemed n w d)) p i x c g a = tt
+  aimed-after (entry (valued t)) p i x c g a = values-aimed (x .to) c (aimed-later c (omega arith) a)
+  aimed-after (entry (based n)) p i x c g a = tt
+  aimed-after (phrase (aimed d)) p i x c g a = uses-before (phrase (aimed d)) p i x .0
+  aimed-after (phrase (driven d)) p i x c g a = uses-before (phrase (driven d)) p i x .0
+  aimed-after (phrase (signed d v)) p i x c g a = aimed-later c (omega arith) a
+  aimed-after (phrase (given d b)) p i x c g a = aimed-later c (omega arith) a
+  aimed-after (phrase (joined d t)) p i x c g a = aimed-later c (omega arith) a
+  aimed-after (phrase (tested t y)) p i x c g a = tt
+  aimed-after (phrase (limited d v b)) p i x c g a = tt
+  aimed-after (phrase (called n)) p i x c g a = tt
+  aimed-after (phrase (applied n)) p i x c g a = uses-before (phrase (applied n)) p i x .0
+  aimed-after (phrase (argued n q b)) p i x c g a = let h = use-before n q i c g a in omega arith
+  aimed-after (phrase (counted n k)) p i x c g a = tt
+  aimed-after (mark m) p i x c g a = tt
 
   -- ── by names that are found no later than they stand ──
 
@@ -401,10 +429,10 @@ module _ (kinds values found : List ℕ) where
     unfolding targetWrites
     target-has m g own r s e l h = subst (λ (k : Meaning). WrittenBy (targetWrites k g own s) own (g r)) (sym e) (write-has own (g r) s l h)
 
-    product-has : (b : Bool) (m : Meaning) (g : ℕ → ℕ) (own r : ℕ) (s : Meant) → b ≡ true → m ≡ register r → own < length (s .written) → g r < 16
+    writes-has : (b : Bool) (m : Meaning) (g : ℕ → ℕ) (own r : ℕ) (s : Meant) → b ≡ true → m ≡ register r → own < length (s .written) → g r < 16
         → WrittenBy (if b then targetWrites m g own s else s) own (g r)
-    product-has true m g own r s t e l h = target-has m g own r s e l h
-    product-has false m g own r s t e l h = never-true t
+    writes-has true m g own r s t e l h = target-has m g own r s e l h
+    writes-has false m g own r s t e l h = never-true t
 
     call-has : (m : Meaning) (own n r : ℕ) (s : Meant) → m ≡ routine r → own < length (s .written) → r < 16
         → WrittenBy (callWrites m own n s) own r × ((x : ℕ) → x < 16 → WrittenBy s n x → WrittenBy (callWrites m own n s) own x)
@@ -427,6 +455,11 @@ module _ (kinds values found : List ℕ) where
         go (number n) h = refl
         go (place d) h = ap isLong (sym (f (d .name) (h .0)))
 
+    operand-alike : (a : Operand) (to : ℕ) (s z : Meant) → ((u : ℕ) → u < to → meaningIn found s u ≡ meaningIn found z u) → All (λ (u : ℕ). u < to) (operandNames a)
+        → operandMeaning found (s .means) a ≡ operandMeaning found (z .means) a
+    operand-alike (number n) to s z f h = refl
+    operand-alike (place d) to s z f h = f (d .name) (h .0)
+
     phrase-told : (x : Phrase) (p : Place) (i : ℕ) (y : Stands kinds (phrase x) p i) (c : Context) (s z : Meant) → Suits (phrase x) c → Aimed i c → ownIn p < length (s .written)
         → Finished (y .to) (meanPhrase kinds values found x p s) z
         → ((u : ℕ) → 0 < u → u < y .to → NotAround u p → Same (meanPhrase kinds values found x p s) z u) → ToldPhrase z x p
@@ -440,7 +473,7 @@ module _ (kinds values found : List ℕ) where
         let b = target-before d i c g a in
         let same = product-alike t (y .to) s z (meaning-then (joined d t) p i y s z l e) (uses-before (phrase (joined d t)) p i y) in
         e .grows (ownIn p) (r - 1) (omega arith)
-        (product-has _ _ (λ k. k - 1) (ownIn p) r s (sym same ∙ q) (meaning-then (joined d t) p i y s z l e (d .name) (omega arith) ∙ m) l (omega arith))
+        (writes-has _ _ (λ k. k - 1) (ownIn p) r s (sym same ∙ q) (meaning-then (joined d t) p i y s z l e (d .name) (omega arith) ∙ m) l (omega arith))
     phrase-told (tested t v) p i y c s z g a l e f = tt
     phrase-told (limited d v b) p i y c s z g a l e f = tt
     phrase-told (called n) p i y c s z g a l e f = λ r h m pos around.
@@ -452,6 +485,14 @@ module _ (kinds values found : List ℕ) where
           e .grows (ownIn p) r h (has-both .0),
           λ v b w. e .grows (ownIn p) v b (has-both .1 v b (subst (λ (o : Registers). has o v ≡ true) kept w)),
         )
+    phrase-told (applied n) p i y c s z g a l e f = tt
+    phrase-told (argued n q b) p i y c s z g a l e f = λ r h m w.
+        let o = use-before n q i c g a in
+        let known = meaning-then (argued n q b) p i y s z l e in
+        let same = operand-alike b (y .to) s z known (uses-before (phrase (argued n q b)) p i y) in
+        e .grows (ownIn p) r h
+        (writes-has _ _ (λ k. k) (ownIn p) r s (ap (λ (k : Meaning). isWritten (argumentOf k q)) (known n (omega arith)) ∙ w) (same ∙ m) l h)
+    phrase-told (counted n k) p i y c s z g a l e f = tt
 
     -- ── declarations and bodies ──
 
@@ -529,5 +570,5 @@ module _ (kinds values found : List ℕ) where
           event-told e p i y c s last k a b (omega arith) (omega arith) (omega arith) (stays-text kinds values found (e ∷ es) p i j s (y, t))
               (record { stays = tail; grows = grows-along es (after e p) next; bases = bases-along es (after e p) next })
               (λ u h l q. same-along es (after e p) (y .to) j next u t h l q),
-          told-text es (after e p) (y .to) j (contextAfter e c) next t ks (aimed-after e p i y c a) (earlier-after kinds e p i y b) (omega arith) (omega arith) (omega arith) (omega arith),
+          told-text es (after e p) (y .to) j (contextAfter e c) next t ks (aimed-after e p i y c k a) (earlier-after kinds e p i y b) (omega arith) (omega arith) (omega arith) (omega arith),
         )

@@ -1,5 +1,6 @@
 -- The files of this crate's definitions.
 pub mod Registers
+pub mod Functions
 pub mod Meaning
 pub mod Meanings
 pub mod Tables

@@ -8,10 +8,11 @@ use lib.ListN.{getD, set, replicate}
 use Rattle.base.specs.Choose.{if_then_else_}
 use Rattle.scopes.specs.Search.{firstToken}
 use Rattle.grammar.specs.Tree.{Item, Width, Statement}
-use Rattle.grammar.specs.Events.{Edge, opened, closed, entered, left, Entry, named, celled, itemed, valued, based, Phrase, aimed, driven, signed, given, joined, tested, limited, called, Event, edge, route, entry, phrase, mark, eventsOf}
+use Rattle.grammar.specs.Events.{Edge, opened, closed, entered, left, Entry, named, celled, itemed, valued, based, Phrase, aimed, driven, signed, given, joined, tested, limited, called, applied, argued, counted, Event, edge, route, entry, phrase, mark, eventsOf}
 use Rattle.grammar.specs.Places.{within, body, Place, outward, along}
 use Rattle.static_rules.specs.Registers.{Registers, sixteen, noRegisters, addRegister, union}
-use Rattle.static_rules.specs.Meaning.{Meaning, nothing, register, cell, routine, Based, Cell, meaningOf, byTarget, registerOf, isProduct}
+use Rattle.static_rules.specs.Functions.{isWritten, nine}
+use Rattle.static_rules.specs.Meaning.{Meaning, nothing, register, cell, routine, function, Based, Cell, meaningOf, operandMeaning, byTarget, registerOf, argumentOf, isProduct}
 
 -- a cell with its initial values
 pub record Filled : Type 0 where
@@ -55,7 +56,7 @@ writeText own p s = growWritten own (union (getD (s .written) p noRegisters)) s
 
 -- "A call writes the procedure's return register and all that its body's text writes, nested procedures and base declarations included, through calls too."
 unfoldable pub callWrites : Meaning → ℕ → ℕ → Meant → Meant
-callWrites m own p s = elim m [ nothing ↦ s | register r ↦ s | cell c ↦ s | routine r ↦ writeText own p (write own r s) ]
+callWrites m own p s = elim m [ nothing ↦ s | register r ↦ s | cell c ↦ s | routine r ↦ writeText own p (write own r s) | function k ↦ s ]
 
 -- a target that is a register r writes register g r
 unfoldable pub targetWrites : Meaning → (ℕ → ℕ) → ℕ → Meant → Meant
@@ -116,7 +117,7 @@ module _ (kinds values found : List ℕ) where
   meanEntry (valued t) p s = s
   meanEntry (based n) p s = openBase (ownIn p) (registerOf (meaningIn found s n)) n s
 
-  -- a product "also writes the register below"
+  -- a product "also writes the register below"; of a function's arguments "IC, LA and LTR write the first"
   abbrev pub meanPhrase : Phrase → Place → Meant → Meant
   meanPhrase (aimed d) p s = targetWrites (meaningIn found s (d .name)) (λ r. r) (ownIn p) s
   meanPhrase (driven d) p s = targetWrites (meaningIn found s (d .name)) (λ r. r) (ownIn p) s
@@ -126,6 +127,9 @@ module _ (kinds values found : List ℕ) where
   meanPhrase (tested t c) p s = s
   meanPhrase (limited d v a) p s = s
   meanPhrase (called n) p s = callWrites (meaningIn found s n) (ownIn p) (getD found n 0) s
+  meanPhrase (applied n) p s = s
+  meanPhrase (argued n q a) p s = if isWritten (argumentOf (meaningIn found s n) q) then targetWrites (operandMeaning found (s .means) a) (λ r. r) (ownIn p) s else s
+  meanPhrase (counted n k) p s = s
 
   unfoldable pub meanEvent : Event → Place → Meant → Meant
   meanEvent (edge x) p s = meanEdge x p s
@@ -137,8 +141,9 @@ module _ (kinds values found : List ℕ) where
   abbrev pub meanProgram : Statement → Meant → Meant
   meanProgram x s = along meanEvent (eventsOf x) [] s
 
--- before a text of n tokens, with token 0 and the register names in front: tokens 1 to 16 mean the registers 0 to 15, and no other token means anything
+-- before a text of n tokens, with token 0 and the standard names in front: tokens 1 to 16 mean the registers 0 to 15, tokens 17 to 25 the standard functions, and no
+-- other token means anything
 abbrev pub standard : ℕ → Meant
 standard n =
     let m : ℕ = firstToken + n in
-    record { means = nothing ∷ (map register sixteen ++ replicate n nothing); opens = replicate m 0; written = replicate m noRegisters; cells = []; bases = 0 }
+    record { means = nothing ∷ (map register sixteen ++ (map function nine ++ replicate n nothing)); opens = replicate m 0; written = replicate m noRegisters; cells = []; bases = 0 }

@@ -9,11 +9,12 @@ use lib.ListN.{getD}
 use Rattle.base.specs.Choose.{if_then_else_}
 use Rattle.base.specs.Lists.{member}
 use Rattle.token.specs.Kinds as K
-use Rattle.grammar.specs.Tree.{Designator, Operand, number, place, Sign, plain, abs, neg, negAbs, Term, Condition, compared, bare, Width, full, short}
+use Rattle.grammar.specs.Tree.{Designator, Operand, number, place, Sign, plain, abs, neg, negAbs, Term, Condition, compared, bare, Width, full, short, byte}
 use Rattle.scopes.specs.declared.Broken.{Broken}
 use Rattle.scopes.specs.Broken.{unbroken, rule, broken, _⊕_}
 use Rattle.static_rules.specs.Registers.{noRegisters, spares}
-use Rattle.static_rules.specs.Meaning.{Meaning, nothing, register, cell, routine, Cell, elementSize, isFull, byTarget, registerOf, longOperand}
+use Rattle.static_rules.specs.Functions.{Argument, writtenRegister, readRegister, byteNumber, indexedCell, plainCell, surplus, functionAt, arity}
+use Rattle.static_rules.specs.Meaning.{Meaning, nothing, register, cell, routine, function, Cell, elementSize, isHalf, isByte, byTarget, registerOf, cellIs, longOperand}
 use Rattle.static_rules.specs.Tables.{Tables, kindAt, valueAt, meaningAt}
 
 -- "Program base is register 15. Data base is 14 … Protected at a point: 15, 14, the bases of enclosing blocks declared so far, the return registers of
@@ -63,7 +64,13 @@ abbrev pub fullOnly : List ℕ
 fullOnly = K.AND ∷ K.OR ∷ K.XOR ∷ K.ADD-LOGICAL ∷ K.SUBTRACT-LOGICAL ∷ []
 
 abbrev pub isShort : Meaning → Bool
-isShort m = elim m [ nothing ↦ false | register r ↦ false | cell c ↦ not (isFull (c .width)) | routine r ↦ false ]
+isShort m = cellIs isHalf m
+
+abbrev pub isCell : Meaning → Bool
+isCell m = cellIs (λ w. true) m
+
+abbrev pub isByteCell : Meaning → Bool
+isByteCell m = cellIs isByte m
 
 abbrev pub noSign : Sign → Broken
 noSign plain = unbroken
@@ -75,10 +82,24 @@ noSign (negAbs t) = broken 8 t
 abbrev pub signBy : Meaning → Sign → Broken
 signBy m g = byTarget m (λ r. unbroken) (noSign g) unbroken
 
--- "A value for a short cell has signed value -32768 to 65535"
+-- "an index there is refusal 8", at its name
+abbrev pub noIndex : Option ℕ → Broken
+noIndex none = unbroken
+noIndex (some t) = broken 8 t
+
+-- "or a wrong count at the function's name"; what is no function takes no arguments at all
+abbrev pub countBy : Meaning → (name count : ℕ) → Broken
+countBy nothing n count = broken 8 n
+countBy (register r) n count = broken 8 n
+countBy (cell c) n count = broken 8 n
+countBy (routine r) n count = broken 8 n
+countBy (function k) n count = rule (eqb count (arity (functionAt k))) 8 n
+
+-- "A value for a short cell has signed value -32768 to 65535"; of byte cells "initial values 0 to 255"
 abbrev pub fitsWidth : Width → ℕ → Bool
 fitsWidth full v = true
 fitsWidth short v = if negative v then leb (4294967296 - 32768) v else leb v 65535
+fitsWidth (byte c) v = inRange 0 255 v
 
 -- "11: … array count not 1 to 2,048"
 abbrev pub mostElements : ℕ
@@ -115,13 +136,18 @@ module _ (f : Tables) where
   placeBy (register r) d = rule (bareName d) 8 (d .name)
   placeBy (cell c) d = rule (c .array || bareName d) 8 (d .name) ⊕ subscriptRules c (d .subscript) ⊕ indexRules (d .index)
   placeBy (routine r) d = broken 8 (d .name)
+  placeBy (function k) d = broken 8 (d .name)
 
   unfoldable pub placeRules : Designator → Broken
   placeRules d = placeBy (meaningAt f (d .name)) d
 
+  -- "A byte cell in an assignment or condition, or as a FOR limit, is refusal 8."
+  unfoldable pub noByte : Designator → Broken
+  noByte d = rule (not (isByteCell (meaningAt f (d .name)))) 8 (d .name)
+
   unfoldable pub operandRules : Operand → Broken
   operandRules (number t) = unbroken
-  operandRules (place d) = placeRules d
+  operandRules (place d) = placeRules d ⊕ noByte d
 
   -- one register name and nothing else
   unfoldable pub onlyRegister : Operand → Broken
@@ -159,7 +185,7 @@ module _ (f : Tables) where
   targetBy m kept t = byTarget m (λ r. writeRule kept r t) unbroken unbroken
 
   unfoldable pub targetRules : List ℕ → Designator → Broken
-  targetRules kept d = placeRules d ⊕ targetBy (meaningAt f (d .name)) kept (d .name)
+  targetRules kept d = placeRules d ⊕ noByte d ⊕ targetBy (meaningAt f (d .name)) kept (d .name)
 
   -- the FOR target is a register
   unfoldable pub controlRules : List ℕ → Designator → Broken
@@ -184,9 +210,40 @@ module _ (f : Tables) where
   callBy (register r) kept n = broken 8 n
   callBy (cell c) kept n = broken 8 n
   callBy (routine r) kept n = writeRule kept r n ⊕ rule (spares (getD (f .written) (getD (f .found) n 0) noRegisters) kept) 10 n
+  callBy (function k) kept n = broken 8 n
 
   unfoldable pub callRules : List ℕ → ℕ → Broken
   callRules kept n = callBy (meaningAt f n) kept n
+
+  -- ── uses of functions ──
+
+  -- "IC, LA and LTR write the first, so the protected rule counts it": at the register's name
+  unfoldable pub writtenRules : List ℕ → Operand → Broken
+  writtenRules kept (number t) = unbroken
+  writtenRules kept (place d) = targetBy (meaningAt f (d .name)) kept (d .name)
+
+  -- "MVI and CLI take a number 0 to 255, else 11"
+  unfoldable pub byteRules : Operand → Broken
+  byteRules (number t) = rule (inRange 0 255 (valueAt f t)) 11 t
+  byteRules (place d) = broken 8 (d .name)
+
+  -- "a cell that may be indexed", of any width
+  unfoldable pub cellRules : Operand → Broken
+  cellRules (number t) = broken 8 t
+  cellRules (place d) = rule (isCell (meaningAt f (d .name))) 8 (d .name) ⊕ placeRules d
+
+  unfoldable pub plainRules : Operand → Broken
+  plainRules (number t) = broken 8 t
+  plainRules (place d) = cellRules (place d) ⊕ noIndex (d .index)
+
+  -- "as is a wrong kind of argument"
+  unfoldable pub argumentRules : List ℕ → Argument → Operand → Broken
+  argumentRules kept writtenRegister a = onlyRegister a ⊕ writtenRules kept a
+  argumentRules kept readRegister a = onlyRegister a
+  argumentRules kept byteNumber a = byteRules a
+  argumentRules kept indexedCell a = cellRules a
+  argumentRules kept plainCell a = plainRules a
+  argumentRules kept surplus a = unbroken
 
   -- ── declarations ──
 

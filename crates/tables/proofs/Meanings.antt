@@ -5,15 +5,15 @@ use mathlib.Core.List.{List, [], _∷_}
 use Prim.Native.Nat.{ℕ, zero, suc, _+_, _*_, _/_, _%_, _≤_, _<_}
 use native.Mathlib.Omega.{arith}
 use native.Mathlib.Nat.{add-zero, zero-add}
-use lib.Dec.{eqb}
+use lib.Dec.{eqb, leb}
 use lib.ListN.{getD, set, length}
 use lib.Seq.{getD-set-same, getD-set-other}
-use borrow.Author.Tests.{eqb-true}
+use borrow.Author.Tests.{eqb-true, ne-eqb, le-leb}
 use Rattle.base.specs.Choose.{choose, if_then_else_}
 use Rattle.base.proofs.Tests.{cases, by-test, never-true}
-use Rattle.grammar.specs.Tree.{full, short}
-use Rattle.static_rules.specs.Meaning.{Meaning, nothing, register, cell, routine, Based, registerOf, isFull, isLong}
-use Rattle.tables.specs.Packed.{REGISTER, ROUTINE, CELL, ARRAY, SORTS, low, packed, sortIn, numberIn, isRegisterIn, isRoutineIn, isArrayIn, isCellIn, isShortIn, basedIn, cellIn, unpacked, meaningsFrom, meaningsOf, registerIn, longIn, packedAt}
+use Rattle.grammar.specs.Tree.{Width, full, short, byte}
+use Rattle.static_rules.specs.Meaning.{Meaning, nothing, register, cell, routine, function, Based, registerOf, isFull, isHalf, isByte, isLong}
+use Rattle.tables.specs.Packed.{REGISTER, ROUTINE, CELL, ARRAY, FUNCTION, SORTS, WIDTHS, low, packed, sortIn, numberIn, isRegisterIn, isRoutineIn, isArrayIn, isCellIn, isFunctionIn, sizeIn, isFullIn, widthBy, basedIn, cellIn, unpacked, meaningsFrom, meaningsOf, registerIn, longIn, packedAt}
 
 pub low-low : (v : ℕ) → low (low v) ≡ low v
 unfolding low
@@ -29,7 +29,7 @@ low-lt v = omega arith
 
 -- ── what was packed comes out ──
 
-module _ (sort w v : ℕ) (few : sort < SORTS) (bit : w < 2) where
+module _ (sort w v : ℕ) (few : sort < SORTS) (bits : w < WIDTHS) where
   pub packed-number : numberIn (packed sort w v) ≡ low v
   unfolding numberIn packed low
   packed-number = omega arith
@@ -38,9 +38,9 @@ module _ (sort w v : ℕ) (few : sort < SORTS) (bit : w < 2) where
   unfolding packed low
   packed-sort = omega arith
 
-  packed-width : packed sort w v / SORTS % 2 ≡ w
-  unfolding packed low
-  packed-width = omega arith
+  packed-size : sizeIn (packed sort w v) ≡ w
+  unfolding sizeIn packed low
+  packed-size = omega arith
 
   packed-register-sort : isRegisterIn (packed sort w v) ≡ eqb sort REGISTER
   unfolding isRegisterIn
@@ -58,13 +58,30 @@ module _ (sort w v : ℕ) (few : sort < SORTS) (bit : w < 2) where
   unfolding isCellIn
   packed-cell-sort = ap (λ (s : ℕ). eqb s CELL || eqb s ARRAY) packed-sort
 
-  packed-short : isShortIn (packed sort w v) ≡ eqb w 1
-  unfolding isShortIn
-  packed-short = ap (λ (x : ℕ). eqb x 1) packed-width
+  packed-function-sort : isFunctionIn (packed sort w v) ≡ eqb sort FUNCTION
+  unfolding isFunctionIn
+  packed-function-sort = ap (λ (s : ℕ). eqb s FUNCTION) packed-sort
 
 pub based-is : (r s : ℕ) → s < 4294967296 → basedIn (r * 4294967296 + s) ≡ record { register = r; segment = s }
 unfolding basedIn
 based-is r s h = ap₂ (λ (x y : ℕ). record { register = x; segment = y }) (omega arith) (omega arith)
+
+-- ── widths ──
+
+-- what holds of each width, by its number
+by-width : (P : ℕ → Width → Type 0) (w : ℕ) → P 0 full → P 1 short → (2 ≤ w → P w (byte (eqb w 3))) → P w (widthBy w)
+by-width P zero f g h = f
+by-width P (suc zero) f g h = g
+by-width P (suc (suc w)) f g h = rw (ne-eqb (suc (suc w)) 0 (λ e. omega arith), ne-eqb (suc (suc w)) 1 (λ e. omega arith)) (h (omega arith))
+
+full-is : (w : ℕ) → isFull (widthBy w) ≡ eqb w 0
+full-is w = by-width (λ n x. isFull x ≡ eqb n 0) w refl refl (λ h. sym (ne-eqb w 0 (λ e. omega arith)))
+
+pub half-is : (w : ℕ) → isHalf (widthBy w) ≡ eqb w 1
+half-is w = by-width (λ n x. isHalf x ≡ eqb n 1) w refl refl (λ h. sym (ne-eqb w 1 (λ e. omega arith)))
+
+pub byte-is : (w : ℕ) → isByte (widthBy w) ≡ leb 2 w
+byte-is w = by-width (λ n x. isByte x ≡ leb 2 n) w refl refl (λ h. sym (le-leb 2 w h))
 
 -- ── by what it is ──
 
@@ -72,9 +89,12 @@ module _ (P : Meaning → Type 0) (t m : ℕ) (b : Based) where
   pub by-sort :
       (isRegisterIn m ≡ true → P (register (numberIn m))) → (isRegisterIn m ≡ false → isRoutineIn m ≡ true → P (routine (numberIn m)))
       → (isRegisterIn m ≡ false → isRoutineIn m ≡ false → isCellIn m ≡ true → P (cell (cellIn t m b)))
-      → (isRegisterIn m ≡ false → isRoutineIn m ≡ false → isCellIn m ≡ false → P nothing) → P (unpacked t m b)
+      → (isRegisterIn m ≡ false → isRoutineIn m ≡ false → isCellIn m ≡ false → isFunctionIn m ≡ true → P (function (numberIn m)))
+      → (isRegisterIn m ≡ false → isRoutineIn m ≡ false → isCellIn m ≡ false → isFunctionIn m ≡ false → P nothing) → P (unpacked t m b)
   unfolding unpacked
-  by-sort f g h k = by-test P (isRegisterIn m) _ _ f (λ x. by-test P (isRoutineIn m) _ _ (g x) (λ y. by-test P (isCellIn m) _ _ (h x y) (k x y)))
+  by-sort f g h i k =
+      by-test P (isRegisterIn m) _ _ f
+      (λ x. by-test P (isRoutineIn m) _ _ (g x) (λ y. by-test P (isCellIn m) _ _ (h x y) (λ z. by-test P (isFunctionIn m) _ _ (i x y z) (k x y z))))
 
 -- no two of these are one
 pub routine-alone : (m : ℕ) → isRoutineIn m ≡ true → (isRegisterIn m ≡ false) × (isCellIn m ≡ false)
@@ -90,6 +110,10 @@ cell-alone m e =
     cases (isRegisterIn m) (λ r. never-true (sym (register-alone m r .1) ∙ e)) (λ r.
     cases (isRoutineIn m) (λ q. never-true (sym (routine-alone m q .1) ∙ e)) (λ q. (r, q)))
 
+pub function-alone : (m : ℕ) → isFunctionIn m ≡ true → (isRegisterIn m ≡ false) × (isRoutineIn m ≡ false) × (isCellIn m ≡ false)
+unfolding isFunctionIn isRoutineIn isRegisterIn isCellIn
+function-alone m e = rw (eqb-true (sortIn m) FUNCTION e) (refl, refl, refl)
+
 module _ (t m : ℕ) (b : Based) where
   pub as-register : isRegisterIn m ≡ true → unpacked t m b ≡ register (numberIn m)
   unfolding unpacked
@@ -103,22 +127,23 @@ module _ (t m : ℕ) (b : Based) where
   unfolding unpacked
   as-cell e = rw (cell-alone m e .0, cell-alone m e .1, e)
 
-  pub as-nothing : isRegisterIn m ≡ false → isRoutineIn m ≡ false → isCellIn m ≡ false → unpacked t m b ≡ nothing
+  pub as-function : isFunctionIn m ≡ true → unpacked t m b ≡ function (numberIn m)
   unfolding unpacked
-  as-nothing e f g = rw (e, f, g)
+  as-function e = rw (function-alone m e .0, function-alone m e .1, function-alone m e .2, e)
+
+  pub as-nothing : isRegisterIn m ≡ false → isRoutineIn m ≡ false → isCellIn m ≡ false → isFunctionIn m ≡ false → unpacked t m b ≡ nothing
+  unfolding unpacked
+  as-nothing e f g h = rw (e, f, g, h)
 
 pub register-is : (t m : ℕ) (b : Based) → registerOf (unpacked t m b) ≡ registerIn m
 unfolding registerIn
-register-is t m b = by-sort (λ x. registerOf x ≡ registerIn m) t m b (λ e. rw e) (λ e f. rw e) (λ e f g. rw e) (λ e f g. rw e)
+register-is t m b = by-sort (λ x. registerOf x ≡ registerIn m) t m b (λ e. rw e) (λ e f. rw e) (λ e f g. rw e) (λ e f g h. rw e) (λ e f g h. rw e)
 
 pub long-is : (t m : ℕ) (b : Based) → isLong (unpacked t m b) ≡ longIn m
 unfolding longIn
 long-is t m b =
-    by-sort (λ x. isLong x ≡ longIn m) t m b (λ e. rw e) (λ e f. rw (e, routine-alone m f .1)) (λ e f g. rw (e, g) (full-is (isShortIn m))) (λ e f g. rw (e, g))
-  where
-    full-is : (x : Bool) → isFull (if x then short else full) ≡ not x
-    full-is true = refl
-    full-is false = refl
+    by-sort (λ x. isLong x ≡ longIn m) t m b (λ e. rw e) (λ e f. rw (e, routine-alone m f .1)) (λ e f g. rw (e, g) (full-is (sizeIn m)))
+    (λ e f g h. rw (e, g)) (λ e f g h. rw (e, g))
 
 pub packed-register : (t v : ℕ) (b : Based) → unpacked t (packed REGISTER 0 v) b ≡ register (low v)
 packed-register t v b =
@@ -128,10 +153,14 @@ pub packed-routine : (t v : ℕ) (b : Based) → unpacked t (packed ROUTINE 0 v)
 packed-routine t v b =
     as-routine t (packed ROUTINE 0 v) b (packed-routine-sort ROUTINE 0 v (omega arith) (omega arith)) ∙ ap routine (packed-number ROUTINE 0 v (omega arith) (omega arith))
 
+pub packed-function : (t v : ℕ) (b : Based) → unpacked t (packed FUNCTION 0 v) b ≡ function (low v)
+packed-function t v b =
+    as-function t (packed FUNCTION 0 v) b (packed-function-sort FUNCTION 0 v (omega arith) (omega arith)) ∙ ap function (packed-number FUNCTION 0 v (omega arith) (omega arith))
+
 -- ── one name's meaning ──
 
 meaning-from : (ms bs : List ℕ) (k i : ℕ) → getD (meaningsFrom k ms bs) i nothing ≡ unpacked (k + i) (getD ms i 0) (basedIn (getD bs (k + i) 0))
-unfolding meaningsFrom unpacked isRegisterIn isRoutineIn isCellIn
+unfolding meaningsFrom unpacked isRegisterIn isRoutineIn isCellIn isFunctionIn
 meaning-from [] bs k i = refl
 meaning-from (m ∷ ms) bs k zero = rw (add-zero k)
 meaning-from (m ∷ ms) bs k (suc i) = let e : k + suc i ≡ suc k + i = omega arith in rw e (meaning-from ms bs (suc k) i)
@@ -174,8 +203,8 @@ meaning-set-both ms bs i m b h =
 
 -- cells and arrays
 pub packed-cell :
-    (t v sort w : ℕ) (b : Based) → (sort < SORTS) × (w < 2) → (eqb sort CELL || eqb sort ARRAY) ≡ true
-    → unpacked t (packed sort w v) b ≡ cell (record { name = t; base = b; width = if eqb w 1 then short else full; elements = low v; array = eqb sort ARRAY })
+    (t v sort w : ℕ) (b : Based) → (sort < SORTS) × (w < WIDTHS) → (eqb sort CELL || eqb sort ARRAY) ≡ true
+    → unpacked t (packed sort w v) b ≡ cell (record { name = t; base = b; width = widthBy w; elements = low v; array = eqb sort ARRAY })
 packed-cell t v sort w b (h, k) e =
     as-cell t (packed sort w v) b (packed-cell-sort sort w v h k ∙ e)
-    ∙ rw (packed-short sort w v h k, packed-number sort w v h k, packed-array-sort sort w v h k)
+    ∙ rw (packed-size sort w v h k, packed-number sort w v h k, packed-array-sort sort w v h k)

@@ -1,14 +1,14 @@
 -- What a name means, in one number: from the low end its sort, with room for more sorts than there are; the width of a cell's elements; a number of 32 bits. Sets of registers,
 -- in one number: a bit a register.
 use mathlib.Core.List.{List, [], _∷_, map}
-use mathlib.Core.Bool.{Bool, not, _&&_, _||_}
+use mathlib.Core.Bool.{Bool, _&&_, _||_}
 use Prim.Native.Nat.{ℕ, suc, _+_, _*_, _/_, _%_, _^_}
-use lib.Dec.{eqb}
+use lib.Dec.{eqb, leb}
 use lib.ListN.{getD, set}
 use Rattle.base.specs.Choose.{if_then_else_}
-use Rattle.grammar.specs.Tree.{Width, full, short}
+use Rattle.grammar.specs.Tree.{Width, full, short, byte}
 use Rattle.static_rules.specs.Registers.{Registers, flags, noRegisters}
-use Rattle.static_rules.specs.Meaning.{Meaning, nothing, register, cell, routine, Based, Cell}
+use Rattle.static_rules.specs.Meaning.{Meaning, nothing, register, cell, routine, function, Based, Cell}
 
 -- ── meanings ──
 
@@ -25,6 +25,9 @@ CELL = 3
 abbrev pub ARRAY : ℕ
 ARRAY = 4
 
+abbrev pub FUNCTION : ℕ
+FUNCTION = 5
+
 -- as many as there is room for
 abbrev pub SORTS : ℕ
 SORTS = 16
@@ -33,15 +36,18 @@ SORTS = 16
 unfoldable pub low : ℕ → ℕ
 low v = v % 4294967296
 
--- the width of a cell's elements is 0, or 1 if they are short; of what is no cell it is 0
+-- the width of a cell's elements: 0, 1 if they are short, 2 and 3 if they are bytes, by the word BYTE or CHARACTER; of what is no cell it is 0
+abbrev pub WIDTHS : ℕ
+WIDTHS = 4
+
 unfoldable pub packed : (sort width number : ℕ) → ℕ
-packed sort w v = (low v * 2 + w) * SORTS + sort
+packed sort w v = (low v * WIDTHS + w) * SORTS + sort
 
 abbrev pub sortIn : ℕ → ℕ
 sortIn m = m % SORTS
 
 unfoldable pub numberIn : ℕ → ℕ
-numberIn m = low (m / SORTS / 2)
+numberIn m = low (m / SORTS / WIDTHS)
 
 unfoldable pub isRegisterIn : ℕ → Bool
 isRegisterIn m = eqb (sortIn m) REGISTER
@@ -55,11 +61,27 @@ isArrayIn m = eqb (sortIn m) ARRAY
 unfoldable pub isCellIn : ℕ → Bool
 isCellIn m = eqb (sortIn m) CELL || eqb (sortIn m) ARRAY
 
-unfoldable pub isShortIn : ℕ → Bool
-isShortIn m = eqb (m / SORTS % 2) 1
+unfoldable pub isFunctionIn : ℕ → Bool
+isFunctionIn m = eqb (sortIn m) FUNCTION
+
+unfoldable pub sizeIn : ℕ → ℕ
+sizeIn m = m / SORTS % WIDTHS
+
+abbrev pub isFullIn : ℕ → Bool
+isFullIn m = eqb (sizeIn m) 0
+
+abbrev pub isShortIn : ℕ → Bool
+isShortIn m = eqb (sizeIn m) 1
+
+abbrev pub isByteIn : ℕ → Bool
+isByteIn m = leb 2 (sizeIn m)
+
+-- the width by its number
+abbrev pub widthBy : ℕ → Width
+widthBy w = if eqb w 0 then full else if eqb w 1 then short else byte (eqb w 3)
 
 abbrev pub widthIn : ℕ → Width
-widthIn m = if isShortIn m then short else full
+widthIn m = widthBy (sizeIn m)
 
 -- a base in force: its register, and below it its segment
 unfoldable pub basedIn : ℕ → Based
@@ -74,6 +96,7 @@ unpacked t m b =
     if isRegisterIn m then register (numberIn m) else
     if isRoutineIn m then routine (numberIn m) else
     if isCellIn m then cell (cellIn t m b) else
+    if isFunctionIn m then function (numberIn m) else
     nothing
 
 -- by token, from token t on
@@ -90,7 +113,7 @@ registerIn m = if isRegisterIn m then numberIn m else 0
 
 -- "`*` … by what begins with the name of a register or integer cell"
 unfoldable pub longIn : ℕ → Bool
-longIn m = isRegisterIn m || (isCellIn m && not (isShortIn m))
+longIn m = isRegisterIn m || (isCellIn m && isFullIn m)
 
 -- the packed meaning of the name at token t
 abbrev pub packedAt : List ℕ → List ℕ → ℕ → ℕ

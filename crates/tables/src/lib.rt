@@ -5,7 +5,7 @@ ghost use lib.ListN.{getD, length};
 ghost use Rattle.base.specs.Choose.{if_then_else_};
 ghost use Rattle.static_rules.specs.Meaning.{elementSize};
 ghost use Rattle.static_rules.specs.Registers.{noRegisters, addRegister, union, has as hasOf};
-ghost use Rattle.tables.specs.Packed.{low, packed as packedOf, numberIn, isRegisterIn, isRoutineIn, isArrayIn, isCellIn, isShortIn, widthIn, registerIn, longIn, packedAt, setOf, setsOf, grown};
+ghost use Rattle.tables.specs.Packed.{low, packed as packedOf, numberIn, isRegisterIn, isRoutineIn, isArrayIn, isCellIn, isFunctionIn, sizeIn, isShortIn, isByteIn, widthIn, registerIn, longIn, packedAt, setOf, setsOf, grown};
 ghost use Rattle.tables.specs.Stacks.{stackOf, top as topOf};
 use arrays::get;
 use arrays::key;
@@ -19,20 +19,24 @@ pub const CELL: u64 = 3;
 
 pub const ARRAY: u64 = 4;
 
+pub const FUNCTION: u64 = 5;
+
 const SORTS: u64 = 16;
 
-// A number of 32 bits, what it is a number of, and the width of a cell's elements: 1 if they are short.
+const WIDTHS: u64 = 4;
+
+// A number of 32 bits, what it is a number of, and the width of a cell's elements: 1 if they are short, 2 or 3 if they are bytes.
 pub fn packed(sort: u64, width: u64, v: u64) -> u64
-    requires { ⌜ (sort < 16) × (width < 2) ⌝ }
+    requires { ⌜ (sort < 16) × (width < 4) ⌝ }
     ensures { λ r. ⌜ r ≡ packedOf sort width v ⌝ }
 {
-    (v % 4294967296 * 2 + width) * SORTS + sort
+    (v % 4294967296 * WIDTHS + width) * SORTS + sort
 }
 
 pub fn number(m: u64) -> u64
     ensures { λ r. ⌜ (r ≡ numberIn m) × (r < 4294967296) ⌝ }
 {
-    m / SORTS / 2 % 4294967296
+    m / SORTS / WIDTHS % 4294967296
 }
 
 pub fn is_register(m: u64) -> bool
@@ -59,21 +63,45 @@ pub fn is_cell(m: u64) -> bool
     (m % SORTS == CELL) | (m % SORTS == ARRAY)
 }
 
+pub fn is_function(m: u64) -> bool
+    ensures { λ r. ⌜ r ≡ isFunctionIn m ⌝ }
+{
+    m % SORTS == FUNCTION
+}
+
+// The width of a cell's elements, by its number.
+pub fn size(m: u64) -> u64
+    ensures { λ r. ⌜ (r ≡ sizeIn m) × (r < 4) ⌝ }
+{
+    m / SORTS % WIDTHS
+}
+
 // The elements of a cell are short.
 pub fn is_short(m: u64) -> bool
     ensures { λ r. ⌜ r ≡ isShortIn m ⌝ }
 {
-    m / SORTS % 2 == 1
+    size(m) == 1
 }
 
-// "(4, or 2 for short)".
-pub fn element_size(m: u64) -> u64
-    ensures { λ r. ⌜ (r ≡ elementSize (widthIn m)) × (2 ≤ r) × (r ≤ 4) ⌝ }
+// The elements of a cell are bytes.
+pub fn is_byte(m: u64) -> bool
+    ensures { λ r. ⌜ r ≡ isByteIn m ⌝ }
 {
-    if is_short(m) {
+    2 <= size(m)
+}
+
+// "(4, or 2 for short)"; "one byte".
+pub fn element_size(m: u64) -> u64
+    ensures { λ r. ⌜ (r ≡ elementSize (widthIn m)) × (1 ≤ r) × (r ≤ 4) ⌝ }
+{
+    let w = size(m);
+    if w == 0 {
+        return 4;
+    }
+    if w == 1 {
         return 2;
     }
-    4
+    1
 }
 
 // The register that a packed meaning is, or 0.
@@ -90,7 +118,7 @@ pub fn register(m: u64) -> u64
 pub fn is_long(m: u64) -> bool
     ensures { λ r. ⌜ r ≡ longIn m ⌝ }
 {
-    is_register(m) | (is_cell(m) & !is_short(m))
+    is_register(m) | (is_cell(m) & (size(m) == 0))
 }
 
 // What the name at token t means.

@@ -8,18 +8,18 @@ use native.Mathlib.Omega.{arith}
 use lib.Dec.{T, eqb}
 use borrow.Author.Tests.{eqb-true}
 use Rattle.base.proofs.Tests.{cases}
-use Rattle.grammar.specs.Tree.{Designator, Operand, number, place, Sign, plain, abs, neg, negAbs, Condition, compared, bare, Width, full, short}
+use Rattle.grammar.specs.Tree.{Designator, Operand, number, place, Sign, plain, abs, neg, negAbs, Condition, compared, bare}
 use Rattle.grammar.specs.Derives.{isDesignator, isOperand, isCondition}
 use Rattle.grammar.specs.Pinned.{headOf, shapePinned, designatorPinned}
 use Rattle.grammar.proofs.Pinned.{pinned-designator, pinned-operand}
-use Rattle.grammar.specs.Events.{Edge, opened, closed, entered, left, Route, labelled, sent, Entry, named, celled, itemed, valued, based, Phrase, aimed, driven, signed, given, joined, tested, limited, called, Mark, looped, otherwise, endedIf, endedElse, endedWhile, endedFor, Event, edge, route, entry, phrase, mark, indexNames, operandNames, conditionNames, phraseUses, uses, declares}
+use Rattle.grammar.specs.Events.{Edge, opened, closed, entered, left, Route, labelled, sent, Entry, named, celled, itemed, valued, based, Phrase, aimed, driven, signed, given, joined, tested, limited, called, applied, argued, counted, Mark, looped, otherwise, endedIf, endedElse, endedWhile, endedFor, Event, edge, route, entry, phrase, mark, indexNames, operandNames, conditionNames, phraseUses, uses, declares}
 use Rattle.grammar.specs.Texts.{isEvent}
 use Rattle.tape.specs.Events as E
 use Rattle.tape.specs.Tape.{shapeBy, shape, widthOf}
 use Rattle.tape.specs.Written.{operandShape, signCode, conditionCode, layerOf, opOf, tokenOf}
 use Rattle.tape.specs.Numbers.{layerAt, formAt, familyAt}
 use Rattle.tape.specs.Names.{declaring, declaresAt, shapeAt, usesAt}
-use Rattle.tape.proofs.Numbers.{other-layer}
+use Rattle.tape.proofs.Numbers.{by-width, other-layer}
 
 -- ── declared names ──
 
@@ -37,10 +37,8 @@ declares-at (edge (left n)) = refl
 declares-at (route (labelled l)) = refl
 declares-at (route (sent t n)) = refl
 declares-at (entry (named r)) = refl
-declares-at (entry (celled none full)) = refl
-declares-at (entry (celled none short)) = refl
-declares-at (entry (celled (some c) full)) = refl
-declares-at (entry (celled (some c) short)) = refl
+declares-at (entry (celled none w)) = by-width (λ f. declaresAt (E.SINGLE-FULL + f) 0 ≡ []) refl refl refl refl w
+declares-at (entry (celled (some c) w)) = by-width (λ f. declaresAt (E.ARRAY-FULL + f) c ≡ []) refl refl refl refl w
 declares-at (entry (itemed c w i)) = refl
 declares-at (entry (valued t)) = refl
 declares-at (entry (based n)) = refl
@@ -100,6 +98,9 @@ module _ (kinds : List ℕ) where
   used-phrase (tested t c) i j h = used-condition c _ _ (h .1)
   used-phrase (limited d v a) i j h = used-operand E.LIMIT nothing (λ t. (refl, refl, refl, refl)) (λ t. refl) kinds a _ _ (h .1 .2 .1)
   used-phrase (called n) i j h = refl
+  used-phrase (applied n) i j h = refl
+  used-phrase (argued n p a) i j h = used-operand E.ARGUED nothing (λ t. (refl, refl, refl, refl)) (λ t. refl) kinds a _ _ (h .1 .1)
+  used-phrase (counted n c) i j h = refl
 
   pub uses-at : (e : Event) (i j : ℕ) → isEvent kinds e i j → usesAt (opOf e) (tokenOf e) ≡ uses e
   unfolding shapeAt formAt
@@ -110,10 +111,8 @@ module _ (kinds : List ℕ) where
   uses-at (route (labelled l)) i j h = refl
   uses-at (route (sent t n)) i j h = refl
   uses-at (entry (named r)) i j h = refl
-  uses-at (entry (celled none full)) i j h = refl
-  uses-at (entry (celled none short)) i j h = refl
-  uses-at (entry (celled (some c) full)) i j h = refl
-  uses-at (entry (celled (some c) short)) i j h = refl
+  uses-at (entry (celled none w)) i j h = by-width (λ f. usesAt (E.SINGLE-FULL + f) 0 ≡ []) refl refl refl refl w
+  uses-at (entry (celled (some c) w)) i j h = by-width (λ f. usesAt (E.ARRAY-FULL + f) c ≡ []) refl refl refl refl w
   uses-at (entry (itemed c w x)) i j h = refl
   uses-at (entry (valued t)) i j h = refl
   uses-at (entry (based n)) i j h = refl

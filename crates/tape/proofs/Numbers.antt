@@ -8,8 +8,8 @@ use native.Mathlib.Omega.{arith}
 use lib.Dec.{T, eqb, ltb}
 use borrow.Author.Tests.{eqb-true, ltb-true, eq-eqb}
 use Rattle.base.proofs.Tests.{cases, is-true, and-left, and-right, never-true}
-use Rattle.grammar.specs.Tree.{Operand, number, place, Sign, plain, abs, neg, negAbs, Condition, compared, bare, Width, full, short}
-use Rattle.grammar.specs.Events.{Edge, opened, closed, entered, left, Route, labelled, sent, Entry, named, celled, itemed, valued, based, Phrase, aimed, driven, signed, given, joined, tested, limited, called, Mark, looped, otherwise, endedIf, endedElse, endedWhile, endedFor, Event, edge, route, entry, phrase, mark}
+use Rattle.grammar.specs.Tree.{Operand, number, place, Sign, plain, abs, neg, negAbs, Condition, compared, bare, Width, full, short, byte}
+use Rattle.grammar.specs.Events.{Edge, opened, closed, entered, left, Route, labelled, sent, Entry, named, celled, itemed, valued, based, Phrase, aimed, driven, signed, given, joined, tested, limited, called, applied, argued, counted, Mark, looped, otherwise, endedIf, endedElse, endedWhile, endedFor, Event, edge, route, entry, phrase, mark}
 use Rattle.tape.specs.Events as E
 use Rattle.tape.specs.Numbers.{EDGE, ROUTE, ENTRY, PHRASE, MARK, layerAt, formAt, familyAt}
 use Rattle.tape.specs.Tape.{shapeBy, widthOf}
@@ -27,9 +27,11 @@ pub by-operand : (P : ℕ → Type 0) → P 0 → P 1 → P 2 → P 3 → P 4 �
 by-operand P a b c d e (number t) = e
 by-operand P a b c d e (place x) = by-shape P a b c d (x .subscript) (x .index)
 
-pub by-width : (P : ℕ → Type 0) → P 0 → P 1 → (w : Width) → P (widthOf w)
-by-width P a b full = a
-by-width P a b short = b
+pub by-width : (P : ℕ → Type 0) → P 0 → P 1 → P 2 → P 3 → (w : Width) → P (widthOf w)
+by-width P a b c d full = a
+by-width P a b c d short = b
+by-width P a b c d (byte false) = c
+by-width P a b c d (byte true) = d
 
 -- ── what each number says ──
 
@@ -65,10 +67,8 @@ told-route (sent t n) = tt
 told-entry : (d : Entry) → Told ENTRY (entryCode d)
 unfolding layerAt formAt
 told-entry (named r) = tt
-told-entry (celled none full) = tt
-told-entry (celled none short) = tt
-told-entry (celled (some c) full) = tt
-told-entry (celled (some c) short) = tt
+told-entry (celled none w) = by-width (λ f. T (says ENTRY E.SINGLE-FULL f)) tt tt tt tt w
+told-entry (celled (some c) w) = by-width (λ f. T (says ENTRY E.ARRAY-FULL f)) tt tt tt tt w
 told-entry (itemed c w i) = tt
 told-entry (valued t) = tt
 told-entry (based n) = tt
@@ -95,6 +95,9 @@ told-phrase (joined d t) = told-operand E.TERM tt tt tt tt tt (t .operand)
 told-phrase (tested t c) = told-condition c
 told-phrase (limited d v a) = told-operand E.LIMIT tt tt tt tt tt a
 told-phrase (called n) = tt
+told-phrase (applied n) = tt
+told-phrase (argued n p a) = told-operand E.ARGUED tt tt tt tt tt a
+told-phrase (counted n c) = tt
 
 told-mark : (m : Mark) → Told MARK (markCode m)
 unfolding layerAt formAt

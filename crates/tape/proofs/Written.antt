@@ -4,13 +4,13 @@ use mathlib.Core.List.{List, [], _∷_}
 use mathlib.Core.Option.{Option, none, some}
 use Prim.Native.Nat.{ℕ, _+_, _%_}
 use native.Mathlib.Omega.{arith}
-use Rattle.grammar.specs.Tree.{Designator, Operand, number, place, Sign, plain, abs, neg, negAbs, Term, Assignment, Condition, compared, bare, Register, Item, Width, Declaration, registers, cells, base, Statement, assign, call, block, goto, null, ifThen, ifElse, while, for, Body, declare, procedure, items, Items, ended, label, item}
+use Rattle.grammar.specs.Tree.{Designator, Operand, number, place, Sign, plain, abs, neg, negAbs, Term, Assignment, Condition, compared, bare, Register, Item, Width, Declaration, registers, cells, base, Statement, assign, call, apply, block, goto, null, ifThen, ifElse, while, for, Body, declare, procedure, items, Items, ended, label, item}
 use Rattle.grammar.specs.Pinned.{headOf}
-use Rattle.grammar.specs.Events.{Phrase, tested, Event, phrase, mark, endedIf, otherwise, endedElse, endedWhile, each, eventsValue, eventsItem, eventsRegister, eventsDeclaration, eventsSign, eventsTerm, eventsChain, eventsStatement, eventsBody, eventsItems, eventsOf}
+use Rattle.grammar.specs.Events.{Phrase, tested, Event, phrase, mark, endedIf, otherwise, endedElse, endedWhile, each, eventsValue, eventsItem, eventsRegister, eventsDeclaration, eventsSign, eventsTerm, eventsChain, eventsArguments, eventsStatement, eventsBody, eventsItems, eventsOf}
 use Rattle.grammar.specs.Places.{Place, after, afterAll, along, Along}
 use Rattle.grammar.specs.Contexts.{Context, contextAfter, Complete, Suits, Coherent}
 use Rattle.tape.specs.Events as E
-use Rattle.tape.specs.Tape.{event, shape, tapeDesignator, tapeOperand, tapeCondition, tapeSign, tapeEach, tapeTerm, tapeAssignment, tapeValue, tapeItem, tapeRegister, cellsEvent, tapeDeclaration, tapeStatement, tapeBody, tapeItems}
+use Rattle.tape.specs.Tape.{event, shape, tapeDesignator, tapeOperand, tapeCondition, tapeSign, tapeEach, tapeTerm, tapeAssignment, tapeValue, tapeItem, tapeRegister, cellsEvent, tapeDeclaration, tapeArgument, tapeStatement, tapeBody, tapeItems}
 use Rattle.tape.specs.Pass.{pass}
 use Rattle.tape.specs.Written.{operandShape, opOf, tokenOf, tapeOf}
 use Rattle.tape.proofs.Pass.{pass-none, pass-event}
@@ -69,12 +69,18 @@ same-declaration (registers rs) k = same-each eventsRegister tapeRegister (λ r 
 same-declaration (cells c w is) k = same-cells c w is k
 same-declaration (base n) k = refl
 
+same-arguments : (n p : ℕ) (xs : List Operand) → Same (eventsArguments n p xs) (λ k. tapeEach tapeArgument xs (event E.COUNTED n ∷ k))
+unfolding eventsArguments tapeEach
+same-arguments n p [] k = refl
+same-arguments n p (a ∷ xs) k = same-operand E.ARGUED a _ ∙ ap (tapeOperand E.ARGUED a) (same-arguments n (p + 1) xs k)
+
 mutual
   unfolding eventsStatement tapeStatement tapeAssignment tapeDesignator
 
   same-statement : (x : Statement) → Same (eventsStatement x) (tapeStatement x)
   same-statement (assign a) k = cons _ (same-chain a k)
   same-statement (call n) k = refl
+  same-statement (apply n a xs) k = cons _ (same-arguments n 0 (a ∷ xs) k)
   same-statement (block t b) k = cons _ (same-body b _)
   same-statement (goto t n) k = refl
   same-statement null k = refl

@@ -1,4 +1,4 @@
--- The events of a tape, as numbers below EVENTS. To those of designators (TARGET, CONTROL) and operands (FIRST, TERM, COMPARED, LIMIT) their shape is added, to those of
+-- The events of a tape, as numbers below EVENTS. To those of designators (TARGET, CONTROL) and operands (FIRST, TERM, COMPARED, LIMIT, ARGUED) their shape is added, to those of
 -- cells (SINGLE-FULL, ARRAY-FULL) their width.
 use Prim.Native.Nat.{ℕ}
 
@@ -17,18 +17,6 @@ END-BLOCK = 1
 
 abbrev pub REGISTER : ℕ
 REGISTER = 2
-
-abbrev pub SINGLE-FULL : ℕ
-SINGLE-FULL = 3
-
-abbrev pub SINGLE-SHORT : ℕ
-SINGLE-SHORT = 4
-
-abbrev pub ARRAY-FULL : ℕ
-ARRAY-FULL = 5
-
-abbrev pub ARRAY-SHORT : ℕ
-ARRAY-SHORT = 6
 
 abbrev pub ITEM : ℕ
 ITEM = 7
@@ -102,6 +90,39 @@ CALL = 51
 abbrev pub GOTO : ℕ
 GOTO = 52
 
+abbrev pub APPLIED : ℕ
+APPLIED = 53
+
+abbrev pub COUNTED : ℕ
+COUNTED = 54
+
+abbrev pub ARGUED : ℕ
+ARGUED = 55
+
+abbrev pub SINGLE-FULL : ℕ
+SINGLE-FULL = 60
+
+abbrev pub SINGLE-SHORT : ℕ
+SINGLE-SHORT = 61
+
+abbrev pub SINGLE-BYTE : ℕ
+SINGLE-BYTE = 62
+
+abbrev pub SINGLE-CHARACTER : ℕ
+SINGLE-CHARACTER = 63
+
+abbrev pub ARRAY-FULL : ℕ
+ARRAY-FULL = 64
+
+abbrev pub ARRAY-SHORT : ℕ
+ARRAY-SHORT = 65
+
+abbrev pub ARRAY-BYTE : ℕ
+ARRAY-BYTE = 66
+
+abbrev pub ARRAY-CHARACTER : ℕ
+ARRAY-CHARACTER = 67
+
 -- ── the width of cells ──
 
 abbrev pub FULL : ℕ
@@ -109,6 +130,12 @@ FULL = 0
 
 abbrev pub SHORT : ℕ
 SHORT = 1
+
+abbrev pub BYTE : ℕ
+BYTE = 2
+
+abbrev pub CHARACTER : ℕ
+CHARACTER = 3
 
 -- ── the shape of a designator: name, name(number), name(name), name(number)(name); and of an operand that is a number ──
 

@@ -19,10 +19,13 @@ unfoldable pub shapeAt : ℕ → ℕ
 shapeAt op =
     if eqb op E.BASE then E.ALONE else
     if eqb op E.CALL then E.ALONE else
+    if eqb op E.APPLIED then E.ALONE else
     if ltb op E.TARGET then E.NUMBER else
     if ltb op E.ABS then (op - E.TARGET) % 4 else
     if ltb op E.FIRST then E.NUMBER else
     if ltb op E.BARE then (op - E.FIRST) % 5 else
+    if ltb op E.ARGUED then E.NUMBER else
+    if ltb op E.SINGLE-FULL then op - E.ARGUED else
     E.NUMBER
 
 -- how far behind its name an index stands: name(name), name(number)(name)

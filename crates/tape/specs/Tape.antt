@@ -1,9 +1,10 @@
 -- The tape of a tree: the tree written out in the order of reading, one number an event. Each function is handed what follows on the tape.
 -- An event has the token that it stands for; what else it needs stands at fixed distances from there.
 use mathlib.Core.List.{List, [], _∷_}
+use mathlib.Core.Bool.{true, false}
 use mathlib.Core.Option.{Option, none, some}
 use Prim.Native.Nat.{ℕ, _+_, _*_, _%_}
-use Rattle.grammar.specs.Tree.{Designator, Operand, number, place, Sign, plain, abs, neg, negAbs, Term, Assignment, Condition, compared, bare, Width, full, short, Register, Item, Declaration, registers, cells, base, Statement, assign, call, block, goto, null, ifThen, ifElse, while, for, Body, declare, procedure, items, Items, ended, label, item}
+use Rattle.grammar.specs.Tree.{Designator, Operand, number, place, Sign, plain, abs, neg, negAbs, Term, Assignment, Condition, compared, bare, Width, full, short, byte, Register, Item, Declaration, registers, cells, base, Statement, assign, call, apply, block, goto, null, ifThen, ifElse, while, for, Body, declare, procedure, items, Items, ended, label, item}
 use Rattle.tape.specs.Events as E
 
 unfoldable pub event : ℕ → ℕ → ℕ
@@ -65,6 +66,8 @@ tapeRegister r k = event E.REGISTER (r .name) ∷ k
 abbrev pub widthOf : Width → ℕ
 widthOf full = E.FULL
 widthOf short = E.SHORT
+widthOf (byte false) = E.BYTE
+widthOf (byte true) = E.CHARACTER
 
 -- what the cells that follow are
 abbrev pub cellsEvent : Option ℕ → Width → ℕ
@@ -78,10 +81,14 @@ tapeDeclaration (base n) k = event E.BASE n ∷ k
 
 -- ── statements ──
 
+abbrev pub tapeArgument : Operand → List ℕ → List ℕ
+tapeArgument a k = tapeOperand E.ARGUED a k
+
 unfoldable mutual
   pub tapeStatement : Statement → List ℕ → List ℕ
   tapeStatement (assign a) k = tapeAssignment E.TARGET a k
   tapeStatement (call n) k = event E.CALL n ∷ k
+  tapeStatement (apply n a xs) k = event E.APPLIED n ∷ tapeEach tapeArgument (a ∷ xs) (event E.COUNTED n ∷ k)
   tapeStatement (block t b) k = event E.BLOCK t ∷ tapeBody b (event E.END-BLOCK t ∷ k)
   tapeStatement (goto t n) k = event E.GOTO n ∷ k
   tapeStatement null k = k

@@ -4,7 +4,7 @@ use mathlib.Core.Option.{none, some}
 use Prim.Native.Nat.{ℕ, _+_}
 use Rattle.grammar.specs.Tree.{Designator, Operand, number, place, Sign, plain, abs, neg, negAbs, Condition, compared, bare}
 use Rattle.grammar.specs.Pinned.{headOf}
-use Rattle.grammar.specs.Events.{Edge, opened, closed, entered, left, Route, labelled, sent, Entry, named, celled, itemed, valued, based, Phrase, aimed, driven, signed, given, joined, tested, limited, called, Mark, looped, otherwise, endedIf, endedElse, endedWhile, endedFor, Event, edge, route, entry, phrase, mark}
+use Rattle.grammar.specs.Events.{Edge, opened, closed, entered, left, Route, labelled, sent, Entry, named, celled, itemed, valued, based, Phrase, aimed, driven, signed, given, joined, tested, limited, called, applied, argued, counted, Mark, looped, otherwise, endedIf, endedElse, endedWhile, endedFor, Event, edge, route, entry, phrase, mark}
 use Rattle.tape.specs.Events as E
 use Rattle.tape.specs.Numbers.{EDGE, ROUTE, ENTRY, PHRASE, MARK}
 use Rattle.tape.specs.Tape.{event, shape, widthOf}
@@ -70,6 +70,9 @@ phraseCode (joined d t) = operandCode E.TERM (t .operand)
 phraseCode (tested t c) = conditionCode c
 phraseCode (limited d v a) = operandCode E.LIMIT a
 phraseCode (called n) = alone E.CALL n
+phraseCode (applied n) = alone E.APPLIED n
+phraseCode (argued n p a) = operandCode E.ARGUED a
+phraseCode (counted n c) = alone E.COUNTED n
 
 abbrev pub markCode : Mark → Code
 markCode (looped t) = alone E.WHILE t

@@ -11,14 +11,6 @@ pub const END_BLOCK: u32 = 1;
 
 pub const REGISTER: u32 = 2;
 
-pub const SINGLE_FULL: u32 = 3;
-
-pub const SINGLE_SHORT: u32 = 4;
-
-pub const ARRAY_FULL: u32 = 5;
-
-pub const ARRAY_SHORT: u32 = 6;
-
 pub const ITEM: u32 = 7;
 
 pub const VALUE: u32 = 8;
@@ -67,8 +59,34 @@ pub const CALL: u32 = 51;
 
 pub const GOTO: u32 = 52;
 
+pub const APPLIED: u32 = 53;
+
+pub const COUNTED: u32 = 54;
+
+pub const ARGUED: u32 = 55;
+
+pub const SINGLE_FULL: u32 = 60;
+
+pub const SINGLE_SHORT: u32 = 61;
+
+pub const SINGLE_BYTE: u32 = 62;
+
+pub const SINGLE_CHARACTER: u32 = 63;
+
+pub const ARRAY_FULL: u32 = 64;
+
+pub const ARRAY_SHORT: u32 = 65;
+
+pub const ARRAY_BYTE: u32 = 66;
+
+pub const ARRAY_CHARACTER: u32 = 67;
+
 // The width of cells.
 pub const SHORT: u32 = 1;
+
+pub const BYTE: u32 = 2;
+
+pub const CHARACTER: u32 = 3;
 
 // The shapes of designators and operands: name, name(number), name(name), name(number)(name), number.
 pub const ALONE: u32 = 0;
@@ -134,6 +152,15 @@ pub fn layer(op: u32) -> u32
     if op == GOTO {
         return ROUTE;
     }
+    if op < APPLIED {
+        return MARK;
+    }
+    if op < SINGLE_FULL {
+        return PHRASE;
+    }
+    if op <= ARRAY_CHARACTER {
+        return ENTRY;
+    }
     MARK
 }
 
@@ -141,12 +168,6 @@ pub fn layer(op: u32) -> u32
 pub fn form(op: u32) -> u32
     ensures { λ r. ⌜ (r ≡ formAt op) × (r ≤ op) ⌝ }
 {
-    if op < SINGLE_FULL {
-        return 0;
-    }
-    if op < ITEM {
-        return (op - SINGLE_FULL) % 2;
-    }
     if op < TARGET {
         return 0;
     }
@@ -158,6 +179,15 @@ pub fn form(op: u32) -> u32
     }
     if op < BARE {
         return (op - FIRST) % 5;
+    }
+    if op < ARGUED {
+        return 0;
+    }
+    if op < SINGLE_FULL {
+        return op - ARGUED;
+    }
+    if op <= ARRAY_CHARACTER {
+        return (op - SINGLE_FULL) % 4;
     }
     0
 }
@@ -186,6 +216,9 @@ pub fn shape(op: u32) -> u32
     if op == CALL {
         return ALONE;
     }
+    if op == APPLIED {
+        return ALONE;
+    }
     if op < TARGET {
         return NUMBER;
     }
@@ -197,6 +230,12 @@ pub fn shape(op: u32) -> u32
     }
     if op < BARE {
         return (op - FIRST) % 5;
+    }
+    if op < ARGUED {
+        return NUMBER;
+    }
+    if op < SINGLE_FULL {
+        return op - ARGUED;
     }
     NUMBER
 }

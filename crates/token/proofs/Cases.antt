@@ -31,10 +31,11 @@ abbrev tokens : String → List Token
 tokens s = tokensOf (bytes s) .tokens
 
 read :
-    map tokens ("R1:=_1+#FFOR ABCDEFGHIJK<=5THEN COMMENT @;@ 7" ∷ "COMMENTX : = " ∷ [])
+    map tokens ("R1:=_1+#FFOR ABCDEFGHIJK<=5THEN COMMENT @;@ 7" ∷ "COMMENTX : = " ∷ "BYTE BYTES CHARACTER" ∷ [])
     ≡ (token K.NAME 973 0 ∷ token K.BECOMES 0 2 ∷ token K.NUMBER 4294967295 4 ∷ token K.PLUS 0 6 ∷ token K.NUMBER 255 7 ∷ token K.OR 0 10
     ∷ token K.NAME (keyOf (bytes "ABCDEFGHIJL")) 13 ∷ token K.AT-MOST 0 24 ∷ token K.NUMBER 5 26 ∷ token K.THEN 0 27 ∷ token K.AT 0 42 ∷ [])
-    ∷ (token K.NAME (keyOf (bytes "COMMENTX")) 0 ∷ token K.COLON 0 9 ∷ token K.EQUAL 0 11 ∷ token K.END-OF-TEXT 0 13 ∷ []) ∷ []
+    ∷ (token K.NAME (keyOf (bytes "COMMENTX")) 0 ∷ token K.COLON 0 9 ∷ token K.EQUAL 0 11 ∷ token K.END-OF-TEXT 0 13 ∷ [])
+    ∷ (token K.BYTE 0 0 ∷ token K.NAME (keyOf (bytes "BYTES")) 5 ∷ token K.CHARACTER 0 11 ∷ token K.END-OF-TEXT 0 20 ∷ []) ∷ []
 unfolding sameBytes runLen numberFrom walk wordKind comment nameOrWord number begins sign lexeme nextStep nextToken readFrom tokensOf
 read = refl
 

@@ -67,6 +67,10 @@ pub const SHRA: u8 = 32;
 
 pub const OVERFLOW: u8 = 33;
 
+pub const BYTE: u8 = 34;
+
+pub const CHARACTER: u8 = 35;
+
 pub const BECOMES: u8 = 64;
 
 pub const AT_MOST: u8 = 65;

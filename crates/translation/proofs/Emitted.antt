@@ -3,20 +3,25 @@ use mathlib.Core.Path.{_≡_, refl}
 use mathlib.Core.List.{List, [], _∷_}
 use mathlib.Core.Bool.{Bool, true, false, _&&_}
 use mathlib.Core.Option.{Option, none, some}
-use Prim.Native.Nat.{ℕ, _+_, _*_, _-_, _<_, _≤_}
+use Prim.Native.Nat.{ℕ, zero, suc, _+_, _*_, _-_, _<_, _≤_}
 use native.Mathlib.Omega.{arith}
 use lib.Dec.{eqb, leb}
+use lib.ListN.{length, getD}
+use borrow.Author.Tests.{eqb-true}
 use Rattle.base.specs.Choose.{if_then_else_}
 use Rattle.base.specs.Lists.{All, member}
-use Rattle.base.proofs.Lists.{all-both}
+use Rattle.base.proofs.Lists.{all-both, all-getD}
+use Rattle.base.proofs.Tests.{both}
 use Rattle.token.specs.Kinds as K
 use Rattle.grammar.specs.Tree as T
-use Rattle.grammar.specs.Tree.{Designator, Operand, number, place, Sign, plain, abs, neg, negAbs, Term, Assignment, Condition, compared, bare, Width, full, short, Statement, Body, Items}
-use Rattle.grammar.specs.Events.{Event, edge, phrase, mark, closed, left, given, limited, endedIf, otherwise, endedElse, endedWhile, endedFor, each, eventsValue, eventsItem, eventsRegister, eventsDeclaration, eventsSign, eventsTerm, eventsChain, eventsStatement, eventsBody, eventsItems, eventsOf}
+use Rattle.grammar.specs.Tree.{Designator, Operand, number, place, Sign, plain, abs, neg, negAbs, Term, Assignment, Condition, compared, bare, Width, full, short, byte, Statement, Body, Items}
+use Rattle.grammar.specs.Events.{Event, edge, phrase, mark, closed, left, given, limited, endedIf, otherwise, endedElse, endedWhile, endedFor, each, eventsValue, eventsItem, eventsRegister, eventsDeclaration, eventsSign, eventsTerm, eventsChain, eventsArguments, eventsStatement, eventsBody, eventsItems, eventsOf}
 use Rattle.grammar.specs.Places.{Place, Along}
 use Rattle.scopes.specs.Broken.{_⊕_, rule}
 use Rattle.scopes.proofs.Joins.{quiet-left, quiet-right, rule-holds}
-use Rattle.static_rules.specs.Meaning.{Meaning, nothing, register, cell, routine, Cell, elementSize, registerOf, longOperand}
+use Rattle.static_rules.specs.Functions as F
+use Rattle.static_rules.specs.Functions.{Argument, writtenRegister, readRegister, byteNumber, indexedCell, plainCell, surplus, Form, Function, functionTable, noFunction, functionAt, arity, argumentAt}
+use Rattle.static_rules.specs.Meaning.{Meaning, nothing, register, cell, routine, function, Cell, elementSize, registerOf, argumentOf, longOperand}
 use Rattle.static_rules.specs.Tables.{Tables, kindAt, valueAt, meaningAt}
 use Rattle.static_rules.specs.Rules as R
 use Rattle.static_rules.specs.Rules.{shifts, fullOnly, inside}
@@ -25,8 +30,8 @@ use Rattle.static_rules.proofs.Elements.{inside-is, in-range}
 use Rattle.static_rules.proofs.Small.{Small, register-small, meaning-small}
 use Rattle.static_rules.proofs.Unbroken.{Unbroken}
 use Rattle.static_rules.proofs.Bases.{base-segment}
-use Rattle.translation.specs.Instructions.{Instruction, rowOf, loadRow, compareRow, timesRow, storeRow, column, shiftCode}
-use Rattle.translation.specs.Core.{Use, held, stored, absent, apply, signed, load, exitMask, returnOf, subscriptOf, indexOf, useBy, useOf, shiftBy, productTarget, termOf, chainOf, toRegister, sourceOf, assignBy, assignmentOf, compareWith, testOf, maskOf, controlOf, coreStatement, coreBody, coreItems}
+use Rattle.translation.specs.Instructions.{Datum, Instruction, rowOf, loadRow, compareRow, timesRow, storeRow, column, shiftCode}
+use Rattle.translation.specs.Core.{Use, held, stored, absent, apply, signed, load, functionWith, functionOn, isToken, exitMask, returnOf, subscriptOf, indexOf, useBy, useOf, shiftBy, productTarget, termOf, chainOf, toRegister, sourceOf, numberOf, assignBy, assignmentOf, compareWith, testOf, maskOf, controlOf, functionCode, useCode, coreStatement, coreBody, coreItems}
 use Rattle.translation.specs.Layout.{Layout, segmentLimit, offsetOf}
 use Rattle.translation.proofs.Ready.{Ready, ReadyDatum, ReadyCore, opcode-small, shift-small, mask-small}
 
@@ -55,6 +60,7 @@ module _ (f : Tables) (l : Layout) (n : ℕ) (small : All Small (f .means))
   first-fits : (w : Width) (e : ℕ) → 1 ≤ e → 0 + elementSize w ≤ elementSize w * e
   first-fits full e h = omega arith
   first-fits short e h = omega arith
+  first-fits (byte c) e h = omega arith
 
   subscript-fits : (c : Cell) (s : Option ℕ) → 1 ≤ c .elements → R.subscriptRules f c s .number ≡ 0 → subscriptOf f s + elementSize (c .width) ≤ elementSize (c .width) * c .elements
   unfolding R.subscriptRules
@@ -68,11 +74,16 @@ module _ (f : Tables) (l : Layout) (n : ℕ) (small : All Small (f .means))
       let s = quiet-left (R.subscriptRules f c (d .subscript)) (R.indexRules f (d .index)) (quiet-right _ (R.subscriptRules f c (d .subscript) ⊕ R.indexRules f (d .index)) q) in
       (h .0, index-ready (d .index), within (d .name) c e (subscriptOf f (d .subscript)) (subscript-fits c (d .subscript) (h .1) s))
   place-ready (routine r) d e h q = tt
+  place-ready (function k) d e h q = tt
+
+  designator-ready : (d : Designator) → R.placeRules f d .number ≡ 0 → ReadyUse (useOf f (place d))
+  unfolding useOf R.placeRules
+  designator-ready d q = place-ready (meaningAt f (d .name)) d refl (small-at (d .name)) q
 
   use-ready : (a : Operand) → R.operandRules f a .number ≡ 0 → ReadyUse (useOf f a)
-  unfolding useOf R.operandRules R.placeRules
+  unfolding useOf R.operandRules
   use-ready (number t) q = tt
-  use-ready (place d) q = place-ready (meaningAt f (d .name)) d refl (small-at (d .name)) q
+  use-ready (place d) q = designator-ready d (quiet-left (R.placeRules f d) (R.noByte f d) q)
 
   apply-ready : (row r : ℕ) (u : Use) → r < 16 → ReadyUse u → AllReady (apply row r u)
   apply-ready row r (held s) h k = ((opcode-small row 0, h, k), tt)
@@ -143,11 +154,11 @@ module _ (f : Tables) (l : Layout) (n : ℕ) (small : All Small (f .means))
 
   -- by what the target means: its place, the first operand and the terms fit
   assign-ready : (m : Meaning) (a : Assignment) → Small m → R.placeRules f (a .target) .number ≡ 0 → R.firstBy f m (a .first) .number ≡ 0 → Terms m (a .rest) → AllReady (assignBy f m a)
-  unfolding R.operandRules
   assign-ready nothing a h q u v = tt
   assign-ready (register r) a h q u v = register-ready r a h u v
-  assign-ready (cell c) a h q u v = apply-ready storeRow (sourceOf f (a .first)) (useOf f (place (a .target))) (source-ready (a .first)) (use-ready (place (a .target)) q)
+  assign-ready (cell c) a h q u v = apply-ready storeRow (sourceOf f (a .first)) (useOf f (place (a .target))) (source-ready (a .first)) (designator-ready (a .target) q)
   assign-ready (routine r) a h q u v = tt
+  assign-ready (function k) a h q u v = tt
 
   compare-ready : (r : ℕ) (a : Operand) → r < 16 → R.operandRules f a .number ≡ 0 → AllReady (compareWith f r a)
   unfolding compareWith
@@ -165,6 +176,7 @@ module _ (f : Tables) (l : Layout) (n : ℕ) (small : All Small (f .means))
   control-ready (register r) a b t h q u v = register-ready r a h u v
   control-ready (cell c) a b t h q u v = absurd (omega arith)
   control-ready (routine r) a b t h q u v = absurd (omega arith)
+  control-ready (function k) a b t h q u v = absurd (omega arith)
 
   exit-ready : (step : ℕ) → exitMask step < 16
   exit-ready step = go (leb 2147483648 step)
@@ -178,6 +190,138 @@ module _ (f : Tables) (l : Layout) (n : ℕ) (small : All Small (f .means))
   return-ready (register r) h = omega arith
   return-ready (cell c) h = omega arith
   return-ready (routine r) h = h
+  return-ready (function k) h = omega arith
+
+  -- ── uses of functions ──
+
+  -- an argument that fits: what it is has room, and so has the number that it may be
+  abbrev Argued : Operand → Type 0
+  Argued a = ReadyUse (useOf f a) × (numberOf f a < 256)
+
+  held-ready : (m : Meaning) (d : Designator) (b : Bool) (t : ℕ) → Small m → rule (R.isRegister m && b) 8 t .number ≡ 0 → ReadyUse (useBy f m d)
+  unfolding rule
+  held-ready nothing d b t h q = tt
+  held-ready (register r) d b t h q = h
+  held-ready (cell c) d b t h q = absurd (omega arith)
+  held-ready (routine r) d b t h q = tt
+  held-ready (function k) d b t h q = tt
+
+  only-ready : (a : Operand) → R.onlyRegister f a .number ≡ 0 → Argued a
+  unfolding useOf R.onlyRegister
+  only-ready (number t) q = absurd (omega arith)
+  only-ready (place d) q = (held-ready (meaningAt f (d .name)) d (R.bareName d) (d .name) (small-at (d .name)) q, omega arith)
+
+  number-ready : (a : Operand) → R.byteRules f a .number ≡ 0 → Argued a
+  unfolding useOf R.byteRules
+  number-ready (number t) q =
+      let e = in-range 0 255 (valueAt f t) (rule-holds (R.inRange 0 255 (valueAt f t)) 11 t (omega arith) q) .1 in
+      (tt, omega arith)
+  number-ready (place d) q = absurd (omega arith)
+
+  cell-ready : (a : Operand) → R.cellRules f a .number ≡ 0 → Argued a
+  unfolding R.cellRules
+  cell-ready (number t) q = absurd (omega arith)
+  cell-ready (place d) q = (designator-ready d (quiet-right (rule _ 8 (d .name)) (R.placeRules f d) q), omega arith)
+
+  plain-ready : (a : Operand) → R.plainRules f a .number ≡ 0 → Argued a
+  unfolding R.plainRules
+  plain-ready (number t) q = absurd (omega arith)
+  plain-ready (place d) q = cell-ready (place d) (quiet-left (R.cellRules f (place d)) (R.noIndex (d .index)) q)
+
+  -- what a function takes, and no more
+  abbrev Taken : Argument → Type 0
+  Taken writtenRegister = Unit {0}
+  Taken readRegister = Unit {0}
+  Taken byteNumber = Unit {0}
+  Taken indexedCell = Unit {0}
+  Taken plainCell = Unit {0}
+  Taken surplus = ⊥
+
+  argument-ready : (kept : List ℕ) (x : Argument) (a : Operand) → Taken x → R.argumentRules f kept x a .number ≡ 0 → Argued a
+  unfolding R.argumentRules
+  argument-ready kept writtenRegister a t q = only-ready a (quiet-left (R.onlyRegister f a) (R.writtenRules f kept a) q)
+  argument-ready kept readRegister a t q = only-ready a q
+  argument-ready kept byteNumber a t q = number-ready a q
+  argument-ready kept indexedCell a t q = cell-ready a q
+  argument-ready kept plainCell a t q = plain-ready a q
+  argument-ready kept surplus a t q = absurd t
+
+  taken-at : (xs : List Argument) (p : ℕ) → p < length xs → All Taken xs → Taken (getD xs p surplus)
+  taken-at [] p h t = absurd (omega arith)
+  taken-at (x ∷ xs) zero h t = t .0
+  taken-at (x ∷ xs) (suc p) h t = taken-at xs p (omega arith) (t .1)
+
+  -- the rows of the table
+  abbrev Sound : Function → Type 0
+  Sound g = (g .op < 256) × (g .number < 256) × All Taken (g .takes)
+
+  sound-at : (k : ℕ) → Sound (functionAt k)
+  unfolding functionAt
+  sound-at k = all-getD Sound functionTable k noFunction rows (omega arith, omega arith, tt)
+    where
+      rows : All Sound functionTable
+      rows = (
+        (omega arith, omega arith, (tt, (tt, tt))),
+        (
+          (omega arith, omega arith, (tt, (tt, tt))),
+          (
+            (omega arith, omega arith, (tt, (tt, tt))),
+            (
+              (omega arith, omega arith, (tt, (tt, tt))),
+              (
+                (omega arith, omega arith, (tt, (tt, tt))),
+                (
+                  (omega arith, omega arith, (tt, tt)),
+                  ((omega arith, omega arith, (tt, tt)), ((omega arith, omega arith, (tt, tt)), ((omega arith, omega arith, (tt, (tt, tt))), tt))),
+                ),
+              ),
+            ),
+          ),
+        ),
+      )
+
+  with-ready : (g : Form) (op r v : ℕ) (a : Datum) → op < 256 → r < 16 → v < 256 → ReadyDatum l a → Ready l n (functionWith g op r v a)
+  with-ready F.operand op r v a o h k q = (o, h, q)
+  with-ready F.address op r v a o h k q = (h, q)
+  with-ready F.immediate op r v a o h k q = (o, k, q)
+
+  on-ready : (g : Function) (r v : ℕ) (u : Use) → Sound g → r < 16 → v < 256 → ReadyUse u → AllReady (functionOn g r v u)
+  on-ready g r v (held s) t h k q = ((t .0, h, q), tt)
+  on-ready g r v (stored w a) t h k q = (with-ready (g .form) (g .op) r v a (t .0) h k q, tt)
+  on-ready g r v absent t h k q = tt
+
+  if-ready : (b : Bool) (is : List Instruction) → (b ≡ true → AllReady is) → AllReady (if b then is else [])
+  if-ready true is h = h refl
+  if-ready false is h = tt
+
+  -- the arguments of a use from position q on, each with the registers that are protected there
+  abbrev Arguments : Meaning → ℕ → List Operand → Type 0
+  Arguments m q [] = Unit {0}
+  Arguments m q (a ∷ xs) = ((kept : List ℕ) × (R.argumentRules f kept (argumentOf m q) a .number ≡ 0)) × Arguments m (q + 1) xs
+
+  function-ready : (k : ℕ) (a : Operand) (xs : List Operand) → Arguments (function k) 0 (a ∷ xs) → AllReady (functionCode f (functionAt k) a xs)
+  unfolding functionCode
+  function-ready k a [] ((kept, q), u) =
+      let g = functionAt k in
+      if-ready (eqb 1 (arity g)) (functionOn g 0 (g .number) (useOf f a))
+      (λ e. let h = eqb-true 1 (arity g) e in
+      on-ready g 0 (g .number) (useOf f a) (sound-at k) (omega arith) (sound-at k .1)
+      (argument-ready kept (argumentAt g 0) a (taken-at (g .takes) 0 (omega arith) (sound-at k .2)) q .0))
+  function-ready k a (b ∷ []) ((kept, q), ((kept′, q′), u)) =
+      let g = functionAt k in
+      if-ready (eqb 2 (arity g) && isToken a) (functionOn g (sourceOf f a) (numberOf f a) (useOf f b))
+      (λ e. let h = eqb-true 2 (arity g) (both (eqb 2 (arity g)) (isToken a) e .0) in
+      on-ready g (sourceOf f a) (numberOf f a) (useOf f b) (sound-at k) (source-ready a)
+      (argument-ready kept (argumentAt g 0) a (taken-at (g .takes) 0 (omega arith) (sound-at k .2)) q .1)
+      (argument-ready kept′ (argumentAt g 1) b (taken-at (g .takes) 1 (omega arith) (sound-at k .2)) q′ .0))
+  function-ready k a (b ∷ c ∷ xs) q = tt
+
+  use-code-ready : (m : Meaning) (a : Operand) (xs : List Operand) → Arguments m 0 (a ∷ xs) → AllReady (useCode f m a xs)
+  use-code-ready nothing a xs q = tt
+  use-code-ready (register r) a xs q = tt
+  use-code-ready (cell c) a xs q = tt
+  use-code-ready (routine r) a xs q = tt
+  use-code-ready (function k) a xs q = function-ready k a xs q
 
   -- ── the whole text ──
 
@@ -221,6 +365,11 @@ module _ (f : Tables) (l : Layout) (n : ℕ) (small : All Small (f .means))
       let (t, s) = terms-quiet (a .target) (a .rest) k p r in
       (q, t, s)
 
+  arguments-quiet : (m q : ℕ) (xs : List Operand) (k : List Event) (p : Place) → Quiet (eventsArguments m q xs k) p → Arguments (meaningAt f m) q xs × Quiet k p
+  unfolding eventsArguments Along
+  arguments-quiet m q [] k p (h, hs) = (tt, hs)
+  arguments-quiet m q (a ∷ xs) k p (h, hs) = let (r, s) = arguments-quiet m (q + 1) xs k p hs in (((keptIn f p, h), r), s)
+
   mutual
     unfolding coreStatement eventsStatement eventsDeclaration assignmentOf R.targetRules R.controlRules R.onlyRegister Along
 
@@ -229,6 +378,7 @@ module _ (f : Tables) (l : Layout) (n : ℕ) (small : All Small (f .means))
         let (q, r, s) = chain-quiet a k p hs in
         (assign-ready (meaningAt f (a .target .name)) a (small-at (a .target .name)) (quiet-left (R.placeRules f (a .target)) _ h) q r, (p, s))
     core-made (T.call m) k p (h, hs) = (return-ready (meaningAt f m) (small-at m), (p, hs))
+    core-made (T.apply m a xs) k p (h, hs) = let (r, s) = arguments-quiet m 0 (a ∷ xs) k p hs in (use-code-ready (meaningAt f m) a xs r, (p, s))
     core-made (T.block t x) k p (h, hs) = let (r, (o, (g, gs))) = core-made-body x (edge (closed t) ∷ k) _ hs in (r, (_, gs))
     core-made (T.goto t m) k p (h, hs) = (tt, (p, hs))
     core-made T.null k p h = (tt, (p, h))

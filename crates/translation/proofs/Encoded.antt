@@ -9,10 +9,10 @@ use Rattle.base.specs.Lists.{_∈_, All}
 use Rattle.base.specs.Runs.{indexOf}
 use Rattle.base.proofs.Lists.{all-both}
 use Rattle.static_rules.specs.Meaning.{Cell, Based}
-use Rattle.translation.specs.Instructions.{Datum, element, literal, entry, Instruction, rr, rx, shift, branch, link, stop}
+use Rattle.translation.specs.Instructions.{Datum, element, literal, entry, Instruction, rr, rx, address, immediate, shift, branch, link, stop, addressOp}
 use Rattle.translation.specs.Layout.{Layout, segmentLimit, offsetOf, literalsEnd}
-use Rattle.translation.specs.Bytes.{fourBytes, twoBytes, encode, encodeAll}
-use Rattle.translation.proofs.Literals.{Takes, index-lt}
+use Rattle.translation.specs.Bytes.{baseRegister, displacement, indexRegister, fourBytes, twoBytes, encode, encodeAll}
+use Rattle.translation.proofs.Literals.{IsNumber, Takes, index-lt}
 use Rattle.translation.proofs.Ready.{Ready, ReadyDatum}
 
 abbrev Bytes : List ℕ → Type 0
@@ -29,14 +29,22 @@ module _ (l : Layout) (n : ℕ) (near : n < segmentLimit) (room : literalsEnd l 
   abbrev Literal : Instruction → Type 0
   Literal i = (v : ℕ) → Takes i v → v ∈ l .literals
 
+  -- where an operand stands has room in the fields
+  datum-room : (a : Datum) → ReadyDatum l a → ((v : ℕ) → IsNumber a v → v ∈ l .literals) → (indexRegister a < 16) × (baseRegister a < 16) × (displacement l a < segmentLimit)
+  datum-room (element c o x) h t = (h .1, h .0, h .2)
+  datum-room (literal v) h t = let k = index-lt v (l .literals) (t v refl) in (omega arith, omega arith, omega arith)
+  datum-room (entry k) h t = (omega arith, omega arith, omega arith)
+
   bytes-encode : (i : Instruction) → Ready l n i → Literal i → Bytes (encode l i)
   unfolding encode
   bytes-encode (rr op r s) h t = two op r s (h .0) (h .1) (h .2)
-  bytes-encode (rx op r (element c o x)) h t = four op r x (c .base .register) (offsetOf (l .placed) (c .name) + o) (h .0) (h .1) (h .2 .1) (h .2 .0) (h .2 .2)
-  bytes-encode (rx op r (literal v)) h t =
-      let k = index-lt v (l .literals) (t v refl) in
-      four op r 0 14 (l .literalsAt + 4 * indexOf v (l .literals)) (h .0) (h .1) (omega arith) (omega arith) (omega arith)
-  bytes-encode (rx op r (entry k)) h t = let e = h .2 in four op r 0 14 (4 * k) (h .0) (h .1) (omega arith) (omega arith) (omega arith)
+  bytes-encode (rx op r a) h t = let d = datum-room a (h .2) t in four op r (indexRegister a) (baseRegister a) (displacement l a) (h .0) (h .1) (d .0) (d .1) (d .2)
+  bytes-encode (address r a) h t =
+      let d = datum-room a (h .1) t in four addressOp r (indexRegister a) (baseRegister a) (displacement l a) (omega arith) (h .0) (d .0) (d .1) (d .2)
+  bytes-encode (immediate op v a) h t =
+      let d = datum-room a (h .2) t in
+      let e = h .1 in
+      four op (v / 16) (v % 16) (baseRegister a) (displacement l a) (h .0) (omega arith) (omega arith) (d .1) (d .2)
   bytes-encode (shift op r s d) h t = let e = h .3 in four op r 0 s d (h .0) (h .1) (omega arith) (h .2) (omega arith)
   bytes-encode (branch m to) h t = let e = h .1 in four 0x47 m 0 15 to (omega arith) (h .0) (omega arith) (omega arith) (omega arith)
   bytes-encode (link r to) h t = let e = h .1 in four 0x45 r 0 15 to (omega arith) (h .0) (omega arith) (omega arith) (omega arith)

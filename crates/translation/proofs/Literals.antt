@@ -13,7 +13,7 @@ use Rattle.base.specs.Lists.{_∈_, member}
 use Rattle.base.specs.Runs.{runLen, indexOf}
 use Rattle.base.proofs.Tests.{cases, never-true}
 use Rattle.base.proofs.Lists.{in-left, in-right, in-either, member-in, in-member}
-use Rattle.translation.specs.Instructions.{Datum, element, literal, entry, Instruction, rr, rx, shift, branch, link, stop}
+use Rattle.translation.specs.Instructions.{Datum, element, literal, entry, Instruction, rr, rx, address, immediate, shift, branch, link, stop}
 use Rattle.translation.specs.Layout.{needs, literalsFrom}
 
 -- ── the place of a number that is in a list ──
@@ -46,12 +46,18 @@ index-at v (x ∷ l) h = index-by (λ (n : ℕ). getD (x ∷ l) n 0 ≡ v) v x l
 
 -- ── the literals ──
 
+-- the number that an operand in storage is, if it is one
+abbrev pub IsNumber : Datum → ℕ → Type 0
+IsNumber (element c o x) v = ⊥
+IsNumber (literal w) v = v ≡ w
+IsNumber (entry k) v = ⊥
+
 -- the number that an instruction takes, if it takes one
 abbrev pub Takes : Instruction → ℕ → Type 0
 Takes (rr op r s) v = ⊥
-Takes (rx op r (element c o x)) v = ⊥
-Takes (rx op r (literal w)) v = v ≡ w
-Takes (rx op r (entry k)) v = ⊥
+Takes (rx op r a) v = IsNumber a v
+Takes (address r a) v = IsNumber a v
+Takes (immediate op n a) v = IsNumber a v
 Takes (shift op r s n) v = ⊥
 Takes (branch m t) v = ⊥
 Takes (link r t) v = ⊥
@@ -73,11 +79,18 @@ needs-has w seen = go (member w seen) refl
     go true e = member-in w seen e
     go false e = in-right w seen (w ∷ []) (inl refl)
 
+needs-number : (a : Datum) (seen : List ℕ) (v : ℕ) → IsNumber a v → v ∈ needs a seen
+needs-number (element c o x) seen v h = absurd h
+needs-number (literal w) seen v h = subst (λ (x : ℕ). x ∈ needs (literal w) seen) (sym h) (needs-has w seen)
+needs-number (entry k) seen v h = absurd h
+
 pub literals-keep : (is : List Instruction) (seen : List ℕ) (v : ℕ) → v ∈ seen → v ∈ literalsFrom seen is
 unfolding literalsFrom
 literals-keep [] seen v h = h
 literals-keep (rr op r s ∷ is) seen v h = literals-keep is seen v h
 literals-keep (rx op r a ∷ is) seen v h = literals-keep is (needs a seen) v (needs-keeps a seen v h)
+literals-keep (address r a ∷ is) seen v h = literals-keep is (needs a seen) v (needs-keeps a seen v h)
+literals-keep (immediate op n a ∷ is) seen v h = literals-keep is (needs a seen) v (needs-keeps a seen v h)
 literals-keep (shift op r s n ∷ is) seen v h = literals-keep is seen v h
 literals-keep (branch m t ∷ is) seen v h = literals-keep is seen v h
 literals-keep (link r t ∷ is) seen v h = literals-keep is seen v h
@@ -91,6 +104,8 @@ literals-have (j ∷ is) seen i v (inr h) t = onward j (literals-have is)
     onward : (j : Instruction) → ((s : List ℕ) (i : Instruction) (v : ℕ) → i ∈ is → Takes i v → v ∈ literalsFrom s is) → v ∈ literalsFrom seen (j ∷ is)
     onward (rr op r s) f = f seen i v h t
     onward (rx op r a) f = f (needs a seen) i v h t
+    onward (address r a) f = f (needs a seen) i v h t
+    onward (immediate op n a) f = f (needs a seen) i v h t
     onward (shift op r s n) f = f seen i v h t
     onward (branch m x) f = f seen i v h t
     onward (link r x) f = f seen i v h t
@@ -99,9 +114,9 @@ literals-have (j ∷ is) seen i v (inl h) t = here j (subst (λ (k : Instruction
   where
     here : (j : Instruction) → Takes j v → v ∈ literalsFrom seen (j ∷ is)
     here (rr op r s) k = absurd k
-    here (rx op r (element c o x)) k = absurd k
-    here (rx op r (literal w)) k = literals-keep is (needs (literal w) seen) v (subst (λ (x : ℕ). x ∈ needs (literal w) seen) (sym k) (needs-has w seen))
-    here (rx op r (entry x)) k = absurd k
+    here (rx op r a) k = literals-keep is (needs a seen) v (needs-number a seen v k)
+    here (address r a) k = literals-keep is (needs a seen) v (needs-number a seen v k)
+    here (immediate op n a) k = literals-keep is (needs a seen) v (needs-number a seen v k)
     here (shift op r s n) k = absurd k
     here (branch m x) k = absurd k
     here (link r x) k = absurd k
@@ -144,6 +159,8 @@ unfolding literalsFrom
 literals-grow [] seen = grows-same seen
 literals-grow (rr op r s ∷ is) seen = literals-grow is seen
 literals-grow (rx op r a ∷ is) seen = grows-on (needs-grow a seen) (literals-grow is (needs a seen))
+literals-grow (address r a ∷ is) seen = grows-on (needs-grow a seen) (literals-grow is (needs a seen))
+literals-grow (immediate op n a ∷ is) seen = grows-on (needs-grow a seen) (literals-grow is (needs a seen))
 literals-grow (shift op r s n ∷ is) seen = literals-grow is seen
 literals-grow (branch m t ∷ is) seen = literals-grow is seen
 literals-grow (link r t ∷ is) seen = literals-grow is seen

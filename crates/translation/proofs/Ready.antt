@@ -14,7 +14,7 @@ use Rattle.grammar.specs.Tree.{Width, full, short}
 use Rattle.base.specs.Runs.{indexOf}
 use Rattle.static_rules.specs.Meaning.{Cell, Based}
 use Rattle.static_rules.specs.Rules.{shifts}
-use Rattle.translation.specs.Instructions.{Datum, element, literal, entry, Instruction, rr, rx, shift, branch, link, stop, size, sizes, codeTable, opcode, column, shiftTable, shiftCode, conditionKinds, falseMasks, falseMask, loadRow, addRow, always}
+use Rattle.translation.specs.Instructions.{Datum, element, literal, entry, Instruction, rr, rx, address, immediate, shift, branch, link, stop, size, sizes, codeTable, opcode, column, shiftTable, shiftCode, conditionKinds, falseMasks, falseMask, loadRow, addRow, always}
 use Rattle.translation.specs.Core.{Core, skip, run, seq, mark, scope, jump, call, procedure, base, when, either, loop, count}
 use Rattle.translation.specs.Code.{Mark, sizeOf, own, markAt, code, instructions}
 use Rattle.translation.specs.Layout.{Layout, segmentLimit, offsetOf, literalsEnd}
@@ -50,6 +50,8 @@ ReadyDatum l (entry k) = k ≤ 3
 abbrev pub Ready : Layout → ℕ → Instruction → Type 0
 Ready l n (rr op r s) = (op < 256) × (r < 16) × (s < 16)
 Ready l n (rx op r a) = (op < 256) × (r < 16) × ReadyDatum l a
+Ready l n (address r a) = (r < 16) × ReadyDatum l a
+Ready l n (immediate op v a) = (op < 256) × (v < 256) × ReadyDatum l a
 Ready l n (shift op r s d) = (op < 256) × (r < 16) × (s < 16) × (d < 256)
 Ready l n (branch m t) = (m < 16) × (t ≤ n)
 Ready l n (link r t) = (r < 16) × (t ≤ n)

@@ -14,7 +14,7 @@ use borrow.Author.Tests.{leb-true, eq-eqb, ne-eqb}
 use Rattle.base.specs.Choose.{if_then_else_}
 use Rattle.base.specs.Lists.{_∈_, All}
 use Rattle.base.proofs.Lists.{all-in}
-use Rattle.grammar.specs.Tree.{Width, full, short}
+use Rattle.grammar.specs.Tree.{Width, full, short, byte}
 use Rattle.scopes.specs.declared.Broken.{Broken}
 use Rattle.scopes.specs.Broken.{_⊕_, rule}
 use Rattle.scopes.proofs.Joins.{quiet-left, quiet-right, rule-holds}
@@ -28,6 +28,7 @@ use Rattle.translation.specs.Layout.{segmentLimit, tableBytes, Placed, r
 pub round-up : (w : Width) (n : ℕ) → (n ≤ roundUp (elementSize w) n) × (roundUp (elementSize w) n % elementSize w ≡ 0) × (roundUp (elementSize w) n < n + elementSize w)
 round-up full n = (omega arith, omega arith, omega arith)
 round-up short n = (omega arith, omega arith, omega arith)
+round-up (byte c) n = (omega arith, omega arith, omega arith)
 
 pub end-past : (c : Cell) (ends : List ℕ) → getD ends (c .base .segment) 0 ≤ endFor c ends
 end-past c ends = let r = round-up (c .width) (getD ends (c .base .segment) 0) .0 in omega arith

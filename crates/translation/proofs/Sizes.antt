@@ -4,7 +4,7 @@ use mathlib.Core.List.{List, [], _∷_, _++_}
 use Prim.Native.Nat.{ℕ, _+_}
 use native.Mathlib.Omega.{arith}
 use lib.ListN.{length, length-append}
-use Rattle.translation.specs.Instructions.{Datum, element, literal, entry, Instruction, rr, rx, shift, branch, link, stop, size, sizes, opcode, addRow, always}
+use Rattle.translation.specs.Instructions.{Datum, element, literal, entry, Instruction, rr, rx, address, immediate, shift, branch, link, stop, size, sizes, opcode, addRow, always}
 use Rattle.translation.specs.Core.{Core, skip, run, seq, mark, scope, jump, call, procedure, base, when, either, loop, count}
 use Rattle.translation.specs.Code.{Mark, sizeOf, own, markAt, code, instructions}
 use Rattle.translation.specs.Layout.{Layout}
@@ -14,6 +14,8 @@ pub length-encode : (l : Layout) (i : Instruction) → length (encode l i) ≡ s
 unfolding encode
 length-encode l (rr op r s) = refl
 length-encode l (rx op r a) = refl
+length-encode l (address r a) = refl
+length-encode l (immediate op v a) = refl
 length-encode l (shift op r s n) = refl
 length-encode l (branch m t) = refl
 length-encode l (link r t) = refl

@@ -14,16 +14,16 @@ use Rattle.token.specs.Text.{tokensOf, TEXT-LIMIT}
 use Rattle.token.proofs.Readings.{tokens-few}
 use Rattle.token.proofs.Shape.{Tokened, last, more, tokens-whole}
 use Rattle.token.proofs.Values.{Fits, tokens-fit, fit-at}
-use Rattle.scopes.specs.Search.{standardName, inFront, firstToken}
+use Rattle.scopes.specs.Search.{namesInFront, standardName, inFront, firstToken}
 use Rattle.translation.specs.Translate.{kindsOf, valuesOf, placeAt}
 
-standard-fit : (cs : List ℕ) → All Fits (map standardName cs)
+standard-fit : (cs : List (List ℕ)) → All Fits (map standardName cs)
 standard-fit [] = tt
 standard-fit (c ∷ cs) = (λ q. absurd (omega arith), standard-fit cs)
 
 -- the names in front are no numbers
 front-fits : All Fits inFront
-front-fits = (λ q. omega arith, standard-fit (bytes "0123456789ABCDEF"))
+front-fits = (λ q. omega arith, standard-fit namesInFront)
 
 pub small-text : (source : List ℕ) (t : ℕ) → getD (kindsOf (inFront ++ tokensOf source .tokens)) t 0 ≡ K.NUMBER → getD (valuesOf (inFront ++ tokensOf source .tokens)) t 0 < 4294967296
 small-text source = fit-at (inFront ++ tokensOf source .tokens) (all-both Fits inFront (tokensOf source .tokens) front-fits (tokens-fit source))

@@ -1,5 +1,6 @@
 -- Document 01, "Code": the statements of a text with their names found: the instructions of assignments and conditions, and the shape around them.
 use mathlib.Core.List.{List, [], _∷_, _++_}
+use mathlib.Core.Bool.{Bool, true, _&&_}
 use mathlib.Core.Option.{Option, none, some}
 use Prim.Native.Nat.{ℕ, _-_}
 use lib.Dec.{eqb}
@@ -9,10 +10,12 @@ use Rattle.base.specs.Lists.{member}
 use Rattle.token.specs.Kinds as K
 use Rattle.grammar.specs.Tree as T
 use Rattle.grammar.specs.Tree.{Designator, Operand, number, place, Sign, plain, abs, neg, negAbs, Term, Assignment, Condition, compared, bare, Width, full, Statement, Body, Items}
-use Rattle.static_rules.specs.Meaning.{Meaning, nothing, register, cell, routine, byTarget, registerOf, longOperand}
+use Rattle.static_rules.specs.Functions as F
+use Rattle.static_rules.specs.Functions.{Form, Function, functionAt, arity}
+use Rattle.static_rules.specs.Meaning.{Meaning, nothing, register, cell, routine, function, byTarget, registerOf, longOperand}
 use Rattle.static_rules.specs.Tables.{Tables, kindAt, valueAt, meaningAt}
-use Rattle.static_rules.specs.Rules.{negative, shifts}
-use Rattle.translation.specs.Instructions.{Datum, element, literal, Instruction, rr, rx, shift, opcode, rowOf, loadRow, compareRow, timesRow, storeRow, column, absOp, negOp, negAbsOp, shiftCode, falseMask}
+use Rattle.static_rules.specs.Rules.{negative, bareName, shifts}
+use Rattle.translation.specs.Instructions.{Datum, element, literal, Instruction, rr, rx, address, immediate, shift, opcode, rowOf, loadRow, compareRow, timesRow, storeRow, column, absOp, negOp, negAbsOp, shiftCode, falseMask}
 
 -- a label or a procedure is known by the token of its name
 pub data Core : Type 0 where
@@ -60,13 +63,30 @@ load (abs t) r u = signed absOp r u
 load (neg t) r u = signed negOp r u
 load (negAbs t) r u = signed negAbsOp r u
 
+-- the instruction of a function with a cell: by the register r, or by the number v
+abbrev pub functionWith : Form → (op r v : ℕ) → Datum → Instruction
+functionWith F.operand op r v a = rx op r a
+functionWith F.address op r v a = address r a
+functionWith F.immediate op r v a = immediate op v a
+
+-- "LTR takes two registers", all others a cell
+abbrev pub functionOn : Function → (r v : ℕ) → Use → List Instruction
+functionOn g r v (held s) = rr (g .op) r s ∷ []
+functionOn g r v (stored w a) = functionWith (g .form) (g .op) r v a ∷ []
+functionOn g r v absent = []
+
+-- one token: a number, or a name alone
+abbrev pub isToken : Operand → Bool
+isToken (number t) = true
+isToken (place d) = bareName d
+
 -- "exit branch, mask 2, or 4 if the step is negative"
 abbrev pub exitMask : ℕ → ℕ
 exitMask step = if negative step then 4 else 2
 
 -- the return register of the procedure that is called
 abbrev pub returnOf : Meaning → ℕ
-returnOf m = elim m [ nothing ↦ 0 | register r ↦ 0 | cell c ↦ 0 | routine r ↦ r ]
+returnOf m = elim m [ nothing ↦ 0 | register r ↦ 0 | cell c ↦ 0 | routine r ↦ r | function k ↦ 0 ]
 
 -- ── by the tables ──
 
@@ -85,6 +105,7 @@ module _ (f : Tables) where
   useBy (register r) d = held r
   useBy (cell c) d = stored (c .width) (element c (subscriptOf (d .subscript)) (indexOf (d .index)))
   useBy (routine r) d = absent
+  useBy (function k) d = absent
 
   unfoldable pub useOf : Operand → Use
   useOf (number t) = stored full (literal (valueAt f t))
@@ -119,6 +140,10 @@ module _ (f : Tables) where
   sourceOf (number t) = 0
   sourceOf (place d) = registerOf (meaningAt f (d .name))
 
+  abbrev pub numberOf : Operand → ℕ
+  numberOf (number t) = valueAt f t
+  numberOf (place d) = 0
+
   abbrev pub assignBy : Meaning → Assignment → List Instruction
   assignBy m a = byTarget m (λ r. toRegister r a) (apply storeRow (sourceOf (a .first)) (useOf (place (a .target)))) []
 
@@ -139,12 +164,28 @@ module _ (f : Tables) where
   abbrev pub controlOf : Assignment → ℕ
   controlOf a = registerOf (meaningAt f (a .target .name))
 
+  -- ── uses of functions ──
+
+  -- of its last argument, by the register or number before it, which is one token, or by the function's own number; none where the count is wrong
+  unfoldable pub functionCode : Function → Operand → List Operand → List Instruction
+  functionCode g a [] = if eqb 1 (arity g) then functionOn g 0 (g .number) (useOf a) else []
+  functionCode g a (b ∷ []) = if eqb 2 (arity g) && isToken a then functionOn g (sourceOf a) (numberOf a) (useOf b) else []
+  functionCode g a (b ∷ c ∷ more) = []
+
+  abbrev pub useCode : Meaning → Operand → List Operand → List Instruction
+  useCode nothing a more = []
+  useCode (register r) a more = []
+  useCode (cell c) a more = []
+  useCode (routine r) a more = []
+  useCode (function k) a more = functionCode (functionAt k) a more
+
   -- ── the whole text ──
 
   unfoldable mutual
     pub coreStatement : Statement → Core
     coreStatement (T.assign a) = run (assignmentOf a)
     coreStatement (T.call n) = call (getD (f .found) n 0) (returnOf (meaningAt f n))
+    coreStatement (T.apply n a more) = run (useCode (meaningAt f n) a more)
     coreStatement (T.block t x) = coreBody x
     coreStatement (T.goto t n) = jump (getD (f .goes) n 0)
     coreStatement T.null = skip

@@ -4,7 +4,7 @@ use Prim.Native.Nat.{ℕ, _+_}
 use lib.ListN.{getD}
 use Rattle.base.specs.Runs.{indexOf}
 use Rattle.token.specs.Kinds as K
-use Rattle.grammar.specs.Tree.{Width, full, short}
+use Rattle.grammar.specs.Tree.{Width, full, short, byte}
 use Rattle.grammar.specs.Grammar.{relations}
 use Rattle.static_rules.specs.Meaning.{Cell}
 use Rattle.static_rules.specs.Rules.{shifts}
@@ -15,11 +15,13 @@ pub data Datum : Type 0 where
   literal : (value : ℕ) → Datum
   entry : (k : ℕ) → Datum
 
--- opcode, r and s; opcode, r and an operand in storage; a shift of r by the register s, or by n with s 0; a branch, and a branch that links, to an address
--- in the program; the end
+-- opcode, r and s; opcode, r and an operand in storage; r and the address of an operand, which is not touched; opcode, a number and an operand of one byte; a shift of r
+-- by the register s, or by n with s 0; a branch, and a branch that links, to an address in the program; the end
 pub data Instruction : Type 0 where
   rr : (op r s : ℕ) → Instruction
   rx : (op r : ℕ) → Datum → Instruction
+  address : (r : ℕ) → Datum → Instruction
+  immediate : (op value : ℕ) → Datum → Instruction
   shift : (op r s n : ℕ) → Instruction
   branch : (mask to : ℕ) → Instruction
   link : (r to : ℕ) → Instruction
@@ -28,6 +30,8 @@ pub data Instruction : Type 0 where
 abbrev pub size : Instruction → ℕ
 size (rr op r s) = 2
 size (rx op r a) = 4
+size (address r a) = 4
+size (immediate op v a) = 4
 size (shift op r s n) = 4
 size (branch mask to) = 4
 size (link r to) = 4
@@ -37,7 +41,7 @@ abbrev pub sizes : List Instruction → ℕ
 sizes [] = 0
 sizes (i ∷ is) = size i + sizes is
 
--- ── the code table: by row; register, integer cell or number, short cell; 0 where there is no instruction ──
+-- ── the code table: by row; register, integer cell or number, short cell; 0 where there is no instruction. A byte cell has no column ──
 
 abbrev pub codeTable : List (List ℕ)
 codeTable =
@@ -79,6 +83,7 @@ storeRow = 10
 abbrev pub column : Width → ℕ
 column full = 1
 column short = 2
+column (byte c) = 3
 
 unfoldable pub opcode : ℕ → ℕ → ℕ
 opcode row col = getD (getD codeTable row []) col 0
@@ -94,6 +99,10 @@ negOp = 0x13
 
 abbrev pub negAbsOp : ℕ
 negAbsOp = 0x11
+
+-- "LA 41"
+abbrev pub addressOp : ℕ
+addressOp = 0x41
 
 -- "Branch `47 m0` to a displacement from 15"
 abbrev pub branchOp : ℕ

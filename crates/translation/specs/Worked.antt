@@ -23,6 +23,7 @@ use Rattle.scopes.specs.Search as S
 use Rattle.scopes.specs.Names as N
 use Rattle.scopes.specs.Labels as L
 use Rattle.static_rules.specs.Registers as Q
+use Rattle.static_rules.specs.Functions as F
 use Rattle.static_rules.specs.Meanings as M
 use Rattle.static_rules.specs.Rules as J
 use Rattle.static_rules.specs.Kinds as K
@@ -136,20 +137,40 @@ traps =
     ∷ refuses (bytes "BEGIN GOTO L; RE := 1; END @") 6 11
     ∷ []
 
+-- ── Document 02, 1/13, byte functions: the code of all nine; a row of arguments that is no target; an index where none may be; a wrong count, before what is wrong in the
+-- arguments; a byte cell at any offset; a register that a function writes, through a call ──
+
+abbrev pub functions : List Case
+functions =
+    makes
+    (bytes "BEGIN SEGMENT BASE RC; ARRAY (4) BYTE A; IC(R1)(A(2)(R3)); STC(R1)(A(R2)); LA(R2)(A); LTR(R1)(R2); MVI(5)(A(1)); CLI(#C1)(A); SET(A); RESET(A); TEST(A(3)); END @")
+    (program (hex "58C0E008 4313C002 4212C000 4120C000 1212 9205C001 95C1C000 92FFC000 9200C000 95FFC003 0A00") ∷ literals "" ∷ cells (hex "00000000") 0 4 ∷ [])
+    ∷ refuses (bytes "BEGIN LTR(R1)(R2) := 5; END @") 4 18
+    ∷ refuses (bytes "BEGIN A(R1)(4) := R2; END @") 4 15
+    ∷ refuses (bytes "BEGIN A(4)(4) := R2; END @") 4 14
+    ∷ refuses (bytes "BEGIN A(B(4)) := R2; END @") 4 14
+    ∷ refuses (bytes "BEGIN ARRAY (8) BYTE A; SET(A(R1)); END @") 8 30
+    ∷ refuses (bytes "BEGIN IC(5); END @") 8 6
+    ∷ makes (bytes "BEGIN BYTE B(1); INTEGER I(2); SHORT INTEGER S(3); BYTE C(4); END @")
+    (program (hex "0A00") ∷ cells (hex "00000000 00000000 00000000 00000000 01000000 00000002 000304") 16 27 ∷ [])
+    ∷ refuses (bytes "BEGIN BYTE B; B := R1; END @") 8 14
+    ∷ refuses (bytes "BEGIN BYTE B; PROCEDURE P(R5); IC(R7)(B); PROCEDURE S(R7); P; END @") 10 59
+    ∷ []
+
 -- ── computed ──
 
-worked : Hold cases × Hold limits × Hold slips × Hold traps
+worked : Hold cases × Hold limits × Hold slips × Hold traps × Hold functions
 unfolding sameBytes runLen numberFrom bytesOf walk X.wordKind X.comment X.nameOrWord X.number X.begins X.sign X.lexeme X.nextStep X.nextToken X.readFrom
-    X.tokensOf R.andThen R.look R.next R.want R.wantOne G.designatorOf G.operand G.condition G.terms G.signOf G.assignmentOf G.numbers G.cellItem G.registerItem
-    G.listOf G.typeOf G.cellsOf G.afterType G.declaration G.afterName G.statementOf G.itemsOf G.bodyOf G.ifOf G.constructOf G.statement G.program grammatical
-    Ev.each Ev.eventsItem Ev.eventsDeclaration Ev.eventsSign Ev.eventsChain Ev.eventsStatement Pl.along B.rule B._⊕_ S.inBlock S.find N.noteFound N.useName
-    N.declareName N.declareNames N.useNames N.nameEvent L.noteLabel L.setLabel L.labelEvent Q.flags Q.has Q.addRegister Q.union Q.spares M.write M.writeText
-    M.callWrites M.targetWrites M.openBase M.addCell M.meanEvent J.registerRule J.zeroRule J.writeRule J.indexRules J.subscriptRules J.placeRules J.operandRules
-    J.onlyRegister J.shiftRules J.noShort J.productRules J.termRules J.targetRules J.controlRules J.conditionRules J.callRules J.valueRules J.baseRules
-    K.ruleEvent I.opcode I.shiftCode I.falseMask C.useOf C.shiftBy C.termOf C.chainOf C.toRegister C.assignmentOf C.compareWith C.testOf C.coreStatement D.sizeOf
+    X.tokensOf R.andThen R.look R.next R.want R.wantOne G.designatorOf G.operand G.condition G.terms G.signOf G.assignedTo G.assignmentOf G.numbers G.cellItem G.registerItem
+    G.listOf G.typeOf G.cellsOf G.afterType G.declaration G.arguments G.targetOf G.assignOr G.afterName G.statementOf G.itemsOf G.bodyOf G.ifOf G.constructOf G.statement G.program grammatical
+    Ev.each Ev.eventsItem Ev.eventsDeclaration Ev.eventsSign Ev.eventsChain Ev.eventsArguments Ev.eventsStatement Pl.along B.rule B._⊕_ S.inBlock S.find N.noteFound N.useName
+    N.declareName N.declareNames N.useNames N.nameEvent L.noteLabel L.setLabel L.labelEvent Q.flags Q.has Q.addRegister Q.union Q.spares F.functionAt M.write M.writeText
+    M.callWrites M.targetWrites M.openBase M.addCell M.meanEvent J.registerRule J.zeroRule J.writeRule J.indexRules J.subscriptRules J.placeRules J.noByte J.operandRules
+    J.onlyRegister J.shiftRules J.noShort J.productRules J.termRules J.targetRules J.controlRules J.conditionRules J.callRules J.writtenRules J.byteRules J.cellRules J.plainRules J.argumentRules J.valueRules J.baseRules
+    K.ruleEvent I.opcode I.shiftCode I.falseMask C.useOf C.shiftBy C.termOf C.chainOf C.toRegister C.assignmentOf C.compareWith C.testOf C.functionCode C.coreStatement D.sizeOf
     D.own D.markAt D.code D.instructions Y.valueBytes Y.placeCell Y.placeCells Y.offsetOf Y.literalsFrom Y.layout E.encode E.encodeAll H.fill H.words H.firstData
     H.dataOf H.segments T.named T.labelled T.meant T.make T.finish T.onRules T.translated T.inRoom translate O.hexDigit objectText
-worked = (refl, refl, refl, refl)
+worked = (refl, refl, refl, refl, refl)
 
 pub cases-hold : Hold cases
 cases-hold = worked .0
@@ -162,3 +183,6 @@ slips-hold = worked .2
 
 pub traps-hold : Hold traps
 traps-hold = worked .3
+
+pub functions-hold : Hold functions
+functions-hold = worked .4

@@ -41,14 +41,17 @@ execute-requires-9 c κs = search needs
 execute-requires-10 : tie.Need-execute-requires-10
 execute-requires-10 c κs = search needs
 
-multiply-step-requires : tie.Need-multiply-step-requires
-multiply-step-requires c κs = search needs
-
 execute-requires-11 : tie.Need-execute-requires-11
 execute-requires-11 c κs = search needs
 
+multiply-step-requires : tie.Need-multiply-step-requires
+multiply-step-requires c κs = search needs
+
 execute-requires-12 : tie.Need-execute-requires-12
 execute-requires-12 c κs = search needs
+
+execute-requires-13 : tie.Need-execute-requires-13
+execute-requires-13 c κs = search needs
 
 halt-requires : tie.Need-halt-requires
 halt-requires c κs = search needs
@@ -90,16 +93,19 @@ returns-12 : tie.Need-returns-12
 returns-12 c = rw (c .before .before .match .keys12) (c .execute10 .ensures)
 
 returns-13 : tie.Need-returns-13
-returns-13 c = rw (c .before .before .match .keys13) (c .multiply-step .ensures)
+returns-13 c = rw (c .before .before .match .keys13) (c .execute11 .ensures)
 
 returns-14 : tie.Need-returns-14
-returns-14 c = rw (c .before .before .match .keys14) (c .execute11 .ensures)
+returns-14 c = rw (c .before .before .match .keys14) (c .multiply-step .ensures)
 
 returns-15 : tie.Need-returns-15
 returns-15 c = rw (c .before .before .match .keys15) (c .execute12 .ensures)
 
 returns-16 : tie.Need-returns-16
-returns-16 c = rw (row-rest (c .before .before .args .op) registerRows unlisted (c .before .match .rest), c .halt .ensures)
+returns-16 c = rw (c .before .before .match .keys16) (c .execute13 .ensures)
+
+returns-17 : tie.Need-returns-17
+returns-17 c = rw (row-rest (c .before .before .args .op) registerRows unlisted (c .before .match .rest), c .halt .ensures)
 
 pub short-spec : {M : Type 1} → statement M
 short-spec =
@@ -117,9 +123,10 @@ short-spec =
     execute-requires-8
     execute-requires-9
     execute-requires-10
-    multiply-step-requires
     execute-requires-11
+    multiply-step-requires
     execute-requires-12
+    execute-requires-13
     halt-requires
     returns
     returns-2
@@ -136,4 +143,5 @@ short-spec =
     returns-13
     returns-14
     returns-15
-    returns-16)
+    returns-16
+    returns-17)

@@ -1,9 +1,9 @@
--- `step` makes the definition's tests of the counter in its order, then forms the second operand and calls `short`, `storage` or `shift`. Assumes nothing.
+-- `step` makes the definition's tests of the counter in its order, then forms the second operand and calls `short`, `storage` or `plain`. Assumes nothing.
 use mathlib.Core.Path.{_∙_}
 use borrow.Author.Needs.{needs}
 use borrow.Author.Tests.{lt-ltb, le-ltb, le-leb, lt-leb, eq-eqb, ne-eqb}
 use Rattle.machine.proofs.Operands.{kept}
-use Rattle.machine.proofs.Rows.{step-storage, step-shift}
+use Rattle.machine.proofs.Rows.{step-storage, step-plain}
 use Rattle.machine.specs.Space.{spaceBy}
 use Rattle.machine.specs.Step.{cpu, step}
 use Rattle.instruction.proofs.step.Statement.{statement}
@@ -122,19 +122,22 @@ returns-6 c =
 named-requires-2 : tie.Need-named-requires-2
 named-requires-2 c κs = search needs
 
-shift-requires : tie.Need-shift-requires
-shift-requires c κs = search needs
+plain-requires : tie.Need-plain-requires
+plain-requires c κs = search needs
+
+same-length-2 : tie.Need-same-length-2
+same-length-2 c = search needs
 
 returns-7 : tie.Need-returns-7
 returns-7 c =
-    let d = c .before .before .before .before .before .before .before in
+    let d = c .before .before .before .before .before in
     let e = d .before .before .before .before .before in
-    let a = e .before .before .before .args in
+    let g = e .before .before .before .before .before in
+    let a = g .before .before .before .args in
     let m = spaceBy (a .program) (a .map .now) in
-    c .shift .ensures m (a .s .now)
-    ∙ rw (c .before .before .named2 .ensures)
-    (step-shift m (cpu (a .regs .now) (a .code) (a .at)) (a .s .now) (e .before .if1 .left) (e .if2 .left) (d .before .if4 .left) (d .if5 .left)
-    (c .before .before .before .before .if6 .left))
+    c .before .before .plain .ensures (a .program)
+    ∙ rw (d .named2 .ensures)
+    (step-plain m (cpu (a .regs .now) (a .code) (a .at)) (a .s .now) (g .before .if1 .left) (g .if2 .left) (e .before .if4 .left) (e .if5 .left) (d .before .before .if6 .left))
 
 pub step-spec : {M : Type 1} → statement M
 step-spec =
@@ -169,5 +172,6 @@ step-spec =
     same-length
     returns-6
     named-requires-2
-    shift-requires
+    plain-requires
+    same-length-2
     returns-7)

@@ -78,6 +78,18 @@ enum-told-13 c = search needs
 half-product-requires : tie.Need-half-product-requires
 half-product-requires c κs = search needs
 
+enum-told-14 : tie.Need-enum-told-14
+enum-told-14 c = search needs
+
+insert-requires : tie.Need-insert-requires
+insert-requires c κs = search needs
+
+enum-told-15 : tie.Need-enum-told-15
+enum-told-15 c = search needs
+
+test-requires : tie.Need-test-requires
+test-requires c κs = search needs
+
 returns : tie.Need-returns
 returns c = rw (c .enum-told .given .1)
 
@@ -117,6 +129,12 @@ returns-12 c = rw (c .before .enum-told12 .given .1) (c .complement .ensures)
 returns-13 : tie.Need-returns-13
 returns-13 c = rw (c .before .enum-told13 .given .1, c .half-product .ensures)
 
+returns-14 : tie.Need-returns-14
+returns-14 c = rw (c .before .enum-told14 .given .1, c .insert .ensures)
+
+returns-15 : tie.Need-returns-15
+returns-15 c = rw (c .before .enum-told15 .given .1) (c .test .ensures)
+
 pub apply-spec : {M : Type 1} → statement M
 apply-spec =
     tie.close
@@ -146,6 +164,10 @@ apply-spec =
     complement-requires
     enum-told-13
     half-product-requires
+    enum-told-14
+    insert-requires
+    enum-told-15
+    test-requires
     returns
     returns-2
     returns-3
@@ -158,4 +180,6 @@ apply-spec =
     returns-10
     returns-11
     returns-12
-    returns-13)
+    returns-13
+    returns-14
+    returns-15)

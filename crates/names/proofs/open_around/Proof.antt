@@ -1,4 +1,4 @@
--- `open_around` enters the sixteen registers. The invariant: those above t are entered. Assumes nothing.
+-- `open_around` enters the standard names. The invariant: those above t are entered. Assumes nothing.
 use Rattle.names.specs.Flat.{Rising}
 use Rattle.names.proofs.Changes.{Entering, stays-on, entering, entering-on, entering-end}
 use Rattle.ledger.proofs.Columns.{thin-length}

@@ -10,9 +10,11 @@ use Rattle.scanner.proofs.word.Tie as tie
 
 -- `WORDS` of the code, as `build/words` makes it
 slots : List ℕ
-slots = 2599819994320 ∷ 1225623491 ∷ 883288 ∷ 43611015 ∷ 49834765 ∷ 85081182 ∷ 1 ∷ 85067357 ∷ 42437 ∷ 3295988556 ∷ 33740694 ∷ 31497 ∷ 3492157576 ∷ 1 ∷ 1 ∷ 1 ∷
-    4652580649483927 ∷ 57049 ∷ 3020246200145 ∷ 1 ∷ 1 ∷ 1 ∷ 856603 ∷ 1941020 ∷ 124743218865185 ∷ 1 ∷ 1301194 ∷ 1157840531 ∷ 86046795 ∷ 1 ∷ 3062688338 ∷ 71215694 ∷
-    3956758474325 ∷ 1215044 ∷ 1 ∷ 1 ∷ 2794202 ∷ 85080480 ∷ 1 ∷ 88037318 ∷ 85066655 ∷ 137427610859732 ∷ 1 ∷ 1767076687439 ∷ []
+slots = 1 ∷ 1 ∷ 1 ∷ 1 ∷ 137427610859732 ∷ 1 ∷ 85067357 ∷ 1 ∷ 86046795 ∷ 1 ∷ 1 ∷ 1 ∷ 124743218865185 ∷ 42437 ∷ 1 ∷ 1301194 ∷
+    85080480 ∷ 1 ∷ 2599819994320 ∷ 2794202 ∷ 3295988556 ∷ 1225623491 ∷ 1 ∷ 1 ∷ 1 ∷ 1 ∷ 1157840531 ∷ 85081182 ∷ 71215694 ∷ 49834765 ∷ 1 ∷ 2253371358935267 ∷
+    856603 ∷ 1 ∷ 1215044 ∷ 43611015 ∷ 3020246200145 ∷ 31497 ∷ 1 ∷ 3492157576 ∷ 1941020 ∷ 1 ∷ 88037318 ∷ 1 ∷ 1 ∷ 1 ∷ 57049 ∷ 1 ∷
+    1767076687439 ∷ 1 ∷ 4652580649483927 ∷ 3956758474325 ∷ 1 ∷ 1 ∷ 1 ∷ 33740694 ∷ 1 ∷ 1 ∷ 1 ∷ 883288 ∷ 85066655 ∷ 3062688338 ∷ 35733666 ∷ 1 ∷
+    1 ∷ []
 
 mul-w : tie.Need-mul-w
 mul-w c = search needs
@@ -25,11 +27,11 @@ cast-result c = search needs
 
 returns : tie.Need-returns
 unfolding slots keyKind numberFrom
-returns c = hit slots 131 44 (c .before .args .key) (c .if1 .taken) tt (search needs)
+returns c = hit slots 4299 65 (c .before .args .key) (c .if1 .taken) tt (search needs)
 
 returns-2 : tie.Need-returns-2
 unfolding slots keyKind numberFrom
-returns-2 c = miss slots 131 44 (c .before .args .key) (c .if1 .left) tt
+returns-2 c = miss slots 4299 65 (c .before .args .key) (c .if1 .left) tt
 
 pub word-spec : {M : Type 1} → statement M
 word-spec = tie.close (tie.spec mul-w array-read-w cast-result returns returns-2)

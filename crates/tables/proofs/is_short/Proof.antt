@@ -1,12 +1,16 @@
 -- Why `is_short` meets its contract.
+use mathlib.Core.Path.{ap}
+use Prim.Native.Nat.{ℕ}
+use lib.Dec.{eqb}
 use borrow.Author.Needs.{needs}
-use Rattle.tables.specs.Packed.{isShortIn}
 use Rattle.tables.proofs.is_short.Statement.{statement}
 use Rattle.tables.proofs.is_short.Tie as tie
 
+size-requires : tie.Need-size-requires
+size-requires c κs = search needs
+
 returns : tie.Need-returns
-unfolding isShortIn
-returns c = search needs
+returns c = ap (λ (x : ℕ). eqb x 1) (c .size .ensures .0)
 
 pub is-short-spec : {M : Type 1} → statement M
-is-short-spec = tie.close (tie.spec returns)
+is-short-spec = tie.close (tie.spec size-requires returns)

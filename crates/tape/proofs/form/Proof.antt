@@ -33,5 +33,11 @@ returns-7 : tie.Need-returns-7
 unfolding formAt
 returns-7 c = (search tests, omega arith)
 
+returns-8 : tie.Need-returns-8
+unfolding formAt
+returns-8 c = (search tests, omega arith)
+
 pub form-spec : {M : Type 1} → statement M
-form-spec = tie.close (tie.spec returns returns-2 returns-3 returns-4 returns-5 returns-6 returns-7)
+form-spec =
+    tie.close
+    (tie.spec returns returns-2 returns-3 returns-4 returns-5 returns-6 returns-7 returns-8)

@@ -36,5 +36,19 @@ returns-8 : tie.Need-returns-8
 unfolding layerAt
 returns-8 c = search tests
 
+returns-9 : tie.Need-returns-9
+unfolding layerAt
+returns-9 c = search tests
+
+returns-10 : tie.Need-returns-10
+unfolding layerAt
+returns-10 c = search tests
+
+returns-11 : tie.Need-returns-11
+unfolding layerAt
+returns-11 c = search tests
+
 pub layer-spec : {M : Type 1} → statement M
-layer-spec = tie.close (tie.spec returns returns-2 returns-3 returns-4 returns-5 returns-6 returns-7 returns-8)
+layer-spec =
+    tie.close
+    (tie.spec returns returns-2 returns-3 returns-4 returns-5 returns-6 returns-7 returns-8 returns-9 returns-10 returns-11)

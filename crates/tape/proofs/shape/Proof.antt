@@ -32,6 +32,19 @@ returns-7 : tie.Need-returns-7
 unfolding shapeAt
 returns-7 c = search tests
 
+returns-8 : tie.Need-returns-8
+unfolding shapeAt
+returns-8 c = search tests
+
+returns-9 : tie.Need-returns-9
+unfolding shapeAt
+returns-9 c = search tests
+
+returns-10 : tie.Need-returns-10
+unfolding shapeAt
+returns-10 c = search tests
+
 pub shape-spec : {M : Type 1} → statement M
 shape-spec =
-    tie.close (tie.spec returns returns-2 returns-3 returns-4 returns-5 returns-6 returns-7)
+    tie.close
+    (tie.spec returns returns-2 returns-3 returns-4 returns-5 returns-6 returns-7 returns-8 returns-9 returns-10)

@@ -1,7 +1,7 @@
 -- `assignment` joins its parts: target, sign, first operand, terms. Assumes nothing.
 use mathlib.Core.Path.{_∙_}
 use borrow.Author.Needs.{needs}
-use Rattle.grammar.specs.Grammar.{assignmentOf}
+use Rattle.grammar.specs.Grammar.{assignedTo, assignmentOf}
 use Rattle.tape.specs.Tape.{tapeAssignment}
 use Rattle.readers.proofs.Reading.{stops, goes, gives}
 use Rattle.phrases.proofs.assignments.assignment.Statement.{statement}
@@ -14,7 +14,7 @@ same-length : tie.Need-same-length
 same-length c = search needs
 
 returns : tie.Need-returns
-unfolding assignmentOf
+unfolding assignmentOf assignedTo
 returns c = record { read = stops _ (c .before .before .before .before .place .ensures .read) (c .if1 .taken); low = search needs }
 
 wanted-requires : tie.Need-wanted-requires
@@ -24,7 +24,7 @@ same-length-2 : tie.Need-same-length-2
 same-length-2 c = search needs
 
 returns-2 : tie.Need-returns-2
-unfolding assignmentOf
+unfolding assignmentOf assignedTo
 returns-2 c = record {
   read = goes _ (c .before .before .before .before .before .before .before .place .ensures .read) (c .before .before .before .if1 .left)
       (λ d w. stops _ (c .before .before .wanted .ensures .read) (c .if2 .taken));
@@ -41,7 +41,7 @@ same-length-3 : tie.Need-same-length-3
 same-length-3 c = search needs
 
 returns-3 : tie.Need-returns-3
-unfolding assignmentOf
+unfolding assignmentOf assignedTo
 returns-3 c =
     let at-operand = c .before .before .before .before in
     let at-sign = at-operand .before .before .before .before in
@@ -69,7 +69,7 @@ same-length-4 c = let a = c .before .before .before .before .before .before .bef
     .sign in let o = c .before .before .before .before .before .before .before .before .operand in let e = c .before .before .terms in search needs
 
 returns-4 : tie.Need-returns-4
-unfolding assignmentOf tapeAssignment
+unfolding assignmentOf assignedTo tapeAssignment
 returns-4 c =
     let at-terms = c .before .before in
     let at-if3 = at-terms .before .before in

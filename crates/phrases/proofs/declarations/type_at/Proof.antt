@@ -43,16 +43,48 @@ returns-2 c = record {
   small = search needs;
 }
 
-refused-requires : tie.Need-refused-requires
-refused-requires c κs = search needs
+add-read-3 : tie.Need-add-read-3
+add-read-3 c = search needs
+
+read-requires-3 : tie.Need-read-requires-3
+read-requires-3 c κs = search needs
 
 returns-3 : tie.Need-returns-3
 unfolding typeOf andThen look wantOne
 returns-3 c = record {
+  read = rw (same (c .before .before .before .before .kind-at .ensures .is) (c .before .if3 .taken))
+      (done (c .read3 .ensures) (omega arith) (omega arith) refl);
+  moved = search needs;
+  small = search needs;
+}
+
+add-read-4 : tie.Need-add-read-4
+add-read-4 c = search needs
+
+read-requires-4 : tie.Need-read-requires-4
+read-requires-4 c κs = search needs
+
+returns-4 : tie.Need-returns-4
+unfolding typeOf andThen look wantOne
+returns-4 c = record {
+  read = rw (same (c .before .before .before .before .before .kind-at .ensures .is) (c .before .if4 .taken))
+      (done (c .read4 .ensures) (omega arith) (omega arith) refl);
+  moved = search needs;
+  small = search needs;
+}
+
+refused-requires : tie.Need-refused-requires
+refused-requires c κs = search needs
+
+returns-5 : tie.Need-returns-5
+unfolding typeOf andThen look wantOne
+returns-5 c = record {
   read = rw (
-    ne-eqb _ _ (other (c .before .before .before .before .kind-at .ensures .is) (c .before .before .before .if1 .left)),
-    ne-eqb _ _ (other (c .before .before .before .before .kind-at .ensures .is) (c .before .before .if2 .left)),
-    ne-eqb _ _ (other (c .before .before .before .before .kind-at .ensures .is) (c .before .if3 .taken)),
+    ne-eqb _ _ (other (c .before .before .before .before .before .before .kind-at .ensures .is) (c .before .before .before .before .before .if1 .left)),
+    ne-eqb _ _ (other (c .before .before .before .before .before .before .kind-at .ensures .is) (c .before .before .before .before .if2 .left)),
+    ne-eqb _ _ (other (c .before .before .before .before .before .before .kind-at .ensures .is) (c .before .before .before .if3 .left)),
+    ne-eqb _ _ (other (c .before .before .before .before .before .before .kind-at .ensures .is) (c .before .before .if4 .left)),
+    ne-eqb _ _ (other (c .before .before .before .before .before .before .kind-at .ensures .is) (c .before .if5 .taken)),
   ) (no (c .refused .ensures) tt (omega arith));
   moved = search needs;
   small = search needs;
@@ -64,24 +96,24 @@ add-wanted c = search needs
 wanted-requires : tie.Need-wanted-requires
 wanted-requires c κs = search needs
 
-returns-4 : tie.Need-returns-4
+returns-6 : tie.Need-returns-6
 unfolding typeOf andThen look wantOne
-returns-4 c = record {
-  read = rw (same (c .before .before .before .before .before .before .kind-at .ensures .is) (c .before .before .before .if3 .left))
-      (since (omega arith) (stops _ (c .before .before .wanted .ensures .read) (c .if4 .taken)));
+returns-6 c = record {
+  read = rw (same (c .before .before .before .before .before .before .before .before .kind-at .ensures .is) (c .before .before .before .if5 .left))
+      (since (omega arith) (stops _ (c .before .before .wanted .ensures .read) (c .if6 .taken)));
   moved = search needs;
   small = search needs;
 }
 
-read-requires-3 : tie.Need-read-requires-3
-read-requires-3 c κs = search needs
+read-requires-5 : tie.Need-read-requires-5
+read-requires-5 c κs = search needs
 
-returns-5 : tie.Need-returns-5
+returns-7 : tie.Need-returns-7
 unfolding typeOf andThen look wantOne
-returns-5 c = record {
-  read = rw (same (c .before .before .before .before .before .before .before .kind-at .ensures .is)
-      (c .before .before .before .before .if3 .left)) (since (omega arith)
-      (goes _ (c .before .before .before .wanted .ensures .read) (c .before .if4 .left) (λ t e. done (c .read3 .ensures) (omega arith) (omega arith) refl)));
+returns-7 c = record {
+  read = rw (same (c .before .before .before .before .before .before .before .before .before .kind-at .ensures .is)
+      (c .before .before .before .before .if5 .left)) (since (omega arith)
+      (goes _ (c .before .before .before .wanted .ensures .read) (c .before .if6 .left) (λ t e. done (c .read5 .ensures) (omega arith) (omega arith) refl)));
   moved = search needs;
   small = search needs;
 }
@@ -97,10 +129,16 @@ type-at-spec =
     add-read-2
     read-requires-2
     returns-2
-    refused-requires
+    add-read-3
+    read-requires-3
     returns-3
+    add-read-4
+    read-requires-4
+    returns-4
+    refused-requires
+    returns-5
     add-wanted
     wanted-requires
-    returns-4
-    read-requires-3
-    returns-5)
+    returns-6
+    read-requires-5
+    returns-7)

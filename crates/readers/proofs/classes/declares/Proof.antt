@@ -10,7 +10,7 @@ use Rattle.readers.proofs.classes.declares.Statement.{statement}
 use Rattle.readers.proofs.classes.declares.Tie as tie
 
 returns : tie.Need-returns
-returns c = same-test (λ k. (leb K.INTEGER k && leb k K.ARRAY) || eqb k K.SEGMENT) (λ k. member k declarators) tt (c .args .k) (search needs)
+returns c = same-test (λ k. (leb K.INTEGER k && leb k K.ARRAY) || (eqb k K.SEGMENT || (eqb k K.BYTE || eqb k K.CHARACTER))) (λ k. member k declarators) tt (c .args .k) (search needs)
 
 pub declares-spec : {M : Type 1} → statement M
 declares-spec = tie.close (tie.spec returns)

@@ -1,0 +1,16 @@
+-- Why `is_byte` meets its contract.
+use mathlib.Core.Path.{ap}
+use Prim.Native.Nat.{ℕ}
+use lib.Dec.{leb}
+use borrow.Author.Needs.{needs}
+use Rattle.tables.proofs.is_byte.Statement.{statement}
+use Rattle.tables.proofs.is_byte.Tie as tie
+
+size-requires : tie.Need-size-requires
+size-requires c κs = search needs
+
+returns : tie.Need-returns
+returns c = ap (λ (x : ℕ). leb 2 x) (c .size .ensures .0)
+
+pub is-byte-spec : {M : Type 1} → statement M
+is-byte-spec = tie.close (tie.spec size-requires returns)
