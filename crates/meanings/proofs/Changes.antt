@@ -3,9 +3,11 @@ use mathlib.Core.Path.{_≡_, refl, sym, ap, ap₂, _∙_}
 use mathlib.Core.Bool.{Bool, false, _&&_, _||_}
 use mathlib.Core.List.{List, []}
 use Prim.Native.Nat.{ℕ, zero, suc, _+_, _-_, _≤_, _<_}
+use native.Mathlib.Omega.{arith}
 use native.Mathlib.Numerals.{add-one}
 use lib.Dec.{eqb}
 use lib.ListN.{getD, set, length}
+use borrow.Author.Tests.{ne-eqb}
 use Rattle.base.proofs.Tests.{cases, never-true}
 use Rattle.token.specs.Kinds as K
 use Rattle.static_rules.specs.Functions.{functionAt, argumentAt, isWritten}
@@ -32,7 +34,8 @@ first-places (suc (suc (suc (suc (suc zero))))) = refl
 first-places (suc (suc (suc (suc (suc (suc zero)))))) = refl
 first-places (suc (suc (suc (suc (suc (suc (suc zero))))))) = refl
 first-places (suc (suc (suc (suc (suc (suc (suc (suc zero)))))))) = refl
-first-places (suc (suc (suc (suc (suc (suc (suc (suc (suc k))))))))) = refl
+first-places (suc (suc (suc (suc (suc (suc (suc (suc (suc k))))))))) =
+    let n = suc (suc (suc (suc (suc (suc (suc (suc (suc k)))))))) in rw (ne-eqb n 0 (λ e. omega arith), ne-eqb n 2 (λ e. omega arith), ne-eqb n 8 (λ e. omega arith))
 
 first-is : (t m : ℕ) (b : Based) → isWritten (argumentOf (unpacked t m b) 0) ≡ firstIn m
 unfolding firstIn

@@ -19,7 +19,7 @@ use Rattle.grammar.specs.Pinned.{headOf}
 use Rattle.grammar.proofs.Pinned.{pinned-operand}
 use Rattle.grammar.specs.Events.{Edge, opened, closed, entered, left, Route, labelled, sent, Entry, named, celled, itemed, valued, based, Phrase, aimed, driven, signed, given, joined, tested, limited, called, applied, argued, counted, Mark, looped, otherwise, endedIf, endedElse, endedWhile, endedFor, Event, edge, route, entry, phrase, mark, eventsOf}
 use Rattle.grammar.specs.Places.{within, body, Place, after}
-use Rattle.grammar.specs.Contexts.{Context, nowhere, aiming, applying, declaring, contextAfter, entrySuits, phraseSuits, Suits}
+use Rattle.grammar.specs.Contexts.{Context, nowhere, aiming, applying, declaring, contextAfter, Aims, entrySuits, phraseSuits, Suits}
 use Rattle.grammar.proofs.Contexts.{program-coherent}
 use Rattle.grammar.specs.Texts.{InBlock, EdgeFits, isEvent, Stands}
 use Rattle.grammar.proofs.Texts.{program-text}
@@ -32,7 +32,7 @@ use Rattle.tape.specs.Written.{operandShape, signCode, conditionCode, opOf, tok
 use Rattle.tape.proofs.Numbers.{by-shape, by-operand, by-width}
 use Rattle.tape.proofs.Written.{tree-tape, follows-in}
 use Rattle.scopes.proofs.Early.{Early}
-use Rattle.static_rules.specs.Functions.{Function, Argument, surplus, functionTable, noFunction, functionAt, isWritten}
+use Rattle.static_rules.specs.Functions.{Function, Argument, readRegister, indexedCell, plainCell, surplus, functionTable, noFunction, functionAt, isWritten}
 use Rattle.static_rules.specs.Meaning.{Meaning, nothing, register, cell, routine, function, Based, meaningOf, operandMeaning, registerOf, argumentOf, isLong, longOperand, isProduct}
 use Rattle.static_rules.specs.Meanings as D
 use Rattle.static_rules.specs.Meanings.{Meant, write, writeText, callWrites, targetWrites, openBase, addCell, countOf, isArray, meaningIn, ownIn, newest, baseIn, meanProgram}
@@ -67,9 +67,9 @@ width-is (byte true) = refl
 abbrev ReadLater : Function → Type 0
 ReadLater g = (p : ℕ) → isWritten (getD (g .takes) (suc p) surplus) ≡ false
 
-second-read : (x y : Argument) → isWritten y ≡ false → (p : ℕ) → isWritten (getD (x ∷ y ∷ []) (suc p) surplus) ≡ false
-second-read x y e zero = e
-second-read x y e (suc p) = refl
+second-read : (x : Argument) → isWritten x ≡ false → (p : ℕ) → isWritten (getD (x ∷ []) p surplus) ≡ false
+second-read x e zero = e
+second-read x e (suc p) = refl
 
 later-read : (m : Meaning) (p : ℕ) → isWritten (argumentOf m (p + 1)) ≡ false
 unfolding functionAt
@@ -78,10 +78,13 @@ later-read (register r) p = refl
 later-read (cell c) p = refl
 later-read (routine r) p = refl
 later-read (function k) p = rw (add-one p) (all-getD ReadLater functionTable k noFunction (
-  second-read _ _ refl,
+  second-read indexedCell refl,
   (
-    second-read _ _ refl,
-    (second-read _ _ refl, (second-read _ _ refl, (second-read _ _ refl, ((λ p. refl), ((λ p. refl), ((λ p. refl), (second-read _ _ refl, tt))))))),
+    second-read indexedCell refl,
+    (
+      second-read indexedCell refl,
+      (second-read plainCell refl, (second-read plainCell refl, ((λ p. refl), ((λ p. refl), ((λ p. refl), (second-read readRegister refl, tt)))))),
+    ),
   ),
 ) (λ p. refl) p)
 
@@ -127,6 +130,10 @@ module _ (kinds values found : List ℕ) where
   Opens (aiming d) s form target first = target ≡ targetOf (meaningIn found s (d .name))
   Opens (applying n p) s form target first = first ≡ isWritten (argumentOf (meaningIn found s n) p)
   Opens (declaring n w ts) s form target first = Formed n w form
+
+  -- behind a target no argument follows
+  aims-still : (d : Designator) (c : Context) (s : Meant) (form target : ℕ) (first : Bool) → Aims d c → Opens c s form target first → Opens c s form target false
+  aims-still d (aiming x) s form target first q o = o
 
   -- own, owners: the innermost procedure and those around it; s: the tables by which the bases at p are told
   abbrev walkFrom : (own : ℕ) (owners : List ℕ) → Place → Meant → (form target : ℕ) → (first : Bool) → Meant → Meaning-walk
@@ -349,13 +356,13 @@ module _ (kinds values found : List ℕ) where
   turn-phrase (driven d) p c s form target first g i j h q o =
       aim-is E.CONTROL d p s _ form _ refl g (phrase-alike kinds values found (driven d) p s .of-means)
       (by-shape (λ n. step (E.CONTROL + n) (d .name) (walk p s form target first) ≡ aimedAt d p s form) refl refl refl refl (d .subscript) (d .index))
-  turn-phrase (signed d x) p c s form target first g i j h q o = (form, target, false, sign-is p s form target first x, o)
+  turn-phrase (signed d x) p c s form target first g i j h q o = (form, target, false, sign-is p s form target first x, aims-still d c s form target first (q .0) o)
   turn-phrase (given d a) p c s form target first g i j h q o = (
     form,
     target,
     false,
     by-operand (λ n. step (E.FIRST + n) (headOf a) (walk p s form target first) ≡ walk p s form target false) refl refl refl refl refl a,
-    o,
+    aims-still d c s form target first q o,
   )
   turn-phrase (joined d t) p (aiming x) s form target first g i j h q o =
       let m = meaningIn found s (d .name) in

@@ -12,9 +12,6 @@ returns : tie.Need-returns
 unfolding standardMeaning
 returns c = rw (lt-ltb _ 16 (c .before .if1 .taken)) (c .packed .ensures)
 
-sub-packed : tie.Need-sub-packed
-sub-packed c = search needs
-
 packed-requires-2 : tie.Need-packed-requires-2
 packed-requires-2 c κs = search needs
 
@@ -23,4 +20,4 @@ unfolding standardMeaning
 returns-2 c = rw (le-ltb _ 16 (c .before .if1 .left)) (c .packed2 .ensures)
 
 pub standard-meaning-spec : {M : Type 1} → statement M
-standard-meaning-spec = tie.close (tie.spec packed-requires returns sub-packed packed-requires-2 returns-2)
+standard-meaning-spec = tie.close (tie.spec packed-requires returns packed-requires-2 returns-2)
