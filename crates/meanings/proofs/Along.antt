@@ -89,7 +89,17 @@ module _ (tape kinds : List ℕ) (start : View) where
 
         stepped : walk (withinOf owners′ outer′ s′) form′ target′ first′ (viewOf w′ b″ bases′ .meant) ≡ event op t (walk (withinOf owners outer s) form target first (viewOf w b bases .meant))
         stepped =
-            rw (← found-is, ← values-is, ap (λ (v : View). v .meant) (wrote bases′), found′-is, ap (λ (v : View). v .meant) declared, ← (moved (w .under) .is), ← formed, ← (targeted (w .under)), ← (firsted (w .under)))
+            rw (
+              ← found-is,
+              ← values-is,
+              ap (λ (v : View). v .meant) (wrote bases′),
+              found′-is,
+              ap (λ (v : View). v .meant) declared,
+              ← (moved (w .under) .is),
+              ← formed,
+              ← (targeted (w .under)),
+              ← (firsted (w .under)),
+            )
 
     pub going-end : length tape ≤ i → viewOf w b bases ≡ changed (λ s. (pass event (beginning s) tape) .meant) start
     going-end h = ap (changed (λ _. viewOf w b bases .meant)) (g .still) ∙ ap (λ (m : Meaning-walk). changed (λ _. m .meant) start) (pass-end event _ tape i h (g .is))

@@ -33,7 +33,8 @@ blank-sets (suc n) = ap₂ (λ (x : Registers) (l : List Registers). x ∷ l) se
 named-means : (n : ℕ) (bases : List ℕ) → meaningsOf (standardNamed standardNames (replicate (firstToken + n) 0)) bases ≡ standard n .means
 unfolding standardNamed standardMeaning meaningsFrom unpacked packed numberIn isRegisterIn isRoutineIn isCellIn isFunctionIn low
 named-means n bases =
-    let e : firstToken + n ≡ suc (suc (suc (suc (suc (suc (suc (suc (suc (suc (suc (suc (suc (suc (suc (suc (suc (suc (suc (suc (suc (suc (suc (suc (suc (suc n))))))))))))))))))))))))) = omega arith in
+    let e : firstToken + n
+    ≡ suc (suc (suc (suc (suc (suc (suc (suc (suc (suc (suc (suc (suc (suc (suc (suc (suc (suc (suc (suc (suc (suc (suc (suc (suc (suc n))))))))))))))))))))))))) = omega arith in
     rw e (rw (blank-means n firstToken bases))
 
 pub blank : (n : ℕ) (bases : List ℕ) → meantOf (standardNamed standardNames (replicate (firstToken + n) 0)) bases (replicate (firstToken + n) 0) (replicate (firstToken + n) 0) 0 ≡ tabled (standard n)

@@ -373,7 +373,8 @@ module _ (kinds values found : List ℕ) where
         target,
         false,
         settle (ownIn p) (ownersIn p) p s (meanAt (phrase (joined d t)) p s) form target _ g
-            (term-is p s form target first (t .operator) (t .operand) (omega (arith, h .0, pinned-operand kinds (t .operand) _ _ (h .2) .0)) ∙ ap (tell p s form target) (rw e (lower-same b m (ownIn p) s))),
+            (term-is p s form target first (t .operator) (t .operand) (omega (arith, h .0, pinned-operand kinds (t .operand) _ _ (h .2) .0))
+            ∙ ap (tell p s form target) (rw e (lower-same b m (ownIn p) s))),
         o ∙ ap (λ (ms : List Meaning). targetOf (meaningOf found ms (x .name))) (sym k),
       )
   turn-phrase (tested t x) p c s form target first g i j h q o = (form, target, false, condition-is p s form target first x, tt)
@@ -384,8 +385,13 @@ module _ (kinds values found : List ℕ) where
     by-operand (λ n. step (E.LIMIT + n) (headOf a) (walk p s form target first) ≡ walk p s form target false) refl refl refl refl refl a,
     tt,
   )
-  turn-phrase (called n) p c s form target first g i j h q o =
-      (form, target, false, settle (ownIn p) (ownersIn p) p s (meanAt (phrase (called n)) p s) form target _ g (ap (tell p s form target) (call-same (meaningIn found s n) (ownIn p) (getD found n 0) s)), tt)
+  turn-phrase (called n) p c s form target first g i j h q o = (
+    form,
+    target,
+    false,
+    settle (ownIn p) (ownersIn p) p s (meanAt (phrase (called n)) p s) form target _ g (ap (tell p s form target) (call-same (meaningIn found s n) (ownIn p) (getD found n 0) s)),
+    tt,
+  )
   turn-phrase (applied n) p c s form target first g i j h q o = (form, target, isWritten (argumentOf (meaningIn found s n) 0), refl, refl)
   turn-phrase (argued n z a) p (applying m r) s form target first g i j h q o =
       let x = operandMeaning found (s .means) a in
@@ -415,7 +421,8 @@ module _ (kinds values found : List ℕ) where
   -- ── along the tape ──
 
   module _ (small : Small) (early : Early found) (N : ℕ) where
-    next : (e : Event) (p : Place) (c : Context) (s : Meant) (form target : ℕ) (first : Bool) → Placed kinds N e p → N ≡ length (s .opens) → Suits e c → Opens c s form target first → Next e p c s form target first
+    next : (e : Event) (p : Place) (c : Context) (s : Meant) (form target : ℕ) (first : Bool) → Placed kinds N e p → N ≡ length (s .opens) → Suits e c → Opens c s form target first
+        → Next e p c s form target first
     unfolding D.meanEvent
     next e p c s form target first x l q o = go e x q o (settles e x)
       where

@@ -120,8 +120,8 @@ writtenAfter kinds found op t own target s =
     if eqb op E.CALL then callWrites (meaningIn found s t) own (getD found t 0) s else
     s
 
--- between two events: where the walk is; what the cells that follow are; the register that the assignment's target is; whether the argument that follows is written; the
--- tables, but for the list of cells
+-- between two events: where the walk is; what the cells that follow are; the register that the target is, of an assignment or as an argument that is written; whether the
+-- argument that follows is written; the tables, but for the list of cells
 pub record Meaning-walk : Type 0 where
   pub within : Within
   pub form : ℕ
