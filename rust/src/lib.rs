@@ -1,6 +1,6 @@
 //! PL360, translated and run, with proof.
 //!
-//! A safe wrapper of `libtautgaff.a`, whose two functions are proved to do what document 01 says, for all they may be handed (`docs/PROMISES.md`). They have
+//! A safe wrapper of `libtautgaff.a`, whose two functions are proved to do what the papers say, for all they may be handed (`docs/PROMISES.md`). They have
 //! no state of their own, open, print and allocate nothing, and always return: they may be called from any thread, and from several at once.
 //!
 //! ```
