@@ -1,3 +1,2 @@
 -- The files of this crate's proofs.
 pub mod Running
-pub mod Operands

@@ -225,9 +225,6 @@ fn one_less(n: u64) -> u64
     if n == 0 { 0 } else { n - 1 }
 }
 
-// The width of integer cells.
-const FULL: u32 = 0;
-
 // "A value for a short cell has signed value -32768 to 65535"; of byte cells "initial values 0 to 255".
 fn value_rule(c: Cells, v: u64, t: usize) -> Broken
     ensures { λ r. ⌜ r ≡ valueRule c v t ⌝ }
@@ -236,7 +233,7 @@ fn value_rule(c: Cells, v: u64, t: usize) -> Broken
     if c.room == 0 {
         return broken(11, t);
     }
-    if width == FULL {
+    if width == tape::FULL {
         return none();
     }
     if width == tape::SHORT {
@@ -529,7 +526,7 @@ pub fn judge(
         counts: 0,
     };
     let mut c = Cells {
-        width: FULL,
+        width: tape::FULL,
         elements: 0,
         room: 0,
     };

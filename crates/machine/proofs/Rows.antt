@@ -1,5 +1,5 @@
 -- Rows of the tables of opcodes: what holds of every row holds of what is found (`row-is`), an opcode that is none of theirs finds what is said further on
--- (`row-rest`), and from 128 on opcodes are those that have no index (`step-storage`, `step-plain`). Assumes nothing.
+-- (`row-rest`), and from 128 on opcodes are those that have no index (`step-storage`, `step-plain`; `index-is`). Assumes nothing.
 use Prim.Native.Nat.{ℕ, suc, _+_, _*_, _/_, _%_, _<_, _≤_}
 use mathlib.Core.Path.{_≡_, refl, sym, ap, _∙_}
 use mathlib.Core.Bool.{Bool, true, false}
@@ -12,7 +12,7 @@ use Rattle.base.specs.Lists.{All}
 use Rattle.base.specs.Tables.{every}
 use Rattle.base.proofs.Tests.{never-true, is-true, and-left, and-right}
 use Rattle.machine.specs.Space.{Space, origin}
-use Rattle.machine.specs.Instructions.{Long, unlistedLong, rowOf, storageRows, plainRows, storageKind, plainKind}
+use Rattle.machine.specs.Instructions.{Long, unlistedLong, rowOf, storageRows, plainRows, storageKind, plainKind, longKind}
 use Rattle.machine.specs.Step.{Cpu, Stepped, address, longOn, indexOf, step}
 use Rattle.machine.proofs.Effects.{step-long}
 
@@ -81,3 +81,12 @@ module _ (m : Space) (c : Cpu) (s : List ℕ) (even : c .counter % 2 ≡ 0) (low
       row-is (Indexed 0) plainRows (refl, (refl, (refl, (refl, (refl, (refl, tt)))))) op refl
       ∙ ap byKind (sym (row-other (λ k. ltb k 128) storageRows 0 op (plainKind op) tt (le-ltb op 128 h)))
       ∙ sym (step-long m c s even low op refl is fits)
+
+-- an opcode in no row of those that have no index has that of its field
+pub index-is : (op x : ℕ) → Rest op plainRows (Unit {0}) → x ≡ indexOf (longKind op) x
+index-is op x r = sym (
+    ap (λ (k : Long). indexOf (rowOf storageRows op k) x) (row-rest op plainRows unlistedLong r)
+    ∙ row-is (λ k. indexOf k x ≡ x) storageRows
+    (refl, (refl, (refl, (refl, (refl, (refl, (refl, (refl, (refl, (refl, (refl, (refl, (refl, (refl, (refl, (refl, (refl, (refl, (refl, (refl, (refl, (refl, tt)))))))))))))))))))))) op
+    refl
+    )

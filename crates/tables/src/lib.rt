@@ -25,7 +25,14 @@ const SORTS: u64 = 16;
 
 const WIDTHS: u64 = 4;
 
-// A number of 32 bits, what it is a number of, and the width of a cell's elements: 1 if they are short, 2 or 3 if they are bytes.
+// The widths of a cell's elements; of bytes there are two, from BYTE on.
+pub const FULL: u64 = 0;
+
+pub const SHORT: u64 = 1;
+
+const BYTE: u64 = 2;
+
+// A number of 32 bits, what it is a number of, and the width of a cell's elements.
 pub fn packed(sort: u64, width: u64, v: u64) -> u64
     requires { ⌜ (sort < 16) × (width < 4) ⌝ }
     ensures { λ r. ⌜ r ≡ packedOf sort width v ⌝ }
@@ -80,14 +87,14 @@ pub fn size(m: u64) -> u64
 pub fn is_short(m: u64) -> bool
     ensures { λ r. ⌜ r ≡ isShortIn m ⌝ }
 {
-    size(m) == 1
+    size(m) == SHORT
 }
 
 // The elements of a cell are bytes.
 pub fn is_byte(m: u64) -> bool
     ensures { λ r. ⌜ r ≡ isByteIn m ⌝ }
 {
-    2 <= size(m)
+    BYTE <= size(m)
 }
 
 // "(4, or 2 for short)"; "one byte".
@@ -95,10 +102,10 @@ pub fn element_size(m: u64) -> u64
     ensures { λ r. ⌜ (r ≡ elementSize (widthIn m)) × (1 ≤ r) × (r ≤ 4) ⌝ }
 {
     let w = size(m);
-    if w == 0 {
+    if w == FULL {
         return 4;
     }
-    if w == 1 {
+    if w == SHORT {
         return 2;
     }
     1
@@ -118,7 +125,7 @@ pub fn register(m: u64) -> u64
 pub fn is_long(m: u64) -> bool
     ensures { λ r. ⌜ r ≡ longIn m ⌝ }
 {
-    is_register(m) | (is_cell(m) & (size(m) == 0))
+    is_register(m) | (is_cell(m) & (size(m) == FULL))
 }
 
 // What the name at token t means.

@@ -82,6 +82,8 @@ pub const ARRAY_BYTE: u32 = 66;
 pub const ARRAY_CHARACTER: u32 = 67;
 
 // The width of cells.
+pub const FULL: u32 = 0;
+
 pub const SHORT: u32 = 1;
 
 pub const BYTE: u32 = 2;

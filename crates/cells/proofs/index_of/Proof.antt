@@ -1,6 +1,6 @@
 -- The opcodes of the rows without an index have none, and any other has that of its field. Assumes nothing.
 use native.Mathlib.Omega.{arith}
-use Rattle.cells.proofs.Operands.{index-is}
+use Rattle.machine.proofs.Rows.{index-is}
 use Rattle.cells.proofs.index_of.Statement.{statement}
 use Rattle.cells.proofs.index_of.Tie as tie
 
