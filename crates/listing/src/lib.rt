@@ -173,6 +173,7 @@ fn spot_along(tape: &[u32], kinds: &[u8], wide: &[u64], thin: &[u16], address: u
     let mut w = Writing {
         aim: Use::Absent,
         sign: 0,
+        arguments: 0,
     };
     let mut target = no_spot();
     let mut spot = no_spot();

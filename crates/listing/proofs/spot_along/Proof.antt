@@ -50,7 +50,7 @@ size-requires c κs = search needs
 
 add-q : tie.Need-add-q Inv-loop μ-loop
 add-q c =
-    let at-loop-test = c .before .before .before .before .before .before in
+    let at-loop-test = c .before .before .before .before .before in
     let at-loop = at-loop-test .before in
     let start = at-loop .before .before .before .before .before .before .before in
     let b = at-loop .loop .inv .1 in let h = at-loop-test .loop-test .taken in let n = start .pre in omega (arith, c .size .ensures .1)
@@ -74,10 +74,15 @@ target-after-requires : tie.Need-target-after-requires Inv-loop μ-loop
 target-after-requires c κs = search needs
 
 add-i : tie.Need-add-i Inv-loop μ-loop
-add-i c = search needs
+add-i c =
+    let at-loop-test = c .before .before .before .before .before .before .before .before .before .before .before .before in
+    let start = at-loop-test .before .before .before .before .before .before .before .before in
+    let h = at-loop-test .loop-test .taken in let n = start .pre in omega arith
 
 loop-less : tie.Need-loop-less Inv-loop μ-loop
-loop-less c = search needs
+loop-less c =
+    let at-loop-test = c .before .before .before .before .before .before .before .before .before .before .before .before in
+    let h = at-loop-test .loop-test .taken in omega arith
 
 loop-again : tie.Need-loop-again Inv-loop μ-loop
 loop-again c =
@@ -89,7 +94,7 @@ loop-again c =
     let at-family = at-form .before in
     let at-size = at-family .before in
     let at-event = at-size .before in
-    let at-token = at-event .before .before in
+    let at-token = at-event .before in
     let at-op = at-token .before in
     let at-loop-test = at-op .before .before in
     let at-loop = at-loop-test .before in
