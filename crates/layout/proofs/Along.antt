@@ -25,7 +25,7 @@ use Rattle.layout.specs.Along.{Imaging, imagingOf, nowhere, startCell, l
 
 -- ── sizes ──
 
-pub round-room : (z n : ℕ) → 2 ≤ z → z ≤ 4 → roundUp z n ≤ n + 3
+pub round-room : (z n : ℕ) → 1 ≤ z → z ≤ 4 → roundUp z n ≤ n + 3
 round-room z n a b = omega (arith, div-mul-le-self (n + (z - 1)) z)
 
 -- at most 2^34

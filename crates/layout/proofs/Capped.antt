@@ -13,11 +13,12 @@ use Rattle.scopes.specs.declared.Broken.{Broken}
 use Rattle.scopes.specs.Broken.{unbroken, rule, _⊕_}
 use Rattle.scopes.proofs.Joins.{quiet-left, quiet-right, rule-holds}
 use Rattle.static_rules.specs.Meaning.{elementSize}
-use Rattle.grammar.specs.Tree.{Width, full, short}
+use Rattle.grammar.specs.Tree.{Width}
 use Rattle.tape.specs.Events as E
 use Rattle.tape.specs.Pass.{onEvent, pass}
 use Rattle.tables.specs.Packed.{widthIn, numberIn}
 use Rattle.translation.specs.Layout.{segmentLimit, roundUp}
+use Rattle.translation.proofs.Rooms.{round-up}
 use Rattle.layout.specs.Along.{Laying, layingOf, startEnds, segmentAt, offsetAt, endAt, placeBy, placeAt, eventBy, layoutEvent, capped, cappedEvent}
 
 -- ── of a list ──
@@ -52,11 +53,6 @@ cap-table = refl
 read-capped : (l : List ℕ) (i : ℕ) → getD (map capped l) i 0 ≡ capped (getD l i 0)
 read-capped l i = ap (λ (d : ℕ). getD (map capped l) i d) (sym cap-none) ∙ List·getD-map capped l i 0
 
--- rounding up takes nothing away
-rounded : (w : Width) (n : ℕ) → n ≤ roundUp (elementSize w) n
-rounded full n = omega arith
-rounded short n = omega arith
-
 -- the end of a cell with n elements, behind e bytes
 abbrev endPast : Width → ℕ → ℕ → ℕ
 endPast w n e = roundUp (elementSize w) e + elementSize w * n
@@ -73,8 +69,8 @@ alike w n e =
     (λ h.
     let k = past e h in
     let l = leb-false e segmentLimit h in
-    let a : leb (endPast w n (capped e)) segmentLimit ≡ false = lt-leb (endPast w n (capped e)) segmentLimit (omega (arith, k, rounded w (capped e))) in
-    let b : leb (endPast w n e) segmentLimit ≡ false = lt-leb (endPast w n e) segmentLimit (omega (arith, l, rounded w e)) in
+    let a : leb (endPast w n (capped e)) segmentLimit ≡ false = lt-leb (endPast w n (capped e)) segmentLimit (omega (arith, k, round-up w (capped e) .0)) in
+    let b : leb (endPast w n e) segmentLimit ≡ false = lt-leb (endPast w n e) segmentLimit (omega (arith, l, round-up w e .0)) in
     record { limit = a ∙ sym b; kept = past (endPast w n (capped e)) a ∙ sym (past (endPast w n e) b) })
 
 -- ── of a layout ──

@@ -43,7 +43,7 @@ module _ (means bases : List ℕ) where
   never m c p q = absurd (let z : _≡_ {A = ℕ} 0 1 = cc in omega arith)
 
   is-cell : (t m : ℕ) (b : Based) (c : Cell) → unpacked t m b ≡ cell c → cellIn t m b ≡ c
-  is-cell t m b c e = by-sort (λ (x : Meaning). x ≡ cell c → cellIn t m b ≡ c) t m b (λ q r. cc) (λ q r s. cc) (λ q r s u. cc) (λ q r s u. cc) e
+  is-cell t m b c e = by-sort (λ (x : Meaning). x ≡ cell c → cellIn t m b ≡ c) t m b (λ q r. cc) (λ q r s. cc) (λ q r s u. cc) (λ q r s u v. cc) (λ q r s u v. cc) e
 
   pub fields : (d : Filled) → Right d → Fields (d .cell)
   unfolding basedIn

@@ -10,9 +10,9 @@ use Rattle.base.specs.Lists.{All}
 use Rattle.base.proofs.Tests.{never-true}
 use Rattle.grammar.specs.Tree.{Designator, Item, Statement}
 use Rattle.grammar.specs.Derives.{isProgram}
-use Rattle.grammar.specs.Events.{Entry, named, celled, itemed, valued, based, Phrase, aimed, driven, signed, given, joined, tested, limited, called, Event, edge, route, entry, phrase, mark, eventsOf}
+use Rattle.grammar.specs.Events.{Entry, named, celled, itemed, valued, based, Phrase, aimed, driven, signed, given, joined, tested, limited, called, applied, argued, counted, Event, edge, route, entry, phrase, mark, eventsOf}
 use Rattle.grammar.specs.Places.{Place, after}
-use Rattle.grammar.specs.Contexts.{Context, nowhere, aiming, declaring, contextAfter, Complete, Aims, phraseContext, phraseSuits, entrySuits, Suits}
+use Rattle.grammar.specs.Contexts.{Context, nowhere, aiming, applying, declaring, contextAfter, Complete, Aims, Applies, phraseContext, phraseSuits, entrySuits, Suits}
 use Rattle.grammar.proofs.Contexts.{program-coherent}
 use Rattle.grammar.specs.Texts.{Stands}
 use Rattle.grammar.proofs.Texts.{program-text, text-stands}
@@ -48,15 +48,20 @@ module _ {S : Type 0} (f : ℕ → ℕ → S → S) where
 abbrev valuesIn : Context → List ℕ
 valuesIn nowhere = []
 valuesIn (aiming d) = []
+valuesIn (applying n p) = []
 valuesIn (declaring n w ts) = ts
 
 complete-none : (c : Context) → Complete c → valuesIn c ≡ []
 complete-none nowhere h = refl
 complete-none (aiming d) h = refl
+complete-none (applying n p) h = refl
 complete-none (declaring n w ts) h = h
 
 aims-none : (d : Designator) (c : Context) → Aims d c → valuesIn c ≡ []
 aims-none d (aiming x) h = refl
+
+applies-none : (n k : ℕ) (c : Context) → Applies n k c → valuesIn c ≡ []
+applies-none n k (applying m p) h = refl
 
 -- no values stand before or after a phrase
 phrase-none : (y : Phrase) (c : Context) → phraseSuits y c → (valuesIn c ≡ []) × (valuesIn (phraseContext y c) ≡ [])
@@ -68,6 +73,9 @@ phrase-none (joined d t) c q = (aims-none d c q, aims-none d c q)
 phrase-none (tested t x) c q = (complete-none c q, refl)
 phrase-none (limited d v a) c q = (aims-none d c q, refl)
 phrase-none (called n) c q = (complete-none c q, refl)
+phrase-none (applied n) c q = (complete-none c q, refl)
+phrase-none (argued n p a) c q = (applies-none n p c q, refl)
+phrase-none (counted n k) c q = (applies-none n k c q, refl)
 
 module _ (kinds values found : List ℕ) where
   -- only a cell's event lists a cell more

@@ -41,7 +41,7 @@ fn segment(wide: &[u64], t: usize) -> usize
 
 // "the next multiple of" z.
 pub fn round_up(z: u64, n: u64) -> u64
-    requires { ⌜ (2 ≤ z) × (z ≤ 4) × (n < 4611686018427387904) ⌝ }
+    requires { ⌜ (1 ≤ z) × (z ≤ 4) × (n < 4611686018427387904) ⌝ }
     ensures { λ r. ⌜ (r ≡ roundUp z n) × (r ≤ n + 3) ⌝ }
 {
     (n + (z - 1)) / z * z

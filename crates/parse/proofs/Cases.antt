@@ -12,7 +12,7 @@ use Rattle.token.specs.Kinds as K
 use Rattle.token.specs.Text.{wordKind, comment, nameOrWord, number, begins, sign, lexeme, nextStep, nextToken, readFrom, tokensOf}
 use Rattle.token.specs.Answers.{kindOf}
 use Rattle.grammar.specs.Reader.{andThen, look, next, want, wantOne}
-use Rattle.grammar.specs.Grammar.{designatorOf, operand, condition, terms, signOf, assignmentOf, numbers, cellItem, registerItem, listOf, typeOf, cellsOf, afterType, declaration, afterName, statementOf, itemsOf, bodyOf, ifOf, constructOf, statement, procedureOf, program}
+use Rattle.grammar.specs.Grammar.{designatorOf, operand, condition, terms, signOf, assignedTo, assignmentOf, numbers, cellItem, registerItem, listOf, typeOf, cellsOf, afterType, declaration, arguments, targetOf, assignOr, afterName, statementOf, itemsOf, bodyOf, ifOf, constructOf, statement, procedureOf, program}
 use Rattle.tape.specs.Events as E
 use Rattle.tape.specs.Tape.{event, tapeDesignator, tapeOperand, tapeCondition, tapeSign, tapeEach, tapeAssignment, tapeItem, tapeDeclaration, tapeStatement, tapeBody, tapeItems}
 use Rattle.parse.specs.Programs.{toldOf, judged}
@@ -25,11 +25,22 @@ verdicts :
     map verdict
     ("BEGIN END @" ∷ "" ∷ "BEGIN NULL" ∷ "BEGIN NULL END @" ∷ "BEGIN R1 := ; END @" ∷ "BEGIN INTEGER REGISTER A; END @" ∷ "BEGIN IF < THEN WHILE < DO NULL ELSE NULL; END @" ∷
     "BEGIN IF < THEN NULL ELSE WHILE < DO NULL; END @" ∷ "BEGIN A(B)(C) := 1; END @" ∷ "BEGIN NULL; INTEGER A; END @" ∷ "BEGIN L: END @" ∷ "BEGIN 99999999999 END @" ∷ [])
-    ≡ (0, 0) ∷ (4, 0) ∷ (4, 10) ∷ (4, 11) ∷ (4, 12) ∷ (4, 24) ∷ (4, 32) ∷ (0, 0) ∷ (4, 10) ∷ (4, 12) ∷ (0, 0) ∷ (3, 6) ∷ []
+    ≡ (0, 0) ∷ (4, 0) ∷ (4, 10) ∷ (4, 11) ∷ (4, 12) ∷ (4, 24) ∷ (4, 32) ∷ (0, 0) ∷ (4, 14) ∷ (4, 12) ∷ (0, 0) ∷ (3, 6) ∷ []
 unfolding sameBytes runLen numberFrom walk wordKind comment nameOrWord number begins sign lexeme nextStep nextToken readFrom tokensOf judged andThen look next
-    want wantOne designatorOf operand condition terms signOf assignmentOf numbers cellItem registerItem listOf typeOf cellsOf afterType declaration afterName
-    statementOf itemsOf bodyOf ifOf constructOf statement procedureOf program
+    want wantOne designatorOf operand condition terms signOf assignedTo assignmentOf numbers cellItem registerItem listOf typeOf cellsOf afterType declaration
+    arguments targetOf assignOr afterName statementOf itemsOf bodyOf ifOf constructOf statement procedureOf program
 verdicts = refl
+
+-- document 02, 1/13: "the name, then each argument in its own parentheses"; behind another row than a designator no `:=` stands
+uses :
+    map verdict
+    ("BEGIN X(1)(R2)(Y(4))(5)(Z); END @" ∷ "BEGIN IC(); END @" ∷ "BEGIN IC(R1, B); END @" ∷ "BEGIN SET((F)); END @" ∷ "BEGIN MVI(4 + 1)(B); END @" ∷ "BEGIN A(R1)(4) := R2; END @" ∷
+    "BEGIN A(B(4)) := R2; END @" ∷ "BEGIN A(4)(R1)(R2) := R3; END @" ∷ "BEGIN IC(4)(R1) := R2; END @" ∷ "BEGIN BYTE B; CHARACTER C; END @" ∷ "BEGIN BYTE REGISTER B(1); END @" ∷ [])
+    ≡ (0, 0) ∷ (4, 9) ∷ (4, 11) ∷ (4, 10) ∷ (4, 12) ∷ (4, 15) ∷ (4, 14) ∷ (4, 19) ∷ (0, 0) ∷ (0, 0) ∷ (4, 11) ∷ []
+unfolding sameBytes runLen numberFrom walk wordKind comment nameOrWord number begins sign lexeme nextStep nextToken readFrom tokensOf judged andThen look next
+    want wantOne designatorOf operand terms signOf assignedTo numbers cellItem listOf typeOf cellsOf afterType declaration arguments targetOf assignOr afterName
+    statementOf itemsOf bodyOf constructOf statement procedureOf program
+uses = refl
 
 abbrev tape : String → List ℕ
 tape s = toldOf (program (map kindOf (tokensOf (bytes s) .tokens)) 0) .events
@@ -40,7 +51,8 @@ events es = map (λ (e : ℕ × ℕ). event (e .0) (e .1)) es
 tapes :
     map tape
     ("BEGIN INTEGER A(5); R1 := A + 3; A := R1; END @" ∷ "BEGIN FOR R1 := NEG ABS A(4)(R2) STEP 1 UNTIL 9 DO IF < THEN L ELSE WHILE R1 = 5 DO GOTO X; END @" ∷
-    "BEGIN ARRAY (8) SHORT INTEGER S, T(1)(2); INTEGER REGISTER N(3); SEGMENT BASE RC; PROCEDURE P(R5); R0 := S(R1); L: P; END @" ∷ [])
+    "BEGIN ARRAY (8) SHORT INTEGER S, T(1)(2); INTEGER REGISTER N(3); SEGMENT BASE RC; PROCEDURE P(R5); R0 := S(R1); L: P; END @" ∷
+    "BEGIN ARRAY (4) CHARACTER C(7); BYTE B; IC(R1)(C(2)(R2)); SET(B); B(4)(R1) := R2; END @" ∷ [])
     ≡ map events
     (((E.BLOCK, 0) ∷ (E.SINGLE-FULL, 0) ∷ (E.ITEM, 2) ∷ (E.VALUE, 4) ∷ (E.TARGET, 7) ∷ (E.FIRST, 9) ∷ (E.TERM + E.NUMBER, 11) ∷ (E.TARGET, 13) ∷ (E.FIRST, 15) ∷ (E.END-BLOCK, 0) ∷ [])
     ∷ ((E.BLOCK, 0) ∷ (E.CONTROL, 2) ∷ (E.NEG-ABS, 4) ∷ (E.FIRST + E.SUBSCRIPTED-INDEXED, 6) ∷ (E.LIMIT + E.NUMBER, 16) ∷ (E.BARE, 19) ∷ (E.CALL, 21) ∷ (E.ELSE, 18) ∷ (
@@ -53,10 +65,13 @@ tapes :
       29,
     ) ∷ (E.TARGET, 34) ∷ (E.FIRST + E.INDEXED, 36) ∷ (E.END-PROCEDURE, 29)
     ∷ (E.LABEL, 41) ∷ (E.CALL, 43) ∷ (E.END-BLOCK, 0) ∷ [])
+    ∷ ((E.BLOCK, 0) ∷ (E.ARRAY-CHARACTER, 3) ∷ (E.ITEM, 6) ∷ (E.VALUE, 8) ∷ (E.SINGLE-BYTE, 0) ∷ (E.ITEM, 12) ∷ (E.APPLIED, 14) ∷ (E.ARGUED, 16)
+    ∷ (E.ARGUED + E.SUBSCRIPTED-INDEXED, 19) ∷ (E.COUNTED, 14) ∷ (E.APPLIED, 28) ∷ (E.ARGUED, 30) ∷ (E.COUNTED, 28) ∷ (E.TARGET + E.SUBSCRIPTED-INDEXED, 33) ∷ (E.FIRST, 41)
+    ∷ (E.END-BLOCK, 0) ∷ [])
     ∷ [])
 unfolding sameBytes runLen numberFrom walk wordKind comment nameOrWord number begins sign lexeme nextStep nextToken readFrom tokensOf andThen look next want
-    wantOne designatorOf operand condition terms signOf assignmentOf numbers cellItem registerItem listOf typeOf cellsOf afterType declaration afterName
-    statementOf itemsOf bodyOf ifOf constructOf statement procedureOf program event tapeDesignator tapeOperand tapeCondition tapeSign tapeEach tapeAssignment
+    wantOne designatorOf operand condition terms signOf assignedTo assignmentOf numbers cellItem registerItem listOf typeOf cellsOf afterType declaration
+    arguments targetOf assignOr afterName statementOf itemsOf bodyOf ifOf constructOf statement procedureOf program event tapeDesignator tapeOperand tapeCondition tapeSign tapeEach tapeAssignment
     tapeItem tapeDeclaration tapeStatement tapeBody tapeItems
 tapes = refl
 
