@@ -16,16 +16,19 @@ use Rattle.ledger.specs.Book.{Wide, Thin}
 use Rattle.scopes.specs.declared.Broken.{Broken}
 use Rattle.scopes.specs.Broken.{unbroken, rule, broken, _⊕_}
 use Rattle.static_rules.specs.Registers.{Registers, noRegisters, spares}
-use Rattle.static_rules.specs.Meaning.{Meaning, nothing, register, cell, routine, Based, Cell, meaningOf, registerOf, isLong, longOperand}
+use Rattle.static_rules.specs.Functions.{functionAt, arity}
+use Rattle.static_rules.specs.Meaning.{Meaning, nothing, register, cell, routine, Based, Cell, meaningOf, argumentOf, registerOf, isLong, longOperand}
 use Rattle.static_rules.specs.Tables.{Tables, meaningAt, valueAt, kindAt}
-use Rattle.static_rules.specs.Rules.{isRegister, isZero, isShort, isBare, inside, shifts, fullOnly, writeRule, registerRule, zeroRule, indexRules, subscriptRules, placeBy, placeRules, operandRules, onlyRegister, shiftRules, noByte, noShort, productRules, termRules, callBy, callRules, baseRules}
-use Rattle.tables.specs.Packed.{numberIn, isRegisterIn, isRoutineIn, isCellIn, isShortIn, isByteIn, basedIn, cellIn, unpacked, registerIn, longIn, packedAt, setOf, setsOf}
+use Rattle.static_rules.specs.Rules.{isRegister, isZero, isShort, isCell, isBare, inside, shifts, fullOnly, writeRule, registerRule, zeroRule, indexRules, subscriptRules, placeBy, placeRules, operandRules, onlyRegister, shiftRules, noByte, noShort, productRules, termRules, callBy, callRules, noIndex, targetBy, countBy, baseRules}
+use Rattle.tables.specs.Packed.{numberIn, isRegisterIn, isRoutineIn, isCellIn, isFunctionIn, isShortIn, isByteIn, basedIn, cellIn, unpacked, registerIn, longIn, packedAt, setOf, setsOf}
 use Rattle.tables.specs.Stacks.{stackOf}
-use Rattle.tables.proofs.Meanings.{by-sort, as-register, as-routine, as-cell, register-is, long-is}
+use Rattle.tables.proofs.Meanings.{by-sort, as-register, as-routine, as-cell, as-function, register-is, long-is}
 use Rattle.tables.proofs.Sets.{sets-at}
 use Rattle.rules.specs.Parts.{subscriptAt, indexAt, designatorAt, operandAt, termAt}
+use Rattle.rules.specs.Arguments.{argumentNumber, argumentBy}
 use Rattle.rules.specs.Shows.{Listed}
-use Rattle.rules.proofs.Sorts.{register-sort, zero-sort, short-sort, byte-sort, baseAt, meant-at}
+use Rattle.rules.proofs.Sorts.{register-sort, zero-sort, short-sort, byte-sort, cell-sort, baseAt, meant-at}
+use Rattle.rules.proofs.Arguments.{by-number}
 
 or-none : (x : Bool) → x ≡ (x || false)
 or-none true = refl
@@ -72,6 +75,10 @@ index-five shape t e = rw e
 pub index-none : (shape t : ℕ) → (shape ≡ 2 → ⊥) → (shape ≡ 3 → ⊥) → indexAt shape t ≡ none
 unfolding indexAt
 index-none shape t m n = rw (ne-eqb shape 2 m, ne-eqb shape 3 n)
+
+-- an index that may not stand, at its name
+pub plainly : (shape t : ℕ) {o : Option ℕ} {x : Broken} → indexAt shape t ≡ o → x ≡ noIndex o → x ≡ noIndex (indexAt shape t)
+plainly shape t h e = rw h e
 
 pub a-number : (shape t : ℕ) → shape ≡ 4 → operandAt shape t ≡ number t
 unfolding operandAt
@@ -124,6 +131,29 @@ module _ {f : Tables} {w : Wide} {l : Thin} (s : Listed f w l) (t m : ℕ) (e : 
   pub not-byte : (shape : ℕ) {x : Broken} {c w : Bool} → c ≡ isCellIn m → w ≡ isByteIn m → x ≡ rule (not (c && w)) 8 t → x ≡ noByte f (designatorAt shape t)
   unfolding noByte
   not-byte shape c w q = rw (meant-at s t m e) (q ∙ ap (λ (y : Bool). rule (not y) 8 t) (ap₂ (λ (y z : Bool). y && z) c w ∙ byte-sort (getD (l .found) t 0) m (baseAt s t)))
+
+  pub a-cell : {x : Broken} {c : Bool} → c ≡ isCellIn m → x ≡ rule c 8 t → x ≡ rule (isCell (meaningAt f t)) 8 t
+  a-cell h q = rw (meant-at s t m e) (q ∙ ap (λ (y : Bool). rule y 8 t) (h ∙ cell-sort (getD (l .found) t 0) m (baseAt s t)))
+
+  pub writes-register : (kept : List ℕ) {x : Broken} {r : ℕ} → isRegisterIn m ≡ true → r ≡ numberIn m → x ≡ writeRule kept r t → x ≡ targetBy f (meaningAt f t) kept t
+  writes-register kept h g q = rw (meant-at s t m e, as-register (getD (l .found) t 0) m (baseAt s t) h, ← g) q
+
+  pub writes-none : (kept : List ℕ) {x : Broken} → isRegisterIn m ≡ false → x ≡ unbroken → x ≡ targetBy f (meaningAt f t) kept t
+  writes-none kept h q =
+      q ∙ at (λ (y : Meaning). targetBy f y kept t)
+      (λ k b. by-sort (λ y. unbroken ≡ targetBy f y kept t) k m b (λ a. never-true (sym h ∙ a)) (λ a b. refl) (λ a b c. refl) (λ a b c d. refl) (λ a b c d. refl))
+
+  pub takes-at : (p : ℕ) {a : ℕ} → ((n : ℕ) (b : Based) → a ≡ argumentNumber (argumentOf (unpacked n m b) p)) → argumentBy a ≡ argumentOf (meaningAt f t) p
+  takes-at p q = rw (meant-at s t m e) (ap argumentBy (q _ _) ∙ by-number _)
+
+  pub counts-function : (count : ℕ) {k a : ℕ} {x : Broken} → isFunctionIn m ≡ true → k ≡ numberIn m → a ≡ arity (functionAt k) → x ≡ rule (eqb count a) 8 t
+      → x ≡ countBy (meaningAt f t) t count
+  counts-function count h g i q = rw (meant-at s t m e, as-function (getD (l .found) t 0) m (baseAt s t) h, ← g, ← i) q
+
+  pub counts-none : (count : ℕ) {x : Broken} → isFunctionIn m ≡ false → x ≡ broken 8 t → x ≡ countBy (meaningAt f t) t count
+  counts-none count h q =
+      q ∙ at (λ (y : Meaning). countBy y t count)
+      (λ k b. by-sort (λ y. broken 8 t ≡ countBy y t count) k m b (λ a. refl) (λ a b. refl) (λ a b c. refl) (λ a b c d. never-true (sym h ∙ d)) (λ a b c d. refl))
 
   long-is-at : (shape : ℕ) (l : Bool) → l ≡ longIn m → longOperand (f .found) (f .means) (operandAt shape t) ≡ (eqb shape 4 || l)
   unfolding operandAt

@@ -7,12 +7,14 @@ ghost use Rattle.base.specs.Lists.{member};
 ghost use Rattle.ledger.specs.Book.{wideOf, thinOf};
 ghost use Rattle.scopes.specs.Broken.{unbroken, rule as ruleOf, broken as brokenOf, _⊕_};
 ghost use Rattle.static_rules.specs.Registers.{spares as sparesOf};
-ghost use Rattle.static_rules.specs.Meaning.{Based, cell};
+ghost use Rattle.static_rules.specs.Functions.{functionAt, arity as arityOf, argumentAt};
+ghost use Rattle.static_rules.specs.Meaning.{Based, cell, argumentOf};
 ghost use Rattle.static_rules.specs.Tables.{Tables, valueAt, meaningAt};
-ghost use Rattle.static_rules.specs.Rules.{isRegister, isZero, isShort, inside, isBare, shifts, fullOnly, writeRule, registerRule, zeroRule, indexRules, subscriptRules, placeBy, placeRules, operandRules, onlyRegister, shiftRules, noByte, noShort, productRules, termRules, callRules, baseRules};
+ghost use Rattle.static_rules.specs.Rules.{isRegister, isZero, isShort, inside, isBare, shifts, fullOnly, writeRule, registerRule, zeroRule, indexRules, subscriptRules, placeBy, placeRules, operandRules, onlyRegister, shiftRules, noByte, noShort, productRules, termRules, callRules, noIndex, writtenRules, byteRules, cellRules, plainRules, argumentRules, countBy, baseRules};
 ghost use Rattle.tables.specs.Packed.{cellIn, unpacked, setOf};
 ghost use Rattle.tables.specs.Stacks.{stackOf};
 ghost use Rattle.rules.specs.Parts.{subscriptAt, indexAt, designatorAt, operandAt, termAt};
+ghost use Rattle.rules.specs.Arguments.{argumentNumber, argumentBy};
 ghost use Rattle.rules.specs.Shows.{Listed};
 use base::less;
 use ledger::found;
@@ -29,6 +31,7 @@ use tables::element_size;
 use tables::is_array;
 use tables::is_byte;
 use tables::is_cell;
+use tables::is_function;
 use tables::is_long;
 use tables::is_register;
 use tables::is_routine;
@@ -136,7 +139,7 @@ pub fn is_bare(shape: u32) -> bool
 }
 
 // "A subscript … belongs only to arrays (else 8 at the name before it)", and so does an index.
-pub fn cell_rules(shape: u32, m: u64, wide: &[u64], thin: &[u16], t: usize) -> Broken
+pub fn element_rules(shape: u32, m: u64, wide: &[u64], thin: &[u16], t: usize) -> Broken
     requires { ⌜ t < 4294967296 ⌝ }
     ensures { λ x.
         ⌜ ((f : Tables) → Listed f (wideOf (now (wide .entry))) (thinOf (now (thin .entry))) → (n : ℕ) (b : Based)
@@ -156,7 +159,7 @@ fn place_rules(shape: u32, wide: &[u64], thin: &[u16], t: usize) -> Broken
         return rule(is_bare(shape), 8, t);
     }
     if is_cell(m) {
-        return cell_rules(shape, m, wide, thin, t);
+        return element_rules(shape, m, wide, thin, t);
     }
     broken(8, t)
 }
@@ -272,7 +275,7 @@ pub fn term_rules(
     operand
 }
 
-// ── calls and base declarations ──
+// ── calls ──
 
 // None of the protected registers is in the set.
 fn spares(set: usize, wide: &[u64], depth: usize) -> bool
@@ -302,6 +305,209 @@ pub fn call_rules(wide: &[u64], thin: &[u16], depth: usize, t: usize) -> Broken
     }
     broken(8, t)
 }
+
+// ── uses of functions ──
+
+// What stands in a parenthesis: a register that is written, one that is read, a number 0 to 255, a cell that may be indexed, one that may not; or more than is taken.
+const SURPLUS: u8 = 0;
+
+const WRITTEN_REGISTER: u8 = 1;
+
+const READ_REGISTER: u8 = 2;
+
+const BYTE_NUMBER: u8 = 3;
+
+const INDEXED_CELL: u8 = 4;
+
+const PLAIN_CELL: u8 = 5;
+
+// How many functions there are.
+const FUNCTIONS: u64 = 9;
+
+// What each takes in its first and its second parenthesis.
+const TAKEN: [u8; 18] = [
+    WRITTEN_REGISTER,
+    INDEXED_CELL, // IC
+    READ_REGISTER,
+    INDEXED_CELL, // STC
+    WRITTEN_REGISTER,
+    INDEXED_CELL, // LA
+    BYTE_NUMBER,
+    PLAIN_CELL, // MVI
+    BYTE_NUMBER,
+    PLAIN_CELL, // CLI
+    PLAIN_CELL,
+    SURPLUS, // SET
+    PLAIN_CELL,
+    SURPLUS, // RESET
+    PLAIN_CELL,
+    SURPLUS, // TEST
+    WRITTEN_REGISTER,
+    READ_REGISTER, // LTR
+];
+
+const ARITIES: [usize; 9] = [2, 2, 2, 2, 2, 1, 1, 1, 2];
+
+// What function k takes at a position.
+fn taken(k: u64, position: usize) -> u8
+    ensures { λ r. ⌜ r ≡ argumentNumber (argumentAt (functionAt k) position) ⌝ }
+{
+    if FUNCTIONS <= k {
+        return SURPLUS;
+    }
+    if 2 <= position {
+        return SURPLUS;
+    }
+    TAKEN[k as usize * 2 + position]
+}
+
+// How many arguments function k takes.
+fn arity(k: u64) -> usize
+    ensures { λ r. ⌜ r ≡ arityOf (functionAt k) ⌝ }
+{
+    if FUNCTIONS <= k {
+        return 0;
+    }
+    ARITIES[k as usize]
+}
+
+// What a name that means m takes at a position: only functions take anything.
+fn argument(m: u64, position: usize) -> u8
+    ensures { λ r. ⌜ ((n : ℕ) (b : Based) → r ≡ argumentNumber (argumentOf (unpacked n m b) position)) ⌝ }
+{
+    if is_function(m) {
+        return taken(number(m), position);
+    }
+    SURPLUS
+}
+
+// "IC, LA and LTR write the first, so the protected rule counts it": at the register's name.
+fn written_rules(shape: u32, wide: &[u64], thin: &[u16], depth: usize, t: usize) -> Broken
+    ensures { λ x.
+        ⌜ ((f : Tables) → Listed f (wideOf (now (wide .entry))) (thinOf (now (thin .entry)))
+        → x ≡ writtenRules f (stackOf (wideOf (now (wide .entry)) .offsets) depth) (operandAt shape t)) ⌝ }
+{
+    if shape == tape::NUMBER {
+        return none();
+    }
+    let m = meaning(wide, thin, t);
+    if is_register(m) {
+        return write_rule(wide, depth, number(m), t);
+    }
+    none()
+}
+
+// "MVI and CLI take a number 0 to 255, else 11".
+fn byte_rules(shape: u32, wide: &[u64], t: usize) -> Broken
+    ensures { λ x. ⌜ ((f : Tables) → f .values ≡ wideOf (now (wide .entry)) .values → x ≡ byteRules f (operandAt shape t)) ⌝ }
+{
+    if shape == tape::NUMBER {
+        return rule(value(wide, t) <= 255, 11, t);
+    }
+    broken(8, t)
+}
+
+// "a cell that may be indexed", of any width.
+fn cell_rules(shape: u32, wide: &[u64], thin: &[u16], t: usize) -> Broken
+    requires { ⌜ t < 4294967296 ⌝ }
+    ensures { λ x. ⌜ ((f : Tables) → Listed f (wideOf (now (wide .entry))) (thinOf (now (thin .entry))) → x ≡ cellRules f (operandAt shape t)) ⌝ }
+{
+    if shape == tape::NUMBER {
+        return broken(8, t);
+    }
+    let sort = rule(is_cell(meaning(wide, thin, t)), 8, t);
+    join(sort, place_rules(shape, wide, thin, t))
+}
+
+// "an index there is refusal 8", at its name.
+fn no_index(shape: u32, t: usize) -> Broken
+    requires { ⌜ t < 4294967296 ⌝ }
+    ensures { λ x. ⌜ x ≡ noIndex (indexAt shape t) ⌝ }
+{
+    if shape == tape::INDEXED {
+        return broken(8, t + 2);
+    }
+    if shape == tape::SUBSCRIPTED_INDEXED {
+        return broken(8, t + 5);
+    }
+    none()
+}
+
+fn plain_rules(shape: u32, wide: &[u64], thin: &[u16], t: usize) -> Broken
+    requires { ⌜ t < 4294967296 ⌝ }
+    ensures { λ x. ⌜ ((f : Tables) → Listed f (wideOf (now (wide .entry))) (thinOf (now (thin .entry))) → x ≡ plainRules f (operandAt shape t)) ⌝ }
+{
+    let cell = cell_rules(shape, wide, thin, t);
+    if shape == tape::NUMBER {
+        return cell;
+    }
+    join(cell, no_index(shape, t))
+}
+
+// "as is a wrong kind of argument".
+fn argument_rules(
+    takes: u8,
+    shape: u32,
+    wide: &[u64],
+    thin: &[u16],
+    depth: usize,
+    t: usize,
+) -> Broken
+    requires { ⌜ t < 4294967296 ⌝ }
+    ensures { λ x.
+        ⌜ ((f : Tables) → Listed f (wideOf (now (wide .entry))) (thinOf (now (thin .entry)))
+        → x ≡ argumentRules f (stackOf (wideOf (now (wide .entry)) .offsets) depth) (argumentBy takes) (operandAt shape t)) ⌝ }
+{
+    if takes == WRITTEN_REGISTER {
+        let only = only_register(shape, wide, thin, t);
+        return join(only, written_rules(shape, wide, thin, depth, t));
+    }
+    if takes == READ_REGISTER {
+        return only_register(shape, wide, thin, t);
+    }
+    if takes == BYTE_NUMBER {
+        return byte_rules(shape, wide, t);
+    }
+    if takes == INDEXED_CELL {
+        return cell_rules(shape, wide, thin, t);
+    }
+    if takes == PLAIN_CELL {
+        return plain_rules(shape, wide, thin, t);
+    }
+    none()
+}
+
+// An argument of the name at token n, by its position.
+pub fn argued_rules(
+    n: usize,
+    position: usize,
+    shape: u32,
+    wide: &[u64],
+    thin: &[u16],
+    depth: usize,
+    t: usize,
+) -> Broken
+    requires { ⌜ t < 4294967296 ⌝ }
+    ensures { λ x.
+        ⌜ ((f : Tables) → Listed f (wideOf (now (wide .entry))) (thinOf (now (thin .entry)))
+        → x ≡ argumentRules f (stackOf (wideOf (now (wide .entry)) .offsets) depth) (argumentOf (meaningAt f n) position) (operandAt shape t)) ⌝ }
+{
+    let takes = argument(meaning(wide, thin, n), position);
+    argument_rules(takes, shape, wide, thin, depth, t)
+}
+
+// "or a wrong count at the function's name"; what is no function takes no arguments at all.
+pub fn counted_rules(wide: &[u64], thin: &[u16], n: usize, count: usize) -> Broken
+    ensures { λ x. ⌜ ((f : Tables) → Listed f (wideOf (now (wide .entry))) (thinOf (now (thin .entry))) → x ≡ countBy (meaningAt f n) n count) ⌝ }
+{
+    let m = meaning(wide, thin, n);
+    if is_function(m) {
+        return rule(count == arity(number(m)), 8, n);
+    }
+    broken(8, n)
+}
+
+// ── base declarations ──
 
 pub fn base_rules(wide: &[u64], thin: &[u16], depth: usize, t: usize) -> Broken
     ensures { λ x.

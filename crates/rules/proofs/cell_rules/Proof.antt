@@ -1,51 +1,52 @@
--- A cell's designator has a subscript or index only on an array, the subscript inside it, the index a register.
-use Rattle.scopes.specs.Broken.{_⊕_, rule}
+-- A number is no cell; a name is by what it means, and its designator by its own rules.
+use Rattle.static_rules.specs.Rules.{cellRules}
+use Rattle.scopes.specs.Broken.{_⊕_}
 use Rattle.scopes.specs.declared.Broken.{Broken}
-use mathlib.Core.Bool.{Bool, _||_}
+use Rattle.rules.proofs.Answers as answers
 use mathlib.Core.Path.{ap₂, _∙_}
 use borrow.Author.Needs.{needs}
 use Rattle.rules.proofs.cell_rules.Statement.{statement}
 use Rattle.rules.proofs.cell_rules.Tie as tie
 
-is-array-requires : tie.Need-is-array-requires
-is-array-requires c κs = search needs
+broken-requires : tie.Need-broken-requires
+broken-requires c κs = search needs
 
-is-bare-requires : tie.Need-is-bare-requires
-is-bare-requires c κs = search needs
+returns : tie.Need-returns
+unfolding cellRules
+returns c = λ f s. rw (answers.a-number _ (c .before .before .before .before .args .t) (c .before .if1 .taken)) (c .broken .ensures)
+
+meaning-requires : tie.Need-meaning-requires
+meaning-requires c κs = search needs
+
+is-cell-requires : tie.Need-is-cell-requires
+is-cell-requires c κs = search needs
 
 rule-requires : tie.Need-rule-requires
 rule-requires c κs = search needs
 
-subscript-rules-requires : tie.Need-subscript-rules-requires
-subscript-rules-requires c κs = search needs
-
-index-rules-requires : tie.Need-index-rules-requires
-index-rules-requires c κs = search needs
+place-rules-requires : tie.Need-place-rules-requires
+place-rules-requires c κs = search needs
 
 join-requires : tie.Need-join-requires
 join-requires c κs = search needs
 
-join-requires-2 : tie.Need-join-requires-2
-join-requires-2 c κs = search needs
-
-returns : tie.Need-returns
-returns c = λ f s n b.
-    c .join2 .ensures ∙ ap₂ (λ (x y : Broken). x ⊕ y) (c .before .before .before .before .rule .ensures ∙ ap₂
-    (λ (y z : Bool). rule (y || z) 8 (c .before .before .before .before .before .before .before .before .before .args .t))
-    (c .before .before .before .before .before .before .is-array .ensures)
-    (c .before .before .before .before .before .is-bare .ensures (c .before .before .before .before .before .before .before .before .before .args .t)))
-    (c .before .join .ensures ∙ ap₂ (λ (x y : Broken). x ⊕ y) (c .before .before .before .subscript-rules .ensures f (s .values-is) n b)
-    (c .before .before .index-rules .ensures f s))
+returns-2 : tie.Need-returns-2
+unfolding cellRules
+returns-2 c = λ f s.
+    rw (answers.a-place _ (c .before .before .before .before .before .before .before .before .args .t) (c .before .before .before .before .before .if1 .left))
+    (c .join .ensures ∙ ap₂ (λ (x y : Broken). x ⊕ y)
+    (answers.a-cell s _ _ (c .before .before .before .before .meaning .ensures) (c .before .before .before .is-cell .ensures) (c .before .before .rule .ensures))
+    (c .before .place-rules .ensures f s))
 
 pub cell-rules-spec : {M : Type 1} → statement M
 cell-rules-spec =
     tie.close
     (tie.spec
-    is-array-requires
-    is-bare-requires
+    broken-requires
+    returns
+    meaning-requires
+    is-cell-requires
     rule-requires
-    subscript-rules-requires
-    index-rules-requires
+    place-rules-requires
     join-requires
-    join-requires-2
-    returns)
+    returns-2)

@@ -25,12 +25,12 @@ returns c = λ f s.
 is-cell-requires : tie.Need-is-cell-requires
 is-cell-requires c κs = search needs
 
-cell-rules-requires : tie.Need-cell-rules-requires
-cell-rules-requires c κs = search needs
+element-rules-requires : tie.Need-element-rules-requires
+element-rules-requires c κs = search needs
 
 returns-2 : tie.Need-returns-2
 returns-2 c = λ f s. answers.placed-cell s _ _ (c .before .before .before .before .before .meaning .ensures) _ (sym (c .before .before .is-cell .ensures)
-    ∙ c .before .if2 .taken) (c .cell-rules .ensures f s)
+    ∙ c .before .if2 .taken) (c .element-rules .ensures f s)
 
 broken-requires : tie.Need-broken-requires
 broken-requires c κs = search needs
@@ -54,7 +54,7 @@ place-rules-spec =
     rule-requires
     returns
     is-cell-requires
-    cell-rules-requires
+    element-rules-requires
     returns-2
     broken-requires
     returns-3)
