@@ -2,20 +2,46 @@
 use mathlib.Core.Path.{_≡_, refl, sym, ap, ap₂, _∙_}
 use mathlib.Core.Bool.{Bool, false, _&&_, _||_}
 use mathlib.Core.List.{List, []}
-use Prim.Native.Nat.{ℕ, _+_, _-_, _≤_, _<_}
+use Prim.Native.Nat.{ℕ, zero, suc, _+_, _-_, _≤_, _<_}
+use native.Mathlib.Omega.{arith}
 use native.Mathlib.Numerals.{add-one}
 use lib.Dec.{eqb}
 use lib.ListN.{getD, set, length}
-use Rattle.base.proofs.Tests.{never-true}
+use borrow.Author.Tests.{ne-eqb}
+use Rattle.base.proofs.Tests.{cases, never-true}
 use Rattle.token.specs.Kinds as K
-use Rattle.static_rules.specs.Meaning.{Meaning, register, routine, meaningOf, registerOf, isLong}
+use Rattle.static_rules.specs.Functions.{functionAt, argumentAt, isWritten}
+use Rattle.static_rules.specs.Meaning.{Meaning, register, routine, Based, meaningOf, registerOf, argumentOf, isLong}
 use Rattle.static_rules.specs.Meanings.{mean, callWrites}
 use Rattle.tape.specs.Numbers.{formAt}
-use Rattle.tables.specs.Packed.{REGISTER, ROUTINE, low, packed, isRoutineIn, basedIn, unpacked, meaningsOf, registerIn, longIn, packedAt, setsOf}
-use Rattle.tables.proofs.Meanings.{by-sort, low-is, long-is, packed-register, packed-routine, meaning-at, meaning-set, meaning-set-both}
+use Rattle.tables.specs.Packed.{REGISTER, ROUTINE, low, packed, numberIn, isRoutineIn, isFunctionIn, basedIn, unpacked, meaningsOf, registerIn, longIn, packedAt, setsOf}
+use Rattle.tables.proofs.Meanings.{by-sort, as-function, low-is, long-is, packed-register, packed-routine, meaning-at, meaning-set, meaning-set-both}
 use Rattle.meanings.specs.Along.{targetOf, isProductAt}
-use Rattle.meanings.specs.Flat.{meantOf, registersNamed, targetIn}
+use Rattle.meanings.specs.Flat.{meantOf, standardMeaning, standardNamed, targetIn, firstIn}
 use Rattle.meanings.proofs.Moves.{register-at}
+
+-- ── "IC, LA and LTR write the first" ──
+
+-- by their places in the table
+pub first-places : (k : ℕ) → ((eqb k 0 || eqb k 2) || eqb k 8) ≡ isWritten (argumentAt (functionAt k) 0)
+unfolding functionAt
+first-places zero = refl
+first-places (suc zero) = refl
+first-places (suc (suc zero)) = refl
+first-places (suc (suc (suc zero))) = refl
+first-places (suc (suc (suc (suc zero)))) = refl
+first-places (suc (suc (suc (suc (suc zero))))) = refl
+first-places (suc (suc (suc (suc (suc (suc zero)))))) = refl
+first-places (suc (suc (suc (suc (suc (suc (suc zero))))))) = refl
+first-places (suc (suc (suc (suc (suc (suc (suc (suc zero)))))))) = refl
+first-places (suc (suc (suc (suc (suc (suc (suc (suc (suc k))))))))) =
+    let n = suc (suc (suc (suc (suc (suc (suc (suc (suc k)))))))) in rw (ne-eqb n 0 (λ e. omega arith), ne-eqb n 2 (λ e. omega arith), ne-eqb n 8 (λ e. omega arith))
+
+first-is : (t m : ℕ) (b : Based) → isWritten (argumentOf (unpacked t m b) 0) ≡ firstIn m
+unfolding firstIn
+first-is t m b =
+    cases (isFunctionIn m) (λ q. ap (λ (y : Meaning). isWritten (argumentOf y 0)) (as-function t m b q) ∙ rw q)
+    (λ q. rw q (by-sort (λ y. isWritten (argumentOf y 0) ≡ false) t m b (λ e. refl) (λ e f. refl) (λ e f g. refl) (λ e f g h. never-true (sym q ∙ h)) (λ e f g h. refl)))
 
 -- ── by the packed meaning ──
 
@@ -27,7 +53,10 @@ module _ (found means bases : List ℕ) (t : ℕ) where
   unfolding targetIn
   target-at m g e f =
       f ∙ (ap targetIn e ∙ sym (ap targetOf meant-at ∙ by-sort (λ y. targetOf y ≡ targetIn (packedAt found means t)) _ (packedAt found means t) _ (λ e. rw e)
-      (λ e f. rw e) (λ e f g. rw e) (λ e f g. rw e)))
+      (λ e f. rw e) (λ e f g. rw e) (λ e f g h. rw e) (λ e f g h. rw e)))
+
+  pub first-at : (m : ℕ) (g : Bool) → m ≡ packedAt found means t → g ≡ firstIn m → g ≡ isWritten (argumentOf (meaningOf found (meaningsOf means bases) t) 0)
+  first-at m g e f = f ∙ (ap firstIn e ∙ sym (ap (λ (y : Meaning). isWritten (argumentOf y 0)) meant-at ∙ first-is _ _ _))
 
   long-at : isLong (meaningOf found (meaningsOf means bases) t) ≡ longIn (packedAt found means t)
   long-at = ap isLong meant-at ∙ long-is _ _ _
@@ -74,10 +103,10 @@ module _ (means bases opens written : List ℕ) (count own : ℕ) where
   no-call found t p m e f h =
       rw (meant-at found means bases t, ← e, ← f)
       (by-sort (λ x. meantOf means bases opens written count ≡ callWrites x own p (meantOf means bases opens written count)) _ m _ (λ a. refl) (λ a b.
-      never-true (sym h ∙ b)) (λ a b c. refl) (λ a b c. refl))
+      never-true (sym h ∙ b)) (λ a b c. refl) (λ a b c d. refl) (λ a b c d. refl))
 
--- ── the registers' names ──
+-- ── the names around the program ──
 
-pub one-named : (means₀ means means′ : List ℕ) (r p : ℕ) → means ≡ registersNamed r means₀ → p ≡ packed REGISTER 0 r → means′ ≡ set means (r + 1) p → means′ ≡ registersNamed (r + 1) means₀
-unfolding registersNamed
-one-named means₀ means means′ r p e f g = g ∙ rw (f, e, add-one r)
+pub one-named : (means₀ means means′ : List ℕ) (n p : ℕ) → means ≡ standardNamed n means₀ → p ≡ standardMeaning n → means′ ≡ set means (n + 1) p → means′ ≡ standardNamed (n + 1) means₀
+unfolding standardNamed
+one-named means₀ means means′ n p e f g = g ∙ rw (f, e, add-one n)

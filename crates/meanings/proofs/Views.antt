@@ -19,7 +19,7 @@ use Rattle.meanings.specs.Along.{writeTarget, writeLower}
 use Rattle.meanings.proofs.Moves.{register-at}
 use Rattle.meanings.proofs.Changes as changes
 use Rattle.ledger.specs.Book.{Wide, Thin, putMean, putUnder, putOpens, putWritten, thinLimit}
-use Rattle.meanings.specs.Flat.{View, viewOf, changed, namedTo}
+use Rattle.meanings.specs.Flat.{View, viewOf, changed, standardMeaning, namedTo}
 
 pub more-small : (x m : ℕ) → x < 16 → m < thinLimit → bitOr m (2 ^ x) < thinLimit
 more-small x m h k = or-lt 16 m (2 ^ x) k (pow-lt {i = x} {j = 16} h)
@@ -82,9 +82,9 @@ unfolding writeLower
 some-lower own zero l v h e = absurd (h refl)
 some-lower own (suc r) l v h e = rw (e, one-less r)
 
--- ── the registers' names ──
+-- ── the names around the program ──
 
-pub one-named : (w₀ w : Wide) (r p : ℕ) → w ≡ namedTo r w₀ → p ≡ packed REGISTER 0 r → putMean (r + 1) p w ≡ namedTo (r + 1) w₀
-one-named w₀ w r p e f =
-    ap (putMean (r + 1) p) e
-    ∙ ap (λ (l : List ℕ). record { values = w₀ .values; means = l; under = w₀ .under; offsets = w₀ .offsets }) (changes.one-named (w₀ .means) _ _ r p refl f refl)
+pub one-named : (w₀ w : Wide) (n p : ℕ) → w ≡ namedTo n w₀ → p ≡ standardMeaning n → putMean (n + 1) p w ≡ namedTo (n + 1) w₀
+one-named w₀ w n p e f =
+    ap (putMean (n + 1) p) e
+    ∙ ap (λ (l : List ℕ). record { values = w₀ .values; means = l; under = w₀ .under; offsets = w₀ .offsets }) (changes.one-named (w₀ .means) _ _ n p refl f refl)

@@ -1,7 +1,7 @@
 -- Meanings along a tape: what names mean and which registers procedures write, event by event. What a statement writes goes to the innermost open procedure;
 -- cells are under the base in force.
 use mathlib.Core.List.{List, [], _∷_}
-use mathlib.Core.Bool.{Bool, _&&_, _||_}
+use mathlib.Core.Bool.{Bool, false, _&&_, _||_, not}
 use Prim.Native.Nat.{ℕ, zero, suc, _+_, _-_, _%_}
 use lib.Dec.{eqb}
 use lib.ListN.{getD}
@@ -9,9 +9,10 @@ use Rattle.base.specs.Choose.{if_then_else_}
 use Rattle.token.specs.Kinds as K
 use Rattle.tape.specs.Events as E
 use Rattle.tape.specs.Numbers.{formAt, familyAt}
-use Rattle.static_rules.specs.Meaning.{Meaning, nothing, register, cell, routine, Based, meaningOf, registerOf, isLong}
+use Rattle.static_rules.specs.Functions.{isWritten}
+use Rattle.static_rules.specs.Meaning.{Meaning, nothing, register, cell, routine, function, Based, meaningOf, registerOf, argumentOf, isLong}
 use Rattle.static_rules.specs.Meanings.{Meant, mean, write, writeText, callWrites, openBase, meaningIn, dataBase}
-use Rattle.tables.specs.Packed.{CELL, ARRAY, low, packed, basedIn, unpacked}
+use Rattle.tables.specs.Packed.{CELL, ARRAY, WIDTHS, low, packed, basedIn, unpacked}
 use Rattle.tables.specs.Stacks.{top, under}
 
 -- ── where the walk is ──
@@ -57,6 +58,7 @@ targetOf nothing = 0
 targetOf (register r) = suc r
 targetOf (cell c) = 0
 targetOf (routine r) = 0
+targetOf (function k) = 0
 
 -- a target is written
 unfoldable pub writeTarget : ℕ → ℕ → Meant → Meant
@@ -80,12 +82,20 @@ withinAfter found op t means bases w =
 -- what the cells that follow are, as a packed meaning: a cell declared without ARRAY is one element
 unfoldable pub formAfter : (values : List ℕ) (op t form : ℕ) → ℕ
 formAfter values op t form =
-    if eqb (familyAt op) E.SINGLE-FULL then packed CELL (formAt op % 2) 1 else
-    if eqb (familyAt op) E.ARRAY-FULL then packed ARRAY (formAt op % 2) (getD values t 0) else
+    if eqb (familyAt op) E.SINGLE-FULL then packed CELL (formAt op % WIDTHS) 1 else
+    if eqb (familyAt op) E.ARRAY-FULL then packed ARRAY (formAt op % WIDTHS) (getD values t 0) else
     form
 
-unfoldable pub targetAfter : (found : List ℕ) (op t : ℕ) → List Meaning → ℕ → ℕ
-targetAfter found op t means target = if eqb (familyAt op) E.TARGET || eqb (familyAt op) E.CONTROL then targetOf (meaningOf found means t) else target
+-- an argument is a target where it is written; a number is none
+unfoldable pub targetAfter : (found : List ℕ) (op t : ℕ) → List Meaning → (first : Bool) → ℕ → ℕ
+targetAfter found op t means first target =
+    if (eqb (familyAt op) E.TARGET || eqb (familyAt op) E.CONTROL) || ((eqb (familyAt op) E.ARGUED && first) && not (eqb (formAt op) E.NUMBER)) then targetOf (meaningOf found means t) else
+    if eqb (familyAt op) E.ARGUED then 0 else
+    target
+
+-- "IC, LA and LTR write the first": the argument that follows is written
+unfoldable pub firstAfter : (found : List ℕ) (op t : ℕ) → List Meaning → Bool
+firstAfter found op t means = eqb op E.APPLIED && isWritten (argumentOf (meaningOf found means t) 0)
 
 unfoldable pub declaredAfter : (values found : List ℕ) (op t own : ℕ) → Based → ℕ → Meant → Meant
 declaredAfter values found op t own b form s =
@@ -105,27 +115,30 @@ writeProduct kinds found op t own target s = if isProductAt kinds found op t (s 
 
 unfoldable pub writtenAfter : (kinds found : List ℕ) (op t own target : ℕ) → Meant → Meant
 writtenAfter kinds found op t own target s =
-    if eqb (familyAt op) E.TARGET || eqb (familyAt op) E.CONTROL then writeTarget own target s else
+    if (eqb (familyAt op) E.TARGET || eqb (familyAt op) E.CONTROL) || eqb (familyAt op) E.ARGUED then writeTarget own target s else
     if eqb (familyAt op) E.TERM then writeProduct kinds found op t own target s else
     if eqb op E.CALL then callWrites (meaningIn found s t) own (getD found t 0) s else
     s
 
--- between two events: where the walk is; what the cells that follow are; the register that the assignment's target is; the tables, but for the list of cells
+-- between two events: where the walk is; what the cells that follow are; the register that the target is, of an assignment or as an argument that is written; whether the
+-- argument that follows is written; the tables, but for the list of cells
 pub record Meaning-walk : Type 0 where
   pub within : Within
   pub form : ℕ
   pub target : ℕ
+  pub first : Bool
   pub meant : Meant
 
 unfoldable pub meanEvent : (kinds values found : List ℕ) (op t : ℕ) → Meaning-walk → Meaning-walk
 meanEvent kinds values found op t m =
     let w = withinAfter found op t (m .meant .means) (m .meant .bases) (m .within) in
     let form = formAfter values op t (m .form) in
-    let target = targetAfter found op t (m .meant .means) (m .target) in
+    let target = targetAfter found op t (m .meant .means) (m .first) (m .target) in
     record {
       within = w;
       form = form;
       target = target;
+      first = firstAfter found op t (m .meant .means);
       meant = writtenAfter kinds found op t (w .own) target (declaredAfter values found op t (w .own) (w .base) form (m .meant));
     }
 
@@ -134,4 +147,4 @@ abbrev pub outside : Within
 outside = record { own = 0; owners = []; base = dataBase; outer = [] }
 
 abbrev pub beginning : Meant → Meaning-walk
-beginning s = record { within = outside; form = 0; target = 0; meant = s }
+beginning s = record { within = outside; form = 0; target = 0; first = false; meant = s }

@@ -1,14 +1,17 @@
 -- The state of the walk as arrays, and what the ledger shows of the tables.
 use mathlib.Core.Path.{_≡_}
+use mathlib.Core.Bool.{Bool, _&&_}
 use mathlib.Core.List.{List, [], map}
-use Prim.Native.Nat.{ℕ, zero, suc, _<_}
+use Prim.Native.Nat.{ℕ, zero, suc, _-_, _<_}
+use lib.Dec.{ltb}
 use lib.ListN.{set, length}
 use Rattle.base.specs.Choose.{if_then_else_}
 use Rattle.grammar.specs.Grammar.{nesting}
 use Rattle.ledger.specs.Book.{Wide, Thin, onWide}
 use Rattle.ledger.specs.Bounds.{Nested}
+use Rattle.static_rules.specs.Functions.{functionAt, argumentAt, isWritten}
 use Rattle.static_rules.specs.Meanings.{Meant}
-use Rattle.tables.specs.Packed.{REGISTER, packed, numberIn, isRegisterIn, basedIn, meaningsOf, setsOf}
+use Rattle.tables.specs.Packed.{REGISTER, FUNCTION, packed, numberIn, isRegisterIn, isFunctionIn, basedIn, meaningsOf, setsOf}
 use Rattle.tables.specs.Stacks.{stackOf}
 use Rattle.meanings.specs.declared.Scope.{Scope}
 use Rattle.meanings.specs.Along.{Within}
@@ -43,14 +46,22 @@ pub record Roomy (tape : List ℕ) (owners outer : ℕ) : Type 0 where
   pub deep : nesting < owners
   pub wide : nesting < outer
 
--- tokens 1 to n mean the registers from 0 on
-unfoldable pub registersNamed : ℕ → List ℕ → List ℕ
-registersNamed zero means = means
-registersNamed (suc n) means = set (registersNamed n means) (suc n) (packed REGISTER 0 n)
+-- the names around the program, from 0 on: sixteen mean registers, those that follow functions
+unfoldable pub standardMeaning : ℕ → ℕ
+standardMeaning n = if ltb n 16 then packed REGISTER 0 n else packed FUNCTION 0 (n - 16)
+
+-- tokens 1 to n mean them
+unfoldable pub standardNamed : ℕ → List ℕ → List ℕ
+standardNamed zero means = means
+standardNamed (suc n) means = set (standardNamed n means) (suc n) (standardMeaning n)
 
 -- of a packed meaning, the register that it is, and one; 0 where it is none
 unfoldable pub targetIn : ℕ → ℕ
 targetIn m = if isRegisterIn m then suc (numberIn m) else 0
+
+-- a function that writes its first argument
+unfoldable pub firstIn : ℕ → Bool
+firstIn m = isFunctionIn m && isWritten (argumentAt (functionAt (numberIn m)) 0)
 
 -- ── what the ledger shows: the tables that this pass makes, beside the lists that it leaves ──
 
@@ -69,4 +80,4 @@ abbrev pub changed : (Meant → Meant) → View → View
 changed f v = record { values = v .values; found = v .found; goes = v .goes; offsets = v .offsets; meant = f (v .meant) }
 
 abbrev pub namedTo : ℕ → Wide → Wide
-namedTo n w = onWide 1 (registersNamed n) w
+namedTo n w = onWide 1 (standardNamed n) w

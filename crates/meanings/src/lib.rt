@@ -10,8 +10,9 @@ ghost use Rattle.static_rules.specs.Meanings.{callWrites, openBase, mean as mea
 ghost use Rattle.tables.specs.Packed.{meaningsOf, basedIn, setOf};
 ghost use Rattle.ledger.specs.Book.{Wide, wideOf, thinOf, thinLimit};
 ghost use Rattle.ledger.specs.Bounds.{blocksOpen, proceduresOpen};
-ghost use Rattle.meanings.specs.Along.{enterBlock, leaveBlock, enterProcedure, leaveProcedure, changeBase, writeTarget, writeLower, withinAfter, formAfter, targetAfter, declaredAfter, isProductAt, writeProduct, writtenAfter, meanEvent, beginning};
-ghost use Rattle.meanings.specs.Flat.{withinOf, Moved, targetIn, viewOf, changed, namedTo, Roomy};
+ghost use Rattle.scopes.specs.Search.{standardNames};
+ghost use Rattle.meanings.specs.Along.{enterBlock, leaveBlock, enterProcedure, leaveProcedure, changeBase, writeTarget, writeLower, withinAfter, formAfter, targetAfter, firstAfter, declaredAfter, isProductAt, writeProduct, writtenAfter, meanEvent, beginning};
+ghost use Rattle.meanings.specs.Flat.{withinOf, Moved, targetIn, firstIn, viewOf, changed, standardMeaning, namedTo, Roomy};
 use arrays::kind;
 use arrays::put_wide;
 use base::less;
@@ -24,6 +25,7 @@ use ledger::put_under;
 use ledger::put_written;
 use ledger::value;
 use ledger::written;
+use tables::is_function;
 use tables::is_long;
 use tables::is_register;
 use tables::is_routine;
@@ -152,7 +154,7 @@ fn form_after(op: u32, t: usize, wide: &[u64], form: u64) -> u64
     ensures { λ r. ⌜ r ≡ formAfter (wideOf (now (wide .entry)) .values) op t form ⌝ }
 {
     let k = family(op);
-    let width = (tape::form(op) % 2) as u64;
+    let width = (tape::form(op) % 4) as u64;
     if k == tape::SINGLE_FULL {
         return packed(tables::CELL, width, 1);
     }
@@ -172,14 +174,45 @@ fn target_of(m: u64) -> usize
     0
 }
 
-fn target_after(op: u32, t: usize, wide: &[u64], thin: &[u16], target: usize) -> usize
-    ensures { λ r. ⌜ ((under : List ℕ) → r ≡ targetAfter (thinOf (now (thin .entry)) .found) op t (meaningsOf (wideOf (now (wide .entry)) .means) under) target) ⌝ }
+// An argument is a target where it is written; a number is none.
+fn target_after(op: u32, t: usize, wide: &[u64], thin: &[u16], first: bool, target: usize) -> usize
+    ensures { λ r. ⌜ ((under : List ℕ) → r ≡ targetAfter (thinOf (now (thin .entry)) .found) op t (meaningsOf (wideOf (now (wide .entry)) .means) under) first target) ⌝ }
 {
     let k = family(op);
-    if (k == tape::TARGET) | (k == tape::CONTROL) {
+    let argued = k == tape::ARGUED;
+    let named = tape::form(op) != tape::NUMBER;
+    if (k == tape::TARGET) | (k == tape::CONTROL) | (argued & first & named) {
         return target_of(meaning(wide, thin, t));
     }
+    if argued {
+        return 0;
+    }
     target
+}
+
+// The places of the functions that write a register, in the order of their names.
+const IC: u64 = 0;
+
+const LA: u64 = 2;
+
+const LTR: u64 = 8;
+
+// "IC, LA and LTR write the first".
+fn writes_first(m: u64) -> bool
+    ensures { λ r. ⌜ r ≡ firstIn m ⌝ }
+{
+    let k = number(m);
+    is_function(m) & ((k == IC) | (k == LA) | (k == LTR))
+}
+
+// The argument that follows is written: it stands behind the name of one of these.
+fn first_after(op: u32, t: usize, wide: &[u64], thin: &[u16]) -> bool
+    ensures { λ r. ⌜ ((under : List ℕ) → r ≡ firstAfter (thinOf (now (thin .entry)) .found) op t (meaningsOf (wideOf (now (wide .entry)) .means) under)) ⌝ }
+{
+    if op == tape::APPLIED {
+        return writes_first(meaning(wide, thin, t));
+    }
+    false
 }
 
 // ── sets of registers ──
@@ -349,7 +382,7 @@ fn written_after(
         (viewOf (wideOf (now (wide .entry))) (thinOf (now (thin .entry))) n)) ⌝ }
 {
     let k = family(op);
-    if (k == tape::TARGET) | (k == tape::CONTROL) {
+    if (k == tape::TARGET) | (k == tape::CONTROL) | (k == tape::ARGUED) {
         write_target(thin, own, target);
         return;
     }
@@ -364,14 +397,29 @@ fn written_after(
 
 // ── the tape ──
 
-// "R0 to R9 and RA to RF are declared in a block around the program."
-fn name_registers(wide: &mut [u64])
-    ensures { λ _. ⌜ wideOf (now (wide .exit)) ≡ namedTo 16 (wideOf (now (wide .entry))) ⌝ }
+// How many names are declared around the program.
+const STANDARD_NAMES: usize = 25;
+
+// Of them the first are the registers'.
+const REGISTER_NAMES: usize = 16;
+
+fn standard_meaning(n: usize) -> u64
+    ensures { λ r. ⌜ r ≡ standardMeaning n ⌝ }
 {
-    let mut r: usize = 0;
-    while r < 16 {
-        put_mean(wide, r + 1, packed(tables::REGISTER, 0, r as u64));
-        r += 1;
+    if n < REGISTER_NAMES {
+        return packed(tables::REGISTER, 0, n as u64);
+    }
+    packed(tables::FUNCTION, 0, (n - REGISTER_NAMES) as u64)
+}
+
+// "R0 to R9 and RA to RF are declared in a block around the program.", and so are the standard functions.
+fn name_standard(wide: &mut [u64])
+    ensures { λ _. ⌜ wideOf (now (wide .exit)) ≡ namedTo standardNames (wideOf (now (wide .entry))) ⌝ }
+{
+    let mut n: usize = 0;
+    while n < STANDARD_NAMES {
+        put_mean(wide, n + 1, standard_meaning(n));
+        n += 1;
     }
 }
 
@@ -390,9 +438,9 @@ pub fn meanings(
     requires { ⌜ Roomy (now tape) (length (now owners)) (length (now outer)) ⌝ }
     ensures { λ r. ⌜ viewOf (wideOf (now (wide .exit))) (thinOf (now (thin .exit))) r ≡ changed
         (λ s. (pass (meanEvent (now (kinds .entry)) (wideOf (now (wide .entry)) .values) (thinOf (now (thin .entry)) .found)) (beginning s) (now (tape .entry)))
-        .meant) (viewOf (namedTo 16 (wideOf (now (wide .entry)))) (thinOf (now (thin .entry))) 0) ⌝ }
+        .meant) (viewOf (namedTo standardNames (wideOf (now (wide .entry)))) (thinOf (now (thin .entry))) 0) ⌝ }
 {
-    name_registers(wide);
+    name_standard(wide);
     let mut s = Scope {
         own: 0,
         owners: 0,
@@ -401,6 +449,7 @@ pub fn meanings(
     };
     let mut form: u64 = 0;
     let mut target: usize = 0;
+    let mut first = false;
     let mut bases: usize = 0;
     let mut i: usize = 0;
     while i < tape.len() {
@@ -409,7 +458,8 @@ pub fn meanings(
         let t = tape::token(e);
         s = within_after(op, t, wide, thin, bases, owners, outer, s);
         form = form_after(op, t, wide, form);
-        target = target_after(op, t, wide, thin, target);
+        target = target_after(op, t, wide, thin, first, target);
+        first = first_after(op, t, wide, thin);
         bases = declared_after(op, t, wide, thin, s, form, bases);
         let own = s.own;
         written_after(op, t, kinds, wide, thin, own, target);

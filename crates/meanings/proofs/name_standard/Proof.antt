@@ -1,39 +1,39 @@
--- Tokens 1 to 16 mean the registers. The invariant: those below r are named. Assumes nothing.
+-- Tokens 1 to 25 mean the registers and the functions. The invariant: the first n are named. Assumes nothing.
 use native.Mathlib.Omega.{arith}
 use denote.Ref.{now}
 use mathlib.Core.Path.{_≡_, refl, ap, _∙_}
 use Rattle.meanings.proofs.Views as views
 use Rattle.ledger.specs.Book.{wideOf}
-use Rattle.meanings.specs.Flat.{namedTo}
+use Rattle.scopes.specs.Search.{standardNames}
+use Rattle.meanings.specs.Flat.{standardNamed, namedTo}
 use borrow.Author.Needs.{needs}
-use Rattle.meanings.specs.Flat.{registersNamed}
 use Prim.Native.Nat.{_≤_, _-_}
 use lib.ListN.{length}
 use Prim.Native.Nat.{ℕ}
-use Rattle.meanings.proofs.name_registers.Statement.{statement}
-use Rattle.meanings.proofs.name_registers.Tie as tie
+use Rattle.meanings.proofs.name_standard.Statement.{statement}
+use Rattle.meanings.proofs.name_standard.Tie as tie
 
 abbrev Inv-loop : tie.InvT-loop
-Inv-loop wide₀ r₀ wide r = (r ≤ 16) × ((wideOf wide ≡ namedTo r (wideOf wide₀)) × (length wide ≡ length wide₀))
+Inv-loop wide₀ n₀ wide n = (n ≤ standardNames) × ((wideOf wide ≡ namedTo n (wideOf wide₀)) × (length wide ≡ length wide₀))
 
 abbrev μ-loop : tie.MeasureT-loop
-μ-loop wide₀ r₀ wide r = 16 - r
+μ-loop wide₀ n₀ wide n = standardNames - n
 
 loop-holds : tie.Need-loop-holds Inv-loop μ-loop
-unfolding registersNamed
+unfolding standardNamed
 loop-holds c = (omega arith, (refl, refl))
 
 add-put-mean : tie.Need-add-put-mean Inv-loop μ-loop
 add-put-mean c = search needs
 
-packed-requires : tie.Need-packed-requires Inv-loop μ-loop
-packed-requires c κs = search needs
+standard-meaning-requires : tie.Need-standard-meaning-requires Inv-loop μ-loop
+standard-meaning-requires c κs = search needs
 
 put-mean-requires : tie.Need-put-mean-requires Inv-loop μ-loop
 put-mean-requires c κs = search needs
 
-add-r : tie.Need-add-r Inv-loop μ-loop
-add-r c = search needs
+add-n : tie.Need-add-n Inv-loop μ-loop
+add-n c = search needs
 
 loop-less : tie.Need-loop-less Inv-loop μ-loop
 loop-less c = search needs
@@ -44,7 +44,7 @@ loop-again c = (
   (
     c .before .before .put-mean .ensures
         ∙ views.one-named (wideOf (now (c .before .before .before .before .before .before .before .before .args .wide))) _ _ _
-        (c .before .before .before .before .before .before .loop .inv .1 .0) (c .before .before .before .packed .ensures),
+        (c .before .before .before .before .before .before .loop .inv .1 .0) (c .before .before .before .standard-meaning .ensures),
     search needs,
   ),
 )
@@ -55,19 +55,19 @@ same-length c = search needs
 returns : tie.Need-returns Inv-loop μ-loop
 returns c =
     let start = c .before .before .before in
-    c .before .loop .inv .1 .0 ∙ ap (λ (n : ℕ). namedTo n (wideOf (now (start .args .wide)))) (omega (arith, c .before .loop .inv .0, c .loop-test .left))
+    c .before .loop .inv .1 .0 ∙ ap (λ (k : ℕ). namedTo k (wideOf (now (start .args .wide)))) (omega (arith, c .before .loop .inv .0, c .loop-test .left))
 
-pub name-registers-spec : {M : Type 1} → statement M
-name-registers-spec =
+pub name-standard-spec : {M : Type 1} → statement M
+name-standard-spec =
     tie.close
     (tie.spec
     Inv-loop
     μ-loop
     loop-holds
     add-put-mean
-    packed-requires
+    standard-meaning-requires
     put-mean-requires
-    add-r
+    add-n
     loop-less
     loop-again
     same-length
