@@ -7,7 +7,7 @@ use lib.ListN.{length, drop}
 use Rattle.tape.specs.Pass.{pass}
 use Rattle.tape.proofs.Pass.{pass-end}
 use Rattle.ledger.specs.Book.{wideOf, thinOf}
-use Rattle.code.specs.Places.{noWriting}
+use Rattle.emit.specs.Events.{noWriting}
 use Rattle.listing.specs.Operands.{noSpot, Spotting, spottingOf, spotEvent, spotAlong}
 use Rattle.listing.proofs.Spotting.{spot-turn}
 use Rattle.listing.proofs.spot_along.Statement.{statement}
