@@ -10,7 +10,7 @@ use borrow.Author.Tests.{leb-true}
 use Rattle.base.proofs.Tables.{all-below}
 use Rattle.base.proofs.Tests.{is-true, never-true}
 use Rattle.static_rules.specs.Functions.{Argument, writtenRegister, readRegister, byteNumber, indexedCell, plainCell, surplus, functionTable, noFunction, functionAt, arity, argumentAt}
-use Rattle.static_rules.specs.Meaning.{Meaning, Based, argumentOf}
+use Rattle.static_rules.specs.Meaning.{Based, argumentOf}
 use Rattle.tables.specs.Packed.{numberIn, isFunctionIn, unpacked}
 use Rattle.tables.proofs.Meanings.{by-sort, as-function}
 use Rattle.rules.specs.Arguments.{argumentNumber, argumentBy}

@@ -1,7 +1,6 @@
 -- The table is the definition's, two parentheses a row; past it nothing is taken.
 use Rattle.rules.proofs.Arguments.{taken-is, no-function, no-third}
 use native.Mathlib.Omega.{arith}
-use borrow.Author.Needs.{needs}
 use Rattle.rules.proofs.taken.Statement.{statement}
 use Rattle.rules.proofs.taken.Tie as tie
 
