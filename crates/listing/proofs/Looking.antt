@@ -18,7 +18,7 @@ use Rattle.grammar.proofs.Theorems.{grammatical, answerOf, one-told}
 use Rattle.ledger.specs.Book.{Wide, Thin}
 use Rattle.scopes.specs.declared.Broken.{Broken}
 use Rattle.scopes.specs.Search.{firstToken}
-use Rattle.static_rules.specs.Meaning.{Meaning, nothing, register, cell, routine}
+use Rattle.static_rules.specs.Meaning.{Meaning, nothing, register, cell, routine, function}
 use Rattle.translation.specs.Layout.{layout, offsetOf}
 use Rattle.translation.specs.Translate.{kindsOf, valuesOf, placeAt, make}
 use Rattle.translation.proofs.Tokens.{small-text}
@@ -49,6 +49,7 @@ sites-same values f g key t (m ∷ ms) e = rw (sites-same values f g key (suc t)
     one (register r) later = refl
     one (cell c) later = rw (e t)
     one (routine r) later = refl
+    one (function k) later = refl
 
 module _ (q : Seen) (key address : ℕ) where
   -- ── "6 to 13" ──

@@ -8,7 +8,7 @@ use lib.Dec.{eqb}
 use lib.ListN.{length, drop, getD}
 use lib.Seq.{drop-cons, drop-length}
 use Rattle.base.proofs.Tests.{never-true}
-use Rattle.static_rules.specs.Meaning.{Meaning, nothing, register, cell, routine, Based}
+use Rattle.static_rules.specs.Meaning.{Meaning, nothing, Based}
 use Rattle.tables.specs.Packed.{isCellIn, cellIn, basedIn, unpacked, meaningsFrom, meaningsOf}
 use Rattle.tables.proofs.Meanings.{by-sort, as-cell, meaning-at}
 use Rattle.ledger.specs.Book.{Wide, wideOf}
@@ -45,7 +45,7 @@ module _ (w : Wide) (key t : ℕ) (later : Site) where
   unfolding sited
   sited-else e =
       by-sort (λ (y : Meaning). later ≡ sited (w .values) place key t y later) t m base (λ a. refl) (λ a b. refl)
-      (λ a b h. let q : eqb (getD (w .values) t 0) key ≡ false = rw h at e in rw q) (λ a b h. refl)
+      (λ a b h. let q : eqb (getD (w .values) t 0) key ≡ false = rw h at e in rw q) (λ a b h i. refl) (λ a b h i. refl)
 
 -- ── the loop ──
 

@@ -7,7 +7,7 @@ use lib.Dec.{eqb}
 use lib.ListN.{getD}
 use Rattle.base.specs.Choose.{choose}
 use Rattle.token.specs.declared.Token.{Token}
-use Rattle.static_rules.specs.Meaning.{Meaning, nothing, register, cell, routine, Cell, elementSize}
+use Rattle.static_rules.specs.Meaning.{Meaning, nothing, register, cell, routine, function, Cell, elementSize}
 use Rattle.translation.specs.Layout.{offsetOf}
 use Rattle.translation.specs.Translate.{Made, make, valuesOf}
 use Rattle.listing.specs.declared.Site.{Site}
@@ -27,7 +27,7 @@ module _ (values : List ℕ) (place : ℕ → ℕ) (key : ℕ) where
   -- what is declared at token t, before those behind it
   unfoldable pub sited : ℕ → Meaning → Site → Site
   sited t m later =
-      elim m [ nothing ↦ later | register r ↦ later | cell c ↦ choose (eqb (getD values t 0) key) (siteOf c (place t) (later .found)) later | routine r ↦ later ]
+      elim m [ nothing ↦ later | register r ↦ later | cell c ↦ choose (eqb (getD values t 0) key) (siteOf c (place t) (later .found)) later | routine r ↦ later | function k ↦ later ]
 
   -- by the meanings of the tokens from t on
   unfoldable pub sitesFrom : ℕ → List Meaning → Site

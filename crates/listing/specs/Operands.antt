@@ -12,8 +12,7 @@ use Rattle.emit.specs.declared.Use.{Use}
 use Rattle.emit.specs.declared.Use.the-variants.{Absent, Held, Number, Stored}
 use Rattle.emit.specs.declared.Writing.{Writing}
 use Rattle.emit.specs.Codes.{listOf, codeSizes}
-use Rattle.emit.specs.Events.{writingIn, codesIn}
-use Rattle.code.specs.Places.{noWriting}
+use Rattle.emit.specs.Events.{noWriting, writingIn, codesIn}
 use Rattle.listing.specs.declared.Spot.{Spot}
 
 -- from its first token to its last, by its shape: a name, name(number), name(name), name(number)(name), or a number
@@ -31,21 +30,21 @@ unfoldable pub stores : Use → Bool
 stores Absent = false
 stores (Held r) = false
 stores (Number v) = false
-stores (Stored short x b d) = true
+stores (Stored width x b d) = true
 
--- the target of the assignment that is written
+-- what is written: the target of an assignment, or the last argument of a use
 abbrev pub targetAfter : (family : ℕ) → (own target : Spot) → Spot
-targetAfter family own target = choose (eqb family E.TARGET || eqb family E.CONTROL) own target
+targetAfter family own target = choose (eqb family E.TARGET || (eqb family E.CONTROL || eqb family E.ARGUED)) own target
 
--- "store": the operand in storage is the target; else it is the event's own
+-- "store": the operand in storage is the target; that of a use is its last argument; else it is the event's own
 abbrev pub operandBy : (family : ℕ) → Use → (own target : Spot) → Spot
-operandBy family aim own target = choose (eqb family E.FIRST && stores aim) target own
+operandBy family aim own target = choose ((eqb family E.FIRST && stores aim) || eqb family E.COUNTED) target own
 
 -- an event from address p to address q is the one at the address
 abbrev pub spotAfter : (address p q : ℕ) → (operand spot : Spot) → Spot
 spotAfter address p q operand spot = choose (eqb p address && ltb p q) operand spot
 
--- the address so far, the assignment that is written, with its target, and the operand
+-- the address so far, the assignment or use that is written, with its target, and the operand
 pub record Spotting : Type 0 where
   pub at : ℕ
   pub writing : Writing

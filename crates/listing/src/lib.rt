@@ -14,15 +14,9 @@ ghost use Rattle.listing.specs.Sound.{soundOf};
 ghost use Rattle.listing.specs.Cells.{nowhere as nowhereOf, siteNamed};
 ghost use Rattle.listing.specs.Operands.{noSpot, spotOf, stores as storesOf, targetAfter, operandBy, spotAfter, spotAlong, reach as reachOf};
 ghost use Rattle.listing.specs.Seeing.{sitedIn, sitesIn, Shows, LooksOn, LooksAt, Sees};
-use emit::Named;
 use emit::Use;
 use emit::Writing;
-use emit::codes_of;
-use emit::goal_at;
-use emit::operand;
-use emit::register_at;
 use emit::size;
-use emit::written_after;
 use ledger::mean;
 use ledger::offset;
 use ledger::under;
@@ -141,20 +135,21 @@ fn stores(aim: Use) -> bool
     }
 }
 
+// What is written: an assignment's target, or the last argument of a use.
 fn target_after(family: u32, own: Spot, target: Spot) -> Spot
     ensures { λ r. ⌜ r ≡ targetAfter family own target ⌝ }
 {
-    if (family == tape::TARGET) | (family == tape::CONTROL) {
+    if (family == tape::TARGET) | ((family == tape::CONTROL) | (family == tape::ARGUED)) {
         return own;
     }
     target
 }
 
-// A store's operand is the target.
+// A store's operand is the target, and that of a use its last argument.
 fn operand_by(family: u32, aim: Use, own: Spot, target: Spot) -> Spot
     ensures { λ r. ⌜ r ≡ operandBy family aim own target ⌝ }
 {
-    if (family == tape::FIRST) & stores(aim) {
+    if ((family == tape::FIRST) & stores(aim)) | (family == tape::COUNTED) {
         return target;
     }
     own
@@ -178,6 +173,7 @@ fn spot_along(tape: &[u32], kinds: &[u8], wide: &[u64], thin: &[u16], address: u
     let mut w = Writing {
         aim: Use::Absent,
         sign: 0,
+        arguments: 0,
     };
     let mut target = no_spot();
     let mut spot = no_spot();
@@ -186,18 +182,16 @@ fn spot_along(tape: &[u32], kinds: &[u8], wide: &[u64], thin: &[u16], address: u
         let e = tape[i];
         let op = tape::op(e);
         let t = tape::token(e);
-        let family = tape::family(op);
-        let form = tape::form(op);
-        let u = operand(wide, thin, form, t);
-        let register = register_at(wide, thin, family, t);
-        let goal = goal_at(thin, family, t);
-        let m = codes_of(kinds, wide, thin, family, t, w, u, Named { register, goal });
-        let q = p + size(m);
+        let made = emit::event(kinds, wide, thin, op, t, w);
+        let codes = made.codes;
+        let q = p + size(codes);
         let aim = w.aim;
-        let own = spot_at(t, form);
+        let family = tape::family(op);
+        let own = spot_at(t, tape::form(op));
         spot = spot_after(address, p, q, operand_by(family, aim, own, target), spot);
         target = target_after(family, own, target);
-        w = written_after(family, w, u, register);
+        let next = made.writing;
+        w = next;
         p = q;
         i += 1;
     }

@@ -20,7 +20,7 @@ use Rattle.ledger.proofs.Columns.{thin-length}
 use Rattle.scopes.specs.declared.Broken.{Broken}
 use Rattle.scopes.specs.declared.Noted.{Noted}
 use Rattle.scopes.specs.Broken.{unbroken, _⊕_}
-use Rattle.scopes.specs.Search.{firstToken}
+use Rattle.scopes.specs.Search.{standardNames, firstToken}
 use Rattle.scopes.specs.Names.{Named}
 use Rattle.scopes.specs.Labels.{Labelled}
 use Rattle.scopes.proofs.Early.{Early, found-early}
@@ -134,7 +134,7 @@ module _ (ts : List Token) (x : Statement) (kinds tape : List ℕ) (w₀ : Wide)
   -- the tables are made in w₁ and b₁
   module _
       (w₁ : Wide) (b₁ : Thin) (bases : ℕ) (bm : Blank ts (w₀ .means)) (bo : Blank ts (b₀ .opens)) (bw : Blank ts (b₀ .written))
-      (e : viewOf w₁ b₁ bases ≡ changed (λ (s : Meant). pass (meanEvent kinds (w₀ .values) (b₀ .found)) (M.beginning s) tape .meant) (viewOf (namedTo 16 w₀) b₀ 0))
+      (e : viewOf w₁ b₁ bases ≡ changed (λ (s : Meant). pass (meanEvent kinds (w₀ .values) (b₀ .found)) (M.beginning s) tape .meant) (viewOf (namedTo standardNames w₀) b₀ 0))
     where
       -- but for the list of cells
       tables : meantOf (w₁ .means) (w₁ .under) (b₁ .opens) (b₁ .written) bases ≡ tabled (meantIn ts x)
@@ -222,7 +222,7 @@ module _ (ts : List Token) (x : Statement) (kinds tape : List ℕ) (w₀ : Wide)
 
 -- what stays
 pub stays : (kinds tape : List ℕ) (w₀ w₁ w₂ w₃ : Wide) (b₀ b₁ b₃ : Thin) (bases N : ℕ) (offsets : List ℕ) (placed : Broken)
-    → viewOf w₁ b₁ bases ≡ changed (λ (s : Meant). pass (meanEvent kinds (w₀ .values) (b₀ .found)) (M.beginning s) tape .meant) (viewOf (namedTo 16 w₀) b₀ 0)
+    → viewOf w₁ b₁ bases ≡ changed (λ (s : Meant). pass (meanEvent kinds (w₀ .values) (b₀ .found)) (M.beginning s) tape .meant) (viewOf (namedTo standardNames w₀) b₀ 0)
     → w₂ ≡ withOffsets offsets w₁ → bookOf w₃ b₃ placed ≡ layoutIn N tape (bookOf w₂ b₁ unbroken) → Stays w₀ w₃ b₀ b₃
 stays kinds tape w₀ w₁ w₂ w₃ b₀ b₁ b₃ bases N offsets placed e ec el = record {
   values-stay = ap (λ (l : Book). l .wide .values) el ∙ (ap (λ (w : Wide). w .values) ec ∙ ap (λ (v : View). v .values) e);

@@ -1,15 +1,14 @@
 -- Lists that a loop lays, one element after the other: a turn and the end, as the invariants have them. Assumes nothing.
 use mathlib.Core.Path.{_≡_, refl, sym, ap, _∙_}
-use mathlib.Core.List.{List, [], _∷_, _++_}
-use Prim.Native.Nat.{ℕ, _+_, _≤_, _<_}
+use mathlib.Core.List.{List, [], _∷_, map}
+use Prim.Native.Nat.{ℕ, zero, suc, _+_, _≤_, _<_}
 use native.Mathlib.Numerals.{add-one}
 use lib.ListN.{length, drop, getD, set, drop-of-length-le}
 use lib.Seq.{sets}
 use Rattle.base.specs.Numbers.{numberFrom}
 use Rattle.base.proofs.Parts.{drop-turn}
-use Rattle.base.proofs.Lists.{all-getD}
 use Rattle.ledger.specs.Book.{Wide, onWide, putValue}
-use Rattle.scopes.specs.Search.{inFront}
+use Rattle.scopes.specs.Search.{standardName, namesInFront, inFront}
 use Rattle.translation.specs.Translate.{valuesOf}
 use Rattle.settled.specs.Texts.{placesOf}
 
@@ -32,15 +31,21 @@ values-end xs w t h q = ap (λ (k : List ℕ). onWide 0 (λ (l : List ℕ). k) w
 -- ── the names in front ──
 
 -- they stand at no place of the text
+no-place : (names : List (List ℕ)) (t : ℕ) → 0 ≡ getD (placesOf (map standardName names)) t 0
+no-place [] t = refl
+no-place (n ∷ ns) zero = refl
+no-place (n ∷ ns) (suc t) = no-place ns t
+
 pub front-place : (t : ℕ) → 0 ≡ getD (placesOf inFront) t 0
-front-place t = all-getD (λ (v : ℕ). 0 ≡ v) (placesOf inFront) t 0 (
-  refl,
-  (refl, (refl, (refl, (refl, (refl, (refl, (refl, (refl, (refl, (refl, (refl, (refl, (refl, (refl, (refl, (refl, (refl, (refl, (refl, (refl, (refl, (refl, (refl, (refl, (refl, tt))))))))))))))))))))))))),
-) refl
+front-place zero = refl
+front-place (suc t) = no-place namesInFront t
 
 -- their keys
-pub front-key :
-    (t : ℕ) → getD (0 ∷ 972 ∷ 973 ∷ 974 ∷ 975 ∷ 976 ∷ 977 ∷ 978 ∷ 979 ∷ 980 ∷ 981 ∷ 982 ∷ 983 ∷ 984 ∷ 985 ∷ 986 ∷ 987 ∷ 660 ∷ 37344 ∷ 766 ∷ 29646 ∷ 16326 ∷ 36821 ∷ 46039637 ∷ 1372205 ∷ 28287 ∷ []) t 0
-    ≡ getD (valuesOf inFront) t 0
+abbrev keys : List ℕ
+keys =
+    0 ∷ 972 ∷ 973 ∷ 974 ∷ 975 ∷ 976 ∷ 977 ∷ 978 ∷ 979 ∷ 980 ∷ 981 ∷ 982 ∷ 983 ∷ 984 ∷ 985 ∷ 986 ∷ 987
+    ∷ 660 ∷ 37344 ∷ 766 ∷ 29646 ∷ 16326 ∷ 36821 ∷ 46039637 ∷ 1372205 ∷ 28287 ∷ []
+
+pub front-key : (t : ℕ) → getD keys t 0 ≡ getD (valuesOf inFront) t 0
 unfolding numberFrom
 front-key t = refl

@@ -1,4 +1,4 @@
--- The tokens of a text behind the register names: laid one after the other, and then together. Assumes nothing.
+-- The tokens of a text behind the standard names: laid one after the other, and then together. Assumes nothing.
 use mathlib.Core.Path.{_≡_, refl, sym, ap, ap₂, subst, _∙_}
 use mathlib.Core.Bool.{true, false}
 use mathlib.Core.List.{List, [], _∷_, _++_, map}

@@ -32,7 +32,7 @@ allTokens source = inFront ++ tokensOf source .tokens
 abbrev pub placesOf : List Token → List ℕ
 placesOf ts = map (λ (t : Token). t .place) ts
 
--- one part of each token of a source, laid behind the register names
+-- one part of each token of a source, laid behind the standard names
 pub record LaidBehind (part : Token → ℕ) (source before after : List ℕ) : Type 0 where
   pub front : take firstToken after ≡ take firstToken before
   pub behind : drop firstToken after ≡ laid part (tokensOf source .tokens) (drop firstToken before)
@@ -41,14 +41,14 @@ pub record LaidBehind (part : Token → ℕ) (source before after : List ℕ) : 
 abbrev pub ButValues : (before after : Wide) → Type 0
 ButValues before after = after ≡ onWide 0 (λ (values : List ℕ). after .values) before
 
--- the tokens of a source are laid behind the register names, as far as a refusal
+-- the tokens of a source are laid behind the standard names, as far as a refusal
 pub record Behind (source kinds kinds′ : List ℕ) (w w′ : Wide) (r : Tokens) : Type 0 where
   pub is : summaryOf r ≡ summed (tokensOf source)
   pub kinds-laid : LaidBehind kindOf source kinds kinds′
   pub values-laid : LaidBehind valueOf source (w .values) (w′ .values)
   pub same : ButValues w w′
 
--- the tokens of a source behind the register names, or its refusal
+-- the tokens of a source behind the standard names, or its refusal
 pub record Fronted (source kinds values : List ℕ) (r : Tokens) : Type 0 where
   pub is : summaryOf r ≡ summed (tokensOf source)
   pub kinds-are : (n : ℕ) → r ≡ Read n → take (firstToken + n) kinds ≡ kindsOf (allTokens source)

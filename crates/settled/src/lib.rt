@@ -1,4 +1,4 @@
-// Document 01, "Numbers answered": what is known of a text before code is made of it. Its tokens behind the register names; which declaration each name and which
+// Document 01, "Numbers answered": what is known of a text before code is made of it. Its tokens behind the standard names; which declaration each name and which
 // label each GOTO means; what names mean, which rules are broken, where cells stand. And where a token stands in the text.
 ghost use mathlib.Core.Path.{_≡_};
 ghost use mathlib.Core.List.{List};

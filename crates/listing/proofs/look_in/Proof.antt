@@ -5,6 +5,7 @@ use Prim.Native.Nat.{_+_, _*_}
 use mathlib.Core.Path.{refl, sym, _∙_}
 use lib.Seq.{length-front, length-take-le}
 use Rattle.ledger.proofs.Cutting.{wide-take}
+use Rattle.scopes.specs.Search.{firstToken}
 use Rattle.settled.proofs.Reading.{all-read, few-read}
 use Rattle.settled.proofs.Rooms.{cut-blanks, cut-lent}
 use Rattle.listing.proofs.Looking.{text-refused, text-read}
@@ -102,7 +103,7 @@ look-tokens-requires c κs =
     let at-read = at-tokens .before .before .before .before .before .before in
     let start = at-read .before .before .before .before .before .before .before .before in
     let f = few-read (start .args .src .now) _ (at-read .read .ensures .0 .is) _ (at-tokens .tokens .given .1) in
-    let l = cut-lent (17 + at-tokens .tokens .given .0 .0) (at-read .read .last .1 .0) (start .args .tape .now) (at-read .read .last .1 .1 .0) (start .args .thin .now)
+    let l = cut-lent (firstToken + at-tokens .tokens .given .0 .0) (at-read .read .last .1 .0) (start .args .tape .now) (at-read .read .last .1 .1 .0) (start .args .thin .now)
     (omega arith) (omega (arith, f, start .pre .short)) (omega (arith, f, start .pre .for-kinds, at-read .read .kept .1 .0)) (omega (arith, f, start .pre .for-tape))
     (omega (arith, f, start .pre .for-wide, at-read .read .kept .1 .1 .0)) (omega (arith, f, start .pre .for-thin)) in
     (all-read (start .args .src .now) _ (at-read .read .ensures .0 .is) _ (at-tokens .tokens .given .1), l .0, l .1, l .2)
@@ -141,14 +142,14 @@ same-length-2 c =
     let at-look-tokens = c .before .before .before .before .before .before in
     let at-tokens = at-look-tokens .before .before .before .before .before .before in
     let start = at-tokens .before .before .before .before .before .before .before .before .before .before .before .before .before .before in
-    length-front (start .args .tape .now) (at-look-tokens .look-tokens .last .1 .1 .0) (17 + at-tokens .tokens .given .0 .0) (at-look-tokens .look-tokens .kept .1 .1 .0)
+    length-front (start .args .tape .now) (at-look-tokens .look-tokens .last .1 .1 .0) (firstToken + at-tokens .tokens .given .0 .0) (at-look-tokens .look-tokens .kept .1 .1 .0)
 
 same-length-3 : tie.Need-same-length-3
 same-length-3 c =
     let at-look-tokens = c .before .before .before .before .before .before in
     let at-tokens = at-look-tokens .before .before .before .before .before .before in
     let at-read = at-tokens .before .before .before .before .before .before in
-    length-front (at-read .read .last .1 .1 .0) (at-look-tokens .look-tokens .last .1 .1 .1 .0) (4 * (17 + at-tokens .tokens .given .0 .0))
+    length-front (at-read .read .last .1 .1 .0) (at-look-tokens .look-tokens .last .1 .1 .1 .0) (4 * (firstToken + at-tokens .tokens .given .0 .0))
     (at-look-tokens .look-tokens .kept .1 .1 .1 .0) ∙ at-read .read .kept .1 .1 .0
 
 same-length-4 : tie.Need-same-length-4
@@ -156,7 +157,7 @@ same-length-4 c =
     let at-look-tokens = c .before .before .before .before .before .before in
     let at-tokens = at-look-tokens .before .before .before .before .before .before in
     let start = at-tokens .before .before .before .before .before .before .before .before .before .before .before .before .before .before in
-    length-front (start .args .thin .now) (at-look-tokens .look-tokens .last .1 .1 .1 .1 .0) (4 * (17 + at-tokens .tokens .given .0 .0))
+    length-front (start .args .thin .now) (at-look-tokens .look-tokens .last .1 .1 .1 .1 .0) (4 * (firstToken + at-tokens .tokens .given .0 .0))
     (at-look-tokens .look-tokens .kept .1 .1 .1 .1 .0)
 
 returns : tie.Need-returns
@@ -167,7 +168,7 @@ returns c =
     let start = at-read .before .before .before .before .before .before .before .before in
     let f = few-read (start .args .src .now) _ (at-read .read .ensures .0 .is) _ (at-tokens .tokens .given .1) in
     text-read _ (start .args .key) (start .args .address) _ _ _ _ (at-read .read .ensures .0)
-    _ (at-tokens .tokens .given .1) _ _ (wide-take 0 (17 + at-tokens .tokens .given .0 .0) (at-read .read .last .1 .1 .0) (omega arith) (omega (arith, f, start .pre .for-wide, at-read .read .kept .1 .1 .0)))
+    _ (at-tokens .tokens .given .1) _ _ (wide-take 0 (firstToken + at-tokens .tokens .given .0 .0) (at-read .read .last .1 .1 .0) (omega arith) (omega (arith, f, start .pre .for-wide, at-read .read .kept .1 .1 .0)))
     (cut-blanks (start .args .src .now) _ (at-read .read .ensures .0 .is) _ (at-tokens .tokens .given .1) (start .args .wide .now) (at-read .read .last .1 .1 .0)
     (start .args .thin .now) (start .pre .no-wide) (start .pre .no-thin) (at-read .read .ensures .1) (at-read .read .kept .1 .1 .0) (omega (arith, f, start .pre .for-wide))
     (omega (arith, f, start .pre .for-thin)))
