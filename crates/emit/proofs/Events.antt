@@ -1,11 +1,11 @@
 -- What the events of declarations and statements make: the definition's instruction, or none. Branches go where `marks` says. Assumes nothing.
 use mathlib.Core.Path.{_≡_, refl, ap}
 use mathlib.Core.Bool.{true}
-use mathlib.Core.List.{List, [], _∷_}
+use mathlib.Core.List.{List, [], _∷_, _++_}
 use Prim.Native.Nat.{ℕ, _+_}
 use lib.ListN.{getD}
 use Rattle.base.specs.Lists.{member}
-use Rattle.base.proofs.Lists.{each}
+use Rattle.base.proofs.Lists.{all-both, each}
 use Rattle.tape.specs.Events as E
 use Rattle.tape.specs.Numbers.{formAt}
 use Rattle.static_rules.specs.Meaning.{registerOf}
@@ -21,11 +21,18 @@ use Rattle.emit.proofs.Operands.{register-at, return-at}
 use Rattle.emit.proofs.Written.{coded}
 use Rattle.emit.proofs.Walks.{Makes}
 
+-- the events of declarations but those of bases and procedures
+abbrev pub declaring : List ℕ
+declaring =
+    E.REGISTER ∷ E.SINGLE-FULL ∷ E.SINGLE-SHORT ∷ E.SINGLE-BYTE ∷ E.SINGLE-CHARACTER ∷ E.ARRAY-FULL ∷ E.ARRAY-SHORT ∷ E.ARRAY-BYTE ∷ E.ARRAY-CHARACTER ∷ E.ITEM
+    ∷ E.VALUE ∷ []
+
+abbrev others : List ℕ
+others = E.BLOCK ∷ E.END-BLOCK ∷ E.LABEL ∷ E.WHILE ∷ E.END-ELSE ∷ E.END-IF ∷ []
+
 -- the events of declarations and statements that make nothing
 abbrev pub idle : List ℕ
-idle =
-    E.BLOCK ∷ E.END-BLOCK ∷ E.REGISTER ∷ E.SINGLE-FULL ∷ E.SINGLE-SHORT ∷ E.ARRAY-FULL ∷ E.ARRAY-SHORT ∷ E.ITEM ∷ E.VALUE ∷ E.LABEL ∷ E.WHILE ∷ E.END-ELSE
-    ∷ E.END-IF ∷ []
+idle = declaring ++ others
 
 module _ (f : Tables) (means under offsets marks : List ℕ) where
   -- the definition's instructions, and the assignment that is written stays
@@ -35,19 +42,10 @@ module _ (f : Tables) (means under offsets marks : List ℕ) where
   pub idle-adds : (op : ℕ) → member op idle ≡ true → (t : ℕ) (w : Writing) → Adds op t w []
   unfolding listOf formAt registerAt goalAt otherCodes codesOf codesBy writtenAfter writingAfter
   idle-adds op h t w =
-      each (λ x. Adds x t w []) idle (
-        (refl, refl),
-        (
-          (refl, refl),
-          (
-            (refl, refl),
-            (
-              (refl, refl),
-              ((refl, refl), ((refl, refl), ((refl, refl), ((refl, refl), ((refl, refl), ((refl, refl), ((refl, refl), ((refl, refl), ((refl, refl), tt))))))))),
-            ),
-          ),
-        ),
-      )
+      each (λ x. Adds x t w []) idle
+      (all-both (λ x. Adds x t w []) declaring others
+      ((refl, refl), ((refl, refl), ((refl, refl), ((refl, refl), ((refl, refl), ((refl, refl), ((refl, refl), ((refl, refl), ((refl, refl), ((refl, refl), ((refl, refl), tt)))))))))))
+      ((refl, refl), ((refl, refl), ((refl, refl), ((refl, refl), ((refl, refl), ((refl, refl), tt)))))))
       op h
 
   -- around a procedure

@@ -15,7 +15,7 @@ module _
     (er : register ≡ registerAt (b .found) (w .means) family t)
   where
     pub codes-known : {goal : ℕ} {m : Codes} → goal ≡ goalAt (b .found) (b .goes) (b .opens) family t
-        → m ≡ codesOf kinds (w .values) (b .written) family t v u (record { register = register; goal = goal }) → m ≡ codesIn kinds w b op t v
+        → m ≡ codesOf kinds (w .values) (b .found) (w .means) (b .written) family t v u (record { register = register; goal = goal }) → m ≡ codesIn kinds w b op t v
     unfolding codesBy
     codes-known eg em = rw (em, eg, er, eu, es, ef)
 

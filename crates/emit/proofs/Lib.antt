@@ -4,6 +4,7 @@ pub mod Lists
 pub mod Knowing
 pub mod Operands
 pub mod Written
+pub mod Uses
 pub mod Sizes
 pub mod Walks
 pub mod Events

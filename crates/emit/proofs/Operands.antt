@@ -2,28 +2,30 @@
 -- grammar; the numbers of a text have 32 bits. Assumes nothing.
 use mathlib.Core.Path.{_≡_, refl, sym, ap, subst, _∙_}
 use mathlib.Core.Bool.{Bool, true, false}
-use mathlib.Core.List.{List, _∷_}
+use mathlib.Core.List.{List, [], _∷_}
 use mathlib.Core.Option.{Option, none, some}
-use Prim.Native.Nat.{ℕ, _+_, _<_}
+use Prim.Native.Nat.{ℕ, _+_, _/_, _%_, _<_}
 use native.Mathlib.Omega.{arith}
-use lib.Dec.{eqb}
+use lib.Dec.{eqb, eqb→eq}
 use lib.ListN.{getD}
-use Rattle.base.specs.Choose.{if_then_else_}
+use Rattle.base.proofs.Tables.{all-below}
+use Rattle.base.proofs.Tests.{cases, never-true}
 use Rattle.token.specs.Kinds as K
-use Rattle.grammar.specs.Tree.{Designator, Operand, number, place, Width, full, short}
+use Rattle.grammar.specs.Tree.{Designator, Operand, number, place, full}
 use Rattle.grammar.specs.Derives.{isShape, isDesignator, isOperand}
 use Rattle.grammar.specs.Pinned.{headOf}
-use Rattle.tape.specs.Tape.{event, shapeBy, shape, tapeDesignator, tapeOperand}
-use Rattle.static_rules.specs.Meaning.{Meaning, nothing, register, cell, routine, Cell, Based, registerOf, isFull, isLong, longOperand}
+use Rattle.tape.specs.Tape.{event, shapeBy, shape, tapeDesignator, tapeOperand, widthOf}
+use Rattle.static_rules.specs.Functions.{noFunction}
+use Rattle.static_rules.specs.Meaning.{Meaning, nothing, register, cell, routine, function, Cell, Based, registerOf, isFull, isLong, longOperand}
 use Rattle.static_rules.specs.Tables.{Tables, kindAt, valueAt, meaningAt}
-use Rattle.tables.specs.Packed.{low, numberIn, isShortIn, widthIn, basedIn, cellIn, unpacked, meaningsOf, registerIn, packedAt}
-use Rattle.tables.proofs.Meanings.{low-is, by-sort, register-alone, routine-alone, register-is, meaning-at}
+use Rattle.tables.specs.Packed.{low, numberIn, isFunctionIn, sizeIn, widthBy, widthIn, basedIn, cellIn, unpacked, meaningsOf, registerIn, packedAt}
+use Rattle.tables.proofs.Meanings.{low-is, by-sort, register-alone, routine-alone, function-alone, register-is, meaning-at}
 use Rattle.translation.specs.Instructions.{element, literal}
 use Rattle.translation.specs.Core as C
-use Rattle.translation.specs.Core.{held, stored, absent, returnOf, subscriptOf, useBy, useOf, sourceOf}
+use Rattle.translation.specs.Core.{held, stored, absent, returnOf, subscriptOf, useBy, useOf, sourceOf, numberOf, functionCode, useCode}
 use Rattle.emit.specs.declared.Use.{Use}
 use Rattle.emit.specs.declared.Use.the-variants.{Absent, Held, Number, Stored}
-use Rattle.emit.specs.Events.{subscriptIn, indexIn, elementIn, placeBy, placeIn, useIn, returnIn}
+use Rattle.emit.specs.Events.{subscriptIn, indexIn, elementIn, placeBy, placeIn, useIn, returnIn, functionIn}
 
 -- ── shapes ──
 
@@ -53,16 +55,9 @@ operand-tape op (place d) k = refl
 
 -- ── widths ──
 
-abbrev pub isShort : Width → Bool
-isShort full = false
-isShort short = true
-
-short-is : (m : ℕ) → isShortIn m ≡ isShort (widthIn m)
-short-is m = by-width (isShortIn m)
-  where
-    by-width : (x : Bool) → x ≡ isShort (if x then short else full)
-    by-width true = refl
-    by-width false = refl
+width-is : (m : ℕ) → widthOf (widthIn m) ≡ sizeIn m
+unfolding sizeIn
+width-is m = eqb→eq (widthOf (widthIn m)) (sizeIn m) (all-below 4 (λ (w : ℕ). eqb (widthOf (widthBy w)) w) tt (m / 16 % 4) (omega arith))
 
 -- ── by the tables ──
 
@@ -76,12 +71,7 @@ offsetAt offsets t = low (getD offsets t 0)
 
 -- an element of a cell
 abbrev pub stands : (offsets : List ℕ) → Cell → (offset index : ℕ) → Use
-stands offsets c o x = Stored (isShort (c .width)) x (c .base .register) (offsetAt offsets (c .name) + o)
-
--- the number of a shift
-abbrev pub amountOf : Tables → Operand → ℕ
-amountOf f (number t) = valueAt f t
-amountOf f (place d) = 0
+stands offsets c o x = Stored (widthOf (c .width)) x (c .base .register) (offsetAt offsets (c .name) + o)
 
 module _ (f : Tables) (means under offsets : List ℕ) where
   abbrev pub placed : Designator → Use
@@ -104,10 +94,35 @@ module _ (f : Tables) (means under : List ℕ) (table : f .means ≡ meaningsOf 
   unfolding returnIn
   return-at n =
       sym (ap returnOf (meaning-is n)
-      ∙ by-sort (λ (x : Meaning). returnOf x ≡ returnIn m) (getD (f .found) n 0) m (baseAt n) (λ e. rw (register-alone m e .0)) (λ e g. rw g) (λ e g h. rw g) (λ e g h. rw g))
+      ∙ by-sort (λ (x : Meaning). returnOf x ≡ returnIn m) (getD (f .found) n 0) m (baseAt n) (λ e. rw (register-alone m e .0)) (λ e g. rw g) (λ e g h. rw g) (λ e g h i. rw g)
+      (λ e g h i. rw g))
     where
       m : ℕ
       m = packedAt (f .found) means n
+
+  -- what is no function takes nothing
+  none-used : (a : Operand) (xs : List Operand) → [] ≡ functionCode f noFunction a xs
+  unfolding functionCode
+  none-used a [] = refl
+  none-used a (b ∷ []) = refl
+  none-used a (b ∷ c ∷ xs) = refl
+
+  pub use-at : (n : ℕ) (a : Operand) (xs : List Operand) → functionCode f (functionIn (packedAt (f .found) means n)) a xs ≡ useCode f (meaningAt f n) a xs
+  unfolding functionIn
+  use-at n a xs =
+      sym (ap (λ (x : Meaning). useCode f x a xs) (meaning-is n)
+      ∙ by-sort (λ (x : Meaning). useCode f x a xs ≡ functionCode f (functionIn m) a xs) (getD (f .found) n 0) m (baseAt n)
+      (λ e. unless (apart (λ q. function-alone m q .0) e)) (λ e g. unless (apart (λ q. function-alone m q .1) g)) (λ e g h. unless (apart (λ q. function-alone m q .2) h))
+      (λ e g h i. rw i) (λ e g h i. unless i))
+    where
+      m : ℕ
+      m = packedAt (f .found) means n
+
+      apart : {b : Bool} → (isFunctionIn m ≡ true → b ≡ false) → b ≡ true → isFunctionIn m ≡ false
+      apart h e = cases (isFunctionIn m) (λ q. never-true (sym (h q) ∙ e)) (λ q. q)
+
+      unless : isFunctionIn m ≡ false → [] ≡ functionCode f (functionIn m) a xs
+      unless e = rw e (none-used a xs)
 
   module _ (offsets : List ℕ) (small : Small f) where
     number-low : (s n i : ℕ) → s ≡ n + 2 → s ≡ i → kindAt f i ≡ K.NUMBER → low (valueAt f (n + 2)) ≡ valueAt f s
@@ -130,18 +145,19 @@ module _ (f : Tables) (means under : List ℕ) (table : f .means ≡ meaningsOf 
 
     pub by-place :
         (P : Meaning → C.Use → Use → Type 0)
-        → P nothing absent Absent → ((r : ℕ) → P (routine r) absent Absent) → ((r : ℕ) → P (register r) (held r) (Held r))
+        → P nothing absent Absent → ((r : ℕ) → P (routine r) absent Absent) → ((k : ℕ) → P (function k) absent Absent) → ((r : ℕ) → P (register r) (held r) (Held r))
         → ((c : Cell) (o x : ℕ) → P (cell c) (stored (c .width) (element c o x)) (stands offsets c o x))
         → (d : Designator) (i j : ℕ) → isDesignator (f .kinds) d i j → P (meaningAt f (d .name)) (useOf f (place d)) (placed f means under offsets d)
     unfolding isDesignator useOf placeIn placeBy elementIn basedIn
-    by-place P unmeant routed in-register in-cell d i j h =
+    by-place P unmeant routed working in-register in-cell d i j h =
         rw (meaning-is (d .name))
         (by-sort (λ (x : Meaning). P x (useBy f x d) (placed f means under offsets d)) at m (baseAt (d .name))
         (λ e. rw e (in-register (numberIn m)))
         (λ e g. rw (e, routine-alone m g .1) (routed (numberIn m)))
         (λ e g q. rw (e, q, subscript-is (d .name) (d .subscript) (d .index) i j h, index-is (d .name) (d .subscript) (d .index) i j h)
-        (subst (λ (y : Bool). P (cell its) (stored (its .width) (element its o x)) (Stored y x (its .base .register) (offsetAt offsets at + o))) (sym (short-is m)) (in-cell its o x)))
-        (λ e g q. rw (e, q) unmeant))
+        (subst (λ (y : ℕ). P (cell its) (stored (its .width) (element its o x)) (Stored y x (its .base .register) (offsetAt offsets at + o))) (width-is m) (in-cell its o x)))
+        (λ e g q y. rw (e, q) (working (numberIn m)))
+        (λ e g q y. rw (e, q) unmeant))
       where
         at : ℕ
         at = getD (f .found) (d .name) 0
@@ -163,8 +179,8 @@ module _ (f : Tables) (means under : List ℕ) (table : f .means ≡ meaningsOf 
         (P : (source amount : ℕ) (long : Bool) → C.Use → Use → Type 0)
         → P 0 0 false absent Absent → ((r : ℕ) → P r 0 true (held r) (Held r)) → ((v : ℕ) → P 0 v true (stored full (literal v)) (Number v))
         → ((c : Cell) (o x : ℕ) → P 0 0 (isFull (c .width)) (stored (c .width) (element c o x)) (stands offsets c o x))
-        → (a : Operand) (i j : ℕ) → isOperand (f .kinds) a i j → P (sourceOf f a) (amountOf f a) (longOperand (f .found) (f .means) a) (useOf f a) (used f means under offsets a)
+        → (a : Operand) (i j : ℕ) → isOperand (f .kinds) a i j → P (sourceOf f a) (numberOf f a) (longOperand (f .found) (f .means) a) (useOf f a) (used f means under offsets a)
     unfolding isOperand useOf useIn
     by-use P unmeant in-register literally in-cell (number t) i j h = literally (valueAt f t)
     by-use P unmeant in-register literally in-cell (place d) i j h =
-        rw (by-form (λ n. eqb n 4 ≡ false) refl refl refl refl d) (by-place (λ m u v. P (registerOf m) 0 (isLong m) u v) unmeant (λ r. unmeant) in-register in-cell d i j h)
+        rw (by-form (λ n. eqb n 4 ≡ false) refl refl refl refl d) (by-place (λ m u v. P (registerOf m) 0 (isLong m) u v) unmeant (λ r. unmeant) (λ k. unmeant) in-register in-cell d i j h)

@@ -1,4 +1,4 @@
--- The instructions along the tape of a tree: those of an assignment, of a condition and of a FOR's limit are the definition's with the places of cells.
+-- The instructions along the tape of a tree: those of an assignment, of a condition, of a FOR's limit and of a use are the definition's with the places of cells.
 -- Assumes nothing.
 use mathlib.Core.Path.{_≡_, sym, ap, ap₂, _∙_}
 use mathlib.Core.List.{List, [], _∷_, _++_, append-assoc, append-nil}
@@ -6,22 +6,23 @@ use Prim.Native.Nat.{ℕ, _+_, _-_, _%_, _≤_}
 use native.Mathlib.Omega.{arith}
 use lib.ListN.{getD}
 use Rattle.grammar.specs.Tree.{Operand, Assignment, Condition}
-use Rattle.grammar.specs.Derives.{isOperand, isCondition, isAssignment}
+use Rattle.grammar.specs.Derives.{isOperand, isCondition, isAssignment, areArguments}
 use Rattle.grammar.specs.Pinned.{headOf}
 use Rattle.tape.specs.Events as E
-use Rattle.tape.specs.Tape.{event, tapeOperand, tapeCondition, tapeAssignment}
+use Rattle.tape.specs.Tape.{event, tapeOperand, tapeCondition, tapeEach, tapeAssignment, tapeArgument}
 use Rattle.tape.proofs.Pass.{event-op, event-token}
-use Rattle.static_rules.specs.Tables.{Tables, valueAt}
+use Rattle.static_rules.specs.Tables.{Tables, valueAt, meaningAt}
 use Rattle.tables.specs.Packed.{meaningsOf}
 use Rattle.translation.specs.Instructions.{branch}
-use Rattle.translation.specs.Core.{exitMask, toRegister, assignmentOf, compareWith, testOf, maskOf, controlOf}
+use Rattle.translation.specs.Core.{exitMask, toRegister, assignmentOf, compareWith, testOf, maskOf, controlOf, useCode}
 use Rattle.emit.specs.declared.Code.{Code}
 use Rattle.emit.specs.declared.Writing.{Writing}
 use Rattle.emit.specs.Codes.{heldIn}
+use Rattle.emit.specs.Events.{noWriting}
 use Rattle.emit.specs.Along.{along, codeFor, targetWriting, controlWriting}
 use Rattle.emit.proofs.Operands.{Small, offsetAt, shapeOf, operand-tape, register-at}
 use Rattle.emit.proofs.Written.{coded}
-use Rattle.emit.proofs.Walks.{made, after, Makes, Walk, limit-makes, assignment-walked, control-walked, condition-walked}
+use Rattle.emit.proofs.Walks.{made, after, Makes, Walk, limit-makes, assignment-walked, control-walked, use-walked, condition-walked}
 
 module _ (f : Tables) (means under offsets marks : List ℕ) where
   abbrev pub go : Writing → List ℕ → List Code
@@ -48,7 +49,7 @@ module _ (f : Tables) (means under offsets marks : List ℕ) where
   }
 
   module _ (table : f .means ≡ meaningsOf means under) (small : Small f) where
-    -- ── assignments, conditions and limits ──
+    -- ── assignments, uses, conditions and limits ──
 
     pub assignment-coded :
         (a : Assignment) (i j : ℕ) → isAssignment (f .kinds) a i j → (w : Writing) (k : List ℕ)
@@ -61,6 +62,12 @@ module _ (f : Tables) (means under offsets marks : List ℕ) where
         → go w (tapeAssignment E.CONTROL a k) ≡ coded offsets (toRegister f (controlOf f a) a) ++ go (controlWriting (f .found) means a) k
     unfolding coding
     control-coded a i j h w k = control-walked f means under offsets marks table small coding a i j h [] w k
+
+    pub use-coded :
+        (n : ℕ) (a : Operand) (xs : List Operand) (j : ℕ) → areArguments (f .kinds) (a ∷ xs) (n + 1) j → (w : Writing) (k : List ℕ)
+        → go w (event E.APPLIED n ∷ tapeEach tapeArgument (a ∷ xs) (event E.COUNTED n ∷ k)) ≡ coded offsets (useCode f (meaningAt f n) a xs) ++ go noWriting k
+    unfolding coding
+    use-coded n a xs j h w k = use-walked f means under offsets marks table small coding n a xs j h [] w k
 
     pub condition-coded :
         (c : Condition) (t j to : ℕ) → isCondition (f .kinds) c (t + 1) j → getD marks t 0 ≡ to → (w : Writing) (k : List ℕ)

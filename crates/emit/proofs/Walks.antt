@@ -1,5 +1,5 @@
 -- A walk along a tape that takes in the instructions of each event: over an assignment and over a condition it takes in the definition's instructions with
--- the places of cells. `along` is such a walk, and so is the pass of addresses, but where it sets an address. Assumes nothing.
+-- the places of cells, and over a use. `along` is such a walk, and so is the pass of addresses, but where it sets an address. Assumes nothing.
 use mathlib.Core.Path.{_≡_, refl, sym, ap, ap₂, _∙_}
 use mathlib.Core.Bool.{Bool, true}
 use mathlib.Core.List.{List, [], _∷_, _++_}
@@ -8,30 +8,31 @@ use native.Mathlib.Omega.{arith}
 use lib.ListN.{getD}
 use Rattle.base.specs.Lists.{member}
 use Rattle.grammar.specs.Tree.{Designator, Operand, Sign, plain, abs, neg, negAbs, Term, Assignment, Condition, compared, bare}
-use Rattle.grammar.specs.Derives.{isOperand, isCondition, areTerms, isAssignment}
+use Rattle.grammar.specs.Derives.{isOperand, isCondition, areTerms, isAssignment, areArguments}
 use Rattle.grammar.specs.Pinned.{headOf}
 use Rattle.grammar.proofs.Pinned.{pinned-operand}
 use Rattle.tape.specs.Events as E
 use Rattle.tape.specs.Numbers.{familyAt, formAt}
-use Rattle.tape.specs.Tape.{event, shape, tapeDesignator, tapeOperand, tapeCondition, tapeSign, tapeEach, tapeTerm, tapeAssignment}
+use Rattle.tape.specs.Tape.{event, shape, tapeDesignator, tapeOperand, tapeCondition, tapeSign, tapeEach, tapeTerm, tapeAssignment, tapeArgument}
 use Rattle.static_rules.specs.Meaning.{registerOf}
 use Rattle.static_rules.specs.Tables.{Tables, kindAt, valueAt, meaningAt}
 use Rattle.tables.specs.Packed.{meaningsOf, registerIn, packedAt}
 use Rattle.translation.specs.Instructions.{compareRow, falseMask}
-use Rattle.translation.specs.Core.{exitMask, toRegister, assignmentOf, compareWith, testOf, maskOf, controlOf}
+use Rattle.translation.specs.Core.{exitMask, toRegister, assignmentOf, compareWith, testOf, maskOf, controlOf, useCode}
 use Rattle.emit.specs.declared.Use.{Use}
 use Rattle.emit.specs.declared.Use.the-variants.{Absent, Held, Number, Stored}
 use Rattle.emit.specs.declared.Code.{Code}
 use Rattle.emit.specs.declared.Writing.{Writing}
 use Rattle.emit.specs.Codes.{listOf, applyCode, isAbsent, applyCodes, applyThen, heldIn, firstCodes, nextCodes, branchCode}
-use Rattle.emit.specs.Events.{placeIn, useIn, registerAt, goalAt, writtenAfter, comparedCodes, bareCodes, limitCodes, otherCodes, codesOf, writingAfter, codesBy}
+use Rattle.emit.specs.Events.{placeIn, useIn, registerAt, goalAt, writtenAfter, functionIn, noWriting, comparedCodes, bareCodes, limitCodes, usedCodes, otherCodes, codesOf, writingAfter, codesBy}
 use Rattle.emit.specs.Along.{codeFor, signEvent, targetWriting, controlWriting}
 use Rattle.emit.proofs.Operands.{Small, shapeOf, by-form, by-shape, operand-tape, register-at, placed, used}
+use Rattle.emit.proofs.Uses.{argued, arguedAll, use-is}
 use Rattle.emit.proofs.Written.{coded, tested, chainCodes, assignedCodes, apply-is, register-assigned, target-assigned}
 
 -- the events that set no address
 abbrev pub unmarking : List ℕ
-unmarking = E.TARGET ∷ E.CONTROL ∷ E.ABS ∷ E.NEG ∷ E.NEG-ABS ∷ E.FIRST ∷ E.TERM ∷ E.COMPARED ∷ E.BARE ∷ []
+unmarking = E.TARGET ∷ E.CONTROL ∷ E.ABS ∷ E.NEG ∷ E.NEG-ABS ∷ E.FIRST ∷ E.TERM ∷ E.COMPARED ∷ E.BARE ∷ E.APPLIED ∷ E.ARGUED ∷ E.COUNTED ∷ []
 
 abbrev pub unmarked : ℕ → Bool
 unmarked op = member (familyAt op) unmarking
@@ -42,10 +43,10 @@ unfolding listOf applyCodes applyThen isAbsent
 then-list row r Absent c = refl
 then-list row r (Held s) c = refl
 then-list row r (Number v) c = refl
-then-list row r (Stored short x b d) c = refl
+then-list row r (Stored w x b d) c = refl
 
 abbrev writingOf : Use → ℕ → Writing
-writingOf aim sign = record { aim = aim; sign = sign }
+writingOf aim sign = record { aim = aim; sign = sign; arguments = 0 }
 
 module _ (f : Tables) (means under offsets marks : List ℕ) where
   abbrev pub made : (op t : ℕ) → Writing → List Code
@@ -105,6 +106,21 @@ module _ (f : Tables) (means under offsets marks : List ℕ) where
       let p = by-shape (λ n. Does (E.TERM + n) (headOf a) w (listOf (nextCodes (w .aim) (kindAt f (headOf a - 1)) (at n (headOf a)))) w)
       (refl, (refl, refl)) (refl, (refl, refl)) (refl, (refl, refl)) (refl, (refl, refl)) (refl, (refl, refl)) a in
       (p .0, (p .1 .0 ∙ ap (λ (x : ℕ). listOf (nextCodes (w .aim) (kindAt f x) (used f means under offsets a))) e, p .1 .1))
+
+  applied-does : (n : ℕ) (w : Writing) → Does E.APPLIED n w [] noWriting
+  unfolding listOf formAt otherCodes codesOf codesBy writtenAfter writingAfter
+  applied-does n w = (refl, (refl, refl))
+
+  argued-does : (a : Operand) (w : Writing) → Does (E.ARGUED + shapeOf a) (headOf a) w [] (argued w (used f means under offsets a))
+  unfolding listOf formAt otherCodes codesOf codesBy writtenAfter writingAfter
+  argued-does a w =
+      by-shape (λ n. Does (E.ARGUED + n) (headOf a) w [] (argued w (at n (headOf a))))
+      (refl, (refl, refl)) (refl, (refl, refl)) (refl, (refl, refl)) (refl, (refl, refl)) (refl, (refl, refl)) a
+
+  counted-does : (n : ℕ) (w : Writing)
+      → Does E.COUNTED n w (listOf (usedCodes (f .kinds) (f .values) (f .found) means n (functionIn (packedAt (f .found) means n)) w)) noWriting
+  unfolding formAt codesOf codesBy writtenAfter writingAfter
+  counted-does n w = (refl, (refl, refl))
 
   module _ (table : f .means ≡ meaningsOf means under) (small : Small f) where
     compare-is :
@@ -213,6 +229,22 @@ module _ (f : Tables) (means under offsets marks : List ℕ) where
           assignment E.CONTROL controlled control-does a i j h s w k
           ∙ ap (λ (cs : List Code). walk .run (walk .emit cs s) (controlWriting (f .found) means a) k)
           (register-assigned f means under offsets table small r a i j h ∙ ap (λ (x : ℕ). coded offsets (toRegister f x a)) (register-at f means under table (a .target .name)))
+
+      arguments : (xs : List Operand) (s : S) (w : Writing) (k : List ℕ) → walk .run s w (tapeEach tapeArgument xs k) ≡ walk .run s (arguedAll f means under offsets w xs) k
+      unfolding tapeEach arguedAll
+      arguments [] s w k = refl
+      arguments (a ∷ xs) s w k =
+          ap (walk .run s w) (operand-tape E.ARGUED a _)
+          ∙ (quietly (E.ARGUED + shapeOf a) (headOf a) s w _ (argued-does a w) ∙ arguments xs s (argued w (used f means under offsets a)) k)
+
+      pub use-walked :
+          (n : ℕ) (a : Operand) (xs : List Operand) (j : ℕ) → areArguments (f .kinds) (a ∷ xs) (n + 1) j → (s : S) (w : Writing) (k : List ℕ)
+          → walk .run s w (event E.APPLIED n ∷ tapeEach tapeArgument (a ∷ xs) (event E.COUNTED n ∷ k))
+          ≡ walk .run (walk .emit (coded offsets (useCode f (meaningAt f n) a xs)) s) noWriting k
+      use-walked n a xs j h s w k =
+          quietly E.APPLIED n s w _ (applied-does n w)
+          ∙ (arguments (a ∷ xs) s noWriting _
+          ∙ (via E.COUNTED n s _ k (counted-does n _) ∙ ap (λ (cs : List Code). walk .run (walk .emit cs s) noWriting k) (use-is f means under offsets table small n a xs j h)))
 
       -- IF or WHILE stands before it
       pub condition-walked :

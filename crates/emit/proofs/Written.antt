@@ -1,29 +1,35 @@
 -- The instructions that are made of an operand, and of an assignment's operands, are the definition's with the places of cells. Assumes nothing.
 use mathlib.Core.Path.{_≡_, refl, sym, ap, ap₂, _∙_}
+use mathlib.Core.Bool.{true, false}
 use mathlib.Core.List.{List, [], _∷_, _++_, map, map-append}
 use Prim.Native.Nat.{ℕ, _+_, _-_}
 use lib.Dec.{eqb}
 use Rattle.base.specs.Choose.{if_then_else_}
-use Rattle.base.specs.Lists.{member}
-use Rattle.base.proofs.Tests.{cases}
+use Rattle.base.specs.Lists.{All, member}
+use Rattle.base.proofs.Lists.{all-getD}
+use Rattle.base.proofs.Tests.{cases, by-test}
 use Rattle.token.specs.Kinds as K
-use Rattle.grammar.specs.Tree.{Operand, number, place, Sign, plain, abs, neg, negAbs, Term, Assignment, Width, full, short}
+use Rattle.grammar.specs.Tree.{Operand, number, place, Sign, plain, abs, neg, negAbs, Term, Assignment, Width, full, short, byte}
 use Rattle.grammar.specs.Derives.{isOperand, areTerms, isAssignment}
-use Rattle.static_rules.specs.Meaning.{Meaning, nothing, register, cell, routine, isFull}
+use Rattle.tape.specs.Tape.{widthOf}
+use Rattle.static_rules.specs.Functions.{Function, functionTable, noFunction, functionAt}
+use Rattle.static_rules.specs.Meaning.{Meaning, nothing, register, cell, routine, function, isFull}
 use Rattle.static_rules.specs.Tables.{Tables, kindAt, meaningAt}
 use Rattle.static_rules.specs.Rules.{shifts}
-use Rattle.tables.specs.Packed.{meaningsOf}
-use Rattle.translation.specs.Instructions.{Instruction, shift, branch, opcode, column, loadRow, timesRow, storeRow, rowOf, absOp, negOp, negAbsOp, shiftCode}
+use Rattle.tables.specs.Packed.{numberIn, isFunctionIn, meaningsOf}
+use Rattle.translation.specs.Instructions.{Datum, element, literal, Instruction, shift, branch, opcode, column, loadRow, timesRow, storeRow, rowOf, absOp, negOp, negAbsOp, shiftCode}
 use Rattle.translation.specs.Core as C
-use Rattle.translation.specs.Core.{apply, signed, load, useOf, sourceOf, shiftBy, productTarget, termOf, chainOf, toRegister, assignBy, assignmentOf}
+use Rattle.translation.specs.Core.{apply, signed, load, useOf, sourceOf, numberOf, shiftBy, productTarget, termOf, chainOf, toRegister, assignBy, assignmentOf, functionWith, functionOn}
+use Rattle.translation.specs.Bytes.{indexRegister}
 use Rattle.emit.specs.declared.Use.{Use}
 use Rattle.emit.specs.declared.Use.the-variants.{Absent, Held, Stored}
 use Rattle.emit.specs.declared.Code.{Code}
 use Rattle.emit.specs.declared.Code.the-variants.{Four}
 use Rattle.emit.specs.declared.Codes.the-variants.{None}
-use Rattle.emit.specs.Codes.{listOf, columnOf, applyCode, isAbsent, applyCodes, applyThen, signCode, signedCodes, loadCodes, heldIn, amountIn, isLongUse, productRegister, termCodes, firstCodes, nextCodes}
-use Rattle.emit.specs.Along.{codeFor, signEvent}
-use Rattle.emit.proofs.Operands.{Small, isShort, offsetAt, stands, amountOf, placed, used, by-place, by-use}
+use Rattle.emit.specs.Codes.{listOf, columnOf, applyCode, isAbsent, applyCodes, applyThen, signCode, signedCodes, loadCodes, heldIn, amountIn, isLongUse, productRegister, termCodes, firstCodes, nextCodes, upperHalf, lowerHalf, functionCodes}
+use Rattle.emit.specs.Events.{functionIn}
+use Rattle.emit.specs.Along.{codeAt, codeFor, signEvent}
+use Rattle.emit.proofs.Operands.{Small, offsetAt, stands, placed, used, by-place, by-use}
 
 -- the definition's instructions, with the places of cells
 abbrev pub coded : (offsets : List ℕ) → List Instruction → List Code
@@ -33,9 +39,27 @@ coded offsets is = map (codeFor (offsetAt offsets)) is
 abbrev pub tested : (offsets : List ℕ) → List Instruction → (mask to : ℕ) → List Code
 tested offsets is mask to = coded offsets is ++ (codeFor (offsetAt offsets) (branch mask to) ∷ [])
 
-column-is : (w : Width) → columnOf (isShort w) ≡ column w
+column-is : (w : Width) → columnOf (widthOf w) ≡ column w
 column-is full = refl
 column-is short = refl
+column-is (byte false) = refl
+column-is (byte true) = refl
+
+-- what holds of each standard function, and of what takes nothing
+pub by-function : (P : Function → Type 0) → All P functionTable → P noFunction → (m : ℕ) → P (functionIn m)
+unfolding functionIn functionAt
+by-function P each none m = by-test P (isFunctionIn m) _ _ (λ e. all-getD P functionTable (numberIn m) noFunction each none) (λ e. none)
+
+-- the number of MVI and CLI stands in place of the register and the index; no other opcode has one
+function-with :
+    (at : ℕ → ℕ) (r v m : ℕ) (a : Datum)
+    → codeAt at (functionIn m .op) (upperHalf (functionIn m .op) r v) (lowerHalf (functionIn m .op) (indexRegister a) v) a
+    ≡ codeFor at (functionWith (functionIn m .form) (functionIn m .op) r v a)
+unfolding codeFor
+function-with at r v m a =
+    by-function
+    (λ (g : Function). codeAt at (g .op) (upperHalf (g .op) r v) (lowerHalf (g .op) (indexRegister a) v) a ≡ codeFor at (functionWith (g .form) (g .op) r v a))
+    (refl, (refl, (refl, (refl, (refl, (refl, (refl, (refl, (refl, tt))))))))) refl m
 
 -- the first operand and those behind their operators, for a target
 module _ (f : Tables) (means under offsets : List ℕ) where
@@ -89,7 +113,7 @@ module _ (f : Tables) (means under offsets : List ℕ) (table : f .means ≡ mea
         (λ v. refl) (λ c o x. refl) a i j h
         ∙ ap (coded offsets) (by-operand a)
       where
-        by-operand : (b : Operand) → shift op r (sourceOf f b) (amountOf f b) ∷ [] ≡ shiftBy f op r b
+        by-operand : (b : Operand) → shift op r (sourceOf f b) (numberOf f b) ∷ [] ≡ shiftBy f op r b
         by-operand (number t) = refl
         by-operand (place d) = refl
 
@@ -102,10 +126,12 @@ module _ (f : Tables) (means under offsets : List ℕ) (table : f .means ≡ mea
       where
         by-width :
             (w : Width) (x b d : ℕ)
-            → listOf (applyCodes timesRow (productRegister r (Stored (isShort w) x b d)) (Stored (isShort w) x b d))
+            → listOf (applyCodes timesRow (productRegister r (Stored (widthOf w) x b d)) (Stored (widthOf w) x b d))
             ≡ Four (opcode timesRow (column w)) (if isFull w then (r - 1) else r) x b d ∷ []
         by-width full x b d = refl
         by-width short x b d = refl
+        by-width (byte false) x b d = refl
+        by-width (byte true) x b d = refl
 
     term-is : (o r : ℕ) → listOf (termCodes (kindAt f o) r its) ≡ coded offsets (termOf f r (record { operator = o; operand = a }))
     unfolding listOf termCodes termOf
@@ -113,6 +139,16 @@ module _ (f : Tables) (means under offsets : List ℕ) (table : f .means ≡ mea
         cases (member (kindAt f o) shifts)
         (λ e. rw e (shift-is (shiftCode (kindAt f o)) r))
         (λ e. rw e (cases (eqb (kindAt f o) K.TIMES) (λ g. rw g (product-is r)) (λ g. rw g (apply-is (rowOf (kindAt f o)) r))))
+
+    pub function-is : (r v m : ℕ) → listOf (functionCodes (functionIn m .op) r v its) ≡ coded offsets (functionOn (functionIn m) r v (useOf f a))
+    unfolding listOf functionCodes codeFor
+    function-is r v m =
+        by-use f means under table offsets small (λ s n l u w. listOf (functionCodes (functionIn m .op) r v w) ≡ coded offsets (functionOn (functionIn m) r v u)) refl (λ s. refl)
+        (λ n. one (literal n)) (λ c o x. one (element c o x)) a i j h
+      where
+        one : (d : Datum) → codeAt (offsetAt offsets) (functionIn m .op) (upperHalf (functionIn m .op) r v) (lowerHalf (functionIn m .op) (indexRegister d) v) d ∷ []
+            ≡ coded offsets (functionWith (functionIn m .form) (functionIn m .op) r v d ∷ [])
+        one d = ap (λ (c : Code). c ∷ []) (function-with (offsetAt offsets) r v m d)
 
   -- ── assignments ──
 
@@ -138,6 +174,7 @@ module _ (f : Tables) (means under offsets : List ℕ) (table : f .means ≡ mea
       by-place f means under table offsets small (λ x u v. assignedCodes f means under offsets v a ≡ coded offsets (assigned x u))
       (no-chain f means under offsets Absent (λ k u. refl) (a .rest))
       (λ r. no-chain f means under offsets Absent (λ k u. refl) (a .rest))
+      (λ n. no-chain f means under offsets Absent (λ k u. refl) (a .rest))
       (λ r. register-assigned r a i j (m, h, (b, (n, hs, (p, ho, ht)))))
       (λ c o x. rw (no-chain f means under offsets (stands offsets c o x) (λ k u. refl) (a .rest), source-is (a .first) n p ho, column-is (c .width)))
       (a .target) i m h
@@ -149,9 +186,11 @@ module _ (f : Tables) (means under offsets : List ℕ) (table : f .means ≡ mea
       assigned (register r) u = toRegister f r a
       assigned (cell c) u = apply storeRow (sourceOf f (a .first)) u
       assigned (routine r) u = []
+      assigned (function k) u = []
 
       by-meaning : (x : Meaning) → assigned x (useOf f (place (a .target))) ≡ assignBy f x a
       by-meaning nothing = refl
       by-meaning (register r) = refl
       by-meaning (cell c) = refl
       by-meaning (routine r) = refl
+      by-meaning (function k) = refl

@@ -2,8 +2,8 @@
 -- The instructions of an event are a list.
 use mathlib.Core.Bool.{Bool, true, false}
 use mathlib.Core.List.{List, [], _∷_}
-use Prim.Native.Nat.{ℕ, _+_, _-_, _*_}
-use lib.Dec.{eqb}
+use Prim.Native.Nat.{ℕ, _+_, _-_, _*_, _/_, _%_}
+use lib.Dec.{eqb, leb}
 use Rattle.base.specs.Choose.{if_then_else_}
 use Rattle.base.specs.Lists.{member}
 use Rattle.token.specs.Kinds as K
@@ -34,7 +34,7 @@ blank = Two 0 0 0
 unfoldable pub codeSize : Code → ℕ
 codeSize (Two op r s) = 2
 codeSize (Four op r x b d) = 4
-codeSize (Literal op r v) = 4
+codeSize (Literal op r x v) = 4
 
 abbrev pub codeSizes : List Code → ℕ
 codeSizes [] = 0
@@ -42,21 +42,22 @@ codeSizes (c ∷ cs) = codeSize c + codeSizes cs
 
 -- ── the code table at an operand ──
 
-abbrev pub columnOf : Bool → ℕ
-columnOf short = if short then 2 else 1
+-- by the number of a cell's width; a byte cell has no column
+abbrev pub columnOf : (width : ℕ) → ℕ
+columnOf w = if eqb w E.FULL then 1 else if eqb w E.SHORT then 2 else 3
 
 -- the instruction of a row of the code table at register r
 unfoldable pub applyCode : (row r : ℕ) → Use → Code
 applyCode row r Absent = blank
 applyCode row r (Held s) = Two (opcode row 0) r s
-applyCode row r (Number v) = Literal (opcode row 1) r v
-applyCode row r (Stored short x b d) = Four (opcode row (columnOf short)) r x b d
+applyCode row r (Number v) = Literal (opcode row 1) r 0 v
+applyCode row r (Stored w x b d) = Four (opcode row (columnOf w)) r x b d
 
 unfoldable pub isAbsent : Use → Bool
 isAbsent Absent = true
 isAbsent (Held s) = false
 isAbsent (Number v) = false
-isAbsent (Stored short x b d) = false
+isAbsent (Stored w x b d) = false
 
 -- none for an operand that there is not
 unfoldable pub applyCodes : (row r : ℕ) → Use → Codes
@@ -77,7 +78,7 @@ unfoldable pub signedCodes : (op r : ℕ) → Use → Codes
 signedCodes op r Absent = None
 signedCodes op r (Held s) = One (Two op r s)
 signedCodes op r (Number v) = applyThen loadRow r (Number v) (Two op r r)
-signedCodes op r (Stored short x b d) = applyThen loadRow r (Stored short x b d) (Two op r r)
+signedCodes op r (Stored w x b d) = applyThen loadRow r (Stored w x b d) (Two op r r)
 
 -- no sign is 0
 unfoldable pub loadCodes : (sign r : ℕ) → Use → Codes
@@ -88,20 +89,20 @@ unfoldable pub heldIn : Use → ℕ
 heldIn Absent = 0
 heldIn (Held r) = r
 heldIn (Number v) = 0
-heldIn (Stored short x b d) = 0
+heldIn (Stored w x b d) = 0
 
 unfoldable pub amountIn : Use → ℕ
 amountIn Absent = 0
 amountIn (Held r) = 0
 amountIn (Number v) = v
-amountIn (Stored short x b d) = 0
+amountIn (Stored w x b d) = 0
 
 -- "`*` by a number, or by what begins with the name of a register or integer cell"
 unfoldable pub isLongUse : Use → Bool
 isLongUse Absent = false
 isLongUse (Held r) = true
 isLongUse (Number v) = true
-isLongUse (Stored short x b d) = if short then false else true
+isLongUse (Stored w x b d) = eqb w E.FULL
 
 -- "1C and 5C name the register below the target."
 unfoldable pub productRegister : ℕ → Use → ℕ
@@ -119,13 +120,33 @@ unfoldable pub firstCodes : (aim : Use) (sign : ℕ) → Use → Codes
 firstCodes Absent sign u = None
 firstCodes (Held r) sign u = loadCodes sign r u
 firstCodes (Number v) sign u = None
-firstCodes (Stored short x b d) sign u = applyCodes storeRow (heldIn u) (Stored short x b d)
+firstCodes (Stored w x b d) sign u = applyCodes storeRow (heldIn u) (Stored w x b d)
 
 unfoldable pub nextCodes : (aim : Use) (kind : ℕ) → Use → Codes
 nextCodes Absent kind u = None
 nextCodes (Held r) kind u = termCodes kind r u
 nextCodes (Number v) kind u = None
-nextCodes (Stored short x b d) kind u = None
+nextCodes (Stored w x b d) kind u = None
+
+-- ── uses of functions ──
+
+-- the opcodes that take a number: MVI and CLI
+abbrev pub isImmediate : (op : ℕ) → Bool
+isImmediate op = leb 128 op
+
+-- the halves of an instruction's second byte: of the number v, or the register r and the index x
+abbrev pub upperHalf : (op r v : ℕ) → ℕ
+upperHalf op r v = if isImmediate op then v / 16 else r
+
+abbrev pub lowerHalf : (op x v : ℕ) → ℕ
+lowerHalf op x v = if isImmediate op then v % 16 else x
+
+-- with the last argument, by the register r or the number v before it
+unfoldable pub functionCodes : (op r v : ℕ) → Use → Codes
+functionCodes op r v Absent = None
+functionCodes op r v (Held s) = One (Two op r s)
+functionCodes op r v (Number n) = One (Literal op (upperHalf op r v) (lowerHalf op 0 v) n)
+functionCodes op r v (Stored w x b d) = One (Four op (upperHalf op r v) (lowerHalf op x v) b d)
 
 -- ── the others ──
 

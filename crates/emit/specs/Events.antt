@@ -4,12 +4,14 @@
 use mathlib.Core.List.{List}
 use mathlib.Core.Bool.{_||_}
 use Prim.Native.Nat.{ℕ, _+_, _-_, _/_, _%_}
-use lib.Dec.{eqb}
+use lib.Dec.{eqb, ltb}
 use lib.ListN.{getD}
 use Rattle.base.specs.Choose.{if_then_else_}
+use Rattle.token.specs.Kinds as K
 use Rattle.tape.specs.Events as E
 use Rattle.tape.specs.Numbers.{familyAt, formAt}
-use Rattle.tables.specs.Packed.{low, numberIn, isRegisterIn, isRoutineIn, isCellIn, isShortIn, registerIn, packedAt}
+use Rattle.tables.specs.Packed.{low, numberIn, isRegisterIn, isRoutineIn, isCellIn, isFunctionIn, sizeIn, registerIn, packedAt}
+use Rattle.static_rules.specs.Functions.{Function, noFunction, functionAt, arity}
 use Rattle.translation.specs.Instructions.{addRow, compareRow, falseMask, always}
 use Rattle.translation.specs.Core.{exitMask}
 use Rattle.ledger.specs.Book.{Wide, Thin}
@@ -20,7 +22,7 @@ use Rattle.emit.specs.declared.Codes.the-variants.{None, One}
 use Rattle.emit.specs.declared.Named.{Named}
 use Rattle.emit.specs.declared.Writing.{Writing}
 use Rattle.emit.specs.declared.Emitted.{Emitted}
-use Rattle.emit.specs.Codes.{applyThen, heldIn, firstCodes, nextCodes, branchCode, linkCode, baseCode, returnCode}
+use Rattle.emit.specs.Codes.{applyThen, heldIn, firstCodes, nextCodes, functionCodes, branchCode, linkCode, baseCode, returnCode}
 
 -- ── operands ──
 
@@ -37,7 +39,7 @@ indexIn found means shape t =
 
 -- an element of the cell that is declared at token d, with the packed meaning m
 unfoldable pub elementIn : (under offsets : List ℕ) (d m subscript index : ℕ) → Use
-elementIn under offsets d m subscript index = Stored (isShortIn m) index (getD under d 0 / 4294967296) (low (getD offsets d 0) + low subscript)
+elementIn under offsets d m subscript index = Stored (sizeIn m) index (getD under d 0 / 4294967296) (low (getD offsets d 0) + low subscript)
 
 -- what is declared at token d, by its packed meaning m
 unfoldable pub placeBy : (under offsets : List ℕ) (d m subscript index : ℕ) → Use
@@ -74,16 +76,29 @@ goalAt found goes opens family t =
     if eqb family E.CALL then getD found t 0 else
     getD goes t 0
 
--- ── the assignment that is written ──
+-- the function of a use; of what means none, one that takes nothing
+unfoldable pub functionIn : ℕ → Function
+functionIn m = if isFunctionIn m then functionAt (numberIn m) else noFunction
+
+-- ── the assignment or use that is written ──
+
+abbrev pub noWriting : Writing
+noWriting = record { aim = Absent; sign = 0; arguments = 0 }
+
+-- no function takes three
+abbrev pub more : ℕ → ℕ
+more n = if ltb n 3 then n + 1 else n
 
 abbrev pub signing : ℕ → Writing → Writing
-signing sign w = record { aim = w .aim; sign = sign }
+signing sign w = record { aim = w .aim; sign = sign; arguments = w .arguments }
 
 unfoldable pub writtenAfter : (family : ℕ) → Writing → Use → (register : ℕ) → Writing
 writtenAfter family w u r =
-    if eqb family E.TARGET then record { aim = u; sign = 0 } else
-    if eqb family E.CONTROL then record { aim = Held r; sign = 0 } else
+    if eqb family E.TARGET then record { aim = u; sign = 0; arguments = 0 } else
+    if eqb family E.CONTROL then record { aim = Held r; sign = 0; arguments = 0 } else
     if eqb family E.ABS || (eqb family E.NEG || eqb family E.NEG-ABS) then signing family w else
+    if eqb family E.ARGUED then record { aim = u; sign = 0; arguments = more (w .arguments) } else
+    if eqb family E.APPLIED || eqb family E.COUNTED then noWriting else
     w
 
 -- ── the instructions ──
@@ -103,6 +118,21 @@ limitCodes values marks aim t u = applyThen compareRow (heldIn aim) u (branchCod
 unfoldable pub stepCodes : (values marks : List ℕ) (t : ℕ) → Codes
 stepCodes values marks t = applyThen addRow (getD marks (t + 1) 0) (Number (getD values t 0)) (branchCode always (getD marks t 0))
 
+-- by the first of two arguments, if it is one token: its parenthesis closes behind it
+unfoldable pub secondCodes : (kinds values found means : List ℕ) (t op : ℕ) → Use → Codes
+secondCodes kinds values found means t op u =
+    if eqb (getD kinds (t + 3) 0) K.CLOSE then
+    (if eqb (getD kinds (t + 2) 0) K.NUMBER then functionCodes op 0 (getD values (t + 2) 0) u else
+    functionCodes op (registerIn (packedAt found means (t + 2))) 0 u)
+    else None
+
+-- of the function g, by its last argument and how many there are
+unfoldable pub usedCodes : (kinds values found means : List ℕ) (t : ℕ) → Function → Writing → Codes
+usedCodes kinds values found means t g w =
+    if eqb (w .arguments) (arity g) then
+    (if eqb (w .arguments) 1 then functionCodes (g .op) 0 (g .number) (w .aim) else secondCodes kinds values found means t (g .op) (w .aim))
+    else None
+
 -- declarations, ends of statements, calls and GOTOs
 unfoldable pub otherCodes : (marks : List ℕ) (family t : ℕ) → Named → Codes
 otherCodes marks family t n =
@@ -113,14 +143,15 @@ otherCodes marks family t n =
     if eqb family E.PROCEDURE || (eqb family E.ELSE || eqb family E.END-WHILE) then One (branchCode always (getD marks (t + 1) 0)) else
     None
 
-unfoldable pub codesOf : (kinds values marks : List ℕ) (family t : ℕ) → Writing → Use → Named → Codes
-codesOf kinds values marks family t w u n =
+unfoldable pub codesOf : (kinds values found means marks : List ℕ) (family t : ℕ) → Writing → Use → Named → Codes
+codesOf kinds values found means marks family t w u n =
     if eqb family E.FIRST then firstCodes (w .aim) (w .sign) u else
     if eqb family E.TERM then nextCodes (w .aim) (getD kinds (t - 1) 0) u else
     if eqb family E.COMPARED then comparedCodes kinds marks (n .register) t u else
     if eqb family E.LIMIT then limitCodes values marks (w .aim) t u else
     if eqb family E.BARE then bareCodes kinds marks t else
     if eqb family E.END-FOR then stepCodes values marks t else
+    if eqb family E.COUNTED then usedCodes kinds values found means t (functionIn (packedAt found means t)) w else
     otherCodes marks family t n
 
 -- ── by the lists ──
@@ -131,7 +162,7 @@ writingAfter values found means under offsets op t w =
 
 unfoldable pub codesBy : (kinds values found goes means under opens offsets marks : List ℕ) (op t : ℕ) → Writing → Codes
 codesBy kinds values found goes means under opens offsets marks op t w =
-    codesOf kinds values marks (familyAt op) t w (useIn values found means under offsets (formAt op) t)
+    codesOf kinds values found means marks (familyAt op) t w (useIn values found means under offsets (formAt op) t)
     (record { register = registerAt found means (familyAt op) t; goal = goalAt found goes opens (familyAt op) t })
 
 -- by the ledger: where branches go stands in the column of what procedures write, which is done

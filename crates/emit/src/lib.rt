@@ -7,11 +7,12 @@ ghost use lib.ListN.{length, getD};
 ghost use Rattle.base.specs.Lists.{member};
 ghost use Rattle.base.specs.Runs.{indexOf};
 ghost use Rattle.ledger.specs.Book.{wideOf, thinOf, thinLimit};
+ghost use Rattle.static_rules.specs.Functions.{functionAt, arity as arityOf};
 ghost use Rattle.static_rules.specs.Rules.{shifts};
 ghost use Rattle.translation.specs.Instructions.{opcode as opcodeOf, rowOf, shiftCode, falseMask};
 ghost use Rattle.translation.specs.Core.{exitMask};
-ghost use Rattle.emit.specs.Codes.{listOf, blank as blankCode, codeSize, codeSizes, columnOf, applyCode, isAbsent, applyCodes, applyThen, signCode, signedCodes, loadCodes, heldIn, amountIn, isLongUse, productRegister, termCodes, firstCodes, nextCodes, branchCode, linkCode, baseCode, returnCode, stopCode};
-ghost use Rattle.emit.specs.Events.{subscriptIn, indexIn, elementIn, placeBy, placeIn, useIn, returnIn, registerAt, goalAt, signing as signingOf, writtenAfter, comparedCodes, bareCodes, limitCodes, stepCodes, otherCodes, codesOf, emittedIn};
+ghost use Rattle.emit.specs.Codes.{listOf, blank as blankCode, codeSize, codeSizes, columnOf, applyCode, isAbsent, applyCodes, applyThen, signCode, signedCodes, loadCodes, heldIn, amountIn, isLongUse, productRegister, termCodes, firstCodes, nextCodes, isImmediate, upperHalf, lowerHalf, functionCodes, branchCode, linkCode, baseCode, returnCode, stopCode};
+ghost use Rattle.emit.specs.Events.{subscriptIn, indexIn, elementIn, placeBy, placeIn, useIn, returnIn, registerAt, goalAt, functionIn, more as moreOf, noWriting, signing as signingOf, writtenAfter, comparedCodes, bareCodes, limitCodes, stepCodes, secondCodes, usedCodes, otherCodes, codesOf, emittedIn};
 use arrays::kind;
 use base::less;
 use ledger::found;
@@ -23,26 +24,26 @@ use ledger::under;
 use ledger::value;
 use ledger::written;
 use tables::is_cell;
+use tables::is_function;
 use tables::is_register;
 use tables::is_routine;
-use tables::is_short;
 use tables::number;
 use tables::register;
 
-// What an operand is: nothing that fits; held in a register; a number; stored, short or not, at an index register, a base register and a displacement.
+// What an operand is: nothing that fits; held in a register; a number; stored, by the number of its width, at an index register, a base register and a displacement.
 pub enum Use {
     Absent,
     Held(u64),
     Number(u64),
-    Stored(bool, u64, u64, u64),
+    Stored(u64, u64, u64, u64),
 }
 
-// An instruction to be laid: of two bytes: opcode, r, s; of four: opcode, r, index, base, displacement; one that takes a number from storage: opcode, r, the
-// number.
+// An instruction to be laid: of two bytes: opcode, r, s; of four: opcode, r, index, base, displacement; one that takes a number from storage: opcode, r, index,
+// the number. Where an opcode takes a number 0 to 255, it stands in place of r and the index, by its halves.
 pub enum Code {
     Two(u64, u64, u64),
     Four(u64, u64, u64, u64, u64),
-    Literal(u64, u64, u64),
+    Literal(u64, u64, u64, u64),
 }
 
 // The instructions of an event, in order. Who reads them counts them and takes one after the other, so that only `count` and `nth` know how many there can be.
@@ -58,13 +59,15 @@ pub struct Named {
     pub goal: usize,
 }
 
-// The assignment that is written: its target, and its sign's event, 0 for none.
+// The assignment or the use of a function that is written: the target or the last argument; an assignment's sign, by its event, 0 for none; how many arguments a use
+// has so far.
 pub struct Writing {
     pub aim: Use,
     pub sign: u32,
+    pub arguments: u64,
 }
 
-// What an event makes: its instructions, and the assignment that is written after it.
+// What an event makes: its instructions, and what is written after it.
 pub struct Emitted {
     pub codes: Codes,
     pub writing: Writing,
@@ -72,41 +75,52 @@ pub struct Emitted {
 
 // ── the tables ──
 
-// By row: register, integer cell or number, short cell; 0 where there is no instruction.
-const CODES: [u8; 33] = [
+// By row: register, integer cell or number, short cell, byte cell; 0 where there is no instruction.
+const CODES: [u8; 44] = [
     0x18,
     0x58,
-    0x48, // :=
+    0x48,
+    0, // :=
     0x1a,
     0x5a,
-    0x4a, // +
+    0x4a,
+    0, // +
     0x1b,
     0x5b,
-    0x4b, // -
+    0x4b,
+    0, // -
     0x1c,
     0x5c,
-    0x4c, // *
+    0x4c,
+    0, // *
     0x1e,
     0x5e,
+    0,
     0, // ++
     0x1f,
     0x5f,
+    0,
     0, // --
     0x14,
     0x54,
+    0,
     0, // AND
     0x16,
     0x56,
+    0,
     0, // OR
     0x17,
     0x57,
+    0,
     0, // XOR
     0x19,
     0x59,
-    0x49, // compare
+    0x49,
+    0, // compare
     0,
     0x50,
-    0x40, // store
+    0x40,
+    0, // store
 ];
 
 // "Masks when a condition is false: = 7, ^= 9, < 11, <= 3, >= 5, > 13, OVERFLOW 14."
@@ -174,6 +188,21 @@ const STOP: u64 = 0x0a;
 // "always is mask 15"
 const ALWAYS: u64 = 15;
 
+// The standard functions in their order, IC, STC, LA, MVI, CLI, SET, RESET, TEST, LTR, and what is none: how many arguments each takes, its opcode, and the number
+// of SET, RESET and TEST.
+const ARITIES: [u8; 10] = [2, 2, 2, 2, 2, 1, 1, 1, 2, 0];
+
+const FUNCTION_CODES: [u8; 10] = [0x43, 0x42, 0x41, 0x92, 0x95, 0x92, 0x92, 0x95, 0x12, 0];
+
+const FUNCTION_NUMBERS: [u8; 10] = [0, 0, 0, 0, 0, 0xff, 0, 0xff, 0, 0];
+
+const NO_FUNCTION: usize = 9;
+
+// The widths of cells' elements by their numbers: the others are bytes.
+const FULL: u64 = 0;
+
+const SHORT: u64 = 1;
+
 // "Program base is register 15. Data base is 14"
 const PROGRAM_BASE: u64 = 15;
 
@@ -186,10 +215,10 @@ fn wide(b: u8) -> u64
 }
 
 fn opcode(row: usize, column: usize) -> u64
-    requires { ⌜ (row < 11) × (column < 3) ⌝ }
+    requires { ⌜ (row < 11) × (column < 4) ⌝ }
     ensures { λ r. ⌜ (r ≡ opcodeOf row column) × (r < 256) ⌝ }
 {
-    wide(CODES[row * 3 + column])
+    wide(CODES[row * 4 + column])
 }
 
 // The place of a kind in a table of kinds; the table's length where it is not in it.
@@ -302,13 +331,17 @@ pub fn nth(m: Codes, k: usize) -> Code
     }
 }
 
-fn column_of(short: bool) -> usize
-    ensures { λ r. ⌜ (r ≡ columnOf short) × (r < 3) ⌝ }
+// By the number of a cell's width.
+fn column_of(width: u64) -> usize
+    ensures { λ r. ⌜ (r ≡ columnOf width) × (r < 4) ⌝ }
 {
-    if short {
+    if width == FULL {
+        return 1;
+    }
+    if width == SHORT {
         return 2;
     }
-    1
+    3
 }
 
 // The instruction of a row of the code table at register r.
@@ -319,8 +352,8 @@ fn apply(row: usize, r: u64, u: Use) -> Code
     match u {
         Use::Absent => blank(),
         Use::Held(s) => Code::Two(opcode(row, 0), r, s),
-        Use::Number(v) => Code::Literal(opcode(row, 1), r, v),
-        Use::Stored(short, x, b, d) => Code::Four(opcode(row, column_of(short)), r, x, b, d),
+        Use::Number(v) => Code::Literal(opcode(row, 1), r, 0, v),
+        Use::Stored(width, x, b, d) => Code::Four(opcode(row, column_of(width)), r, x, b, d),
     }
 }
 
@@ -377,10 +410,10 @@ fn signed(op: u64, r: u64, u: Use) -> Codes
         Use::Absent => Codes::None,
         Use::Held(s) => Codes::One(Code::Two(op, r, s)),
         Use::Number(v) => apply_then(LOAD, r, Use::Number(v), Code::Two(op, r, r)),
-        Use::Stored(short, x, b, d) => apply_then(
+        Use::Stored(width, x, b, d) => apply_then(
             LOAD,
             r,
-            Use::Stored(short, x, b, d),
+            Use::Stored(width, x, b, d),
             Code::Two(op, r, r),
         ),
     }
@@ -425,7 +458,7 @@ fn is_long(u: Use) -> bool
         Use::Absent => false,
         Use::Held(_) => true,
         Use::Number(_) => true,
-        Use::Stored(short, _, _, _) => !short,
+        Use::Stored(width, _, _, _) => width == FULL,
     }
 }
 
@@ -463,7 +496,7 @@ fn first(aim: Use, sign: u32, u: Use) -> Codes
         Use::Absent => Codes::None,
         Use::Held(r) => load(sign, r, u),
         Use::Number(_) => Codes::None,
-        Use::Stored(short, x, b, d) => applied(STORE, held(u), Use::Stored(short, x, b, d)),
+        Use::Stored(width, x, b, d) => applied(STORE, held(u), Use::Stored(width, x, b, d)),
     }
 }
 
@@ -478,6 +511,57 @@ fn next(aim: Use, k: u8, u: Use) -> Codes
     }
 }
 
+// ── uses of functions ──
+
+// The opcodes that take a number: MVI and CLI.
+fn is_immediate(op: u64) -> bool
+    ensures { λ r. ⌜ r ≡ isImmediate op ⌝ }
+{
+    128 <= op
+}
+
+// The halves of an instruction's second byte: of the number v, or the register r and the index x.
+fn upper_half(op: u64, r: u64, v: u64) -> u64
+    ensures { λ n. ⌜ n ≡ upperHalf op r v ⌝ }
+{
+    if is_immediate(op) {
+        return v / 16;
+    }
+    r
+}
+
+fn lower_half(op: u64, x: u64, v: u64) -> u64
+    ensures { λ n. ⌜ n ≡ lowerHalf op x v ⌝ }
+{
+    if is_immediate(op) {
+        return v % 16;
+    }
+    x
+}
+
+// With the last argument, by the register r or the number v before it.
+fn function_codes(op: u64, r: u64, v: u64, u: Use) -> Codes
+    ensures { λ m. ⌜ m ≡ functionCodes op r v u ⌝ }
+{
+    match u {
+        Use::Absent => Codes::None,
+        Use::Held(s) => Codes::One(Code::Two(op, r, s)),
+        Use::Number(n) => Codes::One(Code::Literal(
+            op,
+            upper_half(op, r, v),
+            lower_half(op, 0, v),
+            n,
+        )),
+        Use::Stored(_, x, b, d) => Codes::One(Code::Four(
+            op,
+            upper_half(op, r, v),
+            lower_half(op, x, v),
+            b,
+            d,
+        )),
+    }
+}
+
 // ── sizes ──
 
 pub fn code_size(c: Code) -> usize
@@ -486,7 +570,7 @@ pub fn code_size(c: Code) -> usize
     match c {
         Code::Two(_, _, _) => 2,
         Code::Four(_, _, _, _, _) => 4,
-        Code::Literal(_, _, _) => 4,
+        Code::Literal(_, _, _, _) => 4,
     }
 }
 
@@ -534,7 +618,7 @@ fn element(wide: &[u64], d: usize, m: u64, subscript: u64, index: u64) -> Use
 {
     let displacement = offset(wide, d) % 4294967296 + subscript % 4294967296;
     Use::Stored(
-        is_short(m),
+        tables::size(m),
         index,
         under(wide, d) / 4294967296,
         displacement,
@@ -615,30 +699,111 @@ pub fn goal_at(thin: &[u16], family: u32, t: usize) -> usize
     goes(thin, t)
 }
 
-// ── the assignment that is written ──
+// A place in the tables of functions.
+fn listed(k: u64) -> usize
+    ensures { λ r. ⌜ (functionAt r ≡ functionAt k) × (r < 10) ⌝ }
+{
+    if k < 9 {
+        return k as usize;
+    }
+    NO_FUNCTION
+}
+
+// The function of a use by its place; of what means none, one that takes nothing.
+fn function(m: u64) -> usize
+    ensures { λ r. ⌜ (functionAt r ≡ functionIn m) × (r < 10) ⌝ }
+{
+    if is_function(m) {
+        return listed(number(m));
+    }
+    NO_FUNCTION
+}
+
+fn arity(k: usize) -> u64
+    requires { ⌜ k < 10 ⌝ }
+    ensures { λ r. ⌜ r ≡ arityOf (functionAt k) ⌝ }
+{
+    wide(ARITIES[k])
+}
+
+fn function_code(k: usize) -> u64
+    requires { ⌜ k < 10 ⌝ }
+    ensures { λ r. ⌜ r ≡ functionAt k .op ⌝ }
+{
+    wide(FUNCTION_CODES[k])
+}
+
+fn function_number(k: usize) -> u64
+    requires { ⌜ k < 10 ⌝ }
+    ensures { λ r. ⌜ r ≡ functionAt k .number ⌝ }
+{
+    wide(FUNCTION_NUMBERS[k])
+}
+
+// ── the assignment or use that is written ──
+
+fn no_writing() -> Writing
+    ensures { λ r. ⌜ r ≡ noWriting ⌝ }
+{
+    Writing {
+        aim: Use::Absent,
+        sign: 0,
+        arguments: 0,
+    }
+}
+
+// No function takes three.
+fn more(n: u64) -> u64
+    ensures { λ r. ⌜ r ≡ moreOf n ⌝ }
+{
+    if n < 3 {
+        return n + 1;
+    }
+    n
+}
 
 fn signing(sign: u32, w: Writing) -> Writing
     ensures { λ r. ⌜ r ≡ signingOf sign w ⌝ }
 {
     let aim = w.aim;
-    Writing { aim, sign }
+    let arguments = w.arguments;
+    Writing {
+        aim,
+        sign,
+        arguments,
+    }
 }
 
-// Its target and its sign, after an event with the operand u and the register r.
+// After an event with the operand u and the register r.
 pub fn written_after(family: u32, w: Writing, u: Use, r: u64) -> Writing
     ensures { λ v. ⌜ v ≡ writtenAfter family w u r ⌝ }
 {
     if family == tape::TARGET {
-        return Writing { aim: u, sign: 0 };
+        return Writing {
+            aim: u,
+            sign: 0,
+            arguments: 0,
+        };
     }
     if family == tape::CONTROL {
         return Writing {
             aim: Use::Held(r),
             sign: 0,
+            arguments: 0,
         };
     }
     if (family == tape::ABS) | ((family == tape::NEG) | (family == tape::NEG_ABS)) {
         return signing(family, w);
+    }
+    if family == tape::ARGUED {
+        return Writing {
+            aim: u,
+            sign: 0,
+            arguments: more(w.arguments),
+        };
+    }
+    if (family == tape::APPLIED) | (family == tape::COUNTED) {
+        return no_writing();
     }
     w
 }
@@ -715,6 +880,37 @@ fn step(wide: &[u64], thin: &[u16], t: usize) -> Codes
     )
 }
 
+// By the first of two arguments, if it is one token: its parenthesis closes behind it.
+fn second(kinds: &[u8], wide: &[u64], thin: &[u16], t: usize, op: u64, u: Use) -> Codes
+    requires { ⌜ t < TOKEN-LIMIT ⌝ }
+    ensures { λ m. ⌜ m ≡ secondCodes (now (kinds .entry)) (wideOf (now (wide .entry)) .values) (thinOf (now (thin .entry)) .found) (wideOf (now (wide .entry)) .means) t op u ⌝ }
+{
+    if kind(kinds, t + 3) != token::kinds::CLOSE {
+        return Codes::None;
+    }
+    if kind(kinds, t + 2) == token::kinds::NUMBER {
+        return function_codes(op, 0, value(wide, t + 2), u);
+    }
+    function_codes(op, register(meaning(wide, thin, t + 2)), 0, u)
+}
+
+// The use of the function at place k, by its last argument and how many there are.
+fn used(kinds: &[u8], wide: &[u64], thin: &[u16], t: usize, k: usize, w: Writing) -> Codes
+    requires { ⌜ (t < TOKEN-LIMIT) × (k < 10) ⌝ }
+    ensures { λ m. ⌜ m ≡ usedCodes (now (kinds .entry)) (wideOf (now (wide .entry)) .values) (thinOf (now (thin .entry)) .found) (wideOf (now (wide .entry)) .means) t (functionAt k) w ⌝ }
+{
+    let op = function_code(k);
+    let last = w.aim;
+    let count = w.arguments;
+    if count != arity(k) {
+        return Codes::None;
+    }
+    if count == 1 {
+        return function_codes(op, 0, function_number(k), last);
+    }
+    second(kinds, wide, thin, t, op, last)
+}
+
 // Declarations, ends of statements, calls and GOTOs.
 fn others(thin: &[u16], family: u32, t: usize, n: Named) -> Codes
     requires { ⌜ (t < TOKEN-LIMIT) × (n .goal < thinLimit) ⌝ }
@@ -752,7 +948,8 @@ pub fn codes_of(
     n: Named,
 ) -> Codes
     requires { ⌜ (t < TOKEN-LIMIT) × (n .goal < thinLimit) ⌝ }
-    ensures { λ m. ⌜ m ≡ codesOf (now (kinds .entry)) (wideOf (now (wide .entry)) .values) (thinOf (now (thin .entry)) .written) family t w u n ⌝ }
+    ensures { λ m. ⌜ m ≡ codesOf (now (kinds .entry)) (wideOf (now (wide .entry)) .values) (thinOf (now (thin .entry)) .found) (wideOf (now (wide .entry)) .means)
+        (thinOf (now (thin .entry)) .written) family t w u n ⌝ }
 {
     let aim = w.aim;
     if family == tape::FIRST {
@@ -772,6 +969,9 @@ pub fn codes_of(
     }
     if family == tape::END_FOR {
         return step(wide, thin, t);
+    }
+    if family == tape::COUNTED {
+        return used(kinds, wide, thin, t, function(meaning(wide, thin, t)), w);
     }
     others(thin, family, t, n)
 }

@@ -84,23 +84,49 @@ returns-6 c =
     )
     (c .step .ensures)
 
-others-requires : tie.Need-others-requires
-others-requires c κs = search needs
+meaning-requires : tie.Need-meaning-requires
+meaning-requires c κs = search needs
+
+function-requires : tie.Need-function-requires
+function-requires c κs = search needs
+
+used-requires : tie.Need-used-requires
+used-requires c κs = search needs
 
 returns-7 : tie.Need-returns-7
 unfolding codesOf
 returns-7 c =
     rw (
-      ne-eqb _ _ (c .before .before .before .before .before .before .if1 .left),
-      ne-eqb _ _ (c .before .before .before .before .before .if2 .left),
-      ne-eqb _ _ (c .before .before .before .before .if3 .left),
-      ne-eqb _ _ (c .before .before .before .if4 .left),
-      ne-eqb _ _ (c .before .before .if5 .left),
-      ne-eqb _ _ (c .before .if6 .left),
+      ne-eqb _ _ (c .before .before .before .before .before .before .before .before .before .if1 .left),
+      ne-eqb _ _ (c .before .before .before .before .before .before .before .before .if2 .left),
+      ne-eqb _ _ (c .before .before .before .before .before .before .before .if3 .left),
+      ne-eqb _ _ (c .before .before .before .before .before .before .if4 .left),
+      ne-eqb _ _ (c .before .before .before .before .before .if5 .left),
+      ne-eqb _ _ (c .before .before .before .before .if6 .left),
+      eq-eqb _ _ (c .before .before .before .if7 .taken),
+      ← (c .before .before .meaning .ensures),
+      ← (c .before .function .ensures .0),
+    )
+    (c .used .ensures)
+
+others-requires : tie.Need-others-requires
+others-requires c κs = search needs
+
+returns-8 : tie.Need-returns-8
+unfolding codesOf
+returns-8 c =
+    rw (
+      ne-eqb _ _ (c .before .before .before .before .before .before .before .if1 .left),
+      ne-eqb _ _ (c .before .before .before .before .before .before .if2 .left),
+      ne-eqb _ _ (c .before .before .before .before .before .if3 .left),
+      ne-eqb _ _ (c .before .before .before .before .if4 .left),
+      ne-eqb _ _ (c .before .before .before .if5 .left),
+      ne-eqb _ _ (c .before .before .if6 .left),
+      ne-eqb _ _ (c .before .if7 .left),
     )
     (c .others .ensures)
 
 pub codes-of-spec : {M : Type 1} → statement M
 codes-of-spec = tie.close
     (tie.spec first-requires returns less-requires kind-requires next-requires returns-2 compared-requires returns-3 limit-requires returns-4 bare-requires
-    returns-5 step-requires returns-6 others-requires returns-7)
+    returns-5 step-requires returns-6 meaning-requires function-requires used-requires returns-7 others-requires returns-8)

@@ -1,6 +1,5 @@
 -- By the cases of the operand. Assumes nothing.
 use borrow.Author.Needs.{needs}
-use Rattle.emit.proofs.Tables.{not-is}
 use Rattle.emit.specs.Codes.{isLongUse}
 use Rattle.emit.proofs.is_long.Statement.{statement}
 use Rattle.emit.proofs.is_long.Tie as tie
@@ -31,7 +30,7 @@ returns-3 c = rw (c .enum-told3 .given .1)
 
 returns-4 : tie.Need-returns-4
 unfolding isLongUse
-returns-4 c = rw (c .before .u .given .1) (not-is (c .before .u .given .0 .0))
+returns-4 c = rw (c .before .u .given .1)
 
 pub is-long-spec : {M : Type 1} → statement M
 is-long-spec =

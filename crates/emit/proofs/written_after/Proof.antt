@@ -20,9 +20,45 @@ returns-3 : tie.Need-returns-3
 unfolding writtenAfter
 returns-3 c = rw (ne-eqb _ _ (c .before .before .before .if1 .left), ne-eqb _ _ (c .before .before .if2 .left), c .before .if3 .taken) (c .signing .ensures)
 
+more-requires : tie.Need-more-requires
+more-requires c κs = search needs
+
 returns-4 : tie.Need-returns-4
 unfolding writtenAfter
-returns-4 c = rw (ne-eqb _ _ (c .before .before .if1 .left), ne-eqb _ _ (c .before .if2 .left), c .if3 .left)
+returns-4 c =
+    rw (
+      ne-eqb _ _ (c .before .before .before .before .if1 .left),
+      ne-eqb _ _ (c .before .before .before .if2 .left),
+      c .before .before .if3 .left,
+      eq-eqb _ _ (c .before .if4 .taken),
+      ← (c .more .ensures),
+    )
+
+no-writing-requires : tie.Need-no-writing-requires
+no-writing-requires c κs = search needs
+
+returns-5 : tie.Need-returns-5
+unfolding writtenAfter
+returns-5 c =
+    rw (
+      ne-eqb _ _ (c .before .before .before .before .before .if1 .left),
+      ne-eqb _ _ (c .before .before .before .before .if2 .left),
+      c .before .before .before .if3 .left,
+      ne-eqb _ _ (c .before .before .if4 .left),
+      c .before .if5 .taken,
+    )
+    (c .no-writing .ensures)
+
+returns-6 : tie.Need-returns-6
+unfolding writtenAfter
+returns-6 c =
+    rw (
+      ne-eqb _ _ (c .before .before .before .before .if1 .left),
+      ne-eqb _ _ (c .before .before .before .if2 .left),
+      c .before .before .if3 .left,
+      ne-eqb _ _ (c .before .if4 .left),
+      c .if5 .left,
+    )
 
 pub written-after-spec : {M : Type 1} → statement M
-written-after-spec = tie.close (tie.spec returns returns-2 signing-requires returns-3 returns-4)
+written-after-spec = tie.close (tie.spec returns returns-2 signing-requires returns-3 more-requires returns-4 no-writing-requires returns-5 returns-6)

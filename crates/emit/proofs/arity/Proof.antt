@@ -1,0 +1,18 @@
+-- The table is the definition's. Assumes nothing.
+use mathlib.Core.Path.{_∙_}
+use borrow.Author.Needs.{needs}
+use Rattle.emit.proofs.Tables.{arity-is}
+use Rattle.emit.proofs.arity.Statement.{statement}
+use Rattle.emit.proofs.arity.Tie as tie
+
+array-read-wide : tie.Need-array-read-wide
+array-read-wide c = search needs
+
+wide-requires : tie.Need-wide-requires
+wide-requires c κs = search needs
+
+returns : tie.Need-returns
+returns c = c .wide .ensures .0 ∙ arity-is (c .before .args .k) (c .before .pre)
+
+pub arity-spec : {M : Type 1} → statement M
+arity-spec = tie.close (tie.spec array-read-wide wide-requires returns)
