@@ -1,6 +1,6 @@
 -- The loop along the tape: i events are passed, and what the arrays show is what the definition has after them.
 use mathlib.Core.Path.{_≡_, refl, sym, ap, ap₂, subst, _∙_}
-use mathlib.Core.Bool.{Bool, false}
+use mathlib.Core.Bool.{_||_}
 use mathlib.Core.List.{List, [], _∷_}
 use Prim.Native.Nat.{ℕ, zero, suc, _+_, _-_, _/_, _%_, _≤_, _<_}
 use native.Mathlib.Omega.{arith}
@@ -12,6 +12,7 @@ use Rattle.base.specs.Lists.{All}
 use Rattle.base.proofs.Lists.{all-map}
 use Rattle.base.proofs.Tests.{by-test}
 use Rattle.tape.specs.Events as E
+use Rattle.tape.specs.Numbers.{familyAt}
 use Rattle.tape.specs.Pass.{pass}
 use Rattle.tape.proofs.Pass.{pass-turn, pass-end}
 use Rattle.ledger.specs.Book.{Wide, Thin, wideOf, thinOf, putOffset}
@@ -28,7 +29,8 @@ use Rattle.tables.specs.Stacks.{stackOf, top, under}
 use Rattle.rules.specs.Shows.{Listed, Shown}
 use Rattle.judge.specs.declared.Cells.{Cells}
 use Rattle.judge.specs.declared.Depths.{Depths}
-use Rattle.judge.specs.Along.{Held, enterBlock, leaveBlock, keepBase, keepReturn, leaveProcedure, heldAfter, cellsAfter, cellsOf, targetAfter, eventRule, Judging, judgeEvent, beginning, heldOf, Moved, Stays}
+use Rattle.judge.specs.declared.Open.{Open}
+use Rattle.judge.specs.Along.{Held, enterBlock, leaveBlock, keepBase, keepReturn, leaveProcedure, heldAfter, cellsAfter, cellsOf, openOf, openAfter, eventRule, Judging, judgeEvent, beginning, heldOf, Moved, Stays}
 use Rattle.judge.proofs.Moves.{stays-same, stays-on, offsets-put, put-stays}
 
 -- ── no block has more bases than there were events ──
@@ -79,10 +81,22 @@ opened-after f op t h =
     (λ _. by-test (Opened op h) (eqb op E.PROCEDURE) _ _ (λ _. rw (e, g))
     (λ _. by-test (Opened op h) (eqb op E.END-PROCEDURE) _ _ (λ _. rw (e, g)) (λ _. rw (e, g))))))
 
+-- ── no use has more arguments than there were events ──
+
+abbrev Few : ℕ → Open → Type 0
+Few n o = o .position ≤ n
+
+few-after : (f : Tables) (op t n : ℕ) (o : Open) → Few n o → Few (n + 1) (openAfter f op t o)
+unfolding openAfter
+few-after f op t n o h =
+    by-test (Few (n + 1)) (eqb (familyAt op) E.TARGET || eqb (familyAt op) E.CONTROL) _ _ (λ _. omega arith)
+    (λ _. by-test (Few (n + 1)) (eqb op E.APPLIED) _ _ (λ _. omega arith)
+    (λ _. by-test (Few (n + 1)) (eqb (familyAt op) E.ARGUED) _ _ (λ _. omega arith) (λ _. omega arith)))
+
 -- ── the loop ──
 
-abbrev judging : Held → Cells → ℕ → Broken → Judging
-judging h c target b = record { held = h; cells = c; target = target; broken = b }
+abbrev judging : Held → Cells → Open → Broken → Judging
+judging h c o b = record { held = h; cells = c; standing = o; broken = b }
 
 -- there are tables that the columns list
 some-tables : Wide → Thin → Tables
@@ -105,18 +119,19 @@ module _ (tape kinds wide₀ thin : List ℕ) (others : Broken) where
   abbrev begun : Tables → Judging
   begun f = pass (judgeEvent f) (beginning others) tape
 
-  pub record Going (wide counts : List ℕ) (d : Depths) (c : Cells) (target : ℕ) (b : Broken) (i : ℕ) : Type 0 where
-    pub is : (f : Tables) → Shown f kinds (wideOf wide₀) (thinOf thin) → pass (judgeEvent f) (judging (heldOf (wideOf wide .offsets) counts d) c target b) (drop i tape) ≡ begun f
+  pub record Going (wide counts : List ℕ) (d : Depths) (c : Cells) (o : Open) (b : Broken) (i : ℕ) : Type 0 where
+    pub is : (f : Tables) → Shown f kinds (wideOf wide₀) (thinOf thin) → pass (judgeEvent f) (judging (heldOf (wideOf wide .offsets) counts d) c o b) (drop i tape) ≡ begun f
     pub stays : Stays (wideOf wide₀) (wideOf wide)
     pub inside : i ≤ length tape
     pub deep : d .kept ≤ i + 2
     pub procedures : ℕ
     pub nested : Nested (length counts) (d .counts) procedures (drop i tape)
     pub low : Low i (heldOf (wideOf wide .offsets) counts d)
+    pub few : Few i o
     pub small : length tape < 4294967296
     pub room : length tape + 2 ≤ length wide / 4
 
-  module _ {wide counts : List ℕ} {d : Depths} {c : Cells} {target : ℕ} {b : Broken} {i : ℕ} (g : Going wide counts d c target b i) (h : i < length tape) where
+  module _ {wide counts : List ℕ} {d : Depths} {c : Cells} {o : Open} {b : Broken} {i : ℕ} (g : Going wide counts d c o b i) (h : i < length tape) where
     -- there is room for one more protected register, and for one more block where one opens
     pub kept-fits : (d .kept < length (wideOf wide .offsets)) × ((d .kept ≤ 4294967296) × (d .count < 4294967296))
     kept-fits =
@@ -127,24 +142,28 @@ module _ (tape kinds wide₀ thin : List ℕ) (others : Broken) where
         let long : length (wideOf wide .offsets) ≡ length wide / 4 = wide-length 3 wide in
         (omega arith, (omega arith, omega arith))
 
+    pub few-fit : o .position < 4294967296
+    few-fit = let few = g .few in let small = g .small in omega arith
+
     pub opened-fits : (op : ℕ) → op ≡ getD tape i 0 % E.EVENTS → blocksOpen op (d .counts) ≤ length counts
     opened-fits op eo = nested-here _ _ _ _ (nested-on (length counts) (d .counts) (g .procedures) op i tape h eo (g .nested)) .0
 
     pub going-on :
-        {wide′ counts′ : List ℕ} {d′ : Depths} {c′ : Cells} {target′ : ℕ} {b′ r : Broken} (op t : ℕ) → op ≡ getD tape i 0 % E.EVENTS → t ≡ getD tape i 0 / E.EVENTS
-        → ((f : Tables) → Shown f kinds (wideOf wide) (thinOf thin) → r ≡ eventRule f (stackOf (wideOf wide .offsets) (d .kept)) c target op t)
+        {wide′ counts′ : List ℕ} {d′ : Depths} {c′ : Cells} {o′ : Open} {b′ r : Broken} (op t : ℕ) → op ≡ getD tape i 0 % E.EVENTS → t ≡ getD tape i 0 / E.EVENTS
+        → ((f : Tables) → Shown f kinds (wideOf wide) (thinOf thin) → r ≡ eventRule f (stackOf (wideOf wide .offsets) (d .kept)) c o op t)
         → b′ ≡ b ⊕ r
         → ((f : Tables) → Listed f (wideOf wide) (thinOf thin) → Moved (heldAfter f op t (heldOf (wideOf wide .offsets) counts d)) (wideOf wide′ .offsets) counts′ d d′)
         → Stays (wideOf wide) (wideOf wide′)
         → ((f : Tables) → f .values ≡ wideOf wide′ .values → c′ ≡ cellsAfter f op t c)
-        → ((f : Tables) → Listed f (wideOf wide′) (thinOf thin) → target′ ≡ targetAfter f op t target)
+        → ((f : Tables) → Listed f (wideOf wide′) (thinOf thin) → o′ ≡ openAfter f op t o)
         → length wide′ ≡ length wide → length counts′ ≡ length counts
-        → Going wide′ counts′ d′ c′ target′ b′ (i + 1)
+        → Going wide′ counts′ d′ c′ o′ b′ (i + 1)
     unfolding judgeEvent
-    going-on {wide′} {counts′} {d′} {c′} {target′} {b′} {r} op t eo et judged joined moved stayed celled aimed lw lc =
+    going-on {wide′} {counts′} {d′} {c′} {o′} {b′} {r} op t eo et judged joined moved stayed celled opened-to lw lc =
         let deep = g .deep in
         let room = g .room in
         let some = some-tables (wideOf wide) (thinOf thin) in
+        let next = some-tables (wideOf wide′) (thinOf thin) in
         let m = moved some (some-listed (wideOf wide) (thinOf thin)) in
         let deep′ = m .deep in
         let opened : d′ .counts ≡ blocksOpen op (d .counts) =
@@ -158,30 +177,32 @@ module _ (tape kinds wide₀ thin : List ℕ) (others : Broken) where
           procedures = proceduresOpen op (g .procedures);
           nested = rw (lc, opened) (nested-on (length counts) (d .counts) (g .procedures) op i tape h eo (g .nested));
           low = subst (λ (h : Held). Low (i + 1) h) (sym (m .is)) (low-after some op t i (heldOf (wideOf wide .offsets) counts d) (g .low));
+          few = rw (opened-to next (some-listed (wideOf wide′) (thinOf thin))) (few-after next op t i o (g .few));
           small = g .small;
           room = omega arith;
         }
       where
         stepped : (f : Tables) → Shown f kinds (wideOf wide₀) (thinOf thin)
-            → judging (heldOf (wideOf wide′ .offsets) counts′ d′) c′ target′ b′ ≡ judgeEvent f op t (judging (heldOf (wideOf wide .offsets) counts d) c target b)
+            → judging (heldOf (wideOf wide′ .offsets) counts′ d′) c′ o′ b′ ≡ judgeEvent f op t (judging (heldOf (wideOf wide .offsets) counts d) c o b)
         stepped f s =
             let now = shown-after (g .stays) s in
             let later = listed-after stayed (now .listed) in
-            rw (moved f (now .listed) .is, celled f (later .values-is), aimed f later, joined, judged f now)
+            rw (moved f (now .listed) .is, celled f (later .values-is), opened-to f later, joined, judged f now)
 
   pub going :
       (wide wide₁ counts : List ℕ) → wideOf wide₁ ≡ putOffset 0 14 (wideOf wide) → wideOf wide₀ ≡ putOffset 1 15 (wideOf wide₁) → length wide₁ ≡ length wide → length wide₀ ≡ length wide₁
       → length tape < 4294967296 → length tape + 2 ≤ length wide / 4 → Nested (length counts) 0 0 tape
-      → Going wide₀ counts (record { kept = 2; count = 0; counts = 0 }) (cellsOf false 0 0) 0 others 0
+      → Going wide₀ counts (record { kept = 2; count = 0; counts = 0 }) (cellsOf 0 0 0) (openOf 0 0 0) others 0
   unfolding stackOf
   going wide wide₁ counts e f l m h r n = record {
-    is = λ t q. ap (λ (k : List ℕ). pass (judgeEvent t) (judging (record { kept = k; count = 0; counts = [] }) (cellsOf false 0 0) 0 others) tape) first;
+    is = λ t q. ap (λ (k : List ℕ). pass (judgeEvent t) (judging (record { kept = k; count = 0; counts = [] }) (cellsOf 0 0 0) (openOf 0 0 0) others) tape) first;
     stays = stays-same wide₀;
     inside = omega arith;
     deep = omega arith;
     procedures = 0;
     nested = n;
     low = (omega arith, tt);
+    few = omega arith;
     small = h;
     room = omega arith;
   }
@@ -205,8 +226,8 @@ module _ (tape kinds wide₀ thin : List ℕ) (others : Broken) where
       first = ap₂ (λ (x y : ℕ). x ∷ y ∷ []) one two
 
   pub going-end :
-      {wide counts : List ℕ} {d : Depths} {c : Cells} {target : ℕ} {b : Broken} {i : ℕ} (start wide₁ : List ℕ)
-      → wideOf wide₁ ≡ putOffset 0 14 (wideOf start) → wideOf wide₀ ≡ putOffset 1 15 (wideOf wide₁) → Going wide counts d c target b i → length tape ≤ i
+      {wide counts : List ℕ} {d : Depths} {c : Cells} {o : Open} {b : Broken} {i : ℕ} (start wide₁ : List ℕ)
+      → wideOf wide₁ ≡ putOffset 0 14 (wideOf start) → wideOf wide₀ ≡ putOffset 1 15 (wideOf wide₁) → Going wide counts d c o b i → length tape ≤ i
       → ((f : Tables) → Shown f kinds (wideOf start) (thinOf thin) → b ≡ begun f .broken) × Stays (wideOf start) (wideOf wide)
   going-end {wide} start wide₁ e₁ e₂ g h =
       let first : Stays (wideOf start) (wideOf wide₀) =

@@ -14,7 +14,7 @@ use Rattle.scopes.specs.Broken.{unbroken, rule, broken, _⊕_}
 use Rattle.grammar.specs.Tree.{Operand}
 use Rattle.static_rules.specs.Meaning.{Meaning, nothing, register, cell, routine, Based, registerOf}
 use Rattle.static_rules.specs.Tables.{Tables, meaningAt}
-use Rattle.static_rules.specs.Rules.{isBare, writeRule, placeBy, operandRules, onlyRegister, termRules}
+use Rattle.static_rules.specs.Rules.{isBare, writeRule, placeBy, noByte, operandRules, onlyRegister, termRules}
 use Rattle.tables.specs.Packed.{numberIn, isRegisterIn, isCellIn, unpacked, cellIn, registerIn, packedAt}
 use Rattle.tables.proofs.Meanings.{by-sort, as-register, as-cell, register-is}
 use Rattle.rules.specs.Parts.{subscriptAt, indexAt, designatorAt, operandAt, termAt}
@@ -32,7 +32,7 @@ module _ (m : ℕ) where
   aimed-cell h n b = rw (as-cell n m b h)
 
   pub aimed-nowhere : isRegisterIn m ≡ false → isCellIn m ≡ false → (n : ℕ) (b : Based) → 0 ≡ aimOf (unpacked n m b)
-  aimed-nowhere h g n b = by-sort (λ x. 0 ≡ aimOf x) n m b (λ e. never-true (sym h ∙ e)) (λ e f. refl) (λ e f l. never-true (sym g ∙ l)) (λ e f l. refl)
+  aimed-nowhere h g n b = by-sort (λ x. 0 ≡ aimOf x) n m b (λ e. never-true (sym h ∙ e)) (λ e f. refl) (λ e f l. never-true (sym g ∙ l)) (λ e f l k. refl) (λ e f l k. refl)
 
 module _ {f : Tables} {w : Wide} {l : Thin} (s : Listed f w l) (t m : ℕ) (e : m ≡ packedAt (l .found) (w .means) t) where
   pub told : (g : Meaning → ℕ) (x : ℕ) → ((n : ℕ) (b : Based) → x ≡ g (unpacked n m b)) → x ≡ g (meaningAt f t)
@@ -46,15 +46,18 @@ module _ {f : Tables} {w : Wide} {l : Thin} (s : Listed f w l) (t m : ℕ) (e : 
   aims-register kept shape h p = rw (meant-at s t m e, as-register (getD (l .found) t 0) m (baseAt s t) h) p
 
   pub aims-cell :
-      (kept : List ℕ) (shape : ℕ) {x : Broken} → isCellIn m ≡ true → ((n : ℕ) (b : Based) → x ≡ placeBy f (cell (cellIn n m b)) (designatorAt shape t))
-      → x ≡ aimBy f kept (designatorAt shape t) (meaningAt f t)
-  aims-cell kept shape h p = rw (meant-at s t m e, as-cell (getD (l .found) t 0) m (baseAt s t) h) (p _ _)
+      (kept : List ℕ) (shape : ℕ) {x y z : Broken} → isCellIn m ≡ true → ((n : ℕ) (b : Based) → y ≡ placeBy f (cell (cellIn n m b)) (designatorAt shape t))
+      → z ≡ noByte f (designatorAt shape t) → x ≡ y ⊕ z → x ≡ aimBy f kept (designatorAt shape t) (meaningAt f t)
+  unfolding noByte
+  aims-cell kept shape h p q j =
+      let a = meant-at s t m e ∙ as-cell (getD (l .found) t 0) m (baseAt s t) h in
+      rw a (j ∙ ap₂ (λ (v w : Broken). v ⊕ w) (p _ _) (rw a at q))
 
   pub aims-nowhere : (kept : List ℕ) (shape : ℕ) {x : Broken} → isRegisterIn m ≡ false → isCellIn m ≡ false → x ≡ broken 8 t → x ≡ aimBy f kept (designatorAt shape t) (meaningAt f t)
   aims-nowhere kept shape h g p =
       p ∙ rw (meant-at s t m e)
       (by-sort (λ y. broken 8 t ≡ aimBy f kept (designatorAt shape t) y) (getD (l .found) t 0) m (baseAt s t) (λ a. never-true (sym h ∙ a)) (λ a b. refl)
-      (λ a b l. never-true (sym g ∙ l)) (λ a b l. refl))
+      (λ a b l. never-true (sym g ∙ l)) (λ a b l k. refl) (λ a b l k. refl))
 
   pub control-register : (kept : List ℕ) (shape : ℕ) {x : Broken} → isRegisterIn m ≡ true → x ≡ registerTarget kept (designatorAt shape t) (numberIn m)
       → x ≡ controlBy kept (designatorAt shape t) (meaningAt f t)
@@ -63,7 +66,7 @@ module _ {f : Tables} {w : Wide} {l : Thin} (s : Listed f w l) (t m : ℕ) (e : 
   pub control-nothing : (kept : List ℕ) (shape : ℕ) {x : Broken} → isRegisterIn m ≡ false → x ≡ broken 8 t → x ≡ controlBy kept (designatorAt shape t) (meaningAt f t)
   control-nothing kept shape h p =
       p ∙ rw (meant-at s t m e) (by-sort (λ y. broken 8 t ≡ controlBy kept (designatorAt shape t) y) (getD (l .found) t 0) m (baseAt s t) (λ a.
-      never-true (sym h ∙ a)) (λ a b. refl) (λ a b l. refl) (λ a b l. refl))
+      never-true (sym h ∙ a)) (λ a b. refl) (λ a b l. refl) (λ a b l k. refl) (λ a b l k. refl))
 
 -- ── by the target ──
 

@@ -1,24 +1,26 @@
 -- The rules along a tape: what each event is judged by, and what of it the later events need.
 use mathlib.Core.Path.{_≡_}
 use mathlib.Core.List.{List, [], _∷_}
-use mathlib.Core.Bool.{Bool, true, false, _&&_, _||_}
+use mathlib.Core.Bool.{_&&_, _||_, not}
 use Prim.Native.Nat.{ℕ, zero, suc, _+_, _-_, _≤_}
 use lib.Dec.{eqb, leb}
 use lib.ListN.{drop}
 use Rattle.base.specs.Choose.{if_then_else_}
 use Rattle.tape.specs.Events as E
 use Rattle.tape.specs.Numbers.{PHRASE, layerAt, formAt, familyAt}
-use Rattle.grammar.specs.Tree.{Designator, Operand, Width, full, short}
+use Rattle.grammar.specs.Tree.{Designator, Operand}
 use Rattle.ledger.specs.Book.{Wide, onWide}
 use Rattle.scopes.specs.declared.Broken.{Broken}
 use Rattle.scopes.specs.Broken.{unbroken, rule, broken, _⊕_}
-use Rattle.static_rules.specs.Meaning.{Meaning, nothing, register, cell, routine, registerOf}
+use Rattle.static_rules.specs.Meaning.{Meaning, nothing, register, cell, routine, function, isByte, registerOf, argumentOf}
 use Rattle.static_rules.specs.Tables.{Tables, valueAt, meaningAt}
-use Rattle.static_rules.specs.Rules.{protected, bareName, mostElements, fitsWidth, writeRule, registerRule, zeroRule, placeBy, operandRules, onlyRegister, termRules, callRules, baseRules}
+use Rattle.static_rules.specs.Rules.{protected, bareName, mostElements, fitsWidth, writeRule, registerRule, zeroRule, placeBy, operandRules, onlyRegister, termRules, callRules, argumentRules, countBy, baseRules}
+use Rattle.tables.specs.Packed.{widthBy}
 use Rattle.tables.specs.Stacks.{stackOf, top, under}
 use Rattle.rules.specs.Parts.{designatorAt, operandAt, termAt}
 use Rattle.judge.specs.declared.Cells.{Cells}
 use Rattle.judge.specs.declared.Depths.{Depths}
+use Rattle.judge.specs.declared.Open.{Open}
 
 -- ── the protected registers ──
 
@@ -56,27 +58,23 @@ heldAfter f op t h =
 
 -- ── cells and their values ──
 
--- what the cells that follow are, whether short and of how many elements, and for how many more values the last has room
-abbrev pub cellsOf : Bool → ℕ → ℕ → Cells
-cellsOf s n room = record { short = s; elements = n; room = room }
+-- what the cells that follow are, how wide and of how many elements, and for how many more values the last has room
+abbrev pub cellsOf : (width elements room : ℕ) → Cells
+cellsOf w n room = record { width = w; elements = n; room = room }
 
 unfoldable pub cellsAfter : Tables → (op t : ℕ) → Cells → Cells
 cellsAfter f op t c =
-    if eqb (familyAt op) E.SINGLE-FULL then cellsOf (eqb (formAt op) E.SHORT) 1 (c .room) else
-    if eqb (familyAt op) E.ARRAY-FULL then cellsOf (eqb (formAt op) E.SHORT) (valueAt f t) (c .room) else
-    if eqb op E.ITEM then cellsOf (c .short) (c .elements) (c .elements) else
-    if eqb op E.VALUE then cellsOf (c .short) (c .elements) (c .room - 1) else
+    if eqb (familyAt op) E.SINGLE-FULL then cellsOf (formAt op) 1 (c .room) else
+    if eqb (familyAt op) E.ARRAY-FULL then cellsOf (formAt op) (valueAt f t) (c .room) else
+    if eqb op E.ITEM then cellsOf (c .width) (c .elements) (c .elements) else
+    if eqb op E.VALUE then cellsOf (c .width) (c .elements) (c .room - 1) else
     c
-
-abbrev pub widthOf : Bool → Width
-widthOf true = short
-widthOf false = full
 
 -- "11: bad initial value or one too many"
 unfoldable pub valueRule : Cells → (v t : ℕ) → Broken
-valueRule c v t = if eqb (c .room) 0 then broken 11 t else rule (fitsWidth (widthOf (c .short)) v) 11 t
+valueRule c v t = if eqb (c .room) 0 then broken 11 t else rule (fitsWidth (widthBy (c .width)) v) 11 t
 
--- ── the target of an assignment ──
+-- ── what stands open in a statement: the target of an assignment; the name of a use and how many arguments it has had ──
 
 -- by what it means: 0 where the assignment is not judged further, 1 for a cell, r + 2 for register r
 abbrev pub aimOf : Meaning → ℕ
@@ -84,9 +82,17 @@ aimOf nothing = 0
 aimOf (register r) = suc (suc r)
 aimOf (cell c) = 1
 aimOf (routine r) = 0
+aimOf (function k) = 0
 
-unfoldable pub targetAfter : Tables → (op t target : ℕ) → ℕ
-targetAfter f op t target = if eqb (familyAt op) E.TARGET || eqb (familyAt op) E.CONTROL then aimOf (meaningAt f t) else target
+abbrev pub openOf : (target name position : ℕ) → Open
+openOf target n position = record { target = target; name = n; position = position }
+
+unfoldable pub openAfter : Tables → (op t : ℕ) → Open → Open
+openAfter f op t o =
+    if eqb (familyAt op) E.TARGET || eqb (familyAt op) E.CONTROL then openOf (aimOf (meaningAt f t)) (o .name) (o .position) else
+    if eqb op E.APPLIED then openOf (o .target) t 0 else
+    if eqb (familyAt op) E.ARGUED then openOf (o .target) (o .name) (o .position + 1) else
+    o
 
 abbrev pub registerTarget : List ℕ → Designator → ℕ → Broken
 registerTarget kept d r = rule (bareName d) 8 (d .name) ⊕ writeRule kept r (d .name)
@@ -94,8 +100,9 @@ registerTarget kept d r = rule (bareName d) 8 (d .name) ⊕ writeRule kept r (d 
 abbrev pub aimBy : Tables → List ℕ → Designator → Meaning → Broken
 aimBy f kept d nothing = broken 8 (d .name)
 aimBy f kept d (register r) = registerTarget kept d r
-aimBy f kept d (cell c) = placeBy f (cell c) d
+aimBy f kept d (cell c) = placeBy f (cell c) d ⊕ rule (not (isByte (c .width))) 8 (d .name)
 aimBy f kept d (routine r) = broken 8 (d .name)
+aimBy f kept d (function k) = broken 8 (d .name)
 
 -- "the FOR target" is a register
 abbrev pub controlBy : List ℕ → Designator → Meaning → Broken
@@ -103,6 +110,7 @@ controlBy kept d nothing = broken 8 (d .name)
 controlBy kept d (register r) = registerTarget kept d r
 controlBy kept d (cell c) = broken 8 (d .name)
 controlBy kept d (routine r) = broken 8 (d .name)
+controlBy kept d (function k) = broken 8 (d .name)
 
 -- "A register target takes the whole chain, left to right, a cell target one register name only."
 unfoldable pub signRule : (target t : ℕ) → Broken
@@ -140,36 +148,38 @@ assignmentRule f kept target op t =
     if eqb op E.ABS || (eqb op E.NEG || eqb op E.NEG-ABS) then signRule target t else
     unbroken
 
-unfoldable pub statementRule : Tables → List ℕ → (target op t : ℕ) → Broken
-statementRule f kept target op t =
+unfoldable pub statementRule : Tables → List ℕ → Open → (op t : ℕ) → Broken
+statementRule f kept o op t =
     if eqb (familyAt op) E.COMPARED then registerRule f (t - 2) ⊕ operandRules f (operandAt (formAt op) t) else
     if eqb (familyAt op) E.LIMIT then operandRules f (operandAt (formAt op) t) else
     if eqb op E.CALL then callRules f kept t else
-    assignmentRule f kept target op t
+    if eqb (familyAt op) E.ARGUED then argumentRules f kept (argumentOf (meaningAt f (o .name)) (o .position)) (operandAt (formAt op) t) else
+    if eqb op E.COUNTED then countBy (meaningAt f t) t (o .position) else
+    assignmentRule f kept (o .target) op t
 
-unfoldable pub eventRule : Tables → List ℕ → Cells → (target op t : ℕ) → Broken
-eventRule f kept c target op t =
-    if eqb (layerAt op) PHRASE then statementRule f kept target op t else
+unfoldable pub eventRule : Tables → List ℕ → Cells → Open → (op t : ℕ) → Broken
+eventRule f kept c o op t =
+    if eqb (layerAt op) PHRASE then statementRule f kept o op t else
     declarationRule f kept c op t
 
--- between two events: the protected registers; the cells; the target; the broken rules
+-- between two events: the protected registers; the cells; what stands open in a statement; the broken rules
 pub record Judging : Type 0 where
   pub held : Held
   pub cells : Cells
-  pub target : ℕ
+  pub standing : Open
   pub broken : Broken
 
 unfoldable pub judgeEvent : Tables → (op t : ℕ) → Judging → Judging
 judgeEvent f op t j = record {
   held = heldAfter f op t (j .held);
   cells = cellsAfter f op t (j .cells);
-  target = targetAfter f op t (j .target);
-  broken = j .broken ⊕ eventRule f (j .held .kept) (j .cells) (j .target) op t;
+  standing = openAfter f op t (j .standing);
+  broken = j .broken ⊕ eventRule f (j .held .kept) (j .cells) (j .standing) op t;
 }
 
 -- before the first event, with what else is broken in the text
 abbrev pub beginning : Broken → Judging
-beginning b = record { held = record { kept = protected; count = 0; counts = [] }; cells = cellsOf false 0 0; target = 0; broken = b }
+beginning b = record { held = record { kept = protected; count = 0; counts = [] }; cells = cellsOf 0 0 0; standing = openOf 0 0 0; broken = b }
 
 -- ── as arrays ──
 

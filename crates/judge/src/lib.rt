@@ -15,18 +15,21 @@ ghost use Rattle.tables.specs.Packed.{numberIn, unpacked};
 ghost use Rattle.tables.specs.Stacks.{stackOf};
 ghost use Rattle.rules.specs.Parts.{designatorAt, operandAt};
 ghost use Rattle.rules.specs.Shows.{Listed, Shown};
-ghost use Rattle.judge.specs.Along.{enterBlock, leaveBlock, keepBase, keepReturn, leaveProcedure, heldAfter, cellsAfter, valueRule, aimOf, targetAfter, registerTarget, aimBy, controlBy, signRule, firstRules, chainRule, declarationRule, assignmentRule, statementRule, eventRule, judgeEvent, beginning, heldOf, Moved, Stays};
+ghost use Rattle.judge.specs.Along.{enterBlock, leaveBlock, keepBase, keepReturn, leaveProcedure, heldAfter, cellsAfter, valueRule, aimOf, openAfter, registerTarget, aimBy, controlBy, signRule, firstRules, chainRule, declarationRule, assignmentRule, statementRule, eventRule, judgeEvent, beginning, heldOf, Moved, Stays};
 use arrays::kind;
 use arrays::put_wide;
 use base::less;
 use ledger::meaning;
 use ledger::put_offset;
 use ledger::value;
+use rules::argued_rules;
 use rules::base_rules;
 use rules::broken;
 use rules::call_rules;
-use rules::cell_rules;
+use rules::counted_rules;
+use rules::element_rules;
 use rules::is_bare;
+use rules::no_byte;
 use rules::none;
 use rules::only_register;
 use rules::operand_rules;
@@ -45,11 +48,18 @@ use tables::top;
 use tape::family;
 use tape::layer;
 
-// What the cells that follow are, whether short and of how many elements, and for how many more values the last has room.
+// What the cells that follow are, how wide and of how many elements, and for how many more values the last has room.
 pub struct Cells {
-    pub short: bool,
+    pub width: u32,
     pub elements: u64,
     pub room: u64,
+}
+
+// What stands open in a statement: the target of an assignment; the token of a use's name and how many arguments it has had.
+pub struct Open {
+    pub target: usize,
+    pub name: usize,
+    pub position: usize,
 }
 
 // How many registers are protected, how many of them are bases of the innermost block, and how many blocks are open.
@@ -177,31 +187,31 @@ fn cells_after(op: u32, t: usize, wide: &[u64], c: Cells) -> Cells
     let room = c.room;
     let elements = c.elements;
     let k = family(op);
-    let short = tape::form(op) == tape::SHORT;
+    let width = tape::form(op);
     if k == tape::SINGLE_FULL {
         return Cells {
-            short,
+            width,
             elements: 1,
             room,
         };
     }
     if k == tape::ARRAY_FULL {
         return Cells {
-            short,
+            width,
             elements: value(wide, t),
             room,
         };
     }
     if op == tape::ITEM {
         return Cells {
-            short: c.short,
+            width: c.width,
             elements,
             room: elements,
         };
     }
     if op == tape::VALUE {
         return Cells {
-            short: c.short,
+            width: c.width,
             elements,
             room: one_less(room),
         };
@@ -215,20 +225,27 @@ fn one_less(n: u64) -> u64
     if n == 0 { 0 } else { n - 1 }
 }
 
-// "A value for a short cell has signed value -32768 to 65535".
+// The width of integer cells.
+const FULL: u32 = 0;
+
+// "A value for a short cell has signed value -32768 to 65535"; of byte cells "initial values 0 to 255".
 fn value_rule(c: Cells, v: u64, t: usize) -> Broken
     ensures { λ r. ⌜ r ≡ valueRule c v t ⌝ }
 {
+    let width = c.width;
     if c.room == 0 {
         return broken(11, t);
     }
-    if c.short {
+    if width == FULL {
+        return none();
+    }
+    if width == tape::SHORT {
         return rule((v <= 65535) | (4294934528 <= v), 11, t);
     }
-    none()
+    rule(v <= 255, 11, t)
 }
 
-// ── the target of an assignment ──
+// ── what stands open in a statement ──
 
 fn aim_of(m: u64) -> usize
     ensures { λ r. ⌜ ((n : ℕ) (b : Based) → r ≡ aimOf (unpacked n m b)) ⌝ }
@@ -242,14 +259,34 @@ fn aim_of(m: u64) -> usize
     0
 }
 
-fn target_after(op: u32, t: usize, wide: &[u64], thin: &[u16], target: usize) -> usize
-    ensures { λ r. ⌜ ((f : Tables) → Listed f (wideOf (now (wide .entry))) (thinOf (now (thin .entry))) → r ≡ targetAfter f op t target) ⌝ }
+fn open_after(op: u32, t: usize, wide: &[u64], thin: &[u16], o: Open) -> Open
+    requires { ⌜ o .position < 4294967296 ⌝ }
+    ensures { λ r. ⌜ ((f : Tables) → Listed f (wideOf (now (wide .entry))) (thinOf (now (thin .entry))) → r ≡ openAfter f op t o) ⌝ }
 {
     let k = family(op);
     if (k == tape::TARGET) | (k == tape::CONTROL) {
-        return aim_of(meaning(wide, thin, t));
+        return Open {
+            target: aim_of(meaning(wide, thin, t)),
+            name: o.name,
+            position: o.position,
+        };
     }
-    target
+    if op == tape::APPLIED {
+        return Open {
+            target: o.target,
+            name: t,
+            position: 0,
+        };
+    }
+    if k == tape::ARGUED {
+        let position = o.position + 1;
+        return Open {
+            target: o.target,
+            name: o.name,
+            position,
+        };
+    }
+    o
 }
 
 // A register that a whole chain goes to.
@@ -271,7 +308,8 @@ fn aim_rules(shape: u32, wide: &[u64], thin: &[u16], depth: usize, t: usize) -> 
         return register_target(shape, wide, depth, m, t);
     }
     if is_cell(m) {
-        return cell_rules(shape, m, wide, thin, t);
+        let fits = element_rules(shape, m, wide, thin, t);
+        return join(fits, no_byte(wide, thin, t));
     }
     broken(8, t)
 }
@@ -419,12 +457,12 @@ fn statement_rule(
     wide: &[u64],
     thin: &[u16],
     depth: usize,
-    target: usize,
+    o: Open,
 ) -> Broken
     requires { ⌜ t < 4294967296 ⌝ }
     ensures { λ x.
         ⌜ ((f : Tables) → Shown f (now (kinds .entry)) (wideOf (now (wide .entry))) (thinOf (now (thin .entry)))
-        → x ≡ statementRule f (stackOf (wideOf (now (wide .entry)) .offsets) depth) target op t) ⌝ }
+        → x ≡ statementRule f (stackOf (wideOf (now (wide .entry)) .offsets) depth) o op t) ⌝ }
 {
     let k = family(op);
     if k == tape::COMPARED {
@@ -436,7 +474,13 @@ fn statement_rule(
     if op == tape::CALL {
         return call_rules(wide, thin, depth, t);
     }
-    assignment_rule(op, t, kinds, wide, thin, depth, target)
+    if k == tape::ARGUED {
+        return argued_rules(o.name, o.position, tape::form(op), wide, thin, depth, t);
+    }
+    if op == tape::COUNTED {
+        return counted_rules(wide, thin, t, o.position);
+    }
+    assignment_rule(op, t, kinds, wide, thin, depth, o.target)
 }
 
 fn event_rule(
@@ -447,15 +491,15 @@ fn event_rule(
     thin: &[u16],
     depth: usize,
     c: Cells,
-    target: usize,
+    o: Open,
 ) -> Broken
     requires { ⌜ t < 4294967296 ⌝ }
     ensures { λ x.
         ⌜ ((f : Tables) → Shown f (now (kinds .entry)) (wideOf (now (wide .entry))) (thinOf (now (thin .entry)))
-        → x ≡ eventRule f (stackOf (wideOf (now (wide .entry)) .offsets) depth) c target op t) ⌝ }
+        → x ≡ eventRule f (stackOf (wideOf (now (wide .entry)) .offsets) depth) c o op t) ⌝ }
 {
     if layer(op) == tape::PHRASE {
-        return statement_rule(op, t, kinds, wide, thin, depth, target);
+        return statement_rule(op, t, kinds, wide, thin, depth, o);
     }
     declaration_rule(op, t, wide, thin, depth, c)
 }
@@ -485,11 +529,15 @@ pub fn judge(
         counts: 0,
     };
     let mut c = Cells {
-        short: false,
+        width: FULL,
         elements: 0,
         room: 0,
     };
-    let mut target: usize = 0;
+    let mut o = Open {
+        target: 0,
+        name: 0,
+        position: 0,
+    };
     let mut least = others;
     let mut i: usize = 0;
     while i < tape.len() {
@@ -497,11 +545,11 @@ pub fn judge(
         let op = tape::op(e);
         let t = tape::token(e);
         let depth = d.kept;
-        let r = event_rule(op, t, kinds, wide, thin, depth, c, target);
+        let r = event_rule(op, t, kinds, wide, thin, depth, c, o);
         least = join(least, r);
         d = held_after(op, t, wide, thin, counts, d);
         c = cells_after(op, t, wide, c);
-        target = target_after(op, t, wide, thin, target);
+        o = open_after(op, t, wide, thin, o);
         i += 1;
     }
     least

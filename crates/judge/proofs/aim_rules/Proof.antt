@@ -23,12 +23,21 @@ returns c =
 is-cell-requires : tie.Need-is-cell-requires
 is-cell-requires c κs = search needs
 
-cell-rules-requires : tie.Need-cell-rules-requires
-cell-rules-requires c κs = search needs
+element-rules-requires : tie.Need-element-rules-requires
+element-rules-requires c κs = search needs
+
+no-byte-requires : tie.Need-no-byte-requires
+no-byte-requires c κs = search needs
+
+join-requires : tie.Need-join-requires
+join-requires c κs = search needs
 
 returns-2 : tie.Need-returns-2
-returns-2 c = λ f s. answers.aims-cell s _ _ (c .before .before .before .before .before .meaning .ensures) _ _ (sym (c .before .before .is-cell .ensures)
-    ∙ c .before .if2 .taken) (c .cell-rules .ensures f s)
+returns-2 c =
+    let at-if2 = c .before .before .before in
+    let at-is-cell = at-if2 .before in
+    λ f s. answers.aims-cell s _ _ (at-is-cell .before .before .before .meaning .ensures) _ _ (sym (at-is-cell .is-cell .ensures) ∙ at-if2 .if2 .taken)
+    (c .before .before .element-rules .ensures f s) (c .before .no-byte .ensures f s _) (c .join .ensures)
 
 broken-requires : tie.Need-broken-requires
 broken-requires c κs = search needs
@@ -51,7 +60,9 @@ aim-rules-spec =
     register-target-requires
     returns
     is-cell-requires
-    cell-rules-requires
+    element-rules-requires
+    no-byte-requires
+    join-requires
     returns-2
     broken-requires
     returns-3)

@@ -1,5 +1,5 @@
 -- The loop goes along the tape as the definition's pass does, with the protected registers in the column of offsets; `Going` says what stands after i events.
-use Rattle.judge.proofs.Along.{Going, kept-fits, opened-fits, going, going-on, going-end}
+use Rattle.judge.proofs.Along.{Going, kept-fits, few-fit, opened-fits, going, going-on, going-end}
 use lib.ListN.{length}
 use Prim.Native.Nat.{_-_}
 use mathlib.Core.Path.{_≡_, refl, _∙_}
@@ -10,11 +10,11 @@ use Rattle.judge.proofs.judge.Statement.{statement}
 use Rattle.judge.proofs.judge.Tie as tie
 
 abbrev Inv-loop : tie.InvT-loop
-Inv-loop tape kinds wide₀ thin counts₀ d₀ c₀ target₀ least₀ i₀ wide counts d c target least i =
-    Going tape kinds wide₀ thin least₀ wide counts d c target least i × ((length wide ≡ length wide₀) × (length counts ≡ length counts₀))
+Inv-loop tape kinds wide₀ thin counts₀ d₀ c₀ o₀ least₀ i₀ wide counts d c o least i =
+    Going tape kinds wide₀ thin least₀ wide counts d c o least i × ((length wide ≡ length wide₀) × (length counts ≡ length counts₀))
 
 abbrev μ-loop : tie.MeasureT-loop
-μ-loop tape kinds wide₀ thin counts₀ d₀ c₀ target₀ least₀ i₀ wide counts d c target least i = length tape - i
+μ-loop tape kinds wide₀ thin counts₀ d₀ c₀ o₀ least₀ i₀ wide counts d c o least i = length tape - i
 
 put-offset-requires : tie.Need-put-offset-requires Inv-loop μ-loop
 put-offset-requires c κs = search needs
@@ -62,8 +62,11 @@ held-after-requires c κs =
 cells-after-requires : tie.Need-cells-after-requires Inv-loop μ-loop
 cells-after-requires c κs = search needs
 
-target-after-requires : tie.Need-target-after-requires Inv-loop μ-loop
-target-after-requires c κs = search needs
+open-after-requires : tie.Need-open-after-requires Inv-loop μ-loop
+open-after-requires c κs =
+    let at-loop-test = c .before .before .before .before .before .before .before .before .before .before .before .before .before .before .before .before in
+    let at-loop = at-loop-test .before in
+    few-fit _ _ _ _ _ (at-loop .loop .inv .0) (at-loop-test .loop-test .taken)
 
 add-i : tie.Need-add-i Inv-loop μ-loop
 add-i c =
@@ -89,7 +92,7 @@ loop-again c =
     let before = at-loop .loop .inv in let held = at-held-after .held-after in let wides = held .kept .1 .1 .0 in let countings = held .kept .1 .1 .1 .1 .0 in (
       going-on _ _ _ _ _ (before .0) (at-loop-test .loop-test .taken) _ _ (at-op .op .ensures .0) (at-token .token .ensures .0)
           (at-event-rule .event-rule .ensures) (at-join .join .ensures) (held .ensures .0) (held .ensures .1) (at-cells-after .cells-after .ensures)
-          (c .target-after .ensures) wides countings,
+          (c .open-after .ensures) wides countings,
       (wides ∙ before .1 .0, countings ∙ before .1 .1),
     )
 
@@ -125,7 +128,7 @@ judge-spec =
     join-requires
     held-after-requires
     cells-after-requires
-    target-after-requires
+    open-after-requires
     add-i
     loop-less
     loop-again

@@ -1,4 +1,4 @@
--- The rules of conditions, limits and calls; all other phrases are parts of assignments.
+-- The rules of conditions, limits, calls and uses; all other phrases are parts of assignments.
 use Rattle.tape.specs.Events as E
 use Rattle.judge.specs.Along.{statementRule}
 use Rattle.tape.specs.Numbers.{formAt}
@@ -46,20 +46,65 @@ returns-3 : tie.Need-returns-3
 unfolding statementRule formAt
 returns-3 c = λ f s. rw (c .before .if3 .taken) (c .call-rules .ensures f (s .listed))
 
-assignment-rule-requires : tie.Need-assignment-rule-requires
-assignment-rule-requires c κs = search needs
+form-requires-3 : tie.Need-form-requires-3
+form-requires-3 c κs = search needs
+
+argued-rules-requires : tie.Need-argued-rules-requires
+argued-rules-requires c κs = search needs
 
 returns-4 : tie.Need-returns-4
 unfolding statementRule
 returns-4 c = λ f s.
     rw (
-      ← (c .before .before .before .before .family .ensures),
-      ne-eqb _ E.COMPARED (c .before .before .before .if1 .left),
-      ne-eqb _ E.LIMIT
-          (c .before .before .if2 .left),
-      ne-eqb _ E.CALL (c .before .if3 .left),
-    ) (c .assignment-rule .ensures f s)
+      ← (c .before .before .before .before .before .before .family .ensures),
+      ne-eqb _ E.COMPARED (c .before .before .before .before .before .if1 .left),
+      ne-eqb _ E.LIMIT (c .before .before .before .before .if2 .left),
+      ne-eqb _ E.CALL (c .before .before .before .if3 .left),
+      eq-eqb _ E.ARGUED (c .before .before .if4 .taken),
+      ← (c .before .form3 .ensures .0),
+    )
+    (c .argued-rules .ensures f (s .listed))
+
+counted-rules-requires : tie.Need-counted-rules-requires
+counted-rules-requires c κs = search needs
+
+returns-5 : tie.Need-returns-5
+unfolding statementRule formAt
+returns-5 c = λ f s. rw (c .before .if5 .taken) (c .counted-rules .ensures f (s .listed))
+
+assignment-rule-requires : tie.Need-assignment-rule-requires
+assignment-rule-requires c κs = search needs
+
+returns-6 : tie.Need-returns-6
+unfolding statementRule
+returns-6 c = λ f s.
+    rw (
+      ← (c .before .before .before .before .before .before .family .ensures),
+      ne-eqb _ E.COMPARED (c .before .before .before .before .before .if1 .left),
+      ne-eqb _ E.LIMIT (c .before .before .before .before .if2 .left),
+      ne-eqb _ E.CALL (c .before .before .before .if3 .left),
+      ne-eqb _ E.ARGUED (c .before .before .if4 .left),
+      ne-eqb _ E.COUNTED (c .before .if5 .left),
+    )
+    (c .assignment-rule .ensures f s)
 
 pub statement-rule-spec : {M : Type 1} → statement M
-statement-rule-spec = tie.close (tie.spec family-requires form-requires compared-rules-requires returns form-requires-2 operand-rules-requires returns-2
-    call-rules-requires returns-3 assignment-rule-requires returns-4)
+statement-rule-spec =
+    tie.close
+    (tie.spec
+    family-requires
+    form-requires
+    compared-rules-requires
+    returns
+    form-requires-2
+    operand-rules-requires
+    returns-2
+    call-rules-requires
+    returns-3
+    form-requires-3
+    argued-rules-requires
+    returns-4
+    counted-rules-requires
+    returns-5
+    assignment-rule-requires
+    returns-6)
