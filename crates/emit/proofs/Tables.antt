@@ -1,19 +1,17 @@
--- The tables of opcodes, shifts, masks and functions are the definition's, by computation; the search in a table of kinds in the form of its loop's invariant. Assumes
+-- The tables of opcodes, shifts and masks are the definition's, by computation; the search in a table of kinds in the form of its loop's invariant. Assumes
 -- nothing.
 use Prim.Native.Nat.{ℕ, _+_, _*_, _/_, _%_, _<_, _≤_}
 use mathlib.Core.Path.{_≡_, refl, sym, ap}
 use mathlib.Core.Bool.{Bool, true, false, not, _||_}
 use mathlib.Core.List.{List, [], _∷_}
 use native.Mathlib.Omega.{arith}
-use lib.Dec.{T, eqb, eqb→eq}
+use lib.Dec.{eqb, eqb→eq}
 use lib.ListN.{length, getD, drop, List·getD-eq-default}
 use borrow.Author.Tests.{eq-eqb, ne-eqb}
 use Rattle.base.specs.Choose.{if_then_else_}
 use Rattle.base.specs.Runs.{indexOf}
 use Rattle.base.proofs.Runs.{run-on, run-stop, run-end}
-use Rattle.base.specs.Tables.{allBelow}
 use Rattle.base.proofs.Tables.{all-below}
-use Rattle.static_rules.specs.Functions.{Function, functionTable, noFunction, functionAt, arity}
 use Rattle.translation.specs.Instructions.{opcode, falseMasks, shiftTable}
 
 -- the code table, a row after the other
@@ -35,36 +33,6 @@ mask-past k i h = sym (List·getD-eq-default falseMasks 0 h)
 
 pub shift-past : (i : ℕ) → 4 ≤ i → 0 ≡ getD shiftTable i 0
 shift-past i h = sym (List·getD-eq-default shiftTable 0 h)
-
--- what the functions take, their opcodes and their numbers, and those of none
-abbrev arities : List ℕ
-arities = 2 ∷ 2 ∷ 2 ∷ 2 ∷ 2 ∷ 1 ∷ 1 ∷ 1 ∷ 2 ∷ 0 ∷ []
-
-abbrev functionCodes : List ℕ
-functionCodes = 0x43 ∷ 0x42 ∷ 0x41 ∷ 0x92 ∷ 0x95 ∷ 0x92 ∷ 0x92 ∷ 0x95 ∷ 0x12 ∷ 0 ∷ []
-
-abbrev functionNumbers : List ℕ
-functionNumbers = 0 ∷ 0 ∷ 0 ∷ 0 ∷ 0 ∷ 0xff ∷ 0 ∷ 0xff ∷ 0 ∷ 0 ∷ []
-
-module _ (k : ℕ) (h : k < 10) where
-  by-function : (field : Function → ℕ) (column : List ℕ) → T (allBelow 10 (λ (n : ℕ). eqb (getD column n 0) (field (functionAt n)))) → getD column k 0 ≡ field (functionAt k)
-  by-function field column t = eqb→eq (getD column k 0) (field (functionAt k)) (all-below 10 (λ (n : ℕ). eqb (getD column n 0) (field (functionAt n))) t k h)
-
-  pub arity-is : getD arities k 0 ≡ arity (functionAt k)
-  unfolding functionAt
-  arity-is = by-function arity arities tt
-
-  pub code-is : getD functionCodes k 0 ≡ functionAt k .op
-  unfolding functionAt
-  code-is = by-function (λ (g : Function). g .op) functionCodes tt
-
-  pub number-is : getD functionNumbers k 0 ≡ functionAt k .number
-  unfolding functionAt
-  number-is = by-function (λ (g : Function). g .number) functionNumbers tt
-
-pub function-past : (k : ℕ) → 9 ≤ k → functionAt k ≡ noFunction
-unfolding functionAt
-function-past k h = List·getD-eq-default functionTable noFunction h
 
 module _ (k : ℕ) (table : List ℕ) (i : ℕ) where
   pub index-on : i < length table → (getD table i 0 ≡ k → ⊥) → indexOf k table ≡ i + indexOf k (drop i table) → indexOf k table ≡ i + 1 + indexOf k (drop (i + 1) table)

@@ -7,7 +7,7 @@ ghost use lib.ListN.{length, getD};
 ghost use Rattle.base.specs.Lists.{member};
 ghost use Rattle.base.specs.Runs.{indexOf};
 ghost use Rattle.ledger.specs.Book.{wideOf, thinOf, thinLimit};
-ghost use Rattle.static_rules.specs.Functions.{functionAt, arity as arityOf};
+ghost use Rattle.static_rules.specs.Functions.{functionAt};
 ghost use Rattle.static_rules.specs.Rules.{shifts};
 ghost use Rattle.translation.specs.Instructions.{opcode as opcodeOf, rowOf, shiftCode, falseMask};
 ghost use Rattle.translation.specs.Core.{exitMask};
@@ -187,16 +187,6 @@ const STOP: u64 = 0x0a;
 
 // "always is mask 15"
 const ALWAYS: u64 = 15;
-
-// The standard functions in their order, IC, STC, LA, MVI, CLI, SET, RESET, TEST, LTR, and what is none: how many arguments each takes, its opcode, and the number
-// of SET, RESET and TEST.
-const ARITIES: [u8; 10] = [2, 2, 2, 2, 2, 1, 1, 1, 2, 0];
-
-const FUNCTION_CODES: [u8; 10] = [0x43, 0x42, 0x41, 0x92, 0x95, 0x92, 0x92, 0x95, 0x12, 0];
-
-const FUNCTION_NUMBERS: [u8; 10] = [0, 0, 0, 0, 0, 0xff, 0, 0xff, 0, 0];
-
-const NO_FUNCTION: usize = 9;
 
 // The widths of cells' elements by their numbers: the others are bytes.
 const FULL: u64 = 0;
@@ -699,45 +689,14 @@ pub fn goal_at(thin: &[u16], family: u32, t: usize) -> usize
     goes(thin, t)
 }
 
-// A place in the tables of functions.
-fn listed(k: u64) -> usize
-    ensures { λ r. ⌜ (functionAt r ≡ functionAt k) × (r < 10) ⌝ }
-{
-    if k < 9 {
-        return k as usize;
-    }
-    NO_FUNCTION
-}
-
-// The function of a use by its place; of what means none, one that takes nothing.
-fn function(m: u64) -> usize
-    ensures { λ r. ⌜ (functionAt r ≡ functionIn m) × (r < 10) ⌝ }
+// The function of a use by its place; what means none is behind all of them, and takes nothing.
+fn function(m: u64) -> u64
+    ensures { λ r. ⌜ functionAt r ≡ functionIn m ⌝ }
 {
     if is_function(m) {
-        return listed(number(m));
+        return number(m);
     }
-    NO_FUNCTION
-}
-
-fn arity(k: usize) -> u64
-    requires { ⌜ k < 10 ⌝ }
-    ensures { λ r. ⌜ r ≡ arityOf (functionAt k) ⌝ }
-{
-    wide(ARITIES[k])
-}
-
-fn function_code(k: usize) -> u64
-    requires { ⌜ k < 10 ⌝ }
-    ensures { λ r. ⌜ r ≡ functionAt k .op ⌝ }
-{
-    wide(FUNCTION_CODES[k])
-}
-
-fn function_number(k: usize) -> u64
-    requires { ⌜ k < 10 ⌝ }
-    ensures { λ r. ⌜ r ≡ functionAt k .number ⌝ }
-{
-    wide(FUNCTION_NUMBERS[k])
+    functions::FUNCTIONS
 }
 
 // ── the assignment or use that is written ──
@@ -895,18 +854,18 @@ fn second(kinds: &[u8], wide: &[u64], thin: &[u16], t: usize, op: u64, u: Use) -
 }
 
 // The use of the function at place k, by its last argument and how many there are.
-fn used(kinds: &[u8], wide: &[u64], thin: &[u16], t: usize, k: usize, w: Writing) -> Codes
-    requires { ⌜ (t < TOKEN-LIMIT) × (k < 10) ⌝ }
+fn used(kinds: &[u8], wide: &[u64], thin: &[u16], t: usize, k: u64, w: Writing) -> Codes
+    requires { ⌜ t < TOKEN-LIMIT ⌝ }
     ensures { λ m. ⌜ m ≡ usedCodes (now (kinds .entry)) (wideOf (now (wide .entry)) .values) (thinOf (now (thin .entry)) .found) (wideOf (now (wide .entry)) .means) t (functionAt k) w ⌝ }
 {
-    let op = function_code(k);
+    let op = functions::op(k);
     let last = w.aim;
     let count = w.arguments;
-    if count != arity(k) {
+    if count != functions::arity(k) as u64 {
         return Codes::None;
     }
     if count == 1 {
-        return function_codes(op, 0, function_number(k), last);
+        return function_codes(op, 0, functions::number(k), last);
     }
     second(kinds, wide, thin, t, op, last)
 }

@@ -2,15 +2,13 @@
 use mathlib.Core.Path.{_≡_, refl, sym, ap, ap₂, _∙_}
 use mathlib.Core.Bool.{Bool, false, _&&_, _||_}
 use mathlib.Core.List.{List, []}
-use Prim.Native.Nat.{ℕ, zero, suc, _+_, _-_, _≤_, _<_}
-use native.Mathlib.Omega.{arith}
+use Prim.Native.Nat.{ℕ, _+_, _-_, _≤_, _<_}
 use native.Mathlib.Numerals.{add-one}
 use lib.Dec.{eqb}
 use lib.ListN.{getD, set, length}
-use borrow.Author.Tests.{ne-eqb}
 use Rattle.base.proofs.Tests.{cases, never-true}
 use Rattle.token.specs.Kinds as K
-use Rattle.static_rules.specs.Functions.{functionAt, argumentAt, isWritten}
+use Rattle.static_rules.specs.Functions.{isWritten}
 use Rattle.static_rules.specs.Meaning.{Meaning, register, routine, Based, meaningOf, registerOf, argumentOf, isLong}
 use Rattle.static_rules.specs.Meanings.{mean, callWrites}
 use Rattle.tape.specs.Numbers.{formAt}
@@ -21,21 +19,6 @@ use Rattle.meanings.specs.Flat.{meantOf, standardMeaning, standardNamed,
 use Rattle.meanings.proofs.Moves.{register-at}
 
 -- ── "IC, LA and LTR write the first" ──
-
--- by their places in the table
-pub first-places : (k : ℕ) → ((eqb k 0 || eqb k 2) || eqb k 8) ≡ isWritten (argumentAt (functionAt k) 0)
-unfolding functionAt
-first-places zero = refl
-first-places (suc zero) = refl
-first-places (suc (suc zero)) = refl
-first-places (suc (suc (suc zero))) = refl
-first-places (suc (suc (suc (suc zero)))) = refl
-first-places (suc (suc (suc (suc (suc zero))))) = refl
-first-places (suc (suc (suc (suc (suc (suc zero)))))) = refl
-first-places (suc (suc (suc (suc (suc (suc (suc zero))))))) = refl
-first-places (suc (suc (suc (suc (suc (suc (suc (suc zero)))))))) = refl
-first-places (suc (suc (suc (suc (suc (suc (suc (suc (suc k))))))))) =
-    let n = suc (suc (suc (suc (suc (suc (suc (suc (suc k)))))))) in rw (ne-eqb n 0 (λ e. omega arith), ne-eqb n 2 (λ e. omega arith), ne-eqb n 8 (λ e. omega arith))
 
 first-is : (t m : ℕ) (b : Based) → isWritten (argumentOf (unpacked t m b) 0) ≡ firstIn m
 unfolding firstIn

@@ -190,19 +190,11 @@ fn target_after(op: u32, t: usize, wide: &[u64], thin: &[u16], first: bool, targ
     target
 }
 
-// The places of the functions that write a register, in the order of their names.
-const IC: u64 = 0;
-
-const LA: u64 = 2;
-
-const LTR: u64 = 8;
-
 // "IC, LA and LTR write the first".
 fn writes_first(m: u64) -> bool
     ensures { λ r. ⌜ r ≡ firstIn m ⌝ }
 {
-    let k = number(m);
-    is_function(m) & ((k == IC) | (k == LA) | (k == LTR))
+    is_function(m) & functions::writes_first(number(m))
 }
 
 // The argument that follows is written: it stands behind the name of one of these.

@@ -20,15 +20,15 @@ use Rattle.static_rules.specs.Functions.{functionAt, arity}
 use Rattle.static_rules.specs.Meaning.{Meaning, nothing, register, cell, routine, Based, Cell, meaningOf, argumentOf, registerOf, isLong, longOperand}
 use Rattle.static_rules.specs.Tables.{Tables, meaningAt, valueAt, kindAt}
 use Rattle.static_rules.specs.Rules.{isRegister, isZero, isShort, isCell, isBare, inside, shifts, fullOnly, writeRule, registerRule, zeroRule, indexRules, subscriptRules, placeBy, placeRules, operandRules, onlyRegister, shiftRules, noByte, noShort, productRules, termRules, callBy, callRules, noIndex, targetBy, countBy, baseRules}
+use Rattle.functions.specs.Arguments.{argumentNumber, argumentBy}
+use Rattle.functions.proofs.Table.{by-number}
 use Rattle.tables.specs.Packed.{numberIn, isRegisterIn, isRoutineIn, isCellIn, isFunctionIn, isShortIn, isByteIn, basedIn, cellIn, unpacked, registerIn, longIn, packedAt, setOf, setsOf}
 use Rattle.tables.specs.Stacks.{stackOf}
 use Rattle.tables.proofs.Meanings.{by-sort, as-register, as-routine, as-cell, as-function, register-is, long-is}
 use Rattle.tables.proofs.Sets.{sets-at}
 use Rattle.rules.specs.Parts.{subscriptAt, indexAt, designatorAt, operandAt, termAt}
-use Rattle.rules.specs.Arguments.{argumentNumber, argumentBy}
 use Rattle.rules.specs.Shows.{Listed}
 use Rattle.rules.proofs.Sorts.{register-sort, zero-sort, short-sort, byte-sort, cell-sort, baseAt, meant-at}
-use Rattle.rules.proofs.Arguments.{by-number}
 
 or-none : (x : Bool) → x ≡ (x || false)
 or-none true = refl

@@ -7,14 +7,13 @@ ghost use Rattle.base.specs.Lists.{member};
 ghost use Rattle.ledger.specs.Book.{wideOf, thinOf};
 ghost use Rattle.scopes.specs.Broken.{unbroken, rule as ruleOf, broken as brokenOf, _⊕_};
 ghost use Rattle.static_rules.specs.Registers.{spares as sparesOf};
-ghost use Rattle.static_rules.specs.Functions.{functionAt, arity as arityOf, argumentAt};
 ghost use Rattle.static_rules.specs.Meaning.{Based, cell, argumentOf};
 ghost use Rattle.static_rules.specs.Tables.{Tables, valueAt, meaningAt};
 ghost use Rattle.static_rules.specs.Rules.{isRegister, isZero, isShort, inside, isBare, shifts, fullOnly, writeRule, registerRule, zeroRule, indexRules, subscriptRules, placeBy, placeRules, operandRules, onlyRegister, shiftRules, noByte, noShort, productRules, termRules, callRules, noIndex, writtenRules, byteRules, cellRules, plainRules, argumentRules, countBy, baseRules};
+ghost use Rattle.functions.specs.Arguments.{argumentNumber, argumentBy};
 ghost use Rattle.tables.specs.Packed.{cellIn, unpacked, setOf};
 ghost use Rattle.tables.specs.Stacks.{stackOf};
 ghost use Rattle.rules.specs.Parts.{subscriptAt, indexAt, designatorAt, operandAt, termAt};
-ghost use Rattle.rules.specs.Arguments.{argumentNumber, argumentBy};
 ghost use Rattle.rules.specs.Shows.{Listed};
 use base::less;
 use ledger::found;
@@ -308,77 +307,14 @@ pub fn call_rules(wide: &[u64], thin: &[u16], depth: usize, t: usize) -> Broken
 
 // ── uses of functions ──
 
-// What stands in a parenthesis: a register that is written, one that is read, a number 0 to 255, a cell that may be indexed, one that may not; or more than is taken.
-const SURPLUS: u8 = 0;
-
-const WRITTEN_REGISTER: u8 = 1;
-
-const READ_REGISTER: u8 = 2;
-
-const BYTE_NUMBER: u8 = 3;
-
-const INDEXED_CELL: u8 = 4;
-
-const PLAIN_CELL: u8 = 5;
-
-// How many functions there are.
-const FUNCTIONS: u64 = 9;
-
-// What each takes in its first and its second parenthesis.
-const TAKEN: [u8; 18] = [
-    WRITTEN_REGISTER,
-    INDEXED_CELL, // IC
-    READ_REGISTER,
-    INDEXED_CELL, // STC
-    WRITTEN_REGISTER,
-    INDEXED_CELL, // LA
-    BYTE_NUMBER,
-    PLAIN_CELL, // MVI
-    BYTE_NUMBER,
-    PLAIN_CELL, // CLI
-    PLAIN_CELL,
-    SURPLUS, // SET
-    PLAIN_CELL,
-    SURPLUS, // RESET
-    PLAIN_CELL,
-    SURPLUS, // TEST
-    WRITTEN_REGISTER,
-    READ_REGISTER, // LTR
-];
-
-const ARITIES: [usize; 9] = [2, 2, 2, 2, 2, 1, 1, 1, 2];
-
-// What function k takes at a position.
-fn taken(k: u64, position: usize) -> u8
-    ensures { λ r. ⌜ r ≡ argumentNumber (argumentAt (functionAt k) position) ⌝ }
-{
-    if FUNCTIONS <= k {
-        return SURPLUS;
-    }
-    if 2 <= position {
-        return SURPLUS;
-    }
-    TAKEN[k as usize * 2 + position]
-}
-
-// How many arguments function k takes.
-fn arity(k: u64) -> usize
-    ensures { λ r. ⌜ r ≡ arityOf (functionAt k) ⌝ }
-{
-    if FUNCTIONS <= k {
-        return 0;
-    }
-    ARITIES[k as usize]
-}
-
 // What a name that means m takes at a position: only functions take anything.
 fn argument(m: u64, position: usize) -> u8
     ensures { λ r. ⌜ ((n : ℕ) (b : Based) → r ≡ argumentNumber (argumentOf (unpacked n m b) position)) ⌝ }
 {
     if is_function(m) {
-        return taken(number(m), position);
+        return functions::argument(number(m), position);
     }
-    SURPLUS
+    functions::SURPLUS
 }
 
 // "IC, LA and LTR write the first, so the protected rule counts it": at the register's name.
@@ -458,20 +394,20 @@ fn argument_rules(
         ⌜ ((f : Tables) → Listed f (wideOf (now (wide .entry))) (thinOf (now (thin .entry)))
         → x ≡ argumentRules f (stackOf (wideOf (now (wide .entry)) .offsets) depth) (argumentBy takes) (operandAt shape t)) ⌝ }
 {
-    if takes == WRITTEN_REGISTER {
+    if takes == functions::WRITTEN_REGISTER {
         let only = only_register(shape, wide, thin, t);
         return join(only, written_rules(shape, wide, thin, depth, t));
     }
-    if takes == READ_REGISTER {
+    if takes == functions::READ_REGISTER {
         return only_register(shape, wide, thin, t);
     }
-    if takes == BYTE_NUMBER {
+    if takes == functions::BYTE_NUMBER {
         return byte_rules(shape, wide, t);
     }
-    if takes == INDEXED_CELL {
+    if takes == functions::INDEXED_CELL {
         return cell_rules(shape, wide, thin, t);
     }
-    if takes == PLAIN_CELL {
+    if takes == functions::PLAIN_CELL {
         return plain_rules(shape, wide, thin, t);
     }
     none()
@@ -502,7 +438,7 @@ pub fn counted_rules(wide: &[u64], thin: &[u16], n: usize, count: usize) -> Brok
 {
     let m = meaning(wide, thin, n);
     if is_function(m) {
-        return rule(count == arity(number(m)), 8, n);
+        return rule(count == functions::arity(number(m)), 8, n);
     }
     broken(8, n)
 }

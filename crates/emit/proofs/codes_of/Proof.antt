@@ -105,7 +105,7 @@ returns-7 c =
       ne-eqb _ _ (c .before .before .before .before .if6 .left),
       eq-eqb _ _ (c .before .before .before .if7 .taken),
       ← (c .before .before .meaning .ensures),
-      ← (c .before .function .ensures .0),
+      ← (c .before .function .ensures),
     )
     (c .used .ensures)
 

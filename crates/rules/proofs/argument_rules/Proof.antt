@@ -2,7 +2,7 @@
 use Rattle.static_rules.specs.Rules.{argumentRules}
 use Rattle.scopes.specs.Broken.{_⊕_}
 use Rattle.scopes.specs.declared.Broken.{Broken}
-use Rattle.rules.specs.Arguments.{argumentBy, WRITTEN-REGISTER, READ-REGISTER, BYTE-NUMBER, INDEXED-CELL, PLAIN-CELL}
+use Rattle.functions.specs.Arguments.{argumentBy, WRITTEN-REGISTER, READ-REGISTER, BYTE-NUMBER, INDEXED-CELL, PLAIN-CELL}
 use mathlib.Core.Path.{ap₂, _∙_}
 use borrow.Author.Tests.{ne-eqb}
 use borrow.Author.Needs.{needs}

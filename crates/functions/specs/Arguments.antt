@@ -1,8 +1,9 @@
--- What a standard function takes in a parenthesis, by number.
+-- What a standard function takes in a parenthesis, by number, and the rows of the table of functions.
+use mathlib.Core.List.{List, [], _∷_}
 use Prim.Native.Nat.{ℕ}
 use lib.Dec.{eqb}
 use Rattle.base.specs.Choose.{if_then_else_}
-use Rattle.static_rules.specs.Functions.{Argument, writtenRegister, readRegister, byteNumber, indexedCell, plainCell, surplus}
+use Rattle.static_rules.specs.Functions.{Argument, writtenRegister, readRegister, byteNumber, indexedCell, plainCell, surplus, Function, arity, argumentAt}
 
 abbrev pub SURPLUS : ℕ
 SURPLUS = 0
@@ -33,3 +34,7 @@ argumentBy a =
     if eqb a INDEXED-CELL then indexedCell else
     if eqb a PLAIN-CELL then plainCell else
     surplus
+
+-- what it takes in its first and in its second parenthesis, in how many, its opcode, its number
+abbrev pub rowOf : Function → List ℕ
+rowOf g = argumentNumber (argumentAt g 0) ∷ argumentNumber (argumentAt g 1) ∷ arity g ∷ g .op ∷ g .number ∷ []

@@ -1,0 +1,2 @@
+-- The table in the code is the definition's.
+pub mod Table

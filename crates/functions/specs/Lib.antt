@@ -1,0 +1,2 @@
+-- What functions take, by number.
+pub mod Arguments
