@@ -188,11 +188,6 @@ const STOP: u64 = 0x0a;
 // "always is mask 15"
 const ALWAYS: u64 = 15;
 
-// The widths of cells' elements by their numbers: the others are bytes.
-const FULL: u64 = 0;
-
-const SHORT: u64 = 1;
-
 // "Program base is register 15. Data base is 14"
 const PROGRAM_BASE: u64 = 15;
 
@@ -325,10 +320,10 @@ pub fn nth(m: Codes, k: usize) -> Code
 fn column_of(width: u64) -> usize
     ensures { λ r. ⌜ (r ≡ columnOf width) × (r < 4) ⌝ }
 {
-    if width == FULL {
+    if width == tables::FULL {
         return 1;
     }
-    if width == SHORT {
+    if width == tables::SHORT {
         return 2;
     }
     3
@@ -448,7 +443,7 @@ fn is_long(u: Use) -> bool
         Use::Absent => false,
         Use::Held(_) => true,
         Use::Number(_) => true,
-        Use::Stored(width, _, _, _) => width == FULL,
+        Use::Stored(width, _, _, _) => width == tables::FULL,
     }
 }
 
