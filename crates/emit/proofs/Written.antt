@@ -2,7 +2,7 @@
 use mathlib.Core.Path.{_≡_, refl, sym, ap, ap₂, _∙_}
 use mathlib.Core.Bool.{true, false}
 use mathlib.Core.List.{List, [], _∷_, _++_, map, map-append}
-use Prim.Native.Nat.{ℕ, _+_, _-_}
+use Prim.Native.Nat.{ℕ, _+_, _-_, _/_, _%_}
 use lib.Dec.{eqb}
 use Rattle.base.specs.Choose.{if_then_else_}
 use Rattle.base.specs.Lists.{All, member}
@@ -26,7 +26,7 @@ use Rattle.emit.specs.declared.Use.the-variants.{Absent, Held, Stored}
 use Rattle.emit.specs.declared.Code.{Code}
 use Rattle.emit.specs.declared.Code.the-variants.{Four}
 use Rattle.emit.specs.declared.Codes.the-variants.{None}
-use Rattle.emit.specs.Codes.{listOf, columnOf, applyCode, isAbsent, applyCodes, applyThen, signCode, signedCodes, loadCodes, heldIn, amountIn, isLongUse, productRegister, termCodes, firstCodes, nextCodes, upperHalf, lowerHalf, functionCodes}
+use Rattle.emit.specs.Codes.{listOf, columnOf, applyCode, isAbsent, applyCodes, applyThen, signCode, signedCodes, loadCodes, heldIn, amountIn, isLongUse, productRegister, termCodes, firstCodes, nextCodes, halfOf, functionCodes}
 use Rattle.emit.specs.Events.{functionIn}
 use Rattle.emit.specs.Along.{codeAt, codeFor, signEvent}
 use Rattle.emit.proofs.Operands.{Small, offsetAt, stands, placed, used, by-place, by-use}
@@ -53,12 +53,12 @@ by-function P each none m = by-test P (isFunctionIn m) _ _ (λ e. all-getD P fun
 -- the number of MVI and CLI stands in place of the register and the index; no other opcode has one
 function-with :
     (at : ℕ → ℕ) (r v m : ℕ) (a : Datum)
-    → codeAt at (functionIn m .op) (upperHalf (functionIn m .op) r v) (lowerHalf (functionIn m .op) (indexRegister a) v) a
+    → codeAt at (functionIn m .op) (halfOf (functionIn m .op) (v / 16) r) (halfOf (functionIn m .op) (v % 16) (indexRegister a)) a
     ≡ codeFor at (functionWith (functionIn m .form) (functionIn m .op) r v a)
 unfolding codeFor
 function-with at r v m a =
     by-function
-    (λ (g : Function). codeAt at (g .op) (upperHalf (g .op) r v) (lowerHalf (g .op) (indexRegister a) v) a ≡ codeFor at (functionWith (g .form) (g .op) r v a))
+    (λ (g : Function). codeAt at (g .op) (halfOf (g .op) (v / 16) r) (halfOf (g .op) (v % 16) (indexRegister a)) a ≡ codeFor at (functionWith (g .form) (g .op) r v a))
     (refl, (refl, (refl, (refl, (refl, (refl, (refl, (refl, (refl, tt))))))))) refl m
 
 -- the first operand and those behind their operators, for a target
@@ -146,7 +146,7 @@ module _ (f : Tables) (means under offsets : List ℕ) (table : f .means ≡ mea
         by-use f means under table offsets small (λ s n l u w. listOf (functionCodes (functionIn m .op) r v w) ≡ coded offsets (functionOn (functionIn m) r v u)) refl (λ s. refl)
         (λ n. one (literal n)) (λ c o x. one (element c o x)) a i j h
       where
-        one : (d : Datum) → codeAt (offsetAt offsets) (functionIn m .op) (upperHalf (functionIn m .op) r v) (lowerHalf (functionIn m .op) (indexRegister d) v) d ∷ []
+        one : (d : Datum) → codeAt (offsetAt offsets) (functionIn m .op) (halfOf (functionIn m .op) (v / 16) r) (halfOf (functionIn m .op) (v % 16) (indexRegister d)) d ∷ []
             ≡ coded offsets (functionWith (functionIn m .form) (functionIn m .op) r v d ∷ [])
         one d = ap (λ (c : Code). c ∷ []) (function-with (offsetAt offsets) r v m d)
 

@@ -134,19 +134,16 @@ nextCodes (Stored w x b d) kind u = None
 abbrev pub isImmediate : (op : ℕ) → Bool
 isImmediate op = leb 128 op
 
--- the halves of an instruction's second byte: of the number v, or the register r and the index x
-abbrev pub upperHalf : (op r v : ℕ) → ℕ
-upperHalf op r v = if isImmediate op then v / 16 else r
-
-abbrev pub lowerHalf : (op x v : ℕ) → ℕ
-lowerHalf op x v = if isImmediate op then v % 16 else x
+-- a half of an instruction's second byte: the number's where the opcode takes one, else the register or the index
+abbrev pub halfOf : (op ofNumber field : ℕ) → ℕ
+halfOf op ofNumber field = if isImmediate op then ofNumber else field
 
 -- with the last argument, by the register r or the number v before it
 unfoldable pub functionCodes : (op r v : ℕ) → Use → Codes
 functionCodes op r v Absent = None
 functionCodes op r v (Held s) = One (Two op r s)
-functionCodes op r v (Number n) = One (Literal op (upperHalf op r v) (lowerHalf op 0 v) n)
-functionCodes op r v (Stored w x b d) = One (Four op (upperHalf op r v) (lowerHalf op x v) b d)
+functionCodes op r v (Number n) = One (Literal op (halfOf op (v / 16) r) (halfOf op (v % 16) 0) n)
+functionCodes op r v (Stored w x b d) = One (Four op (halfOf op (v / 16) r) (halfOf op (v % 16) x) b d)
 
 -- ── the others ──
 

@@ -11,7 +11,7 @@ ghost use Rattle.static_rules.specs.Functions.{functionAt};
 ghost use Rattle.static_rules.specs.Rules.{shifts};
 ghost use Rattle.translation.specs.Instructions.{opcode as opcodeOf, rowOf, shiftCode, falseMask};
 ghost use Rattle.translation.specs.Core.{exitMask};
-ghost use Rattle.emit.specs.Codes.{listOf, blank as blankCode, codeSize, codeSizes, columnOf, applyCode, isAbsent, applyCodes, applyThen, signCode, signedCodes, loadCodes, heldIn, amountIn, isLongUse, productRegister, termCodes, firstCodes, nextCodes, isImmediate, upperHalf, lowerHalf, functionCodes, branchCode, linkCode, baseCode, returnCode, stopCode};
+ghost use Rattle.emit.specs.Codes.{listOf, blank as blankCode, codeSize, codeSizes, columnOf, applyCode, isAbsent, applyCodes, applyThen, signCode, signedCodes, loadCodes, heldIn, amountIn, isLongUse, productRegister, termCodes, firstCodes, nextCodes, isImmediate, halfOf, functionCodes, branchCode, linkCode, baseCode, returnCode, stopCode};
 ghost use Rattle.emit.specs.Events.{subscriptIn, indexIn, elementIn, placeBy, placeIn, useIn, returnIn, registerAt, goalAt, functionIn, more as moreOf, noWriting, signing as signingOf, writtenAfter, comparedCodes, bareCodes, limitCodes, stepCodes, secondCodes, usedCodes, otherCodes, codesOf, emittedIn};
 use arrays::kind;
 use base::less;
@@ -505,23 +505,14 @@ fn is_immediate(op: u64) -> bool
     128 <= op
 }
 
-// The halves of an instruction's second byte: of the number v, or the register r and the index x.
-fn upper_half(op: u64, r: u64, v: u64) -> u64
-    ensures { λ n. ⌜ n ≡ upperHalf op r v ⌝ }
+// A half of an instruction's second byte: the number's where the opcode takes one, else the register or the index.
+fn half(op: u64, of_number: u64, field: u64) -> u64
+    ensures { λ n. ⌜ n ≡ halfOf op of_number field ⌝ }
 {
     if is_immediate(op) {
-        return v / 16;
+        return of_number;
     }
-    r
-}
-
-fn lower_half(op: u64, x: u64, v: u64) -> u64
-    ensures { λ n. ⌜ n ≡ lowerHalf op x v ⌝ }
-{
-    if is_immediate(op) {
-        return v % 16;
-    }
-    x
+    field
 }
 
 // With the last argument, by the register r or the number v before it.
@@ -533,14 +524,14 @@ fn function_codes(op: u64, r: u64, v: u64, u: Use) -> Codes
         Use::Held(s) => Codes::One(Code::Two(op, r, s)),
         Use::Number(n) => Codes::One(Code::Literal(
             op,
-            upper_half(op, r, v),
-            lower_half(op, 0, v),
+            half(op, v / 16, r),
+            half(op, v % 16, 0),
             n,
         )),
         Use::Stored(_, x, b, d) => Codes::One(Code::Four(
             op,
-            upper_half(op, r, v),
-            lower_half(op, x, v),
+            half(op, v / 16, r),
+            half(op, v % 16, x),
             b,
             d,
         )),

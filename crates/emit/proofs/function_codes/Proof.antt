@@ -13,20 +13,20 @@ enum-known-u c = search needs
 enum-known-u-2 : tie.Need-enum-known-u-2
 enum-known-u-2 c = search needs
 
-upper-half-requires : tie.Need-upper-half-requires
-upper-half-requires c κs = search needs
+half-requires : tie.Need-half-requires
+half-requires c κs = search needs
 
-lower-half-requires : tie.Need-lower-half-requires
-lower-half-requires c κs = search needs
+half-requires-2 : tie.Need-half-requires-2
+half-requires-2 c κs = search needs
 
 enum-known-u-3 : tie.Need-enum-known-u-3
 enum-known-u-3 c = search needs
 
-upper-half-requires-2 : tie.Need-upper-half-requires-2
-upper-half-requires-2 c κs = search needs
+half-requires-3 : tie.Need-half-requires-3
+half-requires-3 c κs = search needs
 
-lower-half-requires-2 : tie.Need-lower-half-requires-2
-lower-half-requires-2 c κs = search needs
+half-requires-4 : tie.Need-half-requires-4
+half-requires-4 c κs = search needs
 
 returns : tie.Need-returns
 unfolding functionCodes
@@ -38,13 +38,13 @@ returns-2 c = rw (c .before .u .given .1)
 
 returns-3 : tie.Need-returns-3
 unfolding functionCodes
-returns-3 c = rw (c .before .before .before .u2 .given .1, ← (c .before .upper-half .ensures), ← (c .lower-half .ensures))
+returns-3 c = rw (c .before .before .before .u2 .given .1, ← (c .before .half .ensures), ← (c .half2 .ensures))
 
 returns-4 : tie.Need-returns-4
 unfolding functionCodes
-returns-4 c = rw (c .before .before .before .u3 .given .1, ← (c .before .upper-half2 .ensures), ← (c .lower-half2 .ensures))
+returns-4 c = rw (c .before .before .before .u3 .given .1, ← (c .before .half3 .ensures), ← (c .half4 .ensures))
 
 pub function-codes-spec : {M : Type 1} → statement M
 function-codes-spec = tie.close
-    (tie.spec enum-told enum-known-u enum-known-u-2 upper-half-requires lower-half-requires enum-known-u-3 upper-half-requires-2 lower-half-requires-2 returns returns-2
+    (tie.spec enum-told enum-known-u enum-known-u-2 half-requires half-requires-2 enum-known-u-3 half-requires-3 half-requires-4 returns returns-2
     returns-3 returns-4)
