@@ -9,7 +9,8 @@ use borrow.Author.Tests.{leb-true, ltb-true, ltb-false}
 use Rattle.base.specs.Tables.{every}
 use Rattle.base.proofs.Tables.{at}
 use Rattle.base.proofs.Tests.{is-true, cases}
-use Rattle.static_rules.specs.Functions.{Argument, writtenRegister, readRegister, byteNumber, indexedCell, plainCell, surplus, Function, functionTable, noFunction, functionAt, arity, argumentAt, isWritten}
+use Rattle.static_rules.specs.Functions.{Argument, writtenRegister, readRegister, byteNumber, indexedCell, plainCell, surplus}
+use Rattle.static_rules.specs.Functions.{Function, functionTable, noFunction, functionAt, arity, argumentAt, isWritten}
 use Rattle.functions.specs.Arguments.{SURPLUS, WRITTEN-REGISTER, argumentNumber, argumentBy, rowOf}
 
 -- ── by number ──
@@ -73,7 +74,8 @@ module _ (g : Function) where
   argument-is (suc (suc p)) h = absurd (omega arith)
 
 few : (l : List Function) → T (every (λ (i : ℕ) (g : Function). leb (arity g) 2) 0 l) → (k : ℕ) → arity (getD l k noFunction) ≤ 2
-few l t k = cases (ltb k (length l)) (λ h. leb-true _ _ (is-true _ (at (λ (i : ℕ) (g : Function). leb (arity g) 2) noFunction l t k (ltb-true _ _ h))))
+few l t k =
+    cases (ltb k (length l)) (λ h. leb-true _ _ (is-true _ (at (λ (i : ℕ) (g : Function). leb (arity g) 2) noFunction l t k (ltb-true _ _ h))))
     (λ h. rw (List·getD-eq-default l noFunction {n = k} (ltb-false _ _ h)) (omega arith))
 
 pub no-third : (k p : ℕ) → 2 ≤ p → SURPLUS ≡ argumentNumber (argumentAt (functionAt k) p)

@@ -1,4 +1,4 @@
--- What a standard function takes in a parenthesis, by number, and the rows of the table of functions.
+-- What a standard function takes in a parenthesis, by number; a function as a row of numbers.
 use mathlib.Core.List.{List, [], _∷_}
 use Prim.Native.Nat.{ℕ}
 use lib.Dec.{eqb}

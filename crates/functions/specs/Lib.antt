@@ -1,2 +1,2 @@
--- What functions take, by number.
+-- Functions as rows of numbers.
 pub mod Arguments
