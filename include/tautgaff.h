@@ -1,6 +1,6 @@
 /* Tautgaff for C and C++: PL360 translated, and what it becomes run. Link with target/libtautgaff.a (`make library`), x86-64 Linux.
  *
- * Both functions are proved to do, for all they may be handed, what document 01 says (docs/PROMISES.md): they have no state of their own, open, print and
+ * Both functions are proved to do, for all they may be handed, what the papers say (docs/PROMISES.md): they have no state of their own, open, print and
  * allocate nothing, always return, and read and write no memory but the lent. So they may be called from any thread, and from several at once, each with
  * memory of its own. What is lent to one call must not overlap, save that things only read may. No pointer may be null, also before a length of 0. */
 #ifndef TAUTGAFF_H

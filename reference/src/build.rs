@@ -8,18 +8,9 @@ use crate::kinds::{only, RegisterSet, DATA_BASE, PROGRAM_BASE};
 use crate::layout::next_multiple;
 use crate::random::Random;
 use crate::spell::{any_value, number};
-use crate::BYTE_FUNCTIONS;
 use std::collections::HashSet;
 
 /// Names to be declared.
-fn pool() -> &'static [&'static str] {
-    if BYTE_FUNCTIONS {
-        &POOL
-    } else {
-        &POOL[..44]
-    }
-}
-
 const POOL: [&str; 52] = [
     "A",
     "B",
@@ -258,7 +249,7 @@ impl<'a> Builder<'a> {
         loop {
             let name = match self.random.below(8) {
                 0 => format!("V{}", self.random.below(1000)),
-                _ => self.random.of(pool()).to_string(),
+                _ => self.random.of(&POOL).to_string(),
             };
             let slip = self.slips();
             if slip || self.here().names.iter().all(|(other, _)| counted(other) != counted(&name)) {
@@ -327,7 +318,7 @@ impl<'a> Builder<'a> {
     }
 
     fn cell_type(&mut self) -> Type {
-        if BYTE_FUNCTIONS && self.random.chance(2, 5) {
+        if self.random.chance(2, 5) {
             return *self.random.of(&[Type::Byte, Type::Character]);
         }
         if self.random.chance(1, 2) {
@@ -439,7 +430,7 @@ impl<'a> Builder<'a> {
                 names.push((name, Thing::Register(register as u8)));
             }
         }
-        let standard = FUNCTIONS.iter().filter(|function| BYTE_FUNCTIONS && !seen.contains(function.name));
+        let standard = FUNCTIONS.iter().filter(|function| !seen.contains(function.name));
         names.extend(standard.map(|function| (function.name.to_string(), Thing::Function(*function))));
         names
     }
@@ -457,7 +448,7 @@ impl<'a> Builder<'a> {
         let names = self.in_force();
         if self.slips() {
             let name = match self.random.below(3) {
-                0 => self.random.of(pool()).to_string(),
+                0 => self.random.of(&POOL).to_string(),
                 _ => self.random.of(&names).0.clone(),
             };
             return Some((name, Thing::Register(self.random.below(16) as u8)));
@@ -501,7 +492,7 @@ impl<'a> Builder<'a> {
     }
 
     fn simple(&mut self) {
-        if BYTE_FUNCTIONS && self.random.chance(1, 4) {
+        if self.random.chance(1, 4) {
             return self.function();
         }
         match self.random.below(20) {
@@ -663,7 +654,7 @@ impl<'a> Builder<'a> {
     }
 
     fn store(&mut self) {
-        let bytes_too = BYTE_FUNCTIONS && self.slips();
+        let bytes_too = self.slips();
         match self.name(|thing| matches!(thing, Thing::Cell { of, .. } if bytes_too || !of.is_byte())) {
             Some((name, Thing::Cell { of, count })) => {
                 self.designator(&name, of, count, true);
@@ -768,7 +759,7 @@ impl<'a> Builder<'a> {
     }
 
     fn cell_operand(&mut self, short_too: bool) -> Sort {
-        let bytes_too = BYTE_FUNCTIONS && self.slips();
+        let bytes_too = self.slips();
         let fits = |thing: &Thing| match thing {
             Thing::Cell { of, .. } => (*of == Type::Integer) || (short_too && *of == Type::Short) || bytes_too,
             _ => false,

@@ -1,6 +1,6 @@
 //! The commands that watch runs, under the reference's own runner; `tests/watch` does it under the proved one.
 
-use crate::slips::slips;
+use crate::slips::SLIPS;
 use crate::watching::{campaign, reference_runner, reference_translator, try_changed_bytes, try_slip, Texts};
 use std::io;
 
@@ -34,7 +34,7 @@ pub fn main(words: &[&str]) -> io::Result<i32> {
         }
         ["watch-slips", seed, count] => {
             let mut status = 0;
-            for &slip in slips() {
+            for slip in SLIPS {
                 for texts in [Texts::Generated, Texts::Hunted] {
                     let trial = try_slip(slip, texts, number(seed)?, number(count)?);
                     print!("{}", trial.report(&format!("{slip:?}, {texts:?}")));

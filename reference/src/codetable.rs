@@ -5,7 +5,6 @@ use crate::gen::right_text;
 use crate::objread;
 use crate::random::Random;
 use crate::translate::translate;
-use crate::BYTE_FUNCTIONS;
 
 /// What stands in the text, IBM's name of the instruction, the opcode.
 type Row = (&'static str, &'static str, u8);
@@ -69,7 +68,7 @@ const BASES: [u8; 5] = [0, 1, 12, 14, 15];
 /// IBM's name for a listed opcode.
 pub fn mnemonic(opcode: u8) -> Option<&'static str> {
     let rows = REGISTER.iter().chain(&INTEGER_CELL).chain(&SHORT_CELL).chain(&SHIFTS).chain(&SIGNS);
-    let functions = ON_REGISTERS.iter().chain(&WITH_REGISTER).chain(&WITH_NUMBER).filter(|_| BYTE_FUNCTIONS);
+    let functions = ON_REGISTERS.iter().chain(&WITH_REGISTER).chain(&WITH_NUMBER);
     let rows = rows.chain(functions).chain(&[BRANCH, RETURN, CALL, END]);
     rows.clone().find(|row| row.2 == opcode).map(|row| row.1)
 }
@@ -110,9 +109,7 @@ pub fn lines() -> String {
             line(two(RETURN.2, mask, target), RETURN.1, format!("{mask},{target}"));
         }
     }
-    if BYTE_FUNCTIONS {
-        functions(&mut line);
-    }
+    functions(&mut line);
     line(two(END.2, 0, 0), END.1, "0".to_string());
     text
 }

@@ -1,7 +1,7 @@
 //! A second opinion on refusal 4: a general recognizer (Earley's) of the grammar as the papers write it. It knows
 //! nothing of how the grammar is best read.
 
-use crate::token::{reserved, Kind, SIGNS};
+use crate::token::{Kind, RESERVED, SIGNS};
 use std::collections::{HashMap, HashSet};
 
 /// Document 01's grammar. `{ }` is any number of times, `[ ]` once or not at all, `|` stands for "or"; words in small
@@ -42,8 +42,7 @@ pub const BYTE_RULES: [(&str, &str); 2] = [
 
 /// The grammar in force.
 pub fn grammar() -> String {
-    let rules: &[_] = if crate::BYTE_FUNCTIONS { &BYTE_RULES } else { &[] };
-    rules.iter().fold(DOCUMENT_01.to_string(), |grammar, (before, now)| {
+    BYTE_RULES.iter().fold(DOCUMENT_01.to_string(), |grammar, (before, now)| {
         assert!(grammar.contains(before));
         grammar.replace(before, now)
     })
@@ -264,7 +263,7 @@ impl GrammarReader<'_> {
     }
 
     fn symbol(&mut self, word: &str) -> Symbol {
-        if let Some((_, kind)) = reserved().iter().chain(&SIGNS).find(|(spelled, _)| *spelled == word) {
+        if let Some((_, kind)) = RESERVED.iter().chain(&SIGNS).find(|(spelled, _)| *spelled == word) {
             return Symbol::Terminal(*kind);
         }
         match word {

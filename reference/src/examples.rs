@@ -5,7 +5,7 @@ use crate::help;
 use crate::layout::{layout, Place};
 use crate::machine::origin;
 use crate::manual;
-use crate::refusals::{entries, page, Entry};
+use crate::refusals::{entries, page, Entry, Example};
 use crate::runcase::{answer_line, Case};
 use crate::runner::{RunAnswer, STORAGE_NEEDED};
 use crate::token::{spelling, tokens, Spelling};
@@ -234,7 +234,7 @@ pub fn texts(dir: &Path) -> io::Result<String> {
 /// All texts, the manual's too, in the form of the stored vectors.
 fn text_vectors(dir: &Path, entries: &[Entry], manual: &[manual::Told]) -> io::Result<Vec<u8>> {
     let mut cases: Vec<_> = sources(dir)?.into_iter().map(|(_, text)| vectors::case(text, UNLIMITED)).collect();
-    for example in entries.iter().flat_map(|entry| [&entry.gets, &entry.not]) {
+    for example in entries.iter().flat_map(|entry| &entry.examples) {
         cases.extend(example.with("room").map(|room| vectors::case(example.text(), room as usize)));
     }
     cases.extend(manual.iter().map(|told| vectors::case(told.text.clone().into_bytes(), UNLIMITED)));
@@ -251,7 +251,7 @@ fn run_vectors(dir: &Path, entries: &[Entry], manual: &[manual::Told]) -> io::Re
     for line in std::fs::read_to_string(dir.join("datum.sites"))?.lines() {
         cases.extend(site(line)?.and_then(|given| case(&datum, &given)));
     }
-    cases.extend(entries.iter().flat_map(|entry| [entry.gets.case(), entry.not.case()]).flatten());
+    cases.extend(entries.iter().flat_map(|entry| &entry.examples).filter_map(Example::case));
     for told in manual {
         for (given, _) in told.gives.iter().filter_map(|line| manual::run(line)) {
             cases.extend(case(told.text.as_bytes(), &given));
@@ -273,12 +273,10 @@ pub fn files(dir: &Path) -> io::Result<Vec<(String, Vec<u8>)>> {
     let usage = std::fs::read_to_string(dir.join("../command/usage"))?;
     files.push(("../crates/helping/specs/Pages.antt".to_string(), help::definition(&entries, &usage).into_bytes()));
     files.push(("../crates/helping/src/pages.rt".to_string(), help::code(&entries, &usage).into_bytes()));
-    for entry in &entries {
-        for (gets, example) in [(true, &entry.gets), (false, &entry.not)] {
-            files.push((format!("refusals/{}", entry.file(gets)), example.text()));
-        }
+    for (name, example) in entries.iter().flat_map(Entry::files) {
+        files.push((format!("refusals/{name}"), example.text()));
     }
-    for text in ["datum", "magic", "search"] {
+    for text in ["datum", "magic", "search", "sheet"] {
         let source = std::fs::read(dir.join(format!("{text}.pl360")))?;
         files.push((format!("{text}.object"), translate(&source, None).object));
     }

@@ -64,5 +64,5 @@ pub const FUNCTIONS: [Function; 9] = [
 /// The standard function of this name.
 pub fn standard(name: Spelling) -> Option<Function> {
     let of_name = |function: &&Function| spelling(function.name.as_bytes()) == name;
-    FUNCTIONS.iter().find(of_name).copied().filter(|_| crate::BYTE_FUNCTIONS)
+    FUNCTIONS.iter().find(of_name).copied()
 }

@@ -7,8 +7,7 @@ use crate::grammar::Type;
 use crate::layout::next_multiple;
 use crate::random::Random;
 use crate::spell::{any_value, number, number_out_of_range, set_in_lines, text};
-use crate::token::{reserved, SIGNS, TEXT_LIMIT};
-use crate::BYTE_FUNCTIONS;
+use crate::token::{RESERVED, SIGNS, TEXT_LIMIT};
 
 /// The text with this number under the seed.
 pub fn case(seed: u64, number: u64) -> Vec<u8> {
@@ -16,7 +15,7 @@ pub fn case(seed: u64, number: u64) -> Vec<u8> {
 }
 
 fn any_text(random: &mut Random) -> Vec<u8> {
-    if BYTE_FUNCTIONS && random.chance(1, 10) {
+    if random.chance(1, 10) {
         return rows(random);
     }
     match random.below(1000) {
@@ -111,7 +110,7 @@ pub fn mutated_tokens(random: &mut Random) -> Vec<u8> {
 }
 
 fn is_name(token: &str) -> bool {
-    token.starts_with(|first: char| first.is_ascii_uppercase()) && reserved().iter().all(|(word, _)| *word != token)
+    token.starts_with(|first: char| first.is_ascii_uppercase()) && RESERVED.iter().all(|(word, _)| *word != token)
 }
 
 fn is_number(token: &str) -> bool {
@@ -120,17 +119,15 @@ fn is_number(token: &str) -> bool {
 
 const OPERATORS: [&str; 12] = ["+", "-", "*", "++", "--", "AND", "OR", "XOR", "SHLL", "SHRL", "SHLA", "SHRA"];
 const RELATIONS: [&str; 6] = ["=", "^=", "<", "<=", ">=", ">"];
-const TYPES: [&str; 2] = ["INTEGER", "LOGICAL"];
-const ALL_TYPES: [&str; 4] = ["INTEGER", "LOGICAL", "BYTE", "CHARACTER"];
+const TYPES: [&str; 4] = ["INTEGER", "LOGICAL", "BYTE", "CHARACTER"];
 
 /// A token in place of another of its kind, so that the text stays a program.
 fn replace_alike(random: &mut Random, tokens: &mut [String]) {
-    let types = if BYTE_FUNCTIONS { &ALL_TYPES[..] } else { &TYPES };
     let names: Vec<String> = tokens.iter().filter(|token| is_name(token)).cloned().collect();
     for _ in 0..20 {
         let at = random.below(tokens.len());
         let old = tokens[at].as_str();
-        let new = if BYTE_FUNCTIONS && is_name(old) && random.chance(1, 6) {
+        let new = if is_name(old) && random.chance(1, 6) {
             random.of(&FUNCTIONS).name.to_string()
         } else if is_name(old) {
             match random.below(4) {
@@ -141,7 +138,7 @@ fn replace_alike(random: &mut Random, tokens: &mut [String]) {
         } else if is_number(old) {
             let value = any_value(random);
             number(random, value)
-        } else if let Some(list) = [&OPERATORS[..], &RELATIONS, types].into_iter().find(|list| list.contains(&old)) {
+        } else if let Some(list) = [&OPERATORS[..], &RELATIONS, &TYPES].into_iter().find(|list| list.contains(&old)) {
             random.of(list).to_string()
         } else {
             continue;
@@ -153,7 +150,7 @@ fn replace_alike(random: &mut Random, tokens: &mut [String]) {
 
 /// Any token of the language.
 fn any_token(random: &mut Random) -> String {
-    if BYTE_FUNCTIONS && random.chance(1, 12) {
+    if random.chance(1, 12) {
         return random.of(&FUNCTIONS).name.to_string();
     }
     match random.below(10) {
@@ -162,7 +159,7 @@ fn any_token(random: &mut Random) -> String {
             let value = any_value(random);
             number(random, value)
         }
-        3..=6 => random.of(reserved()).0.to_string(),
+        3..=6 => random.of(&RESERVED).0.to_string(),
         _ => random.of(&SIGNS).0.to_string(),
     }
 }
@@ -362,7 +359,7 @@ fn full_segment(random: &mut Random) -> Vec<u8> {
     let over = *random.of(&[0, 0, 1, 1, 1]);
     let mut item = 0;
     loop {
-        let byte = BYTE_FUNCTIONS && random.chance(1, 3);
+        let byte = random.chance(1, 3);
         let of = if byte {
             Type::Byte
         } else if random.chance(1, 2) {
@@ -497,7 +494,7 @@ const FEW_REGISTERS: [&str; 8] = ["R3", "R4", "R5", "R6", "R7", "R8", "RB", "RC"
 
 /// Procedures that write or return by few registers, and calls among them.
 fn protected(random: &mut Random) -> Vec<u8> {
-    let mut phrase = if BYTE_FUNCTIONS { "BEGIN BYTE B ; " } else { "BEGIN " }.to_string();
+    let mut phrase = "BEGIN BYTE B ; ".to_string();
     let procedures = random.range(2, 5);
     for procedure in 0..procedures {
         let own = *random.of(&FEW_REGISTERS);
@@ -516,7 +513,7 @@ fn protected(random: &mut Random) -> Vec<u8> {
 /// up to the `callable`th may be called.
 fn written_somehow(random: &mut Random, callable: usize, depth: usize) -> String {
     let register = *random.of(&FEW_REGISTERS);
-    if BYTE_FUNCTIONS && random.chance(1, 4) {
+    if random.chance(1, 4) {
         let (name, second) = *random.of(&[("IC", "B"), ("LA", "B"), ("LTR", "R1"), ("STC", "B"), ("LTR", "RE")]);
         return format!("{name} ( {register} ) ( {second} )");
     }
@@ -633,7 +630,7 @@ fn tiny(random: &mut Random) -> Vec<u8> {
         match random.below(4) {
             0 => text.push(random.next() as u8),
             1 => text.extend(random.of(&SIGNS).0.as_bytes()),
-            2 => text.extend(random.of(reserved()).0.as_bytes()),
+            2 => text.extend(random.of(&RESERVED).0.as_bytes()),
             _ => text.extend(random.of(&["BEGIN ", "END ", "@", " ", "COMMENT", "COMMENT;", "\n", "R1"]).as_bytes()),
         }
     }

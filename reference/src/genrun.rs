@@ -10,7 +10,6 @@ use crate::random::Random;
 use crate::runcase::Case;
 use crate::runner::{self, STORAGE_NEEDED};
 use crate::translate::translate;
-use crate::BYTE_FUNCTIONS;
 
 /// A 32-bit value, most often one at an edge.
 pub fn value(random: &mut Random) -> u32 {
@@ -55,16 +54,7 @@ const CALL: u8 = 0x45;
 const RETURN: u8 = 0x07;
 const END: [u8; 2] = [0x0A, 0x00];
 
-/// All that are listed: for random code.
-fn listed() -> &'static [u8] {
-    if BYTE_FUNCTIONS {
-        &LISTED
-    } else {
-        &LISTED[..38]
-    }
-}
-
-/// Document 01's, then those of document 02, 1/13.
+/// All that are listed, for random code: document 01's, then those of document 02, 1/13.
 const LISTED: [u8; 44] = [
     0x07, 0x0A, 0x10, 0x11, 0x13, 0x14, 0x16, 0x17, 0x18, 0x19, 0x1A, 0x1B, 0x1C, 0x1E, 0x1F, 0x40, 0x45, 0x47, 0x48,
     0x49, 0x4A, 0x4B, 0x4C, 0x50, 0x54, 0x56, 0x57, 0x58, 0x59, 0x5A, 0x5B, 0x5C, 0x5E, 0x5F, 0x88, 0x89, 0x8A, 0x8B,
@@ -287,7 +277,7 @@ fn branch_somewhere(random: &mut Random, program: &mut [Vec<u8>]) {
 
 /// Any instruction but a branch that is taken, its operand most often legal.
 fn plain(random: &mut Random, segments: &[DataSegment]) -> Vec<u8> {
-    if BYTE_FUNCTIONS && random.chance(1, 4) {
+    if random.chance(1, 4) {
         return on_bytes(random, segments);
     }
     match random.below(24) {
@@ -399,7 +389,7 @@ fn in_storage(random: &mut Random, segments: &[DataSegment], op: u8, size: usize
 fn listed_bytes(random: &mut Random) -> Vec<u8> {
     let mut bytes = Vec::new();
     for _ in 0..random.range(1, 12) {
-        let op = *random.of(listed());
+        let op = *random.of(&LISTED);
         let length = if op < 0x40 { 2 } else { 4 };
         bytes.push(op);
         bytes.extend((1..length).map(|_| random.next() as u8));

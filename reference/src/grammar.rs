@@ -2,7 +2,6 @@
 //! The tree holds token numbers; a token number is what `TokenNo` counts from 0.
 
 use crate::token::{Kind, Refusal, Token};
-use crate::BYTE_FUNCTIONS;
 
 pub type TokenNo = usize;
 
@@ -336,7 +335,6 @@ impl Reader<'_> {
         match self.kind() {
             Kind::Name => match self.next_kind() {
                 Some(Kind::Assign) => Ok(Statement::Assignment(self.assignment()?)),
-                Some(Kind::Open) if !BYTE_FUNCTIONS => Ok(Statement::Assignment(self.assignment()?)),
                 _ => self.use_or_assignment(),
             },
             Kind::Begin => Ok(Statement::Block(self.block()?)),

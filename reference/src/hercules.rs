@@ -11,13 +11,12 @@ use crate::objread;
 use crate::random::Random;
 use crate::runcase::{answer_line, Case, STORAGE_BEFORE};
 use crate::runner::{self, RunAnswer, STORAGE_NEEDED};
-use crate::BYTE_FUNCTIONS;
 use std::io::{self, Write};
 use std::path::Path;
 
 const SEED: u64 = 370;
 /// How often each instruction of the list is tried, in turn; then come the end and products with an odd field.
-const EACH: usize = if BYTE_FUNCTIONS { 510 } else { 500 };
+const EACH: usize = 510;
 const ENDS: usize = 50;
 const ODD_PRODUCTS: usize = 450;
 /// How many of each are stored for others to be held against.
@@ -25,19 +24,10 @@ const STORED_EACH: usize = 100;
 
 /// How many are stored in all.
 pub fn stored() -> usize {
-    STORED_EACH * opcodes().len()
+    STORED_EACH * OPCODES.len()
 }
 
-/// The listed opcodes that complete: all but the end.
-fn opcodes() -> &'static [u8] {
-    if BYTE_FUNCTIONS {
-        &OPCODES
-    } else {
-        &OPCODES[..37]
-    }
-}
-
-/// Document 01's, then those of document 02, 1/13.
+/// The listed opcodes that complete, all but the end: document 01's, then those of document 02, 1/13.
 const OPCODES: [u8; 43] = [
     0x07, 0x10, 0x11, 0x13, 0x14, 0x16, 0x17, 0x18, 0x19, 0x1A, 0x1B, 0x1C, 0x1E, 0x1F, 0x40, 0x45, 0x47, 0x48, 0x49,
     0x4A, 0x4B, 0x4C, 0x50, 0x54, 0x56, 0x57, 0x58, 0x59, 0x5A, 0x5B, 0x5C, 0x5E, 0x5F, 0x88, 0x89, 0x8A, 0x8B, 0x12,
@@ -106,7 +96,7 @@ struct Trial {
 /// The same trials at every call.
 fn trials() -> Vec<Trial> {
     let mut random = Random::new(SEED, 0);
-    let listed = (0..EACH * opcodes().len()).map(|i| opcodes()[i % opcodes().len()]);
+    let listed = (0..EACH * OPCODES.len()).map(|i| OPCODES[i % OPCODES.len()]);
     let products = (0..ODD_PRODUCTS).map(|i| [0x1C, 0x5C][i % 2]);
     let mut all: Vec<Trial> = listed.map(|op| trial(&mut random, op, false)).collect();
     all.extend((0..ENDS).map(|_| trial(&mut random, 0x0A, false)));

@@ -6,7 +6,6 @@ use crate::kinds::{only, RegisterSet, DATA_BASE, PROGRAM_BASE};
 use crate::random::Random;
 use crate::slips::Slip;
 use crate::spell::text;
-use crate::BYTE_FUNCTIONS;
 
 /// How deep procedures and blocks may stand inside each other.
 const DEPTH: usize = 9;
@@ -126,7 +125,7 @@ impl Hunter<'_> {
     }
 
     fn cells(&mut self) {
-        let byte = BYTE_FUNCTIONS && self.random.chance(1, 3);
+        let byte = self.random.chance(1, 3);
         let (words, size) = if byte { ("BYTE", 1) } else { *self.random.of(&[("INTEGER", 4), ("SHORT INTEGER", 2)]) };
         let name = self.name('C');
         let elements = if self.random.chance(1, 4) { Some(self.random.range(1, 8)) } else { None };
@@ -226,7 +225,7 @@ impl Hunter<'_> {
     fn statement(&mut self, any: bool) {
         self.statements = self.statements.saturating_sub(1);
         let often = if self.slip == Slip::FunctionsForgotten { 4 } else { 10 };
-        if BYTE_FUNCTIONS && self.random.chance(1, often) {
+        if self.random.chance(1, often) {
             return self.function();
         }
         match self.random.below(20) {

@@ -12,13 +12,9 @@
 //! `watch` watches a run of an accepted text, by what `meant` reads in the text; `hunt` makes texts that aim at protection,
 //! `slips` has wrong translators, and `watching` runs and tries the watcher on many.
 //!
-//! `functions` has the standard functions of document 02, 1/13, which the feature `byte-functions` adds to the language and to
-//! the machine; without it all is as document 01 alone says.
+//! `functions` has the standard functions of document 02, 1/13.
 //!
 //! `examples` makes the results beside the examples, `refusals` the page on refusals, and `manual` reads the manual's texts.
-
-/// Whether the byte functions of document 02, 1/13, are part of language and machine.
-pub const BYTE_FUNCTIONS: bool = cfg!(feature = "byte-functions");
 
 pub mod assemble;
 pub mod build;

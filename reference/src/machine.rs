@@ -1,7 +1,5 @@
 //! The machine: one instruction of document 01's list, or of document 02's 1/13, as System/360 carries it out.
 
-use crate::BYTE_FUNCTIONS;
-
 /// "Segment k goes to 4096·(k+1)".
 pub const SEGMENT_ROOM: u32 = 4096;
 /// The segments a machine can have: the program and three of data.
@@ -89,7 +87,7 @@ fn two_bytes(state: &mut State, [opcode, fields]: [u8; 2]) -> Result<(), Stop> {
         0x11 => (state.regs[r1], state.cc) = negative(state.regs[r2]),
         0x13 => (state.regs[r1], state.cc) = complement(state.regs[r2]),
         // LTR: the code by the signed value.
-        0x12 if BYTE_FUNCTIONS => {
+        0x12 => {
             state.regs[r1] = state.regs[r2];
             state.cc = sign_code(state.regs[r1]);
         }
@@ -131,15 +129,15 @@ fn four_bytes(state: &mut State, map: &Map, storage: &mut [u8], instruction: [u8
             store(storage, address, (state.regs[r1] as u16).to_be_bytes());
         }
         // LA: the address itself, high byte zero; storage is not touched.
-        0x41 if BYTE_FUNCTIONS => state.regs[r1] = indexed(state, instruction),
+        0x41 => state.regs[r1] = indexed(state, instruction),
         // STC: the low byte.
-        0x42 if BYTE_FUNCTIONS => {
+        0x42 => {
             let address = indexed(state, instruction);
             writable(map, address, 1)?;
             store(storage, address, [state.regs[r1] as u8]);
         }
         // IC: the low byte; the other 24 bits stay.
-        0x43 if BYTE_FUNCTIONS => {
+        0x43 => {
             let address = indexed(state, instruction);
             readable(map, address, 1)?;
             let [byte] = bytes(storage, address);
@@ -212,13 +210,13 @@ fn four_bytes(state: &mut State, map: &Map, storage: &mut [u8], instruction: [u8
             (state.regs[r1], state.cc) = shift_left_arithmetic(state.regs[r1], amount);
         }
         // MVI: the second byte into storage.
-        0x92 if BYTE_FUNCTIONS => {
+        0x92 => {
             let address = unindexed(state, instruction);
             writable(map, address, 1)?;
             store(storage, address, [fields]);
         }
         // CLI: the byte in storage is the first operand, the second byte the other; both unsigned.
-        0x95 if BYTE_FUNCTIONS => {
+        0x95 => {
             let address = unindexed(state, instruction);
             readable(map, address, 1)?;
             let [byte] = bytes(storage, address);

@@ -2,7 +2,6 @@
 //! and number, a text, the number and place that answer it, and the program's bytes where they tell the readings apart.
 
 use crate::byte_points::BYTE_POINTS;
-use crate::BYTE_FUNCTIONS;
 
 pub struct Point {
     pub name: &'static str,
@@ -25,7 +24,7 @@ pub(crate) const fn point(
 
 /// All that are decided of the language in force.
 pub fn points() -> impl Iterator<Item = &'static Point> {
-    POINTS.iter().chain(BYTE_POINTS.iter().filter(|_| BYTE_FUNCTIONS))
+    POINTS.iter().chain(BYTE_POINTS)
 }
 
 const POINTS: &[Point] = &[

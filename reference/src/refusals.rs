@@ -1,5 +1,5 @@
-//! The refusals and stops in words, read from `examples/refusals.data`, each with a text that gets it and one that does not; the page
-//! that is made of them; and what the texts are answered.
+//! The refusals and stops in words, read from `examples/refusals.data`, each with texts that get it, and beside each one that does
+//! not; the page that is made of them; and what the texts are answered.
 
 use crate::runcase::Case;
 use crate::runner::STORAGE_NEEDED;
@@ -25,6 +25,8 @@ pub struct Line {
 
 #[derive(Default)]
 pub struct Example {
+    /// Whether it gets what it is an example of.
+    pub gets: bool,
     pub lines: Vec<Line>,
     pub is_object: bool,
     /// `name=value`, as in the line `with`.
@@ -40,8 +42,8 @@ pub struct Entry {
     pub title: String,
     pub means: String,
     pub place: String,
-    pub gets: Example,
-    pub not: Example,
+    /// In turn one that gets it and one that does not.
+    pub examples: Vec<Example>,
 }
 
 impl Example {
@@ -100,19 +102,21 @@ impl Entry {
         format!("{} {}", if self.is_stop { "stop" } else { "refusal" }, self.number)
     }
 
-    /// The file's name of the text that gets it, or of the other one.
-    pub fn file(&self, gets: bool) -> String {
+    /// The examples, each with its file's name: those of the second pair are numbered 2.
+    pub fn files(&self) -> impl Iterator<Item = (String, &Example)> + '_ {
         let kind = if self.is_stop { "stop-" } else { "" };
-        let example = if gets { &self.gets } else { &self.not };
-        let ending = if example.is_object { "object" } else { "pl360" };
-        format!("{kind}{:02}-{}.{ending}", self.number, if gets { "gets" } else { "not" })
+        self.examples.iter().enumerate().map(move |(i, example)| {
+            let answer = if example.gets { "gets" } else { "not" };
+            let pair = if i < 2 { String::new() } else { format!("-{}", i / 2 + 1) };
+            let ending = if example.is_object { "object" } else { "pl360" };
+            (format!("{kind}{:02}-{answer}{pair}.{ending}", self.number), example)
+        })
     }
 }
 
 /// The entries of the data file, or what is wrong with a line of it.
 pub fn entries(data: &str) -> Result<Vec<Entry>, String> {
     let mut entries: Vec<Entry> = Vec::new();
-    let mut in_gets = true;
     for (number, line) in data.lines().enumerate() {
         let wrong = || format!("line {}: {line}", number + 1);
         if line.is_empty() || line.starts_with('#') {
@@ -126,8 +130,7 @@ pub fn entries(data: &str) -> Result<Vec<Entry>, String> {
                 title: String::new(),
                 means: String::new(),
                 place: String::new(),
-                gets: Example::default(),
-                not: Example::default(),
+                examples: Vec::new(),
             });
             continue;
         }
@@ -139,11 +142,8 @@ pub fn entries(data: &str) -> Result<Vec<Entry>, String> {
                 entry.means = format!("{}{separator}{rest}", entry.means);
             }
             "place" => entry.place = rest.to_string(),
-            "gets" | "not" => in_gets = word == "gets",
-            _ => {
-                let example = if in_gets { &mut entry.gets } else { &mut entry.not };
-                part(example, word, rest).ok_or_else(wrong)?;
-            }
+            "gets" | "not" => entry.examples.push(Example { gets: word == "gets", ..Example::default() }),
+            _ => entry.examples.last_mut().and_then(|example| part(example, word, rest)).ok_or_else(wrong)?,
         }
     }
     Ok(entries)
@@ -202,8 +202,7 @@ pub fn section(entry: &Entry) -> String {
     let mut text = entry.answer();
     text[..1].make_ascii_uppercase();
     let _ = write!(text, ": {}\n\n{}{place}\n\n", entry.title, entry.means);
-    example(&mut text, &entry.gets);
-    example(&mut text, &entry.not);
+    entry.examples.iter().for_each(|each| example(&mut text, each));
     text.truncate(text.trim_end().len());
     text.push('\n');
     text

@@ -299,7 +299,7 @@ impl<'a> Rules<'a> {
             Some(register) => What::Register(register),
             None => {
                 let function = FUNCTIONS.iter().position(|(name, _)| name.as_bytes() == spelled);
-                function.filter(|_| crate::BYTE_FUNCTIONS).map_or(What::Nothing, What::Function)
+                function.map_or(What::Nothing, What::Function)
             }
         }
     }

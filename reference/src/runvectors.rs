@@ -6,7 +6,6 @@ use crate::genrun;
 use crate::hercules;
 use crate::runcase::{answer_line, Case};
 use crate::runner::STORAGE_NEEDED;
-use crate::BYTE_FUNCTIONS;
 use std::io::{self, Write};
 use std::path::Path;
 
@@ -68,9 +67,7 @@ fn manifest(cases: usize, counts: &Counts, runs: usize, emulated: usize) -> Stri
 
 fn cases() -> Vec<Case> {
     let mut cases = papers_cases();
-    if BYTE_FUNCTIONS {
-        cases.extend(BYTE_RUNS.iter().flat_map(|run| [0, 1, 2, 10_000].map(|budget| run.case(budget))));
-    }
+    cases.extend(BYTE_RUNS.iter().flat_map(|run| [0, 1, 2, 10_000].map(|budget| run.case(budget))));
     let short = genrun::cases(SEED).filter(|case| case.object.len() <= LONGEST).take(GENERATED);
     cases.extend(short);
     let long = genrun::cases(SEED).filter(|case| case.object.len() > LONGEST).take(LONG);

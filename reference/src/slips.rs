@@ -28,15 +28,7 @@ pub enum Slip {
 }
 
 /// All that are wrong.
-pub fn slips() -> &'static [Slip] {
-    if crate::BYTE_FUNCTIONS {
-        &SLIPS
-    } else {
-        &SLIPS[..9]
-    }
-}
-
-const SLIPS: [Slip; 10] = [
+pub const SLIPS: [Slip; 10] = [
     Slip::ReturnsFree,
     Slip::BasesFreeInside,
     Slip::NestedForgotten,

@@ -74,17 +74,9 @@ pub enum Kind {
     TextEnd,
 }
 
-/// "Reserved, compared whole" (COMMENT, which opens a comment and is no token, aside).
-pub fn reserved() -> &'static [(&'static str, Kind)] {
-    if crate::BYTE_FUNCTIONS {
-        &RESERVED
-    } else {
-        &RESERVED[..30]
-    }
-}
-
-/// Document 01's words, then "BYTE and CHARACTER" of document 02, 1/13.
-const RESERVED: [(&str, Kind); 32] = [
+/// "Reserved, compared whole" (COMMENT, which opens a comment and is no token, aside): document 01's words, then "BYTE and
+/// CHARACTER" of document 02, 1/13.
+pub const RESERVED: [(&str, Kind); 32] = [
     ("BEGIN", Kind::Begin),
     ("END", Kind::End),
     ("IF", Kind::If),
@@ -223,7 +215,7 @@ fn one_token(rest: &[u8], place: usize) -> Result<(Token, usize), Refusal> {
 }
 
 fn word(text: &[u8], place: usize) -> Token {
-    for (reserved, kind) in reserved() {
+    for (reserved, kind) in &RESERVED {
         if text == reserved.as_bytes() {
             return plain(*kind, place);
         }

@@ -7,7 +7,7 @@ use crate::meant::{meant, Does, InStorage, Named};
 use crate::objread;
 use crate::random::Random;
 use crate::runcase::Case;
-use crate::slips::{slips, Slip};
+use crate::slips::{Slip, SLIPS};
 use crate::translate::{translate, translate_with};
 use crate::watch::{given, watch, Clause, Cry, Given, Seen, Text, Watched, CLAUSES};
 use std::collections::BTreeMap;
@@ -37,7 +37,7 @@ impl Texts {
         match self {
             Texts::Generated => (gen::case(seed, number), random),
             Texts::Hunted => {
-                let any = if random.chance(1, 2) { Slip::None } else { *random.of(slips()) };
+                let any = if random.chance(1, 2) { Slip::None } else { *random.of(&SLIPS) };
                 (hunted(&mut random, slip.unwrap_or(any)), random)
             }
         }

@@ -1,5 +1,4 @@
 //! Document 02, 1/13: byte cells and standard functions, in what the points of docs/DECISIONS.md, section B, do not say by a text alone.
-#![cfg(feature = "byte-functions")]
 
 mod helpers;
 use helpers::*;

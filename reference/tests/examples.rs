@@ -33,11 +33,14 @@ fn every_refusal_and_stop_is_given_by_its_text_and_not_by_the_other() {
             Answer::Stop(stop) => entry.is_stop && stop == entry.number,
             Answer::Number { number, .. } => !entry.is_stop && number == entry.number,
         };
-        assert_eq!(Some(entry.gets.answer()), entry.gets.gives, "{}", entry.answer());
-        assert_eq!(Some(entry.not.answer()), entry.not.gives, "{}, not", entry.answer());
-        assert!(is_it(entry.gets.answer()) && !is_it(entry.not.answer()), "{}", entry.answer());
-        let said = [&entry.title, &entry.means, &entry.gets.because, &entry.not.because];
-        assert!(said.iter().all(|words| !words.is_empty()), "{}", entry.answer());
+        assert!(!entry.title.is_empty() && !entry.means.is_empty(), "{}", entry.answer());
+        for (name, example) in entry.files() {
+            assert_eq!(Some(example.answer()), example.gives, "{name}");
+            assert_eq!(is_it(example.answer()), example.gets, "{name}");
+            assert!(!example.because.is_empty(), "{name}");
+        }
+        let in_turn = entry.examples.iter().enumerate().all(|(i, example)| example.gets == (i % 2 == 0));
+        assert!(in_turn && entry.examples.len() >= 2 && entry.examples.len() % 2 == 0, "{}", entry.answer());
     }
 }
 

@@ -6,10 +6,9 @@ use reference::build::Builder;
 use reference::gen;
 use reference::random::Random;
 use reference::spell;
-use reference::token::{reserved, tokens, Kind, SIGNS};
+use reference::token::{tokens, Kind, RESERVED, SIGNS};
 use reference::translate::translate;
 use reference::vectors;
-use reference::BYTE_FUNCTIONS;
 use std::collections::{BTreeMap, BTreeSet, HashSet};
 
 #[test]
@@ -71,12 +70,12 @@ fn accepted_texts_use_every_token_and_every_opcode_in_every_form() {
             }
         }
     }
-    for (word, kind) in reserved().iter().chain(&SIGNS) {
+    for (word, kind) in RESERVED.iter().chain(&SIGNS) {
         assert!(kinds.contains(kind), "{word}");
     }
     assert!(kinds.contains(&Kind::Name) && kinds.contains(&Kind::Number));
     let seen: Vec<u8> = opcodes.keys().copied().collect();
-    assert_eq!(seen, listed());
+    assert_eq!(seen, LISTED);
     // Storage is reached through base 14 and through those of base declarations.
     let in_storage = |opcode: &u8| matches!(opcode, 0x40..=0x44 | 0x48..=0x5F | 0x90..);
     for opcode in seen.into_iter().filter(in_storage) {
@@ -85,17 +84,10 @@ fn accepted_texts_use_every_token_and_every_opcode_in_every_form() {
 }
 
 /// All opcodes of the papers.
-fn listed() -> Vec<u8> {
-    let functions: &[u8] = if BYTE_FUNCTIONS { &[0x12, 0x41, 0x42, 0x43, 0x92, 0x95] } else { &[] };
-    let mut all = [&OPCODES[..], functions].concat();
-    all.sort_unstable();
-    all
-}
-
-/// Those of document 01.
-const OPCODES: [u8; 38] = [
-    0x07, 0x0A, 0x10, 0x11, 0x13, 0x14, 0x16, 0x17, 0x18, 0x19, 0x1A, 0x1B, 0x1C, 0x1E, 0x1F, 0x40, 0x45, 0x47, 0x48,
-    0x49, 0x4A, 0x4B, 0x4C, 0x50, 0x54, 0x56, 0x57, 0x58, 0x59, 0x5A, 0x5B, 0x5C, 0x5E, 0x5F, 0x88, 0x89, 0x8A, 0x8B,
+const LISTED: [u8; 44] = [
+    0x07, 0x0A, 0x10, 0x11, 0x12, 0x13, 0x14, 0x16, 0x17, 0x18, 0x19, 0x1A, 0x1B, 0x1C, 0x1E, 0x1F, 0x40, 0x41, 0x42,
+    0x43, 0x45, 0x47, 0x48, 0x49, 0x4A, 0x4B, 0x4C, 0x50, 0x54, 0x56, 0x57, 0x58, 0x59, 0x5A, 0x5B, 0x5C, 0x5E, 0x5F,
+    0x88, 0x89, 0x8A, 0x8B, 0x92, 0x95,
 ];
 
 /// The bytes of a program, parted at its instructions: those with a first half byte 0 or 1 have two bytes.
@@ -148,7 +140,7 @@ fn assert_object_is_sound(object: &[u8], text: &[u8]) {
     }
     for (position, part) in parts.iter().enumerate() {
         let last = position + 1 == parts.len();
-        assert!(listed().contains(&part[0]), "{}", show(text));
+        assert!(LISTED.contains(&part[0]), "{}", show(text));
         assert_eq!(part[0] == 0x0A, last, "{}", show(text));
         let displacement = part.get(2..4).map_or(0, two) % 4096;
         match part[0] {

@@ -3,7 +3,6 @@
 mod helpers;
 use helpers::*;
 use reference::translate::translate;
-use reference::BYTE_FUNCTIONS;
 
 fn all_refused(number: u32, texts: &[&str]) {
     for text in texts {
@@ -189,13 +188,8 @@ fn refusal_4_program() {
             "BEGIN BEGIN END !END @",
         ],
     );
-    // Document 02, 1/13, has uses with arguments; there the `:=` is what does not go on.
-    if BYTE_FUNCTIONS {
-        all_refused(4, &["BEGIN A(R1)(R2) !:= R3; END @", "BEGIN A(4)(R1)(R2) !:= R3; END @"]);
-    } else {
-        let rows = ["BEGIN A(4)!; END @", "BEGIN A(R1) !(R2) := R3; END @", "BEGIN A(4)(R1) !(R2) := R3; END @"];
-        all_refused(4, &rows);
-    }
+    // A use with arguments goes on in any row; the `:=` behind one that is no target does not.
+    all_refused(4, &["BEGIN A(R1)(R2) !:= R3; END @", "BEGIN A(4)(R1)(R2) !:= R3; END @"]);
     all_accepted(&[
         "BEGIN L: END @",
         "BEGIN L: M: NULL; N: END @",

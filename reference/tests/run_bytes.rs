@@ -1,5 +1,4 @@
 //! Document 02, 1/13: the six instructions on values, addresses and stops.
-#![cfg(feature = "byte-functions")]
 mod run_support;
 use reference::assemble::{data, four, two};
 use run_support::*;

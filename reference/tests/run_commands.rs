@@ -1,6 +1,5 @@
 //! The commands `run`, `runbatch`, `genrun` and `codetable` from outside.
 use reference::runvectors::case_1;
-use reference::BYTE_FUNCTIONS;
 use std::io::Write;
 use std::process::{Command, Output, Stdio};
 
@@ -103,7 +102,7 @@ fn codetable_has_a_row_for_every_listed_opcode() {
     let mut opcodes: Vec<&str> = table.lines().map(|line| &line[..2]).collect();
     opcodes.sort_unstable();
     opcodes.dedup();
-    assert_eq!(opcodes.len(), if BYTE_FUNCTIONS { 44 } else { 38 });
+    assert_eq!(opcodes.len(), 44);
     assert!(table.contains("8910003F\tsll\tsll 1,63(0)\n"));
     assert!(table.contains("5810E010\tl\tl 1,16(0,14)\n"));
 }

@@ -3,7 +3,6 @@ use reference::genrun::{cases, histogram};
 use reference::objread::{read, DataSegment};
 use reference::runcase::{Case, STORAGE_BEFORE};
 use reference::runner::STORAGE_NEEDED;
-use reference::BYTE_FUNCTIONS;
 
 const SEED: u64 = 2024;
 
@@ -50,7 +49,7 @@ fn every_opcode_with_every_code() {
         ("95", &[3]),
     ];
     let rows: Vec<&str> = text.lines().filter(|line| line.starts_with("opcode")).collect();
-    assert_eq!(rows.len(), if BYTE_FUNCTIONS { 43 } else { 37 });
+    assert_eq!(rows.len(), 43);
     for row in rows {
         let opcode = &row[7..9];
         let times: Vec<u64> = row.split(": ").nth(1).unwrap().split(' ').map(|n| n.parse().unwrap()).collect();

@@ -8,11 +8,11 @@ use reference::gen;
 use reference::grammar::program_nested_to;
 use reference::random::Random;
 use reference::rules::{broken, too_deep};
-use reference::token::{reserved, tokens, Kind, Token, SIGNS, TEXT_LIMIT};
+use reference::token::{tokens, Kind, Token, RESERVED, SIGNS, TEXT_LIMIT};
 
 /// All kinds of tokens.
 fn kinds() -> Vec<Kind> {
-    let spelled = reserved().iter().chain(&SIGNS).map(|(_, kind)| *kind);
+    let spelled = RESERVED.iter().chain(&SIGNS).map(|(_, kind)| *kind);
     spelled.chain([Kind::Name, Kind::Number]).collect()
 }
 

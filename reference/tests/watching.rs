@@ -8,13 +8,12 @@ use reference::meant::{meant, Does, Named};
 use reference::objread;
 use reference::random::Random;
 use reference::runcase::Case;
-use reference::slips::{slips, Slip};
+use reference::slips::{Slip, SLIPS};
 use reference::translate::{translate, translate_with};
 use reference::watch::{watch, Clause, Cry, Given, Seen, Text, Watched};
 use reference::watching::{
     campaign, reference_runner, reference_translator, try_changed_bytes, try_slip, Tally, Texts,
 };
-use reference::BYTE_FUNCTIONS;
 
 const STORAGE: usize = 20_480;
 
@@ -225,8 +224,8 @@ fn one_changed_byte_is_cried_out_for_wherever_it_matters() {
 
 #[test]
 fn wrong_translators_are_cried_out_for_and_nothing_else_is() {
-    for &slip in slips() {
-        let trial = try_slip(slip, Texts::Hunted, 17, if BYTE_FUNCTIONS { 1_000 } else { 250 });
+    for slip in SLIPS {
+        let trial = try_slip(slip, Texts::Hunted, 17, 1_000);
         assert!(trial.false_cries.is_empty(), "{}", trial.report("slip"));
         assert!(trial.wrong > 0, "{slip:?}: {}", trial.report("slip"));
         assert_eq!(trial.cried() == 0, slip == Slip::NestedForgotten, "{slip:?}: {}", trial.report("slip"));

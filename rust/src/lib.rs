@@ -1,6 +1,6 @@
 //! PL360, translated and run, with proof.
 //!
-//! A safe wrapper of `libtautgaff.a`, whose two functions are proved to do what document 01 says, for all they may be handed (`docs/PROMISES.md`). They have
+//! A safe wrapper of `libtautgaff.a`, whose two functions are proved to do what the papers say, for all they may be handed (`docs/PROMISES.md`). They have
 //! no state of their own, open, print and allocate nothing, and always return: they may be called from any thread, and from several at once.
 //!
 //! ```
@@ -72,7 +72,7 @@ impl Refusal {
             5 => "constructs inside each other more than 64 deep",
             6 => "a name that is not declared, a label that is not set",
             7 => "declared twice",
-            8 => "a name or token of the wrong kind",
+            8 => "a name or token that does not fit",
             9 => "a register that cannot be this one",
             10 => "a protected register is written",
             11 => "a value that is out of bounds",

@@ -44,7 +44,7 @@ fn every_example_has_its_stored_answer() {
 
 #[test]
 fn the_object_texts_are_the_stored_ones() {
-    for name in ["datum", "magic", "search"] {
+    for name in ["datum", "magic", "search", "sheet"] {
         assert_eq!(translated(&read(&format!("{name}.pl360"))), Ok(read(&format!("{name}.object"))), "{name}");
     }
 }

@@ -74,9 +74,12 @@ int main(void) {
     refuses("BEGIN R1 := A; END @", TAUTGAFF_NOT_DECLARED, 12);
     refuses("BEGIN INTEGER A, A; END @", TAUTGAFF_DECLARED_TWICE, 17);
     refuses("BEGIN INTEGER A; A := A; END @", TAUTGAFF_WRONG_KIND, 22);
+    refuses("BEGIN BYTE B; LTR(R1); END @", TAUTGAFF_WRONG_KIND, 14);
     refuses("BEGIN R2 := R2 * 3; END @", TAUTGAFF_WRONG_REGISTER, 15);
     refuses("BEGIN RE := R1; END @", TAUTGAFF_PROTECTED_REGISTER, 6);
+    refuses("BEGIN BYTE B; LA(RE)(B); END @", TAUTGAFF_PROTECTED_REGISTER, 17);
     refuses("BEGIN R1 := R1 SHLL 64; END @", TAUTGAFF_VALUE_OUT_OF_BOUNDS, 20);
+    refuses("BEGIN BYTE B; MVI(256)(B); END @", TAUTGAFF_VALUE_OUT_OF_BOUNDS, 18);
     refuses("BEGIN ARRAY (1021) INTEGER A; END @", TAUTGAFF_SEGMENT_FULL, 27);
 
     length = object_of("BEGIN ARRAY (4) INTEGER A; R2 := A(R1); END @");
@@ -87,6 +90,8 @@ int main(void) {
     refuses_run(length - 1, 9, 9, TAUTGAFF_NO_OBJECT_TEXT, "no object text");
     refuses_run(length, 4, 9, TAUTGAFF_NO_CONDITION_CODE, "no condition code");
     refuses_run(length, 3, TAUTGAFF_STORAGE_NEEDED - 1, TAUTGAFF_TOO_LITTLE_STORAGE, "too little storage");
+    length = object_of("BEGIN ARRAY (4) BYTE B; IC(R2)(B(R1)); END @");
+    ends(length, 3, 9, 1, TAUTGAFF_AT_END, 4100, 1, "a byte at an odd address");
 
     const char *source = "BEGIN END @";
     memset(buffer, 165, sizeof buffer);

@@ -24,7 +24,7 @@ fn filled(front: &str, middle: &str, back: &str, length: usize) -> Vec<u8> {
     [front, &middle.repeat(copies), back].concat().into_bytes()
 }
 
-/// Texts of at most so many bytes that have many tokens, labels, base declarations, literals or open constructs.
+/// Texts of at most so many bytes that have many tokens, labels, base declarations, literals, open constructs or arguments.
 fn heavy(length: usize) -> Vec<Vec<u8>> {
     let open = "BEGIN ".repeat(64);
     let close = ["END;".repeat(63), "END@".to_string()].concat();
@@ -37,6 +37,7 @@ fn heavy(length: usize) -> Vec<Vec<u8>> {
         filled("BEGIN ", "INTEGER A(2);", "END@", length),
         filled(&open, "R1:=7;", &close, length),
         filled("BEGIN ", "IF R1=7 THEN ", "R1:=7 END@", length),
+        filled("BEGIN SET", "(1)", ";END@", length),
     ]
 }
 

@@ -1,2 +1,3 @@
--- The run with cells set.
+-- The files of this crate's proofs.
 pub mod Running
+pub mod Operands

@@ -1,12 +1,12 @@
 -- `--set NAME=VALUE` where NAME is no register: the value is laid into the cell when the program is loaded. What is wrong of a word is told by its number.
 use mathlib.Core.List.{List}
-use mathlib.Core.Bool.{Bool, true}
+use mathlib.Core.Bool.{Bool, true, false}
 use Prim.Native.Nat.{ℕ, _+_, _-_}
 use lib.Dec.{eqb, ltb}
 use lib.ListN.{length, take, drop}
 use Rattle.base.specs.Choose.{choose}
 use Rattle.base.specs.Numbers.{stored}
-use Rattle.grammar.specs.Tree.{short}
+use Rattle.grammar.specs.Tree.{short, byte}
 use Rattle.static_rules.specs.Rules.{fitsWidth}
 use Rattle.figures.specs.Parts.{partLength, partCount}
 use Rattle.figures.specs.Numbers.{numberIn}
@@ -37,15 +37,19 @@ layingOf s x = record { store = s; fault = x }
 
 -- ── a value into an element ──
 
--- "A value for a short cell has signed value -32768 to 65535 and keeps its low 16 bits."
+-- "A value for a short cell has signed value -32768 to 65535 and keeps its low 16 bits."; of byte cells "initial values 0 to 255"
 unfoldable pub fits : (size v : ℕ) → Bool
-fits size v = choose (eqb size 2) (fitsWidth short v) true
+fits size v = choose (eqb size 2) (fitsWidth short v) (choose (eqb size 1) (fitsWidth (byte false) v) true)
+
+-- why a value does not fit: 12 it is none for a short cell; 13 it is none for a byte cell
+abbrev pub unfit : (size : ℕ) → ℕ
+unfit size = choose (eqb size 1) 13 12
 
 unfoldable pub putCell : Element → (v : ℕ) → List ℕ → List ℕ
 putCell e v s = choose (ltb (length s) (e .address + e .size)) s (stored s (e .address) (e .size) v)
 
 unfoldable pub setNumber : Element → (v n : ℕ) → Laying → Laying
-setNumber e v n l = choose (fits (e .size) v) (layingOf (putCell e v (l .store)) (l .fault)) (layingOf (l .store) (faulted (l .fault) n 12))
+setNumber e v n l = choose (fits (e .size) v) (layingOf (putCell e v (l .store)) (l .fault)) (layingOf (l .store) (faulted (l .fault) n (unfit (e .size))))
 
 abbrev pub setValue : Element → Reading → (n : ℕ) → Laying → Laying
 setValue e (Number v) n l = setNumber e v n l

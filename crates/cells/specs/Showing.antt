@@ -15,7 +15,7 @@ use Rattle.reports.specs.Reports.{valueText}
 use Rattle.cells.specs.declared.Element.{Element}
 use Rattle.cells.specs.Elements.{elementNamed}
 
--- what an element holds, as an instruction would read it: copies of the sign stand before a half word
+-- what an element holds, as an instruction would read it: copies of the sign stand before a half word, and a byte is 0 to 255
 unfoldable pub heldIn : Element → List ℕ → ℕ
 heldIn e s = choose (leb (e .size) 4) (choose (leb (e .address + e .size) (length s)) (extended (e .size) (valueAt s (e .address) (e .size))) 0) 0
 

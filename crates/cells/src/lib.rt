@@ -2,22 +2,23 @@
 // run; and the address of the operand at which a run stopped.
 ghost use mathlib.Core.Path.{_≡_};
 ghost use mathlib.Core.List.{List};
-ghost use Prim.Native.Nat.{ℕ, _+_, _*_, _/_, _%_, _<_};
+ghost use Prim.Native.Nat.{ℕ, _+_, _*_, _/_, _%_, _<_, _≤_};
 ghost use lib.ListN.{length, getD};
 ghost use Rattle.figures.specs.Writing.{Adds};
 ghost use Rattle.objtext.specs.Reader.{readAs, readObject};
-ghost use Rattle.machine.specs.Step.{cpu, address as addressOf, extended as extendedOf};
+ghost use Rattle.machine.specs.Instructions.{longKind};
+ghost use Rattle.machine.specs.Step.{cpu, address as addressOf, extended as extendedOf, indexOf};
 ghost use Rattle.machine.specs.Operands.{operandAddress};
 ghost use Rattle.runner.specs.Runner.{outcome};
 ghost use Rattle.cells.specs.Elements.{askedBy, askedIn, noElement, isInside, isElement, placedAt, elementOf, elementNamed};
-ghost use Rattle.cells.specs.Setting.{faulted as faultedOf, layingOf, fits as fitsOf, putCell, setNumber, setValue, setElement, setWord, showWord, layWord, laidBy};
+ghost use Rattle.cells.specs.Setting.{faulted as faultedOf, layingOf, fits as fitsOf, unfit as unfitOf, putCell, setNumber, setValue, setElement, setWord, showWord, layWord, laidBy};
 ghost use Rattle.cells.specs.Showing.{heldIn, moreText, cellText, nameText, askedText, allAsked};
 ghost use Rattle.cells.specs.Running.{runSet};
 use figures::Reading;
 use listing::Site;
 use token::kinds;
 
-// No cell of this name; no element of the cell; no value for a short cell.
+// No value; no cell of this name; no element of the cell; no value for a short cell, or for a byte cell.
 const NO_VALUE: u8 = 7;
 
 const NO_CELL: u8 = 10;
@@ -25,6 +26,8 @@ const NO_CELL: u8 = 10;
 const NO_ELEMENT: u8 = 11;
 
 const NOT_SHORT: u8 = 12;
+
+const NOT_BYTE: u8 = 13;
 
 // ── elements ──
 
@@ -172,7 +175,20 @@ fn fits(size: u32, v: u32) -> bool
         }
         return v <= 65535;
     }
+    if size == 1 {
+        return v <= 255;
+    }
     true
+}
+
+// Why a value does not fit.
+fn unfit(size: u32) -> u8
+    ensures { λ r. ⌜ r ≡ unfitOf size ⌝ }
+{
+    if size == 1 {
+        return NOT_BYTE;
+    }
+    NOT_SHORT
 }
 
 fn put_cell(store: &mut [u8], e: Element, v: u32)
@@ -193,7 +209,7 @@ fn set_number(store: &mut [u8], e: Element, v: u32, n: usize, x: Fault) -> Fault
         put_cell(store, e, v);
         return x;
     }
-    faulted(x, n, NOT_SHORT)
+    faulted(x, n, unfit(e.size))
 }
 
 fn set_value(store: &mut [u8], e: Element, found: Reading, n: usize, x: Fault) -> Fault
@@ -428,19 +444,35 @@ fn wide(b: u8) -> usize
     b as usize
 }
 
-fn reached(regs: &[u32; 16], fields: usize, high: usize, low: usize) -> usize
-    requires { ⌜ (high < 256) × (low < 256) ⌝ }
-    ensures { λ r. ⌜ r ≡ addressOf (now (regs .entry)) (fields % 16) (high / 16) (high % 16 * 256 + low) ⌝ }
+// The register by which an instruction indexes, if it does: what takes a number and what shifts does not.
+fn index_of(op: u8, x: usize) -> usize
+    ensures { λ r. ⌜ (r ≡ indexOf (longKind op) x) × (r ≤ x) ⌝ }
 {
-    machine::address(regs, fields % 16, high / 16, high % 16 * 256 + low) as usize
+    match op {
+        0x92 => 0,
+        0x95 => 0,
+        0x88 => 0,
+        0x89 => 0,
+        0x8A => 0,
+        0x8B => 0,
+        _ => x,
+    }
+}
+
+fn reached(regs: &[u32; 16], index: usize, high: usize, low: usize) -> usize
+    requires { ⌜ (index < 16) × (high < 256) × (low < 256) ⌝ }
+    ensures { λ r. ⌜ r ≡ addressOf (now (regs .entry)) index (high / 16) (high % 16 * 256 + low) ⌝ }
+{
+    machine::address(regs, index, high / 16, high % 16 * 256 + low) as usize
 }
 
 pub fn address(regs: &[u32; 16], store: &[u8], counter: u32) -> usize
     ensures { λ r. ⌜ r ≡ operandAddress (cpu (now (regs .entry)) 0 counter) (now (store .entry)) ⌝ }
 {
     let at = counter as usize;
+    let op = figures::byte(store, at);
     let fields = wide(figures::byte(store, at + 1));
     let high = wide(figures::byte(store, at + 2));
     let low = wide(figures::byte(store, at + 3));
-    reached(regs, fields, high, low)
+    reached(regs, index_of(op, fields % 16), high, low)
 }

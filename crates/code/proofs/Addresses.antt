@@ -1,13 +1,14 @@
 -- On the tape of a tree the address pass comes to where the tree's code ends, and leaves the addresses that `marksOf` says: a line for each way to make a tree.
 -- Assumes nothing.
-use mathlib.Core.Path.{_≡_, refl, ap, subst, _∙_}
+use mathlib.Core.Path.{_≡_, refl, sym, ap, subst, _∙_}
 use mathlib.Core.List.{List, _∷_}
 use Prim.Native.Nat.{ℕ, _+_, _-_, _%_, _<_}
 use native.Mathlib.Omega.{arith}
 use lib.ListN.{set}
 use Rattle.base.specs.Lists.{All}
-use Rattle.grammar.specs.Tree.{registers, cells, base, Statement, assign, call, block, goto, null, ifThen, ifElse, while, for, Body, declare, procedure, items, Items, ended, label, item}
-use Rattle.grammar.specs.Derives.{isOperand, isStatement, isBody, isItems}
+use Rattle.base.proofs.Lists.{all-in, all-of}
+use Rattle.grammar.specs.Tree.{registers, cells, base, Statement, assign, call, apply, block, goto, null, ifThen, ifElse, while, for, Body, declare, procedure, items, Items, ended, label, item}
+use Rattle.grammar.specs.Derives.{isOperand, areArguments, isStatement, isBody, isItems}
 use Rattle.tape.specs.Events as E
 use Rattle.tape.specs.Numbers.{formAt}
 use Rattle.tape.specs.Tape.{event, tapeDeclaration, tapeStatement, tapeBody, tapeItems}
@@ -24,8 +25,9 @@ use Rattle.emit.specs.Codes.{listOf, codeSize, applyCode, isAbsent, applyThen}
 use Rattle.emit.specs.Events.{registerAt, goalAt, writtenAfter, stepCodes, otherCodes, codesOf, writingAfter, codesBy}
 use Rattle.code.specs.Places.{whole, Placing, placingOf, markClosing, markAfter, placeEvent}
 use Rattle.emit.proofs.Operands.{Small}
-use Rattle.code.proofs.Declarations.{declaring, registers-out, cells-out}
-use Rattle.code.proofs.Expressions.{place, assignment-placed, control-placed, condition-placed, limit-placed}
+use Rattle.emit.proofs.Events.{declaring}
+use Rattle.code.proofs.Declarations.{registers-out, cells-out}
+use Rattle.code.proofs.Expressions.{place, assignment-placed, use-placed, control-placed, condition-placed, limit-placed}
 use Rattle.code.proofs.Statements.{leaves, leavesBody, leavesItems}
 
 -- ── the addresses by token after a tree whose code starts at p ──
@@ -35,6 +37,7 @@ module _ (f : Tables) where
     pub marksOf : Statement → ℕ → List ℕ → List ℕ
     marksOf (assign a) p ms = ms
     marksOf (call n) p ms = ms
+    marksOf (apply n a xs) p ms = ms
     marksOf (block t b) p ms = marksBody b p ms
     marksOf (goto t n) p ms = ms
     marksOf null p ms = ms
@@ -93,11 +96,13 @@ module _ (f : Tables) (means under offsets : List ℕ) where
   still : (p : ℕ) (w : Writing) (ms : List ℕ) (t : ℕ) (k : List ℕ) → All (λ (op : ℕ). at p w ms (event op t ∷ k) ≡ at p w ms k) declaring
   unfolding placeEvent listOf formAt otherCodes codesOf codesBy writtenAfter writingAfter codeSize markAfter markClosing
   still p w ms t k =
-      (by E.REGISTER refl, (by E.SINGLE-FULL refl, (by E.SINGLE-SHORT refl, (by E.ARRAY-FULL refl, (by E.ARRAY-SHORT refl, (by E.ITEM refl, (by E.VALUE refl, tt)))))))
+      all-of (λ (op : ℕ). at p w ms (event op t ∷ k) ≡ at p w ms k) declaring (λ op i. on op t p 0 p w ms (λ q. ms) k (all-in Still declaring each-still op i) (omega arith))
     where
-      by : (op : ℕ) → placeEvent whole (f .kinds) (f .values) (f .found) (f .goes) means under (f .opens) offsets (op % E.EVENTS) t (placingOf p w ms) ≡ placingOf (p + 0) w ms
-          → at p w ms (event op t ∷ k) ≡ at p w ms k
-      by op e = on op t p 0 p w ms (λ q. ms) k e (omega arith)
+      Still : ℕ → Type 0
+      Still op = placeEvent whole (f .kinds) (f .values) (f .found) (f .goes) means under (f .opens) offsets (op % E.EVENTS) t (placingOf p w ms) ≡ placingOf (p + 0) w ms
+
+      each-still : All Still declaring
+      each-still = (refl, (refl, (refl, (refl, (refl, (refl, (refl, (refl, (refl, (refl, (refl, tt)))))))))))
 
   -- ── statements ──
 
@@ -110,6 +115,8 @@ module _ (f : Tables) (means under offsets : List ℕ) where
           → at p w ms (tapeStatement x k) ≡ at (p + sizeOf (coreStatement f x)) (leaves f means under offsets x w) (marksOf f x p ms) k
       place-statement (assign a) i j h p w ms k = assignment-placed f means under offsets table small a i j h p w ms k
       place-statement (call n) i j h p w ms k = on E.CALL n p 4 _ w ms (λ q. ms) k refl refl
+      place-statement (apply n a xs) i j (e, _, h) p w ms k =
+          use-placed f means under offsets table small n a xs j (subst (λ (q : ℕ). areArguments (f .kinds) (a ∷ xs) (q + 1) j) (sym e) h) p w ms k
       place-statement (block t b) i j h p w ms k =
           on E.BLOCK t p 0 p w ms (λ q. ms) _ refl (omega arith) ∙ (place-body b _ _ (h .2) p w ms _ ∙ on E.END-BLOCK t _ 0 _ _ _ (λ q. marksBody f b p ms) k refl (omega arith))
       place-statement (goto t n) i j h p w ms k = on E.GOTO n p 4 _ w ms (λ q. ms) k refl refl

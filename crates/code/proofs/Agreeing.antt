@@ -13,7 +13,7 @@ use borrow.Author.Tests.{eqb-true, eqb-false}
 use Rattle.base.specs.Choose.{if_then_else_}
 use Rattle.base.specs.Lists.{_∈_, All}
 use Rattle.base.proofs.Lists.{all-in}
-use Rattle.grammar.specs.Tree.{Assignment, Condition, compared, bare, Declaration, registers, cells, base, Statement, assign, call, block, goto, null, ifThen, ifElse, while, for, Body, declare, procedure, items, Items, ended, label, item}
+use Rattle.grammar.specs.Tree.{Assignment, Condition, compared, bare, Declaration, registers, cells, base, Statement, assign, call, apply, block, goto, null, ifThen, ifElse, while, for, Body, declare, procedure, items, Items, ended, label, item}
 use Rattle.grammar.specs.Derives.{isCondition, isRegister}
 use Rattle.grammar.specs.Events.{Route, labelled, sent, Entry, named, celled, itemed, valued, based, Phrase, aimed, driven, signed, given, joined, tested, limited, called, Event, edge, route, entry, phrase, mark, entryDeclares, labelsOnto, labelsOf, eventsDeclaration, eventsChain, eventsStatement, eventsBody, eventsItems, eventsOf}
 use Rattle.grammar.specs.Places.{Block, within, Place, enterName, enterLabel, after, afterAll, Along}
@@ -106,6 +106,7 @@ module _ (f : Tables) where
     changes-statement : (x : Statement) (pl : Place) (lo hi p : ℕ) (ms : List ℕ) → Part (eventsStatement x []) pl lo hi → Changes lo hi ms (marksOf f x p ms)
     changes-statement (assign a) pl lo hi p ms h = changes-none ms
     changes-statement (call n) pl lo hi p ms h = changes-none ms
+    changes-statement (apply n a xs) pl lo hi p ms h = changes-none ms
     changes-statement (block t b) pl lo hi p ms ((s, h), (u, g)) =
         let q = part-body b _ _ (s .to) hi (h, g) in
         wider (changes-body b _ pl (s .to) (q .m) p ms (q .one)) (omega arith)
@@ -358,6 +359,7 @@ module _ (marks : List ℕ) where
             → (ls ps : List Mark) → Told (namesIn pl) ps → Told (labelsIn pl) ls → Agree f marks ls ps x p
         agree-statement (assign a) pl lo hi p ms h k ls ps n l = tt
         agree-statement (call t) pl lo hi p ms (h, (b, g)) k ls ps n l = told-bound _ zero n b
+        agree-statement (apply t a xs) pl lo hi p ms h k ls ps n l = tt
         agree-statement (block t x) pl lo hi p ms ((s, h), (u, g)) k ls ps n l =
             let q = part-body f x _ _ (s .to) hi (h, g) in
             agree-body x _ pl (s .to) (q .m) p ms refl (q .one) (narrower (s .to) (q .m) k (omega arith)) ls ps (told-block n) l

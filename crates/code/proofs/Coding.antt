@@ -125,7 +125,7 @@ module _ (start at : ℕ) (image seen : List ℕ) (c : Code) where
   unfolding layCode codeBytes literalsAfter
   lay-four op r x b d e q = rw (q, e)
 
-  pub lay-literal : {image′ after : List ℕ} (op r v place : ℕ) → c ≡ Literal op r v → after ≡ needs (literal v) seen → place ≡ indexOf v after
-      → image′ ≡ sets image at (bytesIn (fourBytes op r 0 14 (start + 4 * place))) → laidOf (at + codeSize c) image′ after ≡ layCode start c (laidOf at image seen)
+  pub lay-literal : {image′ after : List ℕ} (op r x v place : ℕ) → c ≡ Literal op r x v → after ≡ needs (literal v) seen → place ≡ indexOf v after
+      → image′ ≡ sets image at (bytesIn (fourBytes op r x 14 (start + 4 * place))) → laidOf (at + codeSize c) image′ after ≡ layCode start c (laidOf at image seen)
   unfolding layCode codeBytes literalsAfter
-  lay-literal op r v place e a p q = rw (q, p, a, e)
+  lay-literal op r x v place e a p q = rw (q, p, a, e)

@@ -1,4 +1,4 @@
--- Over the tape of an assignment, a condition or a FOR's limit the address grows by the size of the definition's instructions; a limit sets the place of its
+-- Over the tape of an assignment, a use, a condition or a FOR's limit the address grows by the size of the definition's instructions; a limit sets the place of its
 -- compare and its control register. Assumes nothing.
 use mathlib.Core.Path.{_≡_, refl, sym, ap, _∙_}
 use mathlib.Core.Bool.{true}
@@ -11,25 +11,26 @@ use Rattle.base.specs.Lists.{member}
 use Rattle.base.proofs.Lists.{each}
 use Rattle.base.proofs.Tests.{by-test}
 use Rattle.grammar.specs.Tree.{Operand, Assignment, Condition}
-use Rattle.grammar.specs.Derives.{isOperand, isCondition, isAssignment}
+use Rattle.grammar.specs.Derives.{isOperand, isCondition, isAssignment, areArguments}
 use Rattle.grammar.specs.Pinned.{headOf}
 use Rattle.grammar.proofs.Pinned.{pinned-operand}
 use Rattle.tape.specs.Events as E
 use Rattle.tape.specs.Numbers.{familyAt, formAt}
-use Rattle.tape.specs.Tape.{event, tapeOperand, tapeCondition, tapeAssignment}
+use Rattle.tape.specs.Tape.{event, tapeOperand, tapeCondition, tapeEach, tapeAssignment, tapeArgument}
 use Rattle.tape.specs.Pass.{pass}
 use Rattle.tape.proofs.Pass.{pass-event}
-use Rattle.static_rules.specs.Tables.{Tables, valueAt}
+use Rattle.static_rules.specs.Tables.{Tables, valueAt, meaningAt}
 use Rattle.tables.specs.Packed.{meaningsOf, registerIn, packedAt}
 use Rattle.translation.specs.Instructions.{sizes}
-use Rattle.translation.specs.Core.{exitMask, toRegister, assignmentOf, compareWith, testOf, maskOf, controlOf}
+use Rattle.translation.specs.Core.{exitMask, toRegister, assignmentOf, compareWith, testOf, maskOf, controlOf, useCode}
 use Rattle.emit.specs.declared.Use.{Use}
 use Rattle.emit.specs.declared.Writing.{Writing}
 use Rattle.emit.specs.Codes.{codeSizes, heldIn}
+use Rattle.emit.specs.Events.{noWriting}
 use Rattle.emit.specs.Along.{targetWriting, controlWriting}
 use Rattle.emit.proofs.Operands.{Small, shapeOf, by-shape, operand-tape, register-at}
 use Rattle.emit.proofs.Sizes.{sizes-append, coded-sizes, tested-size}
-use Rattle.emit.proofs.Walks.{unmarking, made, after, Walk, limit-makes, assignment-walked, control-walked, condition-walked}
+use Rattle.emit.proofs.Walks.{unmarking, made, after, Walk, limit-makes, assignment-walked, control-walked, use-walked, condition-walked}
 use Rattle.code.specs.Places.{whole, kept, markLimit, markClosing, markAfter, Placing, placingOf, placeEvent}
 use Rattle.code.proofs.Kept.{kept-is}
 use Rattle.code.proofs.Placing.{place-is}
@@ -37,7 +38,7 @@ use Rattle.code.proofs.Placing.{place-is}
 unmarked-stays : (family t from to : ℕ) (aim : Use) (marks : List ℕ) → member family unmarking ≡ true → marks ≡ markAfter family t from to aim marks
 unfolding markAfter markClosing
 unmarked-stays family t from to aim marks q =
-    each (λ (x : ℕ). marks ≡ markAfter x t from to aim marks) unmarking (refl, (refl, (refl, (refl, (refl, (refl, (refl, (refl, (refl, tt))))))))) family q
+    each (λ (x : ℕ). marks ≡ markAfter x t from to aim marks) unmarking (refl, (refl, (refl, (refl, (refl, (refl, (refl, (refl, (refl, (refl, (refl, (refl, tt)))))))))))) family q
 
 -- two tokens behind its STEP's number v
 limit-marked :
@@ -89,6 +90,14 @@ module _ (f : Tables) (means under offsets : List ℕ) where
     control-placed a i j h p w ms k =
         control-walked f means under offsets ms table small (placing ms) a i j h p w k
         ∙ ap (λ (n : ℕ). place (p + n) (controlWriting (f .found) means a) ms k) (coded-sizes offsets (toRegister f (controlOf f a) a))
+
+    pub use-placed :
+        (n : ℕ) (a : Operand) (xs : List Operand) (j : ℕ) → areArguments (f .kinds) (a ∷ xs) (n + 1) j → (p : ℕ) (w : Writing) (ms k : List ℕ)
+        → place p w ms (event E.APPLIED n ∷ tapeEach tapeArgument (a ∷ xs) (event E.COUNTED n ∷ k)) ≡ place (p + sizes (useCode f (meaningAt f n) a xs)) noWriting ms k
+    unfolding placing
+    use-placed n a xs j h p w ms k =
+        use-walked f means under offsets ms table small (placing ms) n a xs j h p w k
+        ∙ ap (λ (n : ℕ). place (p + n) noWriting ms k) (coded-sizes offsets (useCode f (meaningAt f n) a xs))
 
     pub condition-placed :
         (c : Condition) (i j : ℕ) → isCondition (f .kinds) c i j → (p : ℕ) (w : Writing) (ms k : List ℕ)

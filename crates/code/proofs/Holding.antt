@@ -40,7 +40,7 @@ literals-more : (c : Code) (seen : List ℕ) → length seen ≤ length (literal
 unfolding literalsAfter
 literals-more (Two op r s) seen = omega arith
 literals-more (Four op r x b d) seen = omega arith
-literals-more (Literal op r v) seen = needs-more v seen
+literals-more (Literal op r x v) seen = needs-more v seen
 
 either : (n room : ℕ) → n ≤ room → (n < room) ⊎ (n ≡ room)
 either n room h = cases (ltb n room) (λ e. inl (ltb-true n room e)) (λ e. inr (omega (arith, ltb-false n room e)))

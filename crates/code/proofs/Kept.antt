@@ -69,7 +69,7 @@ either-same : (b : Bool) (m n m′ n′ : Codes) → bytes m ≡ bytes m′ → 
 either-same true m n m′ n′ e q = e
 either-same false m n m′ n′ e q = q
 
-module _ (kinds values marks marks′ : List ℕ) where
+module _ (kinds values found means marks marks′ : List ℕ) where
   then-same : (row r : ℕ) (u : Use) (c d : Code) → codeSize c ≡ codeSize d → bytes (applyThen row r u c) ≡ bytes (applyThen row r u d)
   unfolding applyThen listOf
   then-same row r u c d e = either-same (isAbsent u) _ _ _ _ (ap (λ (n : ℕ). n + 0) e) (ap (λ (n : ℕ). codeSize (applyCode row r u) + (n + 0)) e)
@@ -87,7 +87,7 @@ module _ (kinds values marks marks′ : List ℕ) where
   unfolding stepCodes applyThen isAbsent applyCode listOf codeSize
   step-same t = refl
 
-  codes-same : (family t : ℕ) (w : Writing) (u : Use) (n : Named) → bytes (codesOf kinds values marks family t w u n) ≡ bytes (codesOf kinds values marks′ family t w u n)
+  codes-same : (family t : ℕ) (w : Writing) (u : Use) (n : Named) → bytes (codesOf kinds values found means marks family t w u n) ≡ bytes (codesOf kinds values found means marks′ family t w u n)
   unfolding codesOf comparedCodes limitCodes bareCodes listOf codeSize
   codes-same family t w u n =
       either-same (eqb family E.FIRST) _ _ _ _ refl
@@ -95,7 +95,8 @@ module _ (kinds values marks marks′ : List ℕ) where
       (either-same (eqb family E.COMPARED) _ _ _ _ (then-same _ _ u _ _ refl)
       (either-same (eqb family E.LIMIT) _ _ _ _ (then-same _ _ u _ _ refl)
       (either-same (eqb family E.BARE) _ _ _ _ refl
-      (either-same (eqb family E.END-FOR) _ _ _ _ (step-same t) (others-same family t n))))))
+      (either-same (eqb family E.END-FOR) _ _ _ _ (step-same t)
+      (either-same (eqb family E.COUNTED) _ _ _ _ refl (others-same family t n)))))))
 
 module _ (start : ℕ) where
   laid-at : (cs : List Code) (s : Laid) → layAll start cs s .at ≡ s .at + codeSizes cs
@@ -111,7 +112,7 @@ module _ (start : ℕ) where
         → bytes (codesBy kinds values found goes means under opens offsets marks op t w) ≡ bytes (codesBy kinds values found goes means under opens offsets marks′ op t w)
     unfolding codesBy
     event-same op t w =
-        codes-same kinds values marks marks′ (familyAt op) t w (useIn values found means under offsets (formAt op) t)
+        codes-same kinds values found means marks marks′ (familyAt op) t w (useIn values found means under offsets (formAt op) t)
         (record { register = registerAt found means (familyAt op) t; goal = goalAt found goes opens (familyAt op) t })
 
     passes-same : (tape : List ℕ) (s s′ : Coding) → s .laid .at ≡ s′ .laid .at → s .writing ≡ s′ .writing → pass (by marks) s tape .laid .at ≡ pass (by marks′) s′ tape .laid .at

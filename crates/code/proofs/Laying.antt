@@ -18,11 +18,11 @@ use Rattle.base.specs.Runs.{runLen, indexOf}
 use Rattle.tape.specs.Events as E
 use Rattle.tape.specs.Pass.{onEvent, pass}
 use Rattle.static_rules.specs.Meaning.{Cell, Based}
-use Rattle.translation.specs.Instructions.{Datum, element, literal, entry, Instruction, rr, rx, shift, branch, link, stop, size, sizes}
+use Rattle.translation.specs.Instructions.{Datum, element, literal, entry, Instruction, rr, rx, address, immediate, shift, branch, link, stop, size, sizes, addressOp}
 use Rattle.translation.specs.Core.{Core}
 use Rattle.translation.specs.Code.{code, instructions}
 use Rattle.translation.specs.Layout.{Layout, offsetOf, needs, literalsFrom}
-use Rattle.translation.specs.Bytes.{encode, encodeAll, fourBytes, displacement}
+use Rattle.translation.specs.Bytes.{encode, encodeAll, fourBytes, baseRegister, displacement, indexRegister}
 use Rattle.translation.proofs.Sizes.{length-encode}
 use Rattle.translation.proofs.Literals.{Grows, grows-same, literals-grow, literal-place}
 use Rattle.emit.specs.declared.Code.{Code}
@@ -70,22 +70,36 @@ module _ (l : Layout) (place : ℕ → ℕ) (right : (t : ℕ) → place t ≡ o
         → layCode start (codeFor place i) (laidOf at image seen) ≡ laidOf (at + size i) (sets image at (bytesIn (encode l i))) (literalsFrom seen (i ∷ []))
 
   -- a number is a literal then, at the place that it has among all
+  abbrev Known : Datum → List ℕ → Type 0
+  Known (element c o x) seen = Unit {0}
+  Known (literal v) seen = indexOf v (needs (literal v) seen) ≡ indexOf v (l .literals)
+  Known (entry k) seen = Unit {0}
+
   abbrev Placed : Instruction → List ℕ → Type 0
   Placed (rr op r s) seen = Unit {0}
-  Placed (rx op r (element c o x)) seen = Unit {0}
-  Placed (rx op r (literal v)) seen = indexOf v (needs (literal v) seen) ≡ indexOf v (l .literals)
-  Placed (rx op r (entry k)) seen = Unit {0}
+  Placed (rx op r a) seen = Known a seen
+  Placed (address r a) seen = Known a seen
+  Placed (immediate op v a) seen = Known a seen
   Placed (shift op r s n) seen = Unit {0}
   Placed (branch m t) seen = Unit {0}
   Placed (link r t) seen = Unit {0}
   Placed stop seen = Unit {0}
 
+  -- of four bytes, with an operand in storage
+  datum : (op r x : ℕ) (a : Datum) (seen : List ℕ) → Known a seen → (at : ℕ) (image : List ℕ)
+      → layCode start (codeAt place op r x a) (laidOf at image seen)
+      ≡ laidOf (at + 4) (sets image at (bytesIn (fourBytes op r x (baseRegister a) (displacement l a)))) (needs a seen)
+  unfolding layCode codeSize codeBytes literalsAfter
+  datum op r x (element c o i) seen h at image = rw (right (c .name))
+  datum op r x (literal v) seen h at image = rw h
+  datum op r x (entry k) seen h at image = refl
+
   lays-one : (i : Instruction) (seen : List ℕ) → Placed i seen → Lays i seen
   unfolding layCode codeSize codeBytes literalsAfter codeFor encode literalsFrom
   lays-one (rr op r s) seen h = record { lays = λ at image. refl }
-  lays-one (rx op r (element c o x)) seen h = record { lays = λ at image. rw (right (c .name)) }
-  lays-one (rx op r (literal v)) seen h = record { lays = λ at image. rw h }
-  lays-one (rx op r (entry k)) seen h = record { lays = λ at image. refl }
+  lays-one (rx op r a) seen h = record { lays = λ at image. datum op r (indexRegister a) a seen h at image }
+  lays-one (address r a) seen h = record { lays = λ at image. datum addressOp r (indexRegister a) a seen h at image }
+  lays-one (immediate op v a) seen h = record { lays = λ at image. datum op (v / 16) (v % 16) a seen h at image }
   lays-one (shift op r s n) seen h = record { lays = λ at image. refl }
   lays-one (branch m t) seen h = record { lays = λ at image. refl }
   lays-one (link r t) seen h = record { lays = λ at image. refl }
@@ -100,6 +114,8 @@ module _ (l : Layout) (place : ℕ → ℕ) (right : (t : ℕ) → place t ≡ o
   unfolding literalsFrom
   literals-cons (rr op r s) is seen = refl
   literals-cons (rx op r a) is seen = refl
+  literals-cons (address r a) is seen = refl
+  literals-cons (immediate op v a) is seen = refl
   literals-cons (shift op r s n) is seen = refl
   literals-cons (branch m t) is seen = refl
   literals-cons (link r t) is seen = refl
@@ -124,11 +140,16 @@ module _ (l : Layout) (place : ℕ → ℕ) (right : (t : ℕ) → place t ≡ o
       let later = literals-cons i is seen ∙ e in
       (one i (subst (λ (k : List ℕ). Grows (literalsFrom seen (i ∷ [])) k) later (literals-grow is (literalsFrom seen (i ∷ [])))), placed-all is (literalsFrom seen (i ∷ [])) later)
     where
+      known : (a : Datum) → Grows (needs a seen) (l .literals) → Known a seen
+      known (element c o x) g = tt
+      known (literal v) g = literal-place v seen (l .literals) g
+      known (entry k) g = tt
+
       one : (j : Instruction) → Grows (literalsFrom seen (j ∷ [])) (l .literals) → Placed j seen
       one (rr op r s) g = tt
-      one (rx op r (element c o x)) g = tt
-      one (rx op r (literal v)) g = literal-place v seen (l .literals) g
-      one (rx op r (entry k)) g = tt
+      one (rx op r a) g = known a g
+      one (address r a) g = known a g
+      one (immediate op v a) g = known a g
       one (shift op r s n) g = tt
       one (branch m t) g = tt
       one (link r t) g = tt

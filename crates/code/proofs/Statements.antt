@@ -6,8 +6,9 @@ use Prim.Native.Nat.{ℕ, _+_, _-_}
 use native.Mathlib.Omega.{arith}
 use lib.ListN.{getD}
 use Rattle.base.specs.Lists.{All, member}
-use Rattle.grammar.specs.Tree.{Condition, registers, cells, base, Statement, assign, call, block, goto, null, ifThen, ifElse, while, for, Body, declare, procedure, items, Items, ended, label, item}
-use Rattle.grammar.specs.Derives.{isOperand, isCondition, isStatement, isBody, isItems}
+use Rattle.base.proofs.Lists.{all-in, all-of}
+use Rattle.grammar.specs.Tree.{Condition, registers, cells, base, Statement, assign, call, apply, block, goto, null, ifThen, ifElse, while, for, Body, declare, procedure, items, Items, ended, label, item}
+use Rattle.grammar.specs.Derives.{isOperand, isCondition, areArguments, isStatement, isBody, isItems}
 use Rattle.tape.specs.Events as E
 use Rattle.tape.specs.Tape.{event, tapeCondition, tapeDeclaration, tapeStatement, tapeBody, tapeItems}
 use Rattle.tables.specs.Packed.{meaningsOf}
@@ -18,12 +19,13 @@ use Rattle.translation.specs.Core.{returnOf, toRegister, compareWith, testOf, m
 use Rattle.translation.specs.Code.{Mark, sizeOf, own, markAt, code}
 use Rattle.emit.specs.declared.Code.{Code}
 use Rattle.emit.specs.declared.Writing.{Writing}
+use Rattle.emit.specs.Events.{noWriting}
 use Rattle.emit.specs.Along.{codeFor, targetWriting, controlWriting}
 use Rattle.emit.proofs.Operands.{Small, offsetAt}
 use Rattle.emit.proofs.Written.{coded}
-use Rattle.emit.proofs.Events.{idle, Adds, idle-adds, procedure-adds, else-adds, end-while-adds, end-for-adds, goto-adds, base-adds, end-procedure-adds, call-adds}
-use Rattle.emit.proofs.Trees.{go, along-makes, assignment-coded, control-coded, condition-coded, limit-coded}
-use Rattle.code.proofs.Declarations.{declaring, registers-out, cells-out}
+use Rattle.emit.proofs.Events.{declaring, idle, Adds, idle-adds, procedure-adds, else-adds, end-while-adds, end-for-adds, goto-adds, base-adds, end-procedure-adds, call-adds}
+use Rattle.emit.proofs.Trees.{go, along-makes, assignment-coded, use-coded, control-coded, condition-coded, limit-coded}
+use Rattle.code.proofs.Declarations.{registers-out, cells-out}
 
 -- ── the addresses in `marks` are those that the tree has ──
 
@@ -36,6 +38,7 @@ module _ (f : Tables) (marks : List ℕ) where
     pub Agree : (ls ps : List Mark) → Statement → ℕ → Type 0
     Agree ls ps (assign a) p = Unit {0}
     Agree ls ps (call n) p = to (getD (f .found) n 0) ≡ markAt ps (getD (f .found) n 0)
+    Agree ls ps (apply n a xs) p = Unit {0}
     Agree ls ps (block t b) p = AgreeBody ls ps b p
     Agree ls ps (goto t n) p = to (getD (f .goes) n 0) ≡ markAt ls (getD (f .goes) n 0)
     Agree ls ps null p = Unit {0}
@@ -70,12 +73,13 @@ module _ (f : Tables) (marks : List ℕ) where
     AgreeItems ls ps (item x is) p = Agree ls ps x p × AgreeItems ls ps is (p + sizeOf (coreStatement f x))
 
 module _ (f : Tables) (means under offsets : List ℕ) where
-  -- ── the assignment that is written after a tree's tape ──
+  -- ── the assignment or use that is written after a tree's tape ──
 
   unfoldable mutual
     pub leaves : Statement → Writing → Writing
     leaves (assign a) w = targetWriting (f .values) (f .found) means under offsets a
     leaves (call n) w = w
+    leaves (apply n a xs) w = noWriting
     leaves (block t b) w = leavesBody b w
     leaves (goto t n) w = w
     leaves null w = w
@@ -138,10 +142,10 @@ module _ (f : Tables) (means under offsets marks : List ℕ) where
 
   idle-declaring : (w : Writing) (t : ℕ) (k : List ℕ) → All (λ (op : ℕ). along-it w (event op t ∷ k) ≡ along-it w k) declaring
   idle-declaring w t k =
-      (by E.REGISTER refl, (by E.SINGLE-FULL refl, (by E.SINGLE-SHORT refl, (by E.ARRAY-FULL refl, (by E.ARRAY-SHORT refl, (by E.ITEM refl, (by E.VALUE refl, tt)))))))
+      all-of (λ (op : ℕ). along-it w (event op t ∷ k) ≡ along-it w k) declaring (λ op i. idle-event op (all-in (λ (x : ℕ). member x idle ≡ true) declaring is-idle op i) t w k)
     where
-      by : (op : ℕ) → member op idle ≡ true → along-it w (event op t ∷ k) ≡ along-it w k
-      by op h = idle-event op h t w k
+      is-idle : All (λ (x : ℕ). member x idle ≡ true) declaring
+      is-idle = (refl, (refl, (refl, (refl, (refl, (refl, (refl, (refl, (refl, (refl, (refl, tt)))))))))))
 
   -- ── statements ──
 
@@ -158,6 +162,8 @@ module _ (f : Tables) (means under offsets marks : List ℕ) where
       statement-begins (assign a) i j h ls ps p g w k = record { begins = assignment-coded f means under offsets marks table small a i j h w k }
       statement-begins (call n) i j h ls ps p g w k =
           by-address (λ (q : ℕ). link (returnOf (meaningAt f n)) q ∷ []) g (event-begins E.CALL n w k _ (call-adds f means under offsets marks table n w))
+      statement-begins (apply n a xs) i j (e, _, h) ls ps p g w k =
+          record { begins = use-coded f means under offsets marks table small n a xs j (subst (λ (q : ℕ). areArguments (f .kinds) (a ∷ xs) (q + 1) j) (sym e) h) w k }
       statement-begins (block t b) i j h ls ps p g w k =
           after-none (idle-event E.BLOCK refl t w _) (before-none (body-begins b _ _ (h .2) ls ps p g w _) (idle-event E.END-BLOCK refl t _ k))
       statement-begins (goto t n) i j h ls ps p g w k =

@@ -39,13 +39,13 @@ laidBy at n image literals = laidOf at image (take n literals)
 unfoldable pub codeBytes : (start : ℕ) (literals : List ℕ) → Code → List ℕ
 codeBytes start literals (Two op r s) = twoBytes op r s
 codeBytes start literals (Four op r x b d) = fourBytes op r x b d
-codeBytes start literals (Literal op r v) = fourBytes op r 0 (dataBase .register) (start + 4 * indexOf v literals)
+codeBytes start literals (Literal op r x v) = fourBytes op r x (dataBase .register) (start + 4 * indexOf v literals)
 
 -- "Each distinct 32-bit value … is one 4-byte literal, in the order in which the code first needs it"
 unfoldable pub literalsAfter : Code → List ℕ → List ℕ
 literalsAfter (Two op r s) seen = seen
 literalsAfter (Four op r x b d) seen = seen
-literalsAfter (Literal op r v) seen = needs (literal v) seen
+literalsAfter (Literal op r x v) seen = needs (literal v) seen
 
 unfoldable pub layCode : (start : ℕ) → Code → Laid → Laid
 layCode start c s = record {

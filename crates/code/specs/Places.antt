@@ -11,10 +11,10 @@ use Rattle.tape.specs.Numbers.{familyAt}
 use Rattle.tape.specs.Pass.{pass}
 use Rattle.ledger.specs.Book.{Wide, Thin, onThin, thinLimit}
 use Rattle.emit.specs.declared.Use.{Use}
-use Rattle.emit.specs.declared.Use.the-variants.{Absent}
 use Rattle.emit.specs.declared.Writing.{Writing}
 use Rattle.emit.specs.Codes.{listOf, codeSizes, heldIn}
 use Rattle.emit.specs.Events.{writingAfter, codesBy}
+pub use Rattle.emit.specs.Events.{noWriting}
 
 -- all of an address, and what the ledger keeps of a number
 abbrev pub whole : ℕ → ℕ
@@ -41,7 +41,7 @@ markAfter family t from to aim marks =
     if eqb family E.WHILE then set marks (t + 1) from else
     markClosing family t to marks
 
--- the address, the assignment that is written, and the addresses by token
+-- the address, the assignment or use that is written, and the addresses by token
 pub record Placing : Type 0 where
   pub at : ℕ
   pub writing : Writing
@@ -60,10 +60,6 @@ module _ (keep : ℕ → ℕ) (kinds values found goes means under opens offsets
     writing = writingAfter values found means under offsets op t (s .writing);
     marks = markAfter (familyAt op) t (keep (s .at)) (keep (behind op t s)) (s .writing .aim) (s .marks);
   }
-
--- no assignment is written
-abbrev pub noWriting : Writing
-noWriting = record { aim = Absent; sign = 0 }
 
 -- along a whole tape, over the marks as they were lent
 unfoldable pub placesAlong : (keep : ℕ → ℕ) (kinds values found goes means under opens offsets : List ℕ) (marks tape : List ℕ) → Placing

@@ -93,6 +93,7 @@ pub fn places(tape: &[u32], kinds: &[u8], wide: &[u64], thin: &mut [u16]) -> usi
     let mut w = Writing {
         aim: Use::Absent,
         sign: 0,
+        arguments: 0,
     };
     let mut i: usize = 0;
     while i < tape.len() {
@@ -212,9 +213,9 @@ fn lay_code(
             lay_four(image, p, op, r, x, b, d);
             n
         }
-        Code::Literal(op, r, v) => {
+        Code::Literal(op, r, x, v) => {
             let place = find(literals, n, v);
-            lay_four(image, p, op, r, 0, DATA_BASE, start + 4 * place as u64);
+            lay_four(image, p, op, r, x, DATA_BASE, start + 4 * place as u64);
             enter_in_room(literals, n, place, v)
         }
     }
@@ -271,6 +272,7 @@ pub fn write_code(
     let mut w = Writing {
         aim: Use::Absent,
         sign: 0,
+        arguments: 0,
     };
     let mut i: usize = 0;
     while i < tape.len() {

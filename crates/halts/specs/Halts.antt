@@ -4,7 +4,7 @@
 --             ^^^^^^^^^ address 12288 is in no data segment
 use Prim.Native.Nat.{ℕ, _+_, _-_, _/_, _%_, min}
 use mathlib.Core.List.{List, _++_}
-use lib.Dec.{eqb}
+use lib.Dec.{eqb, ltb}
 use lib.ListN.{length, drop, replicate}
 use Rattle.base.specs.Choose.{choose}
 use Rattle.base.specs.Text.{bytes}
@@ -20,9 +20,9 @@ reasons =
     ++ bytes "\n address % is no multiple of 2"
     ++ bytes "\n address % is no multiple of 4"
 
--- by the stop and the opcode: 40 and 50 store, 40 to 4F are of half words
+-- by the stop and the opcode: 40, 42, 50 and 92 store, and what reads ends with 3 or more; of 40 to 4F those of half words can be misaligned
 abbrev pub reasonFor : (stop opcode : ℕ) → ℕ
-reasonFor stop opcode = choose (eqb stop 3) (choose (eqb (opcode / 16) 4) 3 4) (choose (eqb (opcode % 16) 0) 2 1)
+reasonFor stop opcode = choose (eqb stop 3) (choose (eqb (opcode / 16) 4) 3 4) (choose (ltb (opcode % 16) 3) 2 1)
 
 -- as much of the operand as stands in its line, 40 bytes at most
 abbrev pub wideFor : (from to : ℕ) → (text : List ℕ) → (place : ℕ) → ℕ

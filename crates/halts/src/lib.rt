@@ -27,7 +27,7 @@ fn reason(stop: usize, opcode: u8) -> usize
         }
         return 4;
     }
-    if opcode % 16 == 0 {
+    if opcode % 16 < 3 {
         return 2;
     }
     1

@@ -1,5 +1,5 @@
 // The pages of `tautgaff help`, each ended by `~`. Made of examples/refusals.data and command/usage by examples/make.
-pub const BELOW10: [u8; 6536] = *b"Stop 0: the budget is used up
+pub const BELOW10: [u8; 7233] = *b"Stop 0: the budget is used up
 
 As many instructions as were allowed have been completed, and the program is not at its end.
 
@@ -78,7 +78,8 @@ This is accepted: negative numbers go one further.
 
 Stop 3: a misaligned operand
 
-An operand of 4 bytes must lie at a multiple of 4, one of 2 bytes at a multiple of 2. A translated program can break this only with an index.
+An operand of 4 bytes must lie at a multiple of 4, one of 2 bytes at a multiple of 2, one of 1 byte anywhere. A translated program can break this only
+with an index.
 
 This runs and gets stop 3: an index counts bytes, and 2 is half an element.
 
@@ -162,11 +163,14 @@ This gets refusal 7 at 40: both begin with CENTIMETRE.
 This is accepted: the second A belongs to an inner block, which may hide names of outer ones.
 
     BEGIN INTEGER A; BEGIN INTEGER A; END; END @
-~Refusal 8: a name or token of the wrong kind
+~Refusal 8: a name or token that does not fit
 
-A register stands where a cell has to, a cell where a register has to, a procedure's name in an expression, a subscript after what is no array, a
-short cell with AND, OR, XOR, `++` or `--`; or more than one register name is assigned to a cell.
-Place: the first name or token that does not fit.
+A register stands where a cell has to, a cell where a register has to, a procedure's or function's name in an expression, a subscript after what is no
+array, a short cell with AND, OR, XOR, `++` or `--`, a BYTE or CHARACTER cell in an assignment, a condition or as a limit; more than one register name is
+assigned to a cell; a function is given too few or too many arguments, or one of a wrong kind, MVI, CLI, SET, RESET or TEST an index; arguments follow a
+name that is no function's. Which function takes what: IC, STC and LA a register, then a cell; LTR two registers; MVI and CLI a number, then a cell; SET,
+RESET and TEST a cell.
+Place: the first name or token that does not fit; the function's name where the number of arguments is wrong.
 
 This gets refusal 8 at 22: only a register can be stored in a cell.
 
@@ -175,6 +179,14 @@ This gets refusal 8 at 22: only a register can be stored in a cell.
 This is accepted: the number goes through a register.
 
     BEGIN INTEGER A; R1 := 5; A := R1; END @
+
+This gets refusal 8 at 30: the instruction of SET has no room for an index.
+
+    BEGIN ARRAY (4) BYTE B; SET(B(R1)); END @
+
+This is accepted: that of STC has.
+
+    BEGIN ARRAY (4) BYTE B; R2 := #FF; STC(R2)(B(R1)); END @
 ~Refusal 9: a register that cannot be this one
 
 Register numbers are 0 to 15. Register 0 cannot be a base, a return register, an index or a shift amount, since the machine takes 0 there for no
@@ -190,12 +202,12 @@ This is accepted: R3 takes the lower half; the upper half goes to R2.
     BEGIN R3 := R1 * 10; END @
 ~";
 
-pub const FROM10: [u8; 4499] = *b"Refusal 10: a protected register is written
+pub const FROM10: [u8; 4816] = *b"Refusal 10: a protected register is written
 
 Protected are register 15, by which the program finds its own instructions; 14, the data base, by which it finds its cells; the bases of the enclosing
 blocks; and the return registers of the procedures around this place. A call writes the procedure's return register and all that its body writes,
-through calls too.
-Place: the target, the call or the base's name; the `*` where it is the register below the target.
+through calls too. IC, LA and LTR write their first register.
+Place: the target, the function's register, the call or the base's name; the `*` where it is the register below the target.
 
 This gets refusal 10 at 6: RE is register 14, the data base: cells without SEGMENT BASE belong to it.
 
@@ -206,8 +218,8 @@ This is accepted: RD is nobody's base here, and a protected register may be read
     BEGIN RD := R1; R1 := RE; END @
 ~Refusal 11: a value that is out of bounds
 
-An initial value that a short cell cannot hold (-32768 to 65535), or one value too many; an array count that is not 1 to 2,048; a subscript that is
-not the byte offset of an element; a shift by more than 63.
+An initial value that a short cell cannot hold (-32768 to 65535), or a BYTE or CHARACTER cell (0 to 255), or one value too many; an array count that is
+not 1 to 2,048; a subscript that is not the byte offset of an element; a shift by more than 63; a number of MVI or CLI that is not 0 to 255.
 Place: the number.
 
 This gets refusal 11 at 35: a subscript is a byte offset, and elements of 4 bytes are at 0, 4, 8 and 12.
@@ -217,6 +229,14 @@ This gets refusal 11 at 35: a subscript is a byte offset, and elements of 4 byte
 This is accepted: 12 is the last element.
 
     BEGIN ARRAY (4) INTEGER A; R1 := A(12); END @
+
+This gets refusal 11 at 18: a byte has no sign.
+
+    BEGIN BYTE B; CLI(_1)(B); END @
+
+This is accepted: 255 is the greatest.
+
+    BEGIN BYTE B; CLI(#FF)(B); END @
 ~Refusal 12: a cell past the end of its segment, or a third base declaration
 
 A data segment has 4,096 bytes; the first 16 of the one of base 14 are a table. Two SEGMENT BASE declarations are all that a program has room for.

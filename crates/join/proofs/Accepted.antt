@@ -1,7 +1,7 @@
 -- Every accepted program is safe (`accepted-safe`): no rule is broken at any of its events, and its tables have what each of them tells.
 use mathlib.Core.Path.{_≡_, refl, sym, subst, _∙_}
 use mathlib.Core.Logic.{inl, inr}
-use mathlib.Core.List.{List, [], _∷_, map}
+use mathlib.Core.List.{List, [], _∷_, _++_, map}
 use Prim.Native.Nat.{ℕ, zero, suc, _+_, _-_, _<_, _≤_}
 use native.Mathlib.Omega.{arith}
 use lib.ListN.{length, getD, replicate, length-replicate, length-append}
@@ -31,7 +31,8 @@ use Rattle.scopes.proofs.Bound.{by-search, Bound}
 use Rattle.scopes.proofs.Led.{bound-names, LabelFound, labels-found}
 use Rattle.scopes.proofs.Early.{Early, found-early}
 use Rattle.static_rules.specs.Registers.{sixteen, noRegisters, Registers}
-use Rattle.static_rules.specs.Meaning.{Meaning, nothing, register, cell, Cell}
+use Rattle.static_rules.specs.Functions.{nine}
+use Rattle.static_rules.specs.Meaning.{Meaning, nothing, register, cell, function, Cell}
 use Rattle.static_rules.specs.Meanings.{Filled, Meant, standard}
 use Rattle.static_rules.specs.Tables.{Tables, meaningAt}
 use Rattle.static_rules.proofs.Small.{Small, meant-small, standard-small}
@@ -62,10 +63,13 @@ zeros-early (suc n) zero = omega arith
 zeros-early (suc n) (suc t) = let h = zeros-early n t in omega arith
 
 front-bare : (n d : ℕ) → Bare (getD (standard n .means) d nothing)
-front-bare n d = all-getD Bare (standard n .means) d nothing (tt, all-both Bare (map register sixteen) (replicate n nothing) registers (all-replicate Bare n nothing tt)) tt
+front-bare n d = all-getD Bare (standard n .means) d nothing (tt, all-both Bare (map register sixteen) (map function nine ++ replicate n nothing) registers others) tt
   where
     registers : All Bare (map register sixteen)
     registers = (tt, (tt, (tt, (tt, (tt, (tt, (tt, (tt, (tt, (tt, (tt, (tt, (tt, (tt, (tt, (tt, tt))))))))))))))))
+
+    others : All Bare (map function nine ++ replicate n nothing)
+    others = (tt, (tt, (tt, (tt, (tt, (tt, (tt, (tt, (tt, all-replicate Bare n nothing tt)))))))))
 
 module _ (source object : List ℕ) (a : Accepted source object) where
   abbrev ts : List Token
@@ -140,7 +144,8 @@ module _ (source object : List ℕ) (a : Accepted source object) where
   told =
       let h = inside in
       let g = front in
-      let u = length-append (map register sixteen) (replicate (length ts - firstToken) nothing) in
+      let u = length-append (map register sixteen) (map function nine ++ replicate (length ts - firstToken) nothing) in
+      let k = length-append (map function nine) (replicate (length ts - firstToken) nothing) in
       let v = length-replicate {A = Meaning} (length ts - firstToken) nothing in
       let w = length-replicate {A = ℕ} (firstToken + (length ts - firstToken)) 0 in
       let s = length-replicate {A = Registers} (firstToken + (length ts - firstToken)) noRegisters in

@@ -6,9 +6,9 @@ use native.Mathlib.Omega.{arith}
 use lib.ListN.{length, getD}
 use Rattle.machine.specs.Space.{Space, origin, displacements}
 use Rattle.machine.specs.Instructions.{shortKind, longKind}
-use Rattle.machine.specs.Step.{Cpu, Stepped, stepped, address, shortBy, longBy, step}
+use Rattle.machine.specs.Step.{Cpu, Stepped, stepped, address, indexOf, shortBy, longBy, step}
 use Rattle.machine.specs.Operands.{operandAddress}
-use Rattle.machine.proofs.Effects.{step-short, step-long, index-none}
+use Rattle.machine.proofs.Effects.{step-short, step-long}
 use Rattle.translation.specs.Bytes.{twoBytes, fourBytes}
 
 -- the bytes bs stand in storage from a place
@@ -33,16 +33,17 @@ module _ (m : Space) (c : Cpu) (s : List ℕ) where
   first : (b : ℕ) (bs : List ℕ) → StandAt s (c .counter) (b ∷ bs) → getD s (c .counter) 0 ≡ b
   first b bs h = let e : c .counter + 0 ≡ c .counter = omega arith in rw e at (h 0 (omega arith))
 
-  -- the address that the machine makes of an instruction's fields where no index is named
-  pub decode-address : (op r b d : ℕ) → d < displacements → StandAt s (c .counter) (fourBytes op r 0 b d) → operandAddress c s ≡ address (c .regs) 0 b d
-  decode-address op r b d hd h =
+  pub decode-opcode : (op r x b d : ℕ) → StandAt s (c .counter) (fourBytes op r x b d) → getD s (c .counter) 0 ≡ op
+  decode-opcode op r x b d h = first op ((r * 16 + x) ∷ (b * 16 + d / 256) ∷ d % 256 ∷ []) h
+
+  -- the address that the machine makes of an instruction's fields where they have no index
+  pub decode-address : (op r x b d : ℕ) → x < 16 → indexOf (longKind op) x ≡ 0 → d < displacements → StandAt s (c .counter) (fourBytes op r x b d)
+      → operandAddress c s ≡ address (c .regs) 0 b d
+  decode-address op r x b d hx none hd h =
       let e1 = h 1 (omega arith) in
       let e2 = h 2 (omega arith) in
       let e3 = h 3 (omega arith) in
-      rw (e1, e2, e3, second-field r 0 (omega arith), index-none (longKind (getD s (c .counter) 0)), base-field b d hd, displacement-field b d hd)
-
-  pub decode-opcode : (op r x b d : ℕ) → StandAt s (c .counter) (fourBytes op r x b d) → getD s (c .counter) 0 ≡ op
-  decode-opcode op r x b d h = first op ((r * 16 + x) ∷ (b * 16 + d / 256) ∷ d % 256 ∷ []) h
+      rw (decode-opcode op r x b d h, e1, e2, e3, second-field r x hx, none, base-field b d hd, displacement-field b d hd)
 
   module _ (even : c .counter % 2 ≡ 0) (low : origin 0 ≤ c .counter) where
     pub decode-two : (op r x : ℕ) → op < 64 → c .counter + 2 ≤ origin 0 + m .program → StandAt s (c .counter) (twoBytes op r x)

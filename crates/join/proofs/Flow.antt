@@ -15,7 +15,7 @@ use Rattle.static_rules.specs.Registers.{Registers}
 use Rattle.static_rules.specs.Meaning.{Based}
 use Rattle.static_rules.specs.Meanings.{dataBase}
 use Rattle.static_rules.specs.Rules.{protected}
-use Rattle.translation.specs.Instructions.{element, literal, entry, Instruction, rr, rx, shift, branch, link, stop, size, sizes, opcode, addRow, always}
+use Rattle.translation.specs.Instructions.{element, literal, entry, Instruction, rr, rx, address, immediate, shift, branch, link, stop, size, sizes, opcode, addRow, always}
 use Rattle.translation.specs.Core.{Core, skip, run, seq, mark, scope, jump, call, procedure, base, when, either, loop, count}
 use Rattle.translation.specs.Code.{Mark, own, markAt, sizeOf}
 use Rattle.translation.specs.Layout.{Layout}
@@ -239,6 +239,8 @@ module _ (w : List Placed) where
       goes-on p (rx op r (element c o x)) q h g = record { plain = h; next = g }
       goes-on p (rx op r (literal v)) q h g = record { plain = h; next = g }
       goes-on p (rx op r (entry k)) q h g = absurd (h .fits .1)
+      goes-on p (address r a) q h g = record { plain = h; next = g }
+      goes-on p (immediate op v a) q h g = record { plain = h; next = g }
       goes-on p (shift op r s d) q h g = record { plain = h; next = g }
       goes-on p (branch m t) q h g = absurd (h .fits)
       goes-on p (link r t) q h g = absurd (h .fits)

@@ -6,7 +6,7 @@ use mathlib.Core.Option.{some}
 use Prim.Native.Nat.{ℕ, _+_, _<_}
 use Rattle.base.specs.Lists.{_∈_, _⊆_}
 use Rattle.static_rules.specs.Meaning.{Based}
-use Rattle.translation.specs.Instructions.{element, literal, entry, Instruction, rr, rx, shift, branch, link, stop, size, opcode, loadRow, always}
+use Rattle.translation.specs.Instructions.{element, literal, entry, Instruction, rr, rx, address, immediate, shift, branch, link, stop, size, opcode, loadRow, always}
 use Rattle.translation.specs.Layout.{Layout}
 use Rattle.join.specs.Points.{Within, Writes, Point, withBase, Placed}
 use Rattle.join.proofs.Safe.{Spared, Counted, Guarded, Plain, Basing}
@@ -75,6 +75,8 @@ Goes n l e w x (rr op r s) = Returns x op r s ⊎ Onward l w x
 Goes n l e w x (rx op r (element c o i)) = Onward l w x
 Goes n l e w x (rx op r (literal v)) = Onward l w x
 Goes n l e w x (rx op r (entry k)) = Opens n w x op r k
+Goes n l e w x (address r a) = Onward l w x
+Goes n l e w x (immediate op v a) = Onward l w x
 Goes n l e w x (shift op r s d) = Onward l w x
 Goes n l e w x (branch m t) = Branches w x m t
 Goes n l e w x (link r t) = Calls w x r t

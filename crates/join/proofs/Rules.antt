@@ -16,7 +16,7 @@ use Rattle.base.proofs.Tests.{never-true}
 use Rattle.grammar.specs.Tree as T
 use Rattle.grammar.specs.Tree.{Designator, Operand, number, place, Sign, plain, abs, neg, negAbs, Term, Assignment, Condition, compared, bare, Width, Register, Item, Statement, Body, Items}
 use Rattle.grammar.specs.Events as E
-use Rattle.grammar.specs.Events.{opened, closed, entered, labelled, sent, celled, based, aimed, driven, given, joined, tested, called, Event, edge, route, entry, phrase, mark, operandNames, uses, each, eventsValue, eventsItem, eventsRegister, eventsDeclaration, eventsSign, eventsTerm, eventsChain, labelsOnto, eventsStatement, eventsBody, eventsItems, eventsOf}
+use Rattle.grammar.specs.Events.{opened, closed, entered, labelled, sent, celled, based, aimed, driven, given, joined, tested, called, argued, Event, edge, route, entry, phrase, mark, operandNames, uses, each, eventsValue, eventsItem, eventsRegister, eventsDeclaration, eventsSign, eventsTerm, eventsChain, eventsArguments, labelsOnto, eventsStatement, eventsBody, eventsItems, eventsOf}
 use Rattle.grammar.specs.Places.{Block, Place, after, Along}
 use Rattle.grammar.specs.Places as P
 use Rattle.scopes.specs.declared.Broken.{Broken}
@@ -29,7 +29,8 @@ use Rattle.scopes.proofs.Led.{none-at-edge}
 use Rattle.scopes.proofs.Bound as B
 use Rattle.scopes.proofs.Bound.{Bound}
 use Rattle.static_rules.specs.Registers.{noRegisters, has, spares}
-use Rattle.static_rules.specs.Meaning.{Meaning, nothing, register, cell, routine, Based, Cell, registerOf}
+use Rattle.static_rules.specs.Functions.{functionAt, argumentAt, isWritten}
+use Rattle.static_rules.specs.Meaning.{Meaning, nothing, register, cell, routine, function, Based, Cell, registerOf, argumentOf}
 use Rattle.static_rules.specs.Meanings.{Meant, meaningIn, ownIn, newest, baseIn, dataBase}
 use Rattle.static_rules.specs.Tables.{Tables, valueAt, meaningAt}
 use Rattle.static_rules.specs.Rules as R
@@ -41,28 +42,14 @@ use Rattle.static_rules.proofs.Unbroken.{Unbroken}
 use Rattle.static_rules.proofs.Kept.{kept-return, kept-in-block, kept-in-body}
 use Rattle.static_rules.proofs.Told.{WrittenBy, NotAround, Told}
 use Rattle.translation.specs.Instructions.{Instruction}
-use Rattle.translation.specs.Core.{Core, useOf, load, chainOf, termOf, toRegister, sourceOf, assignBy, assignmentOf, testOf, controlOf, returnOf, coreStatement, coreBody, coreItems}
+use Rattle.translation.specs.Core.{Core, useOf, load, chainOf, termOf, toRegister, sourceOf, assignBy, assignmentOf, testOf, controlOf, useCode, returnOf, coreStatement, coreBody, coreItems}
 use Rattle.translation.specs.Code.{Mark, own, sizeOf}
 use Rattle.translation.specs.Layout.{Layout, offsetOf}
 use Rattle.translation.proofs.Rooms.{CellAt}
 use Rattle.join.specs.Points.{Within, Writes, Point, start, procedureOf}
 use Rattle.join.proofs.Safe.{Plain, Routine, first, Callable, Basing, labelsOf, Safe}
 use Rattle.join.proofs.Flow.{some-is, none-some}
-use Rattle.join.proofs.Plain.{Free, SeenOperand, used, spared-by, plain-load, plain-term, plain-compared, plain-stored, plain-step}
-
--- the number of a rule is not 0
-refused : {A : Type 0} (n : ℕ) → suc n ≡ 0 → A
-refused n e = absurd (omega arith)
-
-pub is-register : (m : Meaning) → isRegister m ≡ true → m ≡ register (registerOf m)
-is-register nothing h = never-true h
-is-register (register r) h = refl
-is-register (cell c) h = never-true h
-is-register (routine r) h = never-true h
-
-both-first : (a b : Bool) → (a && b) ≡ true → a ≡ true
-both-first true b h = refl
-both-first false b h = never-true h
+use Rattle.join.proofs.Plain.{refused, Free, SeenOperand, used, spared-by, plain-load, plain-term, plain-compared, plain-stored, plain-step, register-is, taken, Given, function-plain}
 
 -- a register that is not 0
 positive : (m : Meaning) → isRegister m ≡ true → not (isZero m) ≡ true → 0 < registerOf m
@@ -71,6 +58,7 @@ positive (register zero) h k = never-true k
 positive (register (suc r)) h k = omega arith
 positive (cell c) h k = never-true h
 positive (routine r) h k = never-true h
+positive (function i) h k = never-true h
 
 -- neither a cell nor a procedure
 abbrev pub Bare : Meaning → Type 0
@@ -78,6 +66,7 @@ Bare nothing = Unit {0}
 Bare (register r) = Unit {0}
 Bare (cell c) = ⊥
 Bare (routine r) = ⊥
+Bare (function k) = Unit {0}
 
 -- the names in front of the text
 in-front : (d : ℕ) → B.Within d around → d < firstToken
@@ -141,6 +130,7 @@ module _ (kinds values found goes : List ℕ) (z : Meant) (l : Layout) where
   Means bs gs d (register r) = Unit {0}
   Means bs gs d (cell c) = c .base ∈ bs
   Means bs gs d (routine r) = (hs : List Based) × (first d gs ≡ some (record { within = procedureOf (z .written) d r; bases = hs }))
+  Means bs gs d (function k) = Unit {0}
 
   -- the procedures around a place mean what their bodies say
   abbrev Around : Place → Type 0
@@ -264,17 +254,49 @@ module _ (kinds values found goes : List ℕ) (z : Meant) (l : Layout) where
             go nothing e = tt
             go (register r) e =
                 let h : r < 16 = subst Small e (small-at (a .target .name)) in
-                register-plain r a e h (free-target p (a .target) r e h (quiet-right (R.placeRules f (a .target)) _ (k .unbroken)) (k .told)) g ts
+                register-plain r a e h (free-target p (a .target) r e h (quiet-right (R.noByte f (a .target)) _ (quiet-right (R.placeRules f (a .target)) _ (k .unbroken))) (k .told)) g ts
             go (cell c) e =
                 plain-stored f small l (pointIn p) stands (sourceOf f (a .first)) (a .target) c e (seen p gs x (a .target .name) (k .bound .0))
-                (quiet-left (R.placeRules f (a .target)) _ (k .unbroken))
+                (quiet-left (R.placeRules f (a .target)) _ (k .unbroken)) (quiet-left (R.noByte f (a .target)) _ (quiet-right (R.placeRules f (a .target)) _ (k .unbroken)))
             go (routine r) e = tt
+            go (function i) e = tt
 
         test-plain : (t : ℕ) (c : Condition) → Fact (phrase (tested t c)) p → PlainHere (testOf f c)
         unfolding testOf R.conditionRules
         test-plain t (compared n k a) h =
             plain-compared f small l (pointIn p) stands (registerOf (meaningAt f n)) a (seen-operand p gs x a (h .bound .1)) (quiet-right (R.registerRule f n) (R.operandRules f a) (h .unbroken))
         test-plain t (bare k) h = tt
+
+        -- ── uses of functions ──
+
+        abbrev Argued : ℕ → ℕ → List Operand → Type 0
+        Argued n q [] = Unit {0}
+        Argued n q (a ∷ xs) = Fact (phrase (argued n q a)) p × Argued n (q + 1) xs
+
+        -- the arguments, and what comes next
+        arguments-of : (n q : ℕ) (xs : List Operand) (k : List Event) → Along Fact (eventsArguments n q xs k) p → Argued n q xs × Along Fact k p
+        unfolding eventsArguments Along
+        arguments-of n q [] k h = (tt, h .1)
+        arguments-of n q (a ∷ xs) k (h, hs) = let r = arguments-of n (q + 1) xs k hs in ((h, r .0), r .1)
+
+        given-all : (n i : ℕ) → meaningAt f n ≡ function i → (q : ℕ) (xs : List Operand) → Argued n q xs → Given f small l (pointIn p) stands (functionAt i) q xs
+        given-all n i e q [] h = tt
+        given-all n i e q (a ∷ xs) (h, hs) = (
+          taken f small l (pointIn p) stands (argumentAt (functionAt i) q) a (seen-operand p gs x a (h .bound))
+              (subst (λ (m : Meaning). R.argumentRules f (keptIn f p) (argumentOf m q) a .number ≡ 0) e (h .unbroken))
+              (λ w r s o. counted-in p r s (h .told r s o (ap (λ (m : Meaning). isWritten (argumentOf m q)) e ∙ w))),
+          given-all n i e (q + 1) xs hs,
+        )
+
+        use-plain : (n : ℕ) (a : Operand) (xs : List Operand) → Argued n 0 (a ∷ xs) → PlainHere (useCode f (meaningAt f n) a xs)
+        use-plain n a xs h = go (meaningAt f n) refl
+          where
+            go : (m : Meaning) → meaningAt f n ≡ m → PlainHere (useCode f m a xs)
+            go nothing e = tt
+            go (register r) e = tt
+            go (cell c) e = tt
+            go (routine r) e = tt
+            go (function i) e = function-plain f small l (pointIn p) stands i a xs (given-all n i e 0 (a ∷ xs) h)
 
         -- ── calls ──
 
@@ -299,6 +321,7 @@ module _ (kinds values found goes : List ℕ) (z : Meant) (l : Layout) where
             go nothing e q b = refused 7 q
             go (register r) e q b = refused 7 q
             go (cell c) e q b = refused 7 q
+            go (function i) e q b = refused 7 q
             go (routine r) e q (inl i) = absurd (not-zero n (routine r) i e)
             go (routine r) e q (inr i) =
                 let m = subst (Means (basesIn p) gs d) e (x .names d i) in
@@ -362,6 +385,7 @@ module _ (kinds values found goes : List ℕ) (z : Meant) (l : Layout) where
       more-bases bs b gs d (register r) h = tt
       more-bases bs b gs d (cell c) h = inr h
       more-bases bs b gs d (routine r) h = h
+      more-bases bs b gs d (function k) h = tt
 
       -- a base more
       with-base : (n : ℕ) (b : Block) (p : Place) (gs : List Routine) → InForce (P.within b ∷ p) gs → InForce (after (entry (based n)) (P.within b ∷ p)) gs
@@ -377,6 +401,7 @@ module _ (kinds values found goes : List ℕ) (z : Meant) (l : Layout) where
       known-more n r hs bs gs d nothing e i h = tt
       known-more n r hs bs gs d (register s) e i h = tt
       known-more n r hs bs gs d (cell c) e i h = h
+      known-more n r hs bs gs d (function k) e i h = tt
       known-more n r hs bs gs d (routine s) e i (ks, h) = go (eqb n d) refl
         where
           go : (t : Bool) → eqb n d ≡ t → (ks : List Based) × ((if eqb n d then some (routineOf n r hs) else first d gs) ≡ some (routineOf d s ks))
@@ -513,11 +538,10 @@ module _ (kinds values found goes : List ℕ) (z : Meant) (l : Layout) where
 
       -- the target of FOR is a register that may be written
       control-free : (a : Assignment) (p : Place) → Fact (phrase (driven (a .target))) p → (meaningAt f (a .target .name) ≡ register (controlOf f a)) × Free (pointIn p) (controlOf f a)
-      unfolding R.controlRules R.onlyRegister
+      unfolding R.controlRules
       control-free a p k =
           let d = a .target in
-          let b = rule-holds (isRegister (meaningAt f (d .name)) && R.bareName d) 8 (d .name) (omega arith) (quiet-left (R.onlyRegister f (place d)) _ (k .unbroken)) in
-          let e = is-register (meaningAt f (d .name)) (both-first (isRegister (meaningAt f (d .name))) (R.bareName d) b) in
+          let e = register-is f small l (pointIn p) stands d (quiet-left (R.onlyRegister f (place d)) _ (k .unbroken)) in
           (e, free-target p d (controlOf f a) e (register-at (d .name)) (quiet-right (R.onlyRegister f (place d)) _ (k .unbroken)) (k .told))
 
       mutual
@@ -527,6 +551,7 @@ module _ (kinds values found goes : List ℕ) (z : Meant) (l : Layout) where
             → SafeAt p ls gs (coreStatement f x) × Along Fact k p
         safe-statement (T.assign a) k p ls gs i c (h, hs) = let r = chain-of a k p hs in (assign-plain p gs i a h (r .0) (r .1), r .2)
         safe-statement (T.call n) k p ls gs i c (h, hs) = (call-safe p gs i n h, hs)
+        safe-statement (T.apply n a xs) k p ls gs i c (h, hs) = let r = arguments-of p gs i n 0 (a ∷ xs) k hs in (use-plain p gs i n a xs (r .0), r .1)
         safe-statement (T.block t b) k p ls gs i c (h, hs) =
             let r = safe-body b (edge (closed t) ∷ k) _ p ls gs (open-block t (E.labelsOf b []) p gs i) c (λ d w. w) hs in
             (r .0, r .1 .rest .1)
@@ -600,6 +625,7 @@ module _ (kinds values found goes : List ℕ) (z : Meant) (l : Layout) where
           bare-means d (register r) h = tt
           bare-means d (cell c) h = absurd h
           bare-means d (routine r) h = absurd h
+          bare-means d (function k) h = tt
 
       pub safe-program : (x : Statement) → Along Fact (eventsOf x) [] → Safe (z .written) (z .bases) l [] [] start (coreStatement f x)
       safe-program x h = safe-statement x [] [] [] [] before-text (λ d w. no-label d w) h .0

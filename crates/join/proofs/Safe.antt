@@ -12,9 +12,9 @@ use Rattle.static_rules.specs.Meaning.{Based, Cell, elementSize}
 use Rattle.static_rules.specs.Meanings.{dataBase}
 use Rattle.machine.specs.declared.Shift.{Shift}
 use Rattle.machine.specs.Space.{displacements}
-use Rattle.machine.specs.Instructions.{Short, applies, multiplies, branches, ends, unlisted, Long, appliesTo, multipliesBy, stores, branchesTo, links, shifts, unlistedLong, shortKind, longKind}
+use Rattle.machine.specs.Instructions.{Long, shifts, moves, compares, shortKind, longKind}
 pub use Rattle.machine.proofs.Effects.{PlainShort, Reads, Serves}
-use Rattle.translation.specs.Instructions.{Datum, element, literal, entry, Instruction, rr, rx, shift, branch, link, stop, opcode, addRow}
+use Rattle.translation.specs.Instructions.{Datum, element, literal, entry, Instruction, rr, rx, address, immediate, shift, branch, link, stop, opcode, addRow}
 use Rattle.translation.specs.Core.{Core, skip, run, seq, mark, scope, jump, call, procedure, base, when, either, loop, count}
 use Rattle.translation.specs.Code.{Mark, own}
 use Rattle.translation.specs.Layout.{Layout, offsetOf}
@@ -68,10 +68,22 @@ FitsDatum l p k r (element c o x) = InCell l p c o x × Served k (elementSize (c
 FitsDatum l p k r (literal v) = Reads k 4 r
 FitsDatum l p k r (entry n) = ⊥
 
+-- an operand that is an element of a cell
+abbrev pub IsCell : Layout → Point → Datum → Type 0
+IsCell l p (element c o x) = InCell l p c o x
+IsCell l p (literal v) = ⊥
+IsCell l p (entry n) = ⊥
+
+-- an instruction of a kind takes a number: it moves it, or compares with it
+abbrev pub TakesNumber : Long → Type 0
+TakesNumber k = (k ≡ moves) ⊎ (k ≡ compares)
+
 -- opcodes below 64 have two bytes, others four
 abbrev pub Fits : Layout → Point → Instruction → Type 0
 Fits l p (rr op r s) = (op < 64) × PlainShort (shortKind op) r × (s < 16)
 Fits l p (rx op r a) = (64 ≤ op) × FitsDatum l p (longKind op) r a
+Fits l p (address r a) = IsCell l p a
+Fits l p (immediate op v a) = (64 ≤ op) × TakesNumber (longKind op) × IsCell l p a
 Fits l p (shift op r s d) = (64 ≤ op) × ((f : Shift) × (longKind op ≡ shifts f)) × (d < displacements)
 Fits l p (branch m t) = ⊥
 Fits l p (link r t) = ⊥

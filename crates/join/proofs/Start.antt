@@ -17,7 +17,7 @@ use Rattle.machine.specs.Step.{Cpu}
 use Rattle.machine.proofs.Outside.{keeps-all}
 use Rattle.runner.specs.Load.{tableLength, loaded, spaceOf, started}
 use Rattle.runner.proofs.Loaded.{Short, segmentAt, object-short, loaded-bytes, loaded-table, length-loaded}
-use Rattle.translation.specs.Instructions.{Instruction, rr, rx, shift, branch, link, stop, size, sizes}
+use Rattle.translation.specs.Instructions.{Instruction, rr, rx, address, immediate, shift, branch, link, stop, size, sizes}
 use Rattle.translation.specs.Core.{Core}
 use Rattle.translation.specs.Code.{sizeOf, instructions}
 use Rattle.translation.specs.Layout.{Layout, segmentLimit, tableBytes, cellsEnd, literalsFrom}
@@ -41,6 +41,8 @@ use Rattle.join.proofs.Step.{Standing, InStorage, Inv, reg, guarded}
 size-even : (i : Instruction) → size i % 2 ≡ 0
 size-even (rr op r s) = refl
 size-even (rx op r a) = refl
+size-even (address r a) = refl
+size-even (immediate op v a) = refl
 size-even (shift op r s n) = refl
 size-even (branch m t) = refl
 size-even (link r t) = refl

@@ -16,7 +16,7 @@ use Rattle.base.specs.Runs.{indexOf}
 use Rattle.base.specs.Numbers.{valueOf, valueAt}
 use Rattle.base.proofs.Lists.{all-in}
 use Rattle.base.proofs.Parts.{same-part}
-use Rattle.grammar.specs.Tree.{Width, full, short}
+use Rattle.grammar.specs.Tree.{Width, full, short, byte}
 use Rattle.static_rules.specs.Meaning.{Based, Cell, elementSize}
 use Rattle.static_rules.specs.Meanings.{dataBase}
 use Rattle.static_rules.proofs.Elements.{size-positive}
@@ -30,8 +30,9 @@ use Rattle.machine.specs.Step as M
 use Rattle.machine.specs.Step.{Cpu, cpu, Turn, Stepped, stepped, went, moved, executed, completed, atEnd, forbidden, misaligned, address, operand, shortBy, longBy, step}
 use Rattle.machine.proofs.Outside.{Keeps, keeps-then, step-keeps}
 use Rattle.machine.proofs.Effects as E
-use Rattle.machine.proofs.Effects.{Changes, short-changes, long-changes, PlainShort, Reads, Serves, plain-onward, shift-onward, Ended, on, off, read-ends, store-ends, Branched, taken, passed, branch-goes, return-goes, link-address}
-use Rattle.translation.specs.Instructions.{Datum, element, literal, entry, Instruction, rr, rx, shift, branch, link, stop, size, opcode, loadRow, always}
+use Rattle.machine.proofs.Effects.{Changes, short-changes, long-changes, PlainShort, Reads, Serves, plain-onward, shift-onward, address-onward, Ended, on, off, read-ends, store-ends, move-ends, compare-ends, index-none, Branched, taken, passed, branch-goes, return-goes, link-address}
+use Rattle.translation.specs.Instructions as I
+use Rattle.translation.specs.Instructions.{Datum, element, literal, entry, Instruction, rr, rx, immediate, shift, branch, link, stop, size, opcode, loadRow, addressOp, branchOp, linkOp, always}
 use Rattle.translation.specs.Layout.{Layout, offsetOf, cellsEnd}
 use Rattle.translation.specs.Bytes.{programBase, indexRegister, displacement, twoBytes, fourBytes, encode}
 use Rattle.translation.proofs.Sizes.{length-encode}
@@ -39,8 +40,8 @@ use Rattle.translation.proofs.Literals.{Takes, index-lt}
 use Rattle.translation.proofs.Rooms.{startOf, CellAt}
 use Rattle.join.specs.Writes.{writes}
 use Rattle.join.specs.Points.{Within, Writes, Point, withBase, Placed}
-use Rattle.join.specs.Operands.{namedFrom, namedBytes, namedAt, Whole, Named, Indexed}
-use Rattle.join.proofs.Safe.{Spared, Counted, Guarded, InCell, Served, Fits, Plain, Basing}
+use Rattle.join.specs.Operands.{namedFrom, namedBytes, namedAt, Whole, Lies, Named, Indexed}
+use Rattle.join.proofs.Safe.{Spared, Counted, Guarded, InCell, Served, IsCell, TakesNumber, Fits, Plain, Basing}
 use Rattle.join.proofs.Flows.{Under, Good, Enters, Calls, Onward, Opens, Returns, Branches, Goes, Flows}
 use Rattle.join.proofs.Chain.{Holds, afterCall, Chain, outermost, called}
 use Rattle.join.proofs.ChainMoves.{chain-holds, chain-kept, chain-at, chain-under, chain-call, Back, chain-return}
@@ -94,6 +95,8 @@ pub data Fine (n : ℕ) (w : List Placed) (m : Space) (s₀ : List ℕ) (c : Cpu
 pub two-or-more : (i : Instruction) → 2 ≤ size i
 two-or-more (rr op r s) = omega arith
 two-or-more (rx op r a) = omega arith
+two-or-more (I.address r a) = omega arith
+two-or-more (immediate op v a) = omega arith
 two-or-more (shift op r s n) = omega arith
 two-or-more (branch m t) = omega arith
 two-or-more (link r t) = omega arith
@@ -110,6 +113,7 @@ address-based regs b d a h e l = rw (ne-eqb b 0 (λ z. omega arith), e) (omega a
 aligned-at : (w : Width) (k a b : ℕ) → a % elementSize w ≡ 0 → b % elementSize w ≡ 0 → (origin k + (a + b)) % elementSize w ≡ 0
 aligned-at full k a b h g = omega arith
 aligned-at short k a b h g = omega arith
+aligned-at (byte c) k a b h g = omega arith
 
 -- a part of an element: it has bytes, it is inside, and it is aligned where the element is
 part-inside : (w : Width) (z : ℕ) → (z ≡ elementSize w) ⊎ (z ≡ 1) → (0 < z) × (z ≤ elementSize w)
@@ -135,6 +139,21 @@ reads-some unlistedLong z r h = absurd h
 serves-bytes : (k : Long) (z r : ℕ) → Serves k z r → operandBytes k ≡ z
 serves-bytes k z r (inl h) = reads-some k z r h
 serves-bytes k z r (inr e) = ap operandBytes e
+
+-- what takes a number has no index, and an operand of one byte
+number-index : (k : Long) (x : ℕ) → TakesNumber k → M.indexOf k x ≡ 0
+number-index k x (inl e) = ap (λ (y : Long). M.indexOf y x) e
+number-index k x (inr e) = ap (λ (y : Long). M.indexOf y x) e
+
+number-bytes : (k : Long) → TakesNumber k → operandBytes k ≡ 1
+number-bytes k (inl e) = ap operandBytes e
+number-bytes k (inr e) = ap operandBytes e
+
+-- of an operand that is an element
+on-cell : (l : Layout) (p : Point) (P : Datum → Type 0) (a : Datum) → IsCell l p a → ((d : Cell) (o x : ℕ) → InCell l p d o x → P (element d o x)) → P a
+on-cell l p P (element d o x) h f = f d o x h
+on-cell l p P (literal v) h f = absurd h
+on-cell l p P (entry k) h f = absurd h
 
 -- the one element of a list
 only-one : (x r : ℕ) → x ∈ (r ∷ []) → x ≡ r
@@ -299,21 +318,22 @@ module _ (n : ℕ) (l : Layout) (e : ℕ) (w : List Placed) (m : Space) (s₀ : 
         (long-writes (shifts (f .1 .0)) r 0 x d (omega arith) st) u
 
     -- an operand in storage: in reach, or indexed
-    operand-fine : (op r : ℕ) (a : Datum) (x b d : ℕ) → here .instruction ≡ rx op r a → x < 16 → step m c s ≡ longBy (longKind op) m (r * 16 + x) b d c s
-        → Ended c (longBy (longKind op) m (r * 16 + x) b d c s .turn) (Indexed (rx op r a)) → Onward l w here → Fine n w m s₀ c s (rx op r a)
-    operand-fine op r a x b d q h st (on o) u =
-        onward (rx op r a) q (subst (λ (y : Stepped). E.Onward 4 c (y .turn)) (sym st) o) (long-writes (longKind op) r x b d h st) u
-    operand-fine op r a x b d q h st (off o i) u = stops (inr (subst (λ (y : Stepped). (y .turn .stop ≡ forbidden) ⊎ (y .turn .stop ≡ misaligned)) (sym st) o, i))
+    operand-fine : (i : Instruction) (o : Stepped) → here .instruction ≡ i → size i ≡ 4 → step m c s ≡ o → Changes c (writes i) next → Ended c (o .turn) (Indexed i)
+        → Onward l w here → Fine n w m s₀ c s i
+    operand-fine i o q z st ch (on t) u =
+        onward i q (subst (λ (y : Stepped). E.Onward (size i) c (y .turn)) (sym st) (subst (λ (y : ℕ). E.Onward y c (o .turn)) (sym z) t)) ch u
+    operand-fine i o q z st ch (off t x) u = stops (inr (subst (λ (y : Stepped). (y .turn .stop ≡ forbidden) ⊎ (y .turn .stop ≡ misaligned)) (sym st) t, x))
 
     reads-fine : (op r : ℕ) (a : Datum) (x b d z : ℕ) → here .instruction ≡ rx op r a → x < 16 → step m c s ≡ longBy (longKind op) m (r * 16 + x) b d c s → Reads (longKind op) z r
         → Indexed (rx op r a) ⊎ ((address (c .regs) x b d % z ≡ 0) × (readable m (address (c .regs) x b d) z ≡ true)) → Onward l w here → Fine n w m s₀ c s (rx op r a)
     reads-fine op r a x b d z q h st k i u =
-        operand-fine op r a x b d q h st (read-ends (longKind op) z m (r * 16 + x) b d c s (rw (first-field r x h) k) (rw (second-field r x h) i)) u
+        operand-fine (rx op r a) _ q refl st (long-writes (longKind op) r x b d h st)
+        (read-ends (longKind op) z m (r * 16 + x) b d c s (rw (first-field r x h) k) (rw (second-field r x h) i)) u
 
     stores-fine : (op r : ℕ) (a : Datum) (x b d z : ℕ) → here .instruction ≡ rx op r a → x < 16 → step m c s ≡ longBy (longKind op) m (r * 16 + x) b d c s → longKind op ≡ stores z
         → Indexed (rx op r a) ⊎ ((address (c .regs) x b d % z ≡ 0) × (writable m (address (c .regs) x b d) z ≡ true)) → Onward l w here → Fine n w m s₀ c s (rx op r a)
     stores-fine op r a x b d z q h st k i u =
-        operand-fine op r a x b d q h st
+        operand-fine (rx op r a) _ q refl st (long-writes (longKind op) r x b d h st)
         (subst (λ (y : Long). Ended c (longBy y m (r * 16 + x) b d c s .turn) (Indexed (rx op r a))) (sym k) (store-ends z m (r * 16 + x) b d c s (rw (second-field r x h) i))) u
 
     -- ── literals ──
@@ -369,22 +389,27 @@ module _ (n : ℕ) (l : Layout) (e : ℕ) (w : List Placed) (m : Space) (s₀ : 
           let g1 = g .1 in
           address-based (c .regs) (d .base .register) place (origin (d .base .segment)) (g .2) (base-holds (d .base) (i .based)) (omega arith)
 
-      -- z bytes of the element, unless it is indexed
-      reach : (z : ℕ) → (z ≡ width) ⊎ (z ≡ 1) → (y : ℕ) → y ≡ x
-          → (0 < y) ⊎ ((address (c .regs) y (d .base .register) place % z ≡ 0) × (readable m (address (c .regs) y (d .base .register) place) z ≡ true)
-          × (writable m (address (c .regs) y (d .base .register) place) z ≡ true))
-      reach z t zero e =
+      -- z bytes at an address are aligned and in storage
+      abbrev InReach : ℕ → ℕ → Type 0
+      InReach z a = (a % z ≡ 0) × (readable m a z ≡ true) × (writable m a z ≡ true)
+
+      -- z bytes of the element
+      within-reach : (z : ℕ) → (z ≡ width) ⊎ (z ≡ 1) → InReach z (address (c .regs) 0 (d .base .register) place)
+      within-reach z t =
           let a = cell-address in
           let g = segment-is in
           let lo = i .at .low in
           let b = part-inside (d .width) z t in
           let f = cell-place in
-          let k = p .map .cells (d .base .segment) place z (g .0) (g .1) (omega arith) (b .0) (omega arith) in
-          inr (
+          let k = p .map .cells (d .base .segment) place z (g .0) (g .1) (omega arith) (b .0) (omega arith) in (
             ap (λ (b : ℕ). b % z) a ∙ part-aligned (d .width) z (d .base .segment) (offsetOf (l .placed) (d .name)) o t (i .at .aligned) (i .aligned),
             ap (λ (b : ℕ). readable m b z) a ∙ k .0,
             ap (λ (b : ℕ). writable m b z) a ∙ k .1,
           )
+
+      -- unless it is indexed
+      reach : (z : ℕ) → (z ≡ width) ⊎ (z ≡ 1) → (y : ℕ) → y ≡ x → (0 < y) ⊎ InReach z (address (c .regs) y (d .base .register) place)
+      reach z t zero e = inr (within-reach z t)
       reach z t (suc y) e = inl (omega arith)
 
       cell-fine : (op r : ℕ) → here .instruction ≡ rx op r (element d o x) → 64 ≤ op → Served (longKind op) width r → Onward l w here → Fine n w m s₀ c s (rx op r (element d o x))
@@ -405,6 +430,41 @@ module _ (n : ℕ) (l : Layout) (e : ℕ) (w : List Placed) (m : Space) (s₀ : 
           go (inl g) (inr t) = stores-fine op r (element d o x) x (d .base .register) place z q (i .index) st t (inl g) u
           go (inr g) (inl t) = reads-fine op r (element d o x) x (d .base .register) place z q (i .index) st t (inr (g .0, g .1)) u
           go (inr g) (inr t) = stores-fine op r (element d o x) x (d .base .register) place z q (i .index) st t (inr (g .0, g .2)) u
+
+      -- LA touches no storage
+      address-fine : (r : ℕ) → here .instruction ≡ I.address r (element d o x) → Onward l w here → Fine n w m s₀ c s (I.address r (element d o x))
+      unfolding encode
+      address-fine r q u =
+          let st : step m c s ≡ longBy addresses m (r * 16 + x) (d .base .register) place c s =
+          decode (I.address r (element d o x)) addressOp r x (d .base .register) place q refl refl (omega arith) cell-near in
+          onward (I.address r (element d o x)) q
+          (subst (λ (y : Stepped). E.Onward 4 c (y .turn)) (sym st) (address-onward m (r * 16 + x) (d .base .register) place c s))
+          (long-writes addresses r x (d .base .register) place (i .index) st) u
+
+      -- MVI and CLI, which have no index
+      number-fine : (op v : ℕ) → here .instruction ≡ immediate op v (element d o x) → 64 ≤ op → TakesNumber (longKind op) → Onward l w here
+          → Fine n w m s₀ c s (immediate op v (element d o x))
+      unfolding encode
+      number-fine op v q h k u = go k
+        where
+          by : Long → Stepped
+          by y = longBy y m (v / 16 * 16 + v % 16) (d .base .register) place c s
+
+          st : step m c s ≡ by (longKind op)
+          st = decode (immediate op v (element d o x)) op (v / 16) (v % 16) (d .base .register) place q refl refl h cell-near
+
+          one : InReach 1 (address (c .regs) 0 (d .base .register) place)
+          one = within-reach 1 (inr refl)
+
+          go : TakesNumber (longKind op) → Fine n w m s₀ c s (immediate op v (element d o x))
+          go (inl e) =
+              let t : step m c s ≡ by moves = st ∙ ap by e in
+              operand-fine (immediate op v (element d o x)) (by moves) q refl t (long-writes moves (v / 16) (v % 16) (d .base .register) place (omega arith) t)
+              (move-ends m (v / 16 * 16 + v % 16) (d .base .register) place c s (inr (one .2))) u
+          go (inr e) =
+              let t : step m c s ≡ by compares = st ∙ ap by e in
+              operand-fine (immediate op v (element d o x)) (by compares) q refl t (long-writes compares (v / 16) (v % 16) (d .base .register) place (omega arith) t)
+              (compare-ends m (v / 16 * 16 + v % 16) (d .base .register) place c s (inr (one .1))) u
 
     -- ── branches ──
 
@@ -543,6 +603,13 @@ module _ (n : ℕ) (l : Layout) (e : ℕ) (w : List Placed) (m : Space) (s₀ : 
         let o : op ≡ 0x58 = u .loads ∙ load-opcode in
         let z : rx 0x58 r (entry k) ≡ rx op r (entry k) = λ i. rx (sym o i) r (entry k) in
         subst (λ (i : Instruction). Fine n w m s₀ c s i) z (base-fine r k (q ∙ sym z) (subst (λ (y : ℕ). Opens n w here y r k) o u))
+    fine (I.address r a) q u =
+        on-cell l (here .point) (λ (y : Datum). here .instruction ≡ I.address r y → Fine n w m s₀ c s (I.address r y)) a (fits (I.address r a) q u)
+        (λ d o x i t. address-fine d o x i r t u) q
+    fine (immediate op y a) q u =
+        let f = fits (immediate op y a) q u in
+        on-cell l (here .point) (λ (b : Datum). here .instruction ≡ immediate op y b → Fine n w m s₀ c s (immediate op y b)) a (f .2)
+        (λ d o x i t. number-fine d o x i op y t (f .0) (f .1) u) q
     fine (shift op r x d) q u = shift-fine op r x d q u
     fine (branch k t) q u = branch-fine k t q u
     fine (link r t) q u = link-fine r t q u
@@ -553,47 +620,78 @@ module _ (n : ℕ) (l : Layout) (e : ℕ) (w : List Placed) (m : Space) (s₀ : 
 
     -- ── operands ──
 
-    whole : (op r : ℕ) (a : Datum) (b d : ℕ) → here .instruction ≡ rx op r a → encode l (rx op r a) ≡ fourBytes op r 0 b d → d < displacements
-        → address (c .regs) 0 b d ≡ namedFrom l a + namedAt a → (z : ℕ) → 0 < z → operandBytes (longKind op) ≡ z → namedAt a + z ≤ namedBytes a → Whole l c s a
-    whole op r a b d q en h ad z pos k wi =
-        let by = subst (λ (bs : List ℕ). StandAt s (c .counter) bs) en (stand (rx op r a) q) in
-        let o : operandBytes (longKind (getD s (c .counter) 0)) ≡ z = ap (λ (y : ℕ). operandBytes (longKind y)) (decode-opcode m c s op r 0 b d by) ∙ k in
-        record { at = decode-address m c s op r b d h by ∙ ad; some = omega arith; inside = omega arith }
+    -- an operand of z bytes, by an instruction that has no index
+    whole : (i : Instruction) (a : Datum) (op r x b d z : ℕ) → here .instruction ≡ i → encode l i ≡ fourBytes op r x b d → x < 16 → M.indexOf (longKind op) x ≡ 0 → d < displacements
+        → address (c .regs) 0 b d ≡ namedFrom l a + namedAt a → 0 < z → operandBytes (longKind op) ≡ z → namedAt a + z ≤ namedBytes a → Whole l c s a
+    whole i a op r x b d z q en small bare h ad pos k wi =
+        let by = subst (λ (bs : List ℕ). StandAt s (c .counter) bs) en (stand i q) in
+        let o : operandBytes (longKind (getD s (c .counter) 0)) ≡ z = ap (λ (y : ℕ). operandBytes (longKind y)) (decode-opcode m c s op r x b d by) ∙ k in
+        record { at = decode-address m c s op r x b d small bare h by ∙ ad; some = omega arith; inside = omega arith }
+
+    no-index : (k : Long) (x : ℕ) → x ≡ 0 → M.indexOf k x ≡ 0
+    no-index k x e = ap (M.indexOf k) e ∙ index-none k
+
+    module _ (d : Cell) (o x : ℕ) (i : InCell l (here .point) d o x) where
+      element-address : address (c .regs) 0 (d .base .register) (place d o x i) ≡ namedFrom l (element d o x) + namedAt (element d o x)
+      element-address = cell-address d o x i ∙ omega arith
+
+      -- z bytes of the element
+      whole-element : (j : Instruction) (op r y z : ℕ) → here .instruction ≡ j → encode l j ≡ fourBytes op r y (d .base .register) (place d o x i) → y < 16 → M.indexOf (longKind op) y ≡ 0
+          → (z ≡ elementSize (d .width)) ⊎ (z ≡ 1) → operandBytes (longKind op) ≡ z → Whole l c s (element d o x)
+      whole-element j op r y z q en small bare t k =
+          let b = part-inside (d .width) z t in
+          let h = i .whole in
+          whole j (element d o x) op r y (d .base .register) (place d o x i) z q en small bare (cell-near d o x i) element-address (b .0) k (omega arith)
+
+      address-lies : (r : ℕ) → here .instruction ≡ I.address r (element d o x) → x ≡ 0 → Lies l c s (element d o x)
+      unfolding encode
+      address-lies r q e =
+          let h = i .whole in
+          let g = size-positive (d .width) in
+          record {
+            formed = decode-address m c s addressOp r x (d .base .register) (place d o x i) (i .index) (no-index addresses x e) (cell-near d o x i)
+                (stand (I.address r (element d o x)) q) ∙ element-address;
+            inside = omega arith;
+          }
 
     named : (i : Instruction) → here .instruction ≡ i → Goes n l e w here i → Named l (here .segment) c s i
     unfolding encode
     named (rr op r x) q u = tt
     named (rx op r (element d o x)) q u = λ h.
         let f = fits (rx op r (element d o x)) q u in
-        let i = f .1 .0 in
-        let en : encode l (rx op r (element d o x)) ≡ fourBytes op r 0 (d .base .register) (offsetOf (l .placed) (d .name) + o) =
-        ap (λ (y : ℕ). fourBytes op r y (d .base .register) (offsetOf (l .placed) (d .name) + o)) h in
         let t = f .1 .1 in
-        let b = part-inside (d .width) (t .bytes) (t .part) in
-        let v = i .whole in
-        whole op r (element d o x) (d .base .register) (offsetOf (l .placed) (d .name) + o) q en (cell-near d o x i) (cell-address d o x i ∙ omega arith) (t .bytes)
-        (b .0) (serves-bytes (longKind op) (t .bytes) r (t .serves)) (omega arith)
+        whole-element d o x (f .1 .0) (rx op r (element d o x)) op r x (t .bytes) q refl (f .1 .0 .index) (no-index (longKind op) x h) (t .part)
+        (serves-bytes (longKind op) (t .bytes) r (t .serves))
     named (rx op r (literal y)) q u = λ h.
         let f = fits (rx op r (literal y)) q u in
         let j = literal-place op r y q in
-        whole op r (literal y) 14 (l .literalsAt + 4 * indexOf y (l .literals)) q refl (omega arith) (literal-address op r y q ∙ omega arith) 4 (omega arith)
-        (reads-some (longKind op) 4 r (f .1)) (omega arith)
+        whole (rx op r (literal y)) (literal y) op r 0 14 (l .literalsAt + 4 * indexOf y (l .literals)) 4 q refl (omega arith) (index-none (longKind op)) (omega arith)
+        (literal-address op r y q ∙ omega arith) (omega arith) (reads-some (longKind op) 4 r (f .1)) (omega arith)
     named (rx op r (entry k)) q u = λ h.
         let ex = u .basing .exists in
         let few = p .map .few in
         let a : address (c .regs) 0 14 (4 * k) ≡ origin 1 + 4 * k =
         address-based (c .regs) 14 (4 * k) (origin 1) (omega arith) (base-holds dataBase (guarded here (v .one) .fourteen)) (omega arith) in
-        whole op r (entry k) 14 (4 * k) q refl (omega arith) (a ∙ omega arith) 4 (omega arith) (ap (λ (y : ℕ). operandBytes (longKind y)) (u .loads ∙ load-opcode)) (omega arith)
+        whole (rx op r (entry k)) (entry k) op r 0 14 (4 * k) 4 q refl (omega arith) (index-none (longKind op)) (omega arith) (a ∙ omega arith) (omega arith)
+        (ap (λ (y : ℕ). operandBytes (longKind y)) (u .loads ∙ load-opcode)) (omega arith)
+    named (I.address r a) q u =
+        on-cell l (here .point) (λ (y : Datum). here .instruction ≡ I.address r y → indexRegister y ≡ 0 → Lies l c s y) a (fits (I.address r a) q u)
+        (λ d o x i t h. address-lies d o x i r t h) q
+    named (immediate op y a) q u =
+        let f = fits (immediate op y a) q u in
+        on-cell l (here .point) (λ (b : Datum). here .instruction ≡ immediate op y b → Whole l c s b) a (f .2)
+        (λ d o x i t. whole-element d o x i (immediate op y (element d o x)) op (y / 16) (y % 16) 1 t refl (omega arith) (number-index (longKind op) (y % 16) (f .1)) (inr refl)
+        (number-bytes (longKind op) (f .1))) q
     named (shift op r x d) q u = tt
     named (branch k t) q u =
         let b = good-near t (here .point) (u .to) in
-        decode-address m c s 0x47 k programBase t (b .0) (stand (branch k t) q) ∙ from-base t (b .1)
+        decode-address m c s branchOp k 0 programBase t (omega arith) refl (b .0) (stand (branch k t) q) ∙ from-base t (b .1)
     named (link r t) q u =
         let nr = near (u .body .to) (u .body .one) t (u .body .at) in
         let sh = nr .short in
         let sm = nr .small in
         let sg : u .body .to .segment ≡ here .segment = u .body .segment ∙ u .segment in
-        decode-address m c s 0x45 r programBase t sh (stand (link r t) q) ∙ from-base t (omega arith)
+        decode-address m c s linkOp r 0 programBase t (omega arith) refl sh (stand (link r t) q) ∙ from-base t (omega arith)
     named stop q u = tt
 
     pub operand-named : Named l (v .x .segment) c s (v .x .instruction)

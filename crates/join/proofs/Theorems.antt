@@ -44,7 +44,7 @@ module _ (source object : List ℕ) (room : ℕ) (accepts : translate source roo
     always-at-an-instruction = (sound .number, sound .at)
 
     -- "every unindexed operand lies wholly, for its whole width, in the cell, literal or table entry that the text names (and every branch goes to the instruction
-    -- that the text means)"
+    -- that the text means)"; of LA, which touches no storage, the unindexed address lies in the cell that the text names
     pub every-operand-is-named : (i : ℕ) → At (instructionsOf source) (runner object regs code budget s .counter) i
         → Named (layoutOf source) 0 (stateOf (runner object regs code budget s)) (runner object regs code budget s .store) (getD (instructionsOf source) i stop)
     every-operand-is-named = sound .named

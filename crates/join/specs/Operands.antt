@@ -9,7 +9,7 @@ use Rattle.machine.specs.Space.{origin}
 use Rattle.machine.specs.Instructions.{longKind}
 use Rattle.machine.specs.Step.{Cpu}
 use Rattle.machine.specs.Operands.{operandAddress, operandBytes}
-use Rattle.translation.specs.Instructions.{Datum, element, literal, entry, Instruction, rr, rx, shift, branch, link, stop}
+use Rattle.translation.specs.Instructions.{Datum, element, literal, entry, Instruction, rr, rx, address, immediate, shift, branch, link, stop}
 use Rattle.translation.specs.Layout.{Layout, offsetOf}
 use Rattle.translation.specs.Bytes.{indexRegister}
 
@@ -37,20 +37,29 @@ pub record Whole (l : Layout) (c : Cpu) (s : List ℕ) (a : Datum) : Type 0 wher
   pub some : 0 < operandBytes (longKind (getD s (c .counter) 0))
   pub inside : namedAt a + operandBytes (longKind (getD s (c .counter) 0)) ≤ namedBytes a
 
+-- the address that the machine forms at a state is that of the element that the text names, and lies in its cell
+pub record Lies (l : Layout) (c : Cpu) (s : List ℕ) (a : Datum) : Type 0 where
+  pub formed : operandAddress c s ≡ namedFrom l a + namedAt a
+  pub inside : namedAt a < namedBytes a
+
 -- "every unindexed operand lies wholly … in the cell, literal or table entry that the text names (and every branch goes to the instruction that the text means)";
--- g is the segment of the instruction
+-- g is the segment of the instruction. LA touches no storage: its address, unindexed, lies in the cell that the text names. MVI and CLI have no index.
 abbrev pub Named : Layout → ℕ → Cpu → List ℕ → Instruction → Type 0
 Named l g c s (rr op r x) = Unit {0}
 Named l g c s (rx op r a) = indexRegister a ≡ 0 → Whole l c s a
+Named l g c s (address r a) = indexRegister a ≡ 0 → Lies l c s a
+Named l g c s (immediate op v a) = Whole l c s a
 Named l g c s (shift op r x n) = Unit {0}
 Named l g c s (branch m t) = operandAddress c s ≡ origin g + t
 Named l g c s (link r t) = operandAddress c s ≡ origin g + t
 Named l g c s stop = Unit {0}
 
--- an operand that is indexed
+-- an operand that is indexed; the address of LA is no operand in storage
 abbrev pub Indexed : Instruction → Type 0
 Indexed (rr op r x) = ⊥
 Indexed (rx op r a) = 0 < indexRegister a
+Indexed (address r a) = ⊥
+Indexed (immediate op v a) = ⊥
 Indexed (shift op r x n) = ⊥
 Indexed (branch m t) = ⊥
 Indexed (link r t) = ⊥

@@ -284,14 +284,16 @@ module _ (f : Tables) where
       abbrev further : Open
       further = openOf (g .target) (g .name) (g .position + 1)
 
-      aimed-is : (d : Designator) (i j : ℕ) → isDesignator kinds d i j → step (E.TARGET + shape d) (d .name) here ≡ judgedBy (aimingAt (aimOf (meaningAt f (d .name)))) (R.targetRules f (keptIn f p) d)
+      aimed-is : (d : Designator) (i j : ℕ) → isDesignator kinds d i j
+          → step (E.TARGET + shape d) (d .name) here ≡ judgedBy (aimingAt (aimOf (meaningAt f (d .name)))) (R.targetRules f (keptIn f p) d)
       unfolding judgeEvent heldAfter cellsAfter openAfter eventRule statementRule assignmentRule layerAt formAt R.targetRules R.placeRules R.noByte
       aimed-is d i j h =
           let m = meaningAt f (d .name) in
           by-shape (λ k. step (E.TARGET + k) (d .name) here ≡ judgedBy (aimingAt (aimOf m)) (aimBy f (keptIn f p) (designatorAt k (d .name)) m)) refl refl refl refl (d .subscript) (d .index)
           ∙ ap (judgedBy (aimingAt (aimOf m))) (ap (λ (y : Designator). aimBy f (keptIn f p) y m) (designator-at d (pinned-designator kinds d i j h .1)) ∙ aim-same d (keptIn f p) m)
 
-      driven-is : (d : Designator) (i j : ℕ) → isDesignator kinds d i j → step (E.CONTROL + shape d) (d .name) here ≡ judgedBy (aimingAt (aimOf (meaningAt f (d .name)))) (R.controlRules f (keptIn f p) d)
+      driven-is : (d : Designator) (i j : ℕ) → isDesignator kinds d i j
+          → step (E.CONTROL + shape d) (d .name) here ≡ judgedBy (aimingAt (aimOf (meaningAt f (d .name)))) (R.controlRules f (keptIn f p) d)
       unfolding judgeEvent heldAfter cellsAfter openAfter eventRule statementRule assignmentRule layerAt formAt R.controlRules R.onlyRegister
       driven-is d i j h =
           let m = meaningAt f (d .name) in
@@ -366,9 +368,11 @@ module _ (f : Tables) where
     turn-phrase : (y : Phrase) (p : Place) (c : Context) (b : Broken) (s n room : ℕ) (g : Open) (x : Broken) (i j : ℕ) → isEvent kinds (phrase y) i j → phraseSuits y c → Opens c s n g
         → b ≡ x ⊕ pending c room → At p (contextAfter (phrase y) c) (ruleEvent f (phrase y) p b) (step (opOf (phrase y)) (tokenOf (phrase y)) (at p s n room g x))
     turn-phrase (aimed d) p c b s n room g x i j h q o e =
-        judged (phrase (aimed d)) p c b s n room g x s n room (openOf (aimOf (meaningAt f (d .name))) (g .name) (g .position)) (complete c room b x q e) refl join-right (aimed-is p s n room g x d i j h)
+        judged (phrase (aimed d)) p c b s n room g x s n room (openOf (aimOf (meaningAt f (d .name))) (g .name) (g .position)) (complete c room b x q e) refl join-right
+        (aimed-is p s n room g x d i j h)
     turn-phrase (driven d) p c b s n room g x i j h q o e =
-        judged (phrase (driven d)) p c b s n room g x s n room (openOf (aimOf (meaningAt f (d .name))) (g .name) (g .position)) (complete c room b x q e) refl join-right (driven-is p s n room g x d i j h)
+        judged (phrase (driven d)) p c b s n room g x s n room (openOf (aimOf (meaningAt f (d .name))) (g .name) (g .position)) (complete c room b x q e) refl join-right
+        (driven-is p s n room g x d i j h)
     turn-phrase (signed d y) p c b s n room g x i j h q o e = turn-signed d y p c b s n room g x (q .0) (q .1) o e
     turn-phrase (given d a) p (aiming z) b s n room g x i j h q o e =
         judged (phrase (given d a)) p (aiming z) b s n room g x s n room g (complete (aiming z) room b x tt e) o join-right

@@ -13,7 +13,7 @@ headlines =
     ++ bytes "\nmore than 64 constructs inside each other"
     ++ bytes "\nthis name is not declared, or this label is not set"
     ++ bytes "\nthis is declared twice"
-    ++ bytes "\nthis is of the wrong kind"
+    ++ bytes "\nthis does not fit here"
     ++ bytes "\nthis register cannot stand here"
     ++ bytes "\na protected register is written here"
     ++ bytes "\nthe value is out of bounds"
@@ -83,3 +83,4 @@ faults =
     ++ bytes "\nthis names no register, and the text declares no cell of this name"
     ++ bytes "\nthis is no element: the number is a byte offset in an array, a multiple of its element size"
     ++ bytes "\nthis is no value for a SHORT cell: -32768 to 65535"
+    ++ bytes "\nthis is no value for a BYTE or CHARACTER cell: 0 to 255"

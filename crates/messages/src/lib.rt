@@ -17,14 +17,14 @@ use figures::put_phrase;
 use figures::put_times;
 
 // What is refused, by its number; from 20 on what is told more closely.
-const HEADLINES: [u8; 904] = *b"\nthe source has more than 32,768 bytes\
+const HEADLINES: [u8; 901] = *b"\nthe source has more than 32,768 bytes\
     \nbyte % is in no token\
     \nthe number is out of range\
     \nno program goes on like this\
     \nmore than 64 constructs inside each other\
     \nthis name is not declared, or this label is not set\
     \nthis is declared twice\
-    \nthis is of the wrong kind\
+    \nthis does not fit here\
     \nthis register cannot stand here\
     \na protected register is written here\
     \nthe value is out of bounds\
@@ -78,7 +78,7 @@ const NOTES: [u8; 1026] = *b"\n\
     \n a base or the return register of what is around this place";
 
 // Why a word of the command line is wrong.
-const FAULTS: [u8; 558] = *b"\nthere is no such command\
+const FAULTS: [u8; 614] = *b"\nthere is no such command\
     \nthis command has no such option\
     \nthere is one name too many\
     \nthis is no number from 0 to 4294967295\
@@ -89,7 +89,8 @@ const FAULTS: [u8; 558] = *b"\nthere is no such command\
     \nthere is no help on this: a command, or a number from 0 to 19\
     \nthis names no register, and the text declares no cell of this name\
     \nthis is no element: the number is a byte offset in an array, a multiple of its element size\
-    \nthis is no value for a SHORT cell: -32768 to 65535";
+    \nthis is no value for a SHORT cell: -32768 to 65535\
+    \nthis is no value for a BYTE or CHARACTER cell: 0 to 255";
 
 // ── what is said ──
 

@@ -21,14 +21,19 @@ returns c =
     let at-fits2 = at-if1 .before in
     rw (← at-fits2 .fits2 .ensures, at-if1 .if1 .taken, at-put-cell .put-cell .ensures)
 
+unfit-requires : tie.Need-unfit-requires
+unfit-requires c κs = search needs
+
 faulted-requires : tie.Need-faulted-requires
 faulted-requires c κs = search needs
 
 returns-2 : tie.Need-returns-2
 unfolding setNumber
 returns-2 c =
-    let at-fits2 = c .before .before in
-    rw (← at-fits2 .fits2 .ensures, c .before .if1 .left, c .faulted .ensures)
+    let at-unfit = c .before in
+    let at-if1 = at-unfit .before in
+    let at-fits2 = at-if1 .before in
+    rw (← at-fits2 .fits2 .ensures, at-if1 .if1 .left, c .faulted .ensures, at-unfit .unfit .ensures)
 
 pub set-number-spec : {M : Type 1} → statement M
 set-number-spec =
@@ -38,5 +43,6 @@ set-number-spec =
     put-cell-requires
     same-length
     returns
+    unfit-requires
     faulted-requires
     returns-2)

@@ -75,7 +75,7 @@ returns-3 c =
     let e = c .before .before .enter-in-room .ensures in
     let q = c .before .before .before .before .before .before .lay-four2 .ensures in (
       λ h.
-          lay-literal (a .start) (a .p) (a .image .now) (take (a .n) (a .literals .now)) (a .c) _ _ _
+          lay-literal (a .start) (a .p) (a .image .now) (take (a .n) (a .literals .now)) (a .c) _ _ _ _
           (c .before .before .before .before .before .before .before .before .find .result)
           (c .before .before .before .before .before .before .before .before .before .before .before .c3 .given .1)
           (e .0 h .0) (e .0 h .1) q,
