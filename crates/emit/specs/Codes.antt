@@ -135,8 +135,8 @@ abbrev pub isImmediate : (op : ℕ) → Bool
 isImmediate op = leb 128 op
 
 -- a half of an instruction's second byte: the number's where the opcode takes one, else the register or the index
-abbrev pub halfOf : (op ofNumber field : ℕ) → ℕ
-halfOf op ofNumber field = if isImmediate op then ofNumber else field
+abbrev pub halfOf : (op nibble field : ℕ) → ℕ
+halfOf op nibble field = if isImmediate op then nibble else field
 
 -- with the last argument, by the register r or the number v before it
 unfoldable pub functionCodes : (op r v : ℕ) → Use → Codes

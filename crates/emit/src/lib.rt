@@ -506,11 +506,11 @@ fn is_immediate(op: u64) -> bool
 }
 
 // A half of an instruction's second byte: the number's where the opcode takes one, else the register or the index.
-fn half(op: u64, of_number: u64, field: u64) -> u64
-    ensures { λ n. ⌜ n ≡ halfOf op of_number field ⌝ }
+fn half(op: u64, nibble: u64, field: u64) -> u64
+    ensures { λ n. ⌜ n ≡ halfOf op nibble field ⌝ }
 {
     if is_immediate(op) {
-        return of_number;
+        return nibble;
     }
     field
 }
