@@ -6,7 +6,7 @@ use Prim.Native.Nat.{ℕ, suc, _+_}
 use native.Mathlib.Omega.{arith}
 use lib.Dec.{eqb}
 use lib.ListN.{getD}
-use borrow.Author.Tests.{eqb-true}
+use borrow.Author.Tests.{eqb-true, ne-eqb}
 use Rattle.base.proofs.Tests.{never-true}
 use Rattle.token.specs.Kinds as K
 use Rattle.grammar.specs.Tree.{Designator, Operand, assign}
@@ -27,6 +27,11 @@ module _ {P : Designator → ℕ → Type 0} {ks : List ℕ} {i : ℕ} {r : Answ
   pub target-at : {m : Result Designator} → Reads P ks i r m → r .number ≡ 0 → targeted ks m ≡ eqb (getD ks (r .at) 0) K.BECOMES
   target-at {m = ok d j} h n = rw (h .tells .1)
   target-at {m = bad k t} h n = absurd (let (a, b, c, d) = h .tells in omega arith)
+
+-- a name with no parenthesis behind it is a designator
+pub target-bare : (ks : List ℕ) (n : ℕ) → (getD ks (n + 1) 0 ≡ K.OPEN → ⊥) → targeted ks (designatorOf n ks (n + 1)) ≡ eqb (getD ks (n + 1) 0) K.BECOMES
+unfolding designatorOf andThen look
+target-bare ks n h = rw (ne-eqb (getD ks (n + 1) 0) K.OPEN h) refl
 
 pub target-read : (ks : List ℕ) (n : ℕ) → targeted ks (designatorOf n ks (n + 1)) ≡ true → getD ks n 0 ≡ K.NAME
     → afterName n ks (n + 1) ≡ andThen (assignmentOf n ks (n + 1)) (λ a i. ok (assign a) i)

@@ -72,6 +72,10 @@ pub fn is_target(kinds: &[u8], n: usize) -> bool
     requires { ⌜ n < length (now kinds) ⌝ }
     ensures { λ r. ⌜ r ≡ targeted (now (kinds .entry)) (G.designatorOf n (now (kinds .entry)) (n + 1)) ⌝ }
 {
+    let next = kind_at(kinds, n + 1);
+    if next != kinds::OPEN {
+        return next == kinds::BECOMES;
+    }
     let d = designator(kinds, n);
     if d.number != 0 {
         return false;
