@@ -25,19 +25,19 @@ fn biased(a: u32) -> u64
 fn settled_code(t: u64) -> u64
     ensures { λ r. ⌜ r ≡ codeBy t ⌝ }
 {
-    if t < 2147483648 {
+    if 4294967296 < t {
+        if t < 6442450944 {
+            return 2;
+        }
         return 3;
-    }
-    if t < 4294967296 {
-        return 1;
     }
     if t == 4294967296 {
         return 0;
     }
-    if t < 6442450944 {
-        return 2;
+    if t < 2147483648 {
+        return 3;
     }
-    3
+    1
 }
 
 pub fn add(a: u32, b: u32) -> Made
