@@ -34,10 +34,10 @@ fn settled_code(t: u64) -> u64
     if t == 4294967296 {
         return 0;
     }
-    if t < 2147483648 {
-        return 3;
+    if 2147483648 <= t {
+        return 1;
     }
-    1
+    3
 }
 
 pub fn add(a: u32, b: u32) -> Made

@@ -34,10 +34,10 @@ returns-3 : tie.Need-returns-3
 returns-3 c = zero _ (c .if3 .taken)
 
 returns-4 : tie.Need-returns-4
-returns-4 c = below _ (c .if4 .taken)
+returns-4 c = negative _ (c .before .before .if1 .left) (c .before .if3 .left) (c .if4 .taken)
 
 returns-5 : tie.Need-returns-5
-returns-5 c = negative _ (c .before .before .if1 .left) (c .before .if3 .left) (c .if4 .left)
+returns-5 c = below _ (c .if4 .left)
 
 pub settled-code-spec : {M : Type 1} → statement M
 settled-code-spec = tie.close (tie.spec returns returns-2 returns-3 returns-4 returns-5)
