@@ -8,7 +8,7 @@ use native.Mathlib.Omega.{arith}
 use native.Mathlib.Decide.{decLe}
 use native.Mathlib.Nat.{pow-le-pow-right}
 use lib.Dec.{T, ltb, lit<}
-use lib.ListN.{length, take, drop, getD, length-take}
+use lib.ListN.{length, take, getD, length-take}
 use borrow.Author.Tests.{lt-leb, lt-ltb, le-ltb, ltb-true, eq-eqb, ne-eqb}
 use Rattle.base.specs.Lists.{All}
 use Rattle.base.specs.Runs.{runLen}
@@ -17,10 +17,10 @@ use Rattle.base.specs.Tables.{allBelow}
 use Rattle.base.proofs.Lists.{all-map, all-take}
 use Rattle.base.proofs.Numbers.{min-on, number-more, number-lt}
 use Rattle.base.proofs.Parts.{take-min}
-use Rattle.base.proofs.Runs.{run-all, run-le, run-take, run-past}
+use Rattle.base.proofs.Runs.{run-all}
 use Rattle.base.proofs.Tables.{all-below}
 use Rattle.token.specs.Text.{isDigit, isHexadecimal, inName, digitOf, keyOf, number}
-use Rattle.scanner.specs.Inner.{inBase, Digited, Named}
+use Rattle.scanner.specs.Inner.{inBase, Digited, longerBy}
 use Rattle.token.specs.Kinds as K
 use Rattle.token.specs.declared.Lexeme.the-variants.{Token, NoToken, OutOfRange}
 use Rattle.scanner.specs.declared.Spelled.{Spelled}
@@ -70,40 +70,26 @@ key-below t a =
     let n : length (take 10 t) ≤ 10 = omega (arith, length-take 10 t) in
     omega (arith, number-lt digitOf 36 (take 10 t) (all-take (λ b. digitOf b < 36) 10 t a), pow-le-pow-right {n = 36} (lit< tt) n)
 
--- the first ten characters and what follows them make a name
-module _ (s : List ℕ) (n : ℕ) (d : Spelled) (e : n ≡ min (length s) 10) (h : Digited 36 (take n s) d) where
-  r : ℕ
-  r = runLen inName s
+-- the loop of `name`: one character more
+pub key-on : (s : List ℕ) (i key d r : ℕ) → key ≡ keyOf (take i s) → i < length s → d ≡ digitOf (getD s i 0) → r ≡ longerBy key i d → r ≡ keyOf (take (i + 1) s)
+key-on s i key d r e h q f = f ∙ go (decLe 10 i)
+  where
+    go : Dec (10 ≤ i) → longerBy key i d ≡ keyOf (take (i + 1) s)
+    go (yes l) =
+        let m : min 10 i ≡ min 10 (i + 1) = omega arith in
+        rw (le-ltb i 10 l) (e ∙ ap (numberFrom digitOf 36 0) (take-min 10 i s ∙ ap (λ (n : ℕ). take n s) m ∙ sym (take-min 10 (i + 1) s)))
+    go (no l) =
+        let m : min 10 i ≡ i = omega arith in
+        let n : min 10 (i + 1) ≡ i + 1 = omega arith in
+        rw (lt-ltb i 10 (omega arith), e, take-min 10 i s, take-min 10 (i + 1) s, m, n, q) (sym (number-more digitOf 36 s i h))
 
-  first : d .size ≡ min n r
-  unfolding r
-  first = h .size ∙ ap (λ (p : ℕ → Bool). runLen p (take n s)) alphanumeric ∙ run-take inName n s
-
-  -- the value is the key of any part of the name that has as much of the first ten characters
-  key : (m : ℕ) → m ≤ r → min 10 m ≡ min (d .size) n → d .value ≡ keyOf (take m s)
-  unfolding r
-  key m l q =
-      let parts : take (d .size) (take n s) ≡ take 10 (take m s) = rw (take-min (d .size) n s, take-min 10 m s, q) in
-      let all : All (λ b. digitOf b < 36) (take r s) = rw (← alphanumeric) (run-digits 36 s) in
-      let w : take m s ≡ take m (take r s) = (let z : min m r ≡ m = omega arith in sym (rw z at (take-min m r s))) in
-      let below : keyOf (take m s) < 2 ^ 52 = key-below (take m s) (rw w (all-take (λ b. digitOf b < 36) m (take r s) all)) in
-      h .value ∙ rw parts (omega arith)
-
-  pub short-name : d .size < 10 → Named s d
-  unfolding r
-  short-name l =
-      let b = run-le inName s in
-      let f = first in
-      record { size = omega arith; value = key (d .size) (omega arith) (omega arith); fits = omega arith }
-
-  pub long-name : (more : ℕ) → 10 ≤ d .size → more ≡ runLen (inBase 36) (drop 10 s) → Named s (record { size = 10 + more; value = d .value })
-  unfolding r
-  long-name more l m =
-      let b = run-le inName s in
-      let f = first in
-      let p : r ≡ 10 + runLen inName (drop 10 s) = run-past inName 10 s (omega arith) in
-      let g : more ≡ runLen inName (drop 10 s) = m ∙ ap (λ (q : ℕ → Bool). runLen q (drop 10 s)) alphanumeric in
-      record { size = omega arith; value = key (10 + more) (omega arith) (omega arith); fits = omega arith }
+-- the key of a name's beginning lies below the cut
+pub key-small : (s : List ℕ) (i : ℕ) → i ≤ runLen (inBase 36) s → keyOf (take i s) < 2 ^ 52
+key-small s i h =
+    let r = runLen (inBase 36) s in
+    let m : min i r ≡ i = omega arith in
+    let w : take i s ≡ take i (take r s) = sym (rw m at (take-min i r s)) in
+    key-below (take i s) (rw w (all-take (λ b. digitOf b < 36) i (take r s) (run-digits 36 s)))
 
 -- what the digits at the front make: none, a number out of range, or a number
 module _ {base : ℕ} {s : List ℕ} {d : Spelled} (most : ℕ) (bits : ℕ → ℕ) (mark : ℕ) (g : Digited base s d) where

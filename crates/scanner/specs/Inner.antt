@@ -1,5 +1,5 @@
 -- What the inner functions of the token reader promise, in the terms of the definition.
-use Prim.Native.Nat.{ℕ, _≤_, _^_, min}
+use Prim.Native.Nat.{ℕ, _+_, _*_, _≤_, _^_, min}
 use Prim.Native.Char.{code}
 use Prim.Native.String.{String}
 use mathlib.Core.Path.{_≡_}
@@ -44,10 +44,19 @@ pub record Named (s : List ℕ) (d : Spelled) : Type 0 where
   pub value : d .value ≡ keyOf (take (d .size) s)
   pub fits : d .size ≤ length s
 
+-- "the first 10 characters count": a name's key with one character more, behind i others
+abbrev pub longerBy : (key i digit : ℕ) → ℕ
+longerBy key i d = if ltb i 10 then key * 36 + d else key
+
 -- the kind of the word with this key, or of a name
 unfoldable pub keyKind : List (ℕ × String) → ℕ → ℕ
 keyKind [] key = K.NAME
 keyKind (w ∷ ws) key = elim (eqb (keyOf (bytes (w .1))) key) [ true ↦ w .0 | false ↦ keyKind ws key ]
+
+-- what a table has at a place; 1, the entry of no word, where it has nothing
+unfoldable pub entryAt : List (ℕ × ℕ) → ℕ → ℕ
+entryAt [] p = 1
+entryAt (x ∷ xs) p = elim (eqb p (x .0)) [ true ↦ x .1 | false ↦ entryAt xs p ]
 
 abbrev pub bitsOf : Bool → ℕ → ℕ
 bitsOf true v = negated v

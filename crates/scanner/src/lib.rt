@@ -1,4 +1,6 @@
 // The next token of what remains of a text: document 01, "Text and tokens", and refusals 2 and 3.
+mod entries;
+
 ghost use mathlib.Core.Path.{_≡_};
 ghost use mathlib.Core.Bool.{true};
 ghost use Prim.Native.Nat.{_+_, _≤_, _<_, _^_, min};
@@ -6,8 +8,9 @@ ghost use lib.ListN.{length, getD};
 ghost use Rattle.token.specs.Kinds as K;
 ghost use Rattle.token.specs.Text as T;
 ghost use Rattle.token.specs.Answers.{outcomeOf};
-ghost use Rattle.scanner.specs.Inner.{inClass, Ran, Digited, Named, keyKind, inBase, bitsOf, twoOr};
-use base::least;
+ghost use Rattle.scanner.specs.Inner.{inClass, Ran, Digited, Named, keyKind, inBase, bitsOf, twoOr, longerBy};
+use crate::entries::entry;
+use crate::entries::place;
 use token::Lexeme;
 use token::Next;
 use token::Token;
@@ -95,144 +98,11 @@ fn digits(base: u64, s: &[u8]) -> Spelled
     Spelled { size: i, value: v }
 }
 
-// Each reserved word as its key times 64 and its kind, at the place key mod 292 mod 128; 1 where there is none.
-const WORDS: [u64; 128] = [
-    1,
-    3956758474325,
-    1,
-    1225623491,
-    1,
-    1215044,
-    1,
-    88037318,
-    1,
-    1,
-    33740694,
-    1,
-    1,
-    1,
-    1,
-    57049,
-    1,
-    1,
-    85066655,
-    137427610859732,
-    1,
-    1,
-    4652580649483927,
-    2794202,
-    1,
-    1,
-    1,
-    1,
-    1,
-    85067357,
-    1,
-    1,
-    1,
-    1,
-    35733666,
-    1,
-    1,
-    1,
-    1,
-    1,
-    1,
-    1,
-    1,
-    1,
-    1,
-    1,
-    1,
-    1,
-    1,
-    1,
-    1,
-    2599819994320,
-    1,
-    1,
-    1,
-    1301194,
-    1,
-    3020246200145,
-    43611015,
-    2253371358935267,
-    1,
-    1,
-    1,
-    1,
-    1,
-    1,
-    1,
-    1,
-    49834765,
-    1767076687439,
-    85080480,
-    1,
-    31497,
-    3295988556,
-    1,
-    1,
-    124743218865185,
-    883288,
-    1,
-    42437,
-    1,
-    85081182,
-    1,
-    1,
-    1,
-    3062688338,
-    1,
-    1,
-    1,
-    1,
-    3492157576,
-    1,
-    1,
-    1,
-    1,
-    1,
-    1,
-    71215694,
-    1,
-    1,
-    1,
-    1,
-    1,
-    1,
-    1,
-    1,
-    1157840531,
-    1,
-    1,
-    1,
-    1,
-    1,
-    1,
-    86046795,
-    1,
-    1,
-    856603,
-    1,
-    1,
-    1,
-    1,
-    1,
-    1,
-    1,
-    1941020,
-    1,
-    1,
-    1,
-];
-
 // The kind of the word with this key, or of a name.
 fn word(key: u64) -> u8
     ensures { λ r. ⌜ r ≡ keyKind K.words key ⌝ }
 {
-    let slot = (key % 292 % 128) as usize;
-    let w = WORDS[slot];
+    let w = entry(place(key));
     if w / 64 == key {
         return (w % 64) as u8;
     }
@@ -251,22 +121,37 @@ fn comment(n: usize, s: &[u8]) -> Lexeme
     Lexeme::NoToken
 }
 
-// The name at the front, of which the first ten characters count.
+// "the first 10 characters count"
+const COUNTED: usize = 10;
+
+// A name's key with the character of digit d behind i others.
+fn longer(key: u64, i: usize, d: u64) -> u64
+    requires { ⌜ (key < 2 ^ 52) × (d ≤ 36) ⌝ }
+    ensures { λ r. ⌜ r ≡ longerBy key i d ⌝ }
+{
+    if i < COUNTED { key * 36 + d } else { key }
+}
+
+// The name at the front, with the key that the characters that count make.
 fn name(s: &[u8]) -> Spelled
     ensures { λ r. ⌜ Named (now (s .entry)) r ⌝ }
 {
-    let n = least(s.len(), 10);
-    let first = digits(36, &s[..n]);
-    let size = first.size;
-    let value = first.value;
-    if size < 10 {
-        return Spelled { size, value };
+    let mut key: u64 = 0;
+    let mut i = 0;
+    while i < s.len() {
+        let d = digit(s[i]);
+        if 36 <= d {
+            return Spelled {
+                size: i,
+                value: key,
+            };
+        }
+        key = longer(key, i, d);
+        i += 1;
     }
-    let rest = digits(36, &s[10..]);
-    let more = rest.size;
     Spelled {
-        size: 10 + more,
-        value,
+        size: i,
+        value: key,
     }
 }
 

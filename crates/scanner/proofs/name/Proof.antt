@@ -1,75 +1,88 @@
--- `name` gives a name's bytes and its key: from the first ten characters, and from there on where there are more. Assumes nothing.
-use Prim.Native.Nat.{ℕ, _-_}
+-- `name` counts the characters of a name and makes its key. The invariant: the name goes on from here, and the key so far is that of the characters passed.
+-- Assumes nothing.
+use Prim.Native.Nat.{ℕ, _≤_, _+_, _-_}
+use mathlib.Core.Bool.{Bool}
 use mathlib.Core.List.{List}
-use mathlib.Core.Path.{ap, _∙_}
+use mathlib.Core.Path.{_≡_, ap, _∙_}
 use native.Mathlib.Omega.{arith}
 use denote.Ref.{now}
-use lib.ListN.{length, drop, length-take, length-drop}
+use lib.ListN.{length, take, drop}
 use borrow.Author.Needs.{needs}
-use Rattle.base.proofs.Parts.{to-end}
+use Rattle.base.proofs.Tests.{tests}
+use Rattle.base.proofs.Runs.{run-on, run-stop, run-end}
+use Rattle.base.specs.Numbers.{numberFrom}
 use Rattle.base.specs.Runs.{runLen}
-use Rattle.scanner.proofs.Spelling.{short-name, long-name}
+use Rattle.token.specs.Text.{inName, keyOf}
+use Rattle.scanner.proofs.Spelling.{alphanumeric, key-on, key-small}
 use Rattle.scanner.specs.Inner.{inBase}
 use Rattle.scanner.proofs.name.Statement.{statement}
 use Rattle.scanner.proofs.name.Tie as tie
 
-least-requires : tie.Need-least-requires
-least-requires c κs = search needs
+abbrev Inv-loop : tie.InvT-loop
+Inv-loop s key₀ i₀ key i = (i ≤ length s) × (runLen (inBase 36) s ≡ i + runLen (inBase 36) (drop i s)) × (key ≡ keyOf (take i s))
 
-slice-aggregate-digits : tie.Need-slice-aggregate-digits
-slice-aggregate-digits c = omega (arith, length-take (c .before .least .result) (now (c .before .before .before .args .s)))
+abbrev μ-loop : tie.MeasureT-loop
+μ-loop s key₀ i₀ key i = length s - i
 
-digits-requires : tie.Need-digits-requires
-digits-requires c κs = search needs
+loop-holds : tie.Need-loop-holds Inv-loop μ-loop
+unfolding numberFrom
+loop-holds c = (search needs, search needs, search needs)
 
-returns : tie.Need-returns
-returns c = short-name (now (c .before .before .before .before .before .args .s)) (c .before .before .before .least .result) (c .before .digits .result)
-    (c .before .before .before .least .ensures) (c .before .digits .ensures) (c .if1 .taken)
+shared-slice-read-digit : tie.Need-shared-slice-read-digit Inv-loop μ-loop
+shared-slice-read-digit c = search needs
 
-sub-digits : tie.Need-sub-digits
-sub-digits c =
-    let at-least = c .before .before .before in
-    let start = at-least .before .before in
-    omega (arith, c .before .digits .ensures .fits, length-take (at-least .least .result) (now (start .args .s)))
+digit-requires : tie.Need-digit-requires Inv-loop μ-loop
+digit-requires c κs = search needs
 
-part-digits-start : tie.Need-part-digits-start
-part-digits-start c =
-    let at-least = c .before .before .before in
-    let start = at-least .before .before in
-    omega (arith, c .before .digits .ensures .fits, length-take (at-least .least .result) (now (start .args .s)))
+-- the characters are those of a name
+in-name : (s : List ℕ) {n : ℕ} → n ≡ runLen (inBase 36) s → n ≡ runLen inName s
+in-name s e = e ∙ ap (λ (p : ℕ → Bool). runLen p s) alphanumeric
 
-part-digits-end : tie.Need-part-digits-end
-part-digits-end c = search needs
+returns : tie.Need-returns Inv-loop μ-loop
+returns c = record {
+  size = in-name _ (run-stop _ _ _ (search needs) (rw (← c .before .digit .ensures .0) (search tests)) (search needs));
+  value = search needs;
+  fits = search needs;
+}
 
-digits-requires-2 : tie.Need-digits-requires-2
-digits-requires-2 c κs = search needs
+longer-requires : tie.Need-longer-requires Inv-loop μ-loop
+longer-requires c κs =
+    let at-loop = c .before .before .before .before in
+    let start = at-loop .before .before in
+    let inv = at-loop .loop .inv in
+    (rw (inv .2) (key-small (now (start .args .s)) (at-loop .loop .i) (omega (arith, inv .1))), search needs)
 
-add-t8 : tie.Need-add-t8
-add-t8 c = omega (
-  arith,
-  c .digits2 .ensures .fits,
-  length-take (length (now (c .before .before .before .before .before .before .before .args .s)) - 10)
-      (drop 10 (now (c .before .before .before .before .before .before .before .args .s))),
-  length-drop 10 (now (c .before .before .before .before .before .before .before .args .s)),
-)
+add-i : tie.Need-add-i Inv-loop μ-loop
+add-i c = search needs
 
-returns-2 : tie.Need-returns-2
-returns-2 c = let s = now (c .before .before .before .before .before .before .before .args .s) in
-    long-name s (c .before .before .before .before .before .least .result) (c .before .before .before .digits .result)
-    (c .before .before .before .before .before .least .ensures) (c .before .before .before .digits .ensures) (c .digits2 .result .size)
-    (c .before .before .if1 .left) (c .digits2 .ensures .size ∙ ap (λ (t : List ℕ). runLen (inBase 36) t) (to-end s 10))
+loop-less : tie.Need-loop-less Inv-loop μ-loop
+loop-less c = search needs
+
+loop-again : tie.Need-loop-again Inv-loop μ-loop
+loop-again c =
+    let at-loop = c .before .before .before .before .before in
+    let start = at-loop .before .before in (
+      search needs,
+      run-on _ _ _ (search needs) (rw (← c .before .before .digit .ensures .0) (search tests)) (search needs),
+      key-on (now (start .args .s)) (at-loop .loop .i) (at-loop .loop .key) (c .before .before .digit .result) _ (at-loop .loop .inv .2) (search needs)
+          (search needs) (search needs),
+    )
+
+returns-2 : tie.Need-returns-2 Inv-loop μ-loop
+returns-2 c = record { size = in-name _ (run-end _ _ _ (search needs) (search needs)); value = search needs; fits = search needs }
 
 pub name-spec : {M : Type 1} → statement M
 name-spec =
     tie.close
     (tie.spec
-    least-requires
-    slice-aggregate-digits
-    digits-requires
+    Inv-loop
+    μ-loop
+    loop-holds
+    shared-slice-read-digit
+    digit-requires
     returns
-    sub-digits
-    part-digits-start
-    part-digits-end
-    digits-requires-2
-    add-t8
+    longer-requires
+    add-i
+    loop-less
+    loop-again
     returns-2)
