@@ -3,13 +3,11 @@
 use mathlib.Core.Path.{_≡_, refl, sym, ap, _∙_}
 use mathlib.Core.Bool.{true}
 use mathlib.Core.List.{List, _∷_}
-use Prim.Native.Nat.{ℕ, _+_, _-_, _/_, _%_, _<_}
+use Prim.Native.Nat.{ℕ, _+_, _-_, _%_, _<_}
 use native.Mathlib.Omega.{arith}
-use lib.Dec.{eqb}
 use lib.ListN.{getD, set}
 use Rattle.base.specs.Lists.{member}
 use Rattle.base.proofs.Lists.{each}
-use Rattle.base.proofs.Tests.{by-test}
 use Rattle.grammar.specs.Tree.{Operand, Assignment, Condition}
 use Rattle.grammar.specs.Derives.{isOperand, isCondition, isAssignment, areArguments}
 use Rattle.grammar.specs.Pinned.{headOf}
@@ -19,10 +17,11 @@ use Rattle.tape.specs.Numbers.{familyAt, formAt}
 use Rattle.tape.specs.Tape.{event, tapeOperand, tapeCondition, tapeEach, tapeAssignment, tapeArgument}
 use Rattle.tape.specs.Pass.{pass}
 use Rattle.tape.proofs.Pass.{pass-event}
+use Rattle.static_rules.specs.Meaning.{functionOf}
 use Rattle.static_rules.specs.Tables.{Tables, valueAt, meaningAt}
 use Rattle.tables.specs.Packed.{meaningsOf, registerIn, packedAt}
 use Rattle.translation.specs.Instructions.{sizes}
-use Rattle.translation.specs.Core.{exitMask, toRegister, assignmentOf, compareWith, testOf, maskOf, controlOf, useCode}
+use Rattle.translation.specs.Core.{exitMask, toRegister, assignmentOf, compareWith, testOf, maskOf, controlOf, functionCode}
 use Rattle.emit.specs.declared.Use.{Use}
 use Rattle.emit.specs.declared.Writing.{Writing}
 use Rattle.emit.specs.Codes.{codeSizes, heldIn}
@@ -93,11 +92,11 @@ module _ (f : Tables) (means under offsets : List ℕ) where
 
     pub use-placed :
         (n : ℕ) (a : Operand) (xs : List Operand) (j : ℕ) → areArguments (f .kinds) (a ∷ xs) (n + 1) j → (p : ℕ) (w : Writing) (ms k : List ℕ)
-        → place p w ms (event E.APPLIED n ∷ tapeEach tapeArgument (a ∷ xs) (event E.COUNTED n ∷ k)) ≡ place (p + sizes (useCode f (meaningAt f n) a xs)) noWriting ms k
+        → place p w ms (event E.APPLIED n ∷ tapeEach tapeArgument (a ∷ xs) (event E.COUNTED n ∷ k)) ≡ place (p + sizes (functionCode f (functionOf (meaningAt f n)) a xs)) noWriting ms k
     unfolding placing
     use-placed n a xs j h p w ms k =
         use-walked f means under offsets ms table small (placing ms) n a xs j h p w k
-        ∙ ap (λ (n : ℕ). place (p + n) noWriting ms k) (coded-sizes offsets (useCode f (meaningAt f n) a xs))
+        ∙ ap (λ (n : ℕ). place (p + n) noWriting ms k) (coded-sizes offsets (functionCode f (functionOf (meaningAt f n)) a xs))
 
     pub condition-placed :
         (c : Condition) (i j : ℕ) → isCondition (f .kinds) c i j → (p : ℕ) (w : Writing) (ms k : List ℕ)

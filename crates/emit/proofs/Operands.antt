@@ -2,30 +2,30 @@
 -- grammar; the numbers of a text have 32 bits. Assumes nothing.
 use mathlib.Core.Path.{_≡_, refl, sym, ap, subst, _∙_}
 use mathlib.Core.Bool.{Bool, true, false}
-use mathlib.Core.List.{List, [], _∷_}
+use mathlib.Core.List.{List, _∷_}
 use mathlib.Core.Option.{Option, none, some}
 use Prim.Native.Nat.{ℕ, _+_, _/_, _%_, _<_}
 use native.Mathlib.Omega.{arith}
 use lib.Dec.{eqb, eqb→eq}
 use lib.ListN.{getD}
 use Rattle.base.proofs.Tables.{all-below}
-use Rattle.base.proofs.Tests.{cases, never-true}
 use Rattle.token.specs.Kinds as K
 use Rattle.grammar.specs.Tree.{Designator, Operand, number, place, full}
 use Rattle.grammar.specs.Derives.{isShape, isDesignator, isOperand}
 use Rattle.grammar.specs.Pinned.{headOf}
 use Rattle.tape.specs.Tape.{event, shapeBy, shape, tapeDesignator, tapeOperand, widthOf}
-use Rattle.static_rules.specs.Functions.{noFunction}
-use Rattle.static_rules.specs.Meaning.{Meaning, nothing, register, cell, routine, function, Cell, Based, registerOf, isFull, isLong, longOperand}
+use Rattle.static_rules.specs.Meaning.{Meaning, nothing, register, cell, routine, function, Cell, Based, registerOf, functionOf, isFull, isLong, longOperand}
 use Rattle.static_rules.specs.Tables.{Tables, kindAt, valueAt, meaningAt}
-use Rattle.tables.specs.Packed.{low, numberIn, isFunctionIn, sizeIn, widthBy, widthIn, basedIn, cellIn, unpacked, meaningsOf, registerIn, packedAt}
-use Rattle.tables.proofs.Meanings.{low-is, by-sort, register-alone, routine-alone, function-alone, register-is, meaning-at}
+use Rattle.tables.specs.Packed.{low, numberIn, widthNumberIn, widthBy, widthIn, basedIn, cellIn, unpacked, meaningsOf, registerIn, packedAt}
+use Rattle.tables.proofs.Meanings.{low-is, by-sort, register-alone, routine-alone, register-is, meaning-at}
 use Rattle.translation.specs.Instructions.{element, literal}
 use Rattle.translation.specs.Core as C
-use Rattle.translation.specs.Core.{held, stored, absent, returnOf, subscriptOf, useBy, useOf, sourceOf, numberOf, functionCode, useCode}
+use Rattle.translation.specs.Core.{held, stored, absent, returnOf, subscriptOf, useBy, useOf, sourceOf, numberOf}
 use Rattle.emit.specs.declared.Use.{Use}
 use Rattle.emit.specs.declared.Use.the-variants.{Absent, Held, Number, Stored}
-use Rattle.emit.specs.Events.{subscriptIn, indexIn, elementIn, placeBy, placeIn, useIn, returnIn, functionIn}
+use Rattle.functions.specs.Arguments.{functionIn}
+use Rattle.functions.proofs.Packed.{meant-is}
+use Rattle.emit.specs.Events.{subscriptIn, indexIn, elementIn, placeBy, placeIn, useIn, returnIn}
 
 -- ── shapes ──
 
@@ -55,9 +55,9 @@ operand-tape op (place d) k = refl
 
 -- ── widths ──
 
-width-is : (m : ℕ) → widthOf (widthIn m) ≡ sizeIn m
-unfolding sizeIn
-width-is m = eqb→eq (widthOf (widthIn m)) (sizeIn m) (all-below 4 (λ (w : ℕ). eqb (widthOf (widthBy w)) w) tt (m / 16 % 4) (omega arith))
+width-is : (m : ℕ) → widthOf (widthIn m) ≡ widthNumberIn m
+unfolding widthNumberIn
+width-is m = eqb→eq (widthOf (widthIn m)) (widthNumberIn m) (all-below 4 (λ (w : ℕ). eqb (widthOf (widthBy w)) w) tt (m / 16 % 4) (omega arith))
 
 -- ── by the tables ──
 
@@ -100,29 +100,8 @@ module _ (f : Tables) (means under : List ℕ) (table : f .means ≡ meaningsOf 
       m : ℕ
       m = packedAt (f .found) means n
 
-  -- what is no function takes nothing
-  none-used : (a : Operand) (xs : List Operand) → [] ≡ functionCode f noFunction a xs
-  unfolding functionCode
-  none-used a [] = refl
-  none-used a (b ∷ []) = refl
-  none-used a (b ∷ c ∷ xs) = refl
-
-  pub use-at : (n : ℕ) (a : Operand) (xs : List Operand) → functionCode f (functionIn (packedAt (f .found) means n)) a xs ≡ useCode f (meaningAt f n) a xs
-  unfolding functionIn
-  use-at n a xs =
-      sym (ap (λ (x : Meaning). useCode f x a xs) (meaning-is n)
-      ∙ by-sort (λ (x : Meaning). useCode f x a xs ≡ functionCode f (functionIn m) a xs) (getD (f .found) n 0) m (baseAt n)
-      (λ e. unless (apart (λ q. function-alone m q .0) e)) (λ e g. unless (apart (λ q. function-alone m q .1) g)) (λ e g h. unless (apart (λ q. function-alone m q .2) h))
-      (λ e g h i. rw i) (λ e g h i. unless i))
-    where
-      m : ℕ
-      m = packedAt (f .found) means n
-
-      apart : {b : Bool} → (isFunctionIn m ≡ true → b ≡ false) → b ≡ true → isFunctionIn m ≡ false
-      apart h e = cases (isFunctionIn m) (λ q. never-true (sym (h q) ∙ e)) (λ q. q)
-
-      unless : isFunctionIn m ≡ false → [] ≡ functionCode f (functionIn m) a xs
-      unless e = rw e (none-used a xs)
+  pub function-at : (n : ℕ) → functionIn (packedAt (f .found) means n) ≡ functionOf (meaningAt f n)
+  function-at n = sym (ap functionOf (meaning-is n) ∙ meant-is (getD (f .found) n 0) (packedAt (f .found) means n) (baseAt n))
 
   module _ (offsets : List ℕ) (small : Small f) where
     number-low : (s n i : ℕ) → s ≡ n + 2 → s ≡ i → kindAt f i ≡ K.NUMBER → low (valueAt f (n + 2)) ≡ valueAt f s

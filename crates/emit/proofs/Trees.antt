@@ -11,10 +11,11 @@ use Rattle.grammar.specs.Pinned.{headOf}
 use Rattle.tape.specs.Events as E
 use Rattle.tape.specs.Tape.{event, tapeOperand, tapeCondition, tapeEach, tapeAssignment, tapeArgument}
 use Rattle.tape.proofs.Pass.{event-op, event-token}
+use Rattle.static_rules.specs.Meaning.{functionOf}
 use Rattle.static_rules.specs.Tables.{Tables, valueAt, meaningAt}
 use Rattle.tables.specs.Packed.{meaningsOf}
 use Rattle.translation.specs.Instructions.{branch}
-use Rattle.translation.specs.Core.{exitMask, toRegister, assignmentOf, compareWith, testOf, maskOf, controlOf, useCode}
+use Rattle.translation.specs.Core.{exitMask, toRegister, assignmentOf, compareWith, testOf, maskOf, controlOf, functionCode}
 use Rattle.emit.specs.declared.Code.{Code}
 use Rattle.emit.specs.declared.Writing.{Writing}
 use Rattle.emit.specs.Codes.{heldIn}
@@ -65,7 +66,7 @@ module _ (f : Tables) (means under offsets marks : List ℕ) where
 
     pub use-coded :
         (n : ℕ) (a : Operand) (xs : List Operand) (j : ℕ) → areArguments (f .kinds) (a ∷ xs) (n + 1) j → (w : Writing) (k : List ℕ)
-        → go w (event E.APPLIED n ∷ tapeEach tapeArgument (a ∷ xs) (event E.COUNTED n ∷ k)) ≡ coded offsets (useCode f (meaningAt f n) a xs) ++ go noWriting k
+        → go w (event E.APPLIED n ∷ tapeEach tapeArgument (a ∷ xs) (event E.COUNTED n ∷ k)) ≡ coded offsets (functionCode f (functionOf (meaningAt f n)) a xs) ++ go noWriting k
     unfolding coding
     use-coded n a xs j h w k = use-walked f means under offsets marks table small coding n a xs j h [] w k
 

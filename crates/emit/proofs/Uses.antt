@@ -13,20 +13,22 @@ use Rattle.token.specs.Kinds as K
 use Rattle.grammar.specs.Tree.{Operand, number, place}
 use Rattle.grammar.specs.Derives.{isShape, isDesignator, isOperand, areArguments}
 use Rattle.static_rules.specs.Functions.{Function, arity}
-use Rattle.static_rules.specs.Meaning.{registerOf}
+use Rattle.static_rules.specs.Meaning.{registerOf, functionOf}
 use Rattle.static_rules.specs.Tables.{Tables, meaningAt}
 use Rattle.static_rules.specs.Rules.{isBare}
 use Rattle.tables.specs.Packed.{meaningsOf, packedAt}
-use Rattle.translation.specs.Core.{isToken, useOf, sourceOf, numberOf, functionOn, functionCode, useCode}
+use Rattle.translation.specs.Core.{isToken, useOf, sourceOf, numberOf, functionOn, functionCode}
 use Rattle.emit.specs.declared.Use.{Use}
 use Rattle.emit.specs.declared.Code.{Code}
 use Rattle.emit.specs.declared.Codes.{Codes}
 use Rattle.emit.specs.declared.Codes.the-variants.{None}
 use Rattle.emit.specs.declared.Writing.{Writing}
 use Rattle.emit.specs.Codes.{listOf, functionCodes}
-use Rattle.emit.specs.Events.{functionIn, more, noWriting, secondCodes, usedCodes}
-use Rattle.emit.proofs.Operands.{Small, used, register-at, use-at}
-use Rattle.emit.proofs.Written.{coded, by-function, function-is}
+use Rattle.functions.specs.Arguments.{functionIn}
+use Rattle.functions.proofs.Packed.{by-function}
+use Rattle.emit.specs.Events.{more, noWriting, secondCodes, usedCodes}
+use Rattle.emit.proofs.Operands.{Small, used, register-at, function-at}
+use Rattle.emit.proofs.Written.{coded, function-is}
 
 -- ── what is written after arguments ──
 
@@ -115,11 +117,15 @@ module _ (f : Tables) (means under offsets : List ℕ) (table : f .means ≡ mea
         let with = used f means under offsets in
         rw (three-stay f means under offsets xs (argued (argued (argued noWriting (with a)) (with b)) (with c)) refl, none-three m)
 
+    named : (n : ℕ) (a : Operand) (xs : List Operand)
+        → coded offsets (functionCode f (functionIn (packedAt (f .found) means n)) a xs) ≡ coded offsets (functionCode f (functionOf (meaningAt f n)) a xs)
+    named n a xs = ap (λ (g : Function). coded offsets (functionCode f g a xs)) (function-at f means under table n)
+
     pub use-is : (n : ℕ) (a : Operand) (xs : List Operand) (j : ℕ) → areArguments (f .kinds) (a ∷ xs) (n + 1) j
-        → made n (packedAt (f .found) means n) (arguedAll f means under offsets noWriting (a ∷ xs)) ≡ coded offsets (useCode f (meaningAt f n) a xs)
+        → made n (packedAt (f .found) means n) (arguedAll f means under offsets noWriting (a ∷ xs)) ≡ coded offsets (functionCode f (functionOf (meaningAt f n)) a xs)
     unfolding areArguments
-    use-is n a [] j (o, (i, h, (c, q))) = one-used n _ a _ i h ∙ ap (coded offsets) (use-at f means under table n a [])
+    use-is n a [] j (o, (i, h, (c, q))) = one-used n _ a _ i h ∙ named n a []
     use-is n a (b ∷ []) j (o, (i, h, (c, (y, (l, g, z))))) =
         let p : n + 1 + 1 ≡ n + 2 = omega arith in
-        two-used n _ a b i _ l (subst (λ (q : ℕ). isOperand (f .kinds) a q i) p h) c g ∙ ap (coded offsets) (use-at f means under table n a (b ∷ []))
-    use-is n a (b ∷ d ∷ xs) j h = more-used n _ a b d xs ∙ ap (coded offsets) (use-at f means under table n a (b ∷ d ∷ xs))
+        two-used n _ a b i _ l (subst (λ (q : ℕ). isOperand (f .kinds) a q i) p h) c g ∙ named n a (b ∷ [])
+    use-is n a (b ∷ d ∷ xs) j h = more-used n _ a b d xs ∙ named n a (b ∷ d ∷ xs)

@@ -14,17 +14,18 @@ use Rattle.grammar.proofs.Pinned.{pinned-operand}
 use Rattle.tape.specs.Events as E
 use Rattle.tape.specs.Numbers.{familyAt, formAt}
 use Rattle.tape.specs.Tape.{event, shape, tapeDesignator, tapeOperand, tapeCondition, tapeSign, tapeEach, tapeTerm, tapeAssignment, tapeArgument}
-use Rattle.static_rules.specs.Meaning.{registerOf}
+use Rattle.static_rules.specs.Meaning.{registerOf, functionOf}
 use Rattle.static_rules.specs.Tables.{Tables, kindAt, valueAt, meaningAt}
 use Rattle.tables.specs.Packed.{meaningsOf, registerIn, packedAt}
 use Rattle.translation.specs.Instructions.{compareRow, falseMask}
-use Rattle.translation.specs.Core.{exitMask, toRegister, assignmentOf, compareWith, testOf, maskOf, controlOf, useCode}
+use Rattle.translation.specs.Core.{exitMask, toRegister, assignmentOf, compareWith, testOf, maskOf, controlOf, functionCode}
 use Rattle.emit.specs.declared.Use.{Use}
 use Rattle.emit.specs.declared.Use.the-variants.{Absent, Held, Number, Stored}
 use Rattle.emit.specs.declared.Code.{Code}
 use Rattle.emit.specs.declared.Writing.{Writing}
-use Rattle.emit.specs.Codes.{listOf, applyCode, isAbsent, applyCodes, applyThen, heldIn, firstCodes, nextCodes, branchCode}
-use Rattle.emit.specs.Events.{placeIn, useIn, registerAt, goalAt, writtenAfter, functionIn, noWriting, comparedCodes, bareCodes, limitCodes, usedCodes, otherCodes, codesOf, writingAfter, codesBy}
+use Rattle.emit.specs.Codes.{listOf, isAbsent, applyCodes, applyThen, heldIn, firstCodes, nextCodes, branchCode}
+use Rattle.functions.specs.Arguments.{functionIn}
+use Rattle.emit.specs.Events.{placeIn, useIn, registerAt, writtenAfter, noWriting, comparedCodes, bareCodes, limitCodes, usedCodes, otherCodes, codesOf, writingAfter, codesBy}
 use Rattle.emit.specs.Along.{codeFor, signEvent, targetWriting, controlWriting}
 use Rattle.emit.proofs.Operands.{Small, shapeOf, by-form, by-shape, operand-tape, register-at, placed, used}
 use Rattle.emit.proofs.Uses.{argued, arguedAll, use-is}
@@ -240,7 +241,7 @@ module _ (f : Tables) (means under offsets marks : List ℕ) where
       pub use-walked :
           (n : ℕ) (a : Operand) (xs : List Operand) (j : ℕ) → areArguments (f .kinds) (a ∷ xs) (n + 1) j → (s : S) (w : Writing) (k : List ℕ)
           → walk .run s w (event E.APPLIED n ∷ tapeEach tapeArgument (a ∷ xs) (event E.COUNTED n ∷ k))
-          ≡ walk .run (walk .emit (coded offsets (useCode f (meaningAt f n) a xs)) s) noWriting k
+          ≡ walk .run (walk .emit (coded offsets (functionCode f (functionOf (meaningAt f n)) a xs)) s) noWriting k
       use-walked n a xs j h s w k =
           quietly E.APPLIED n s w _ (applied-does n w)
           ∙ (arguments (a ∷ xs) s noWriting _

@@ -5,18 +5,17 @@ use mathlib.Core.List.{List, [], _∷_, _++_, map, map-append}
 use Prim.Native.Nat.{ℕ, _+_, _-_, _/_, _%_}
 use lib.Dec.{eqb}
 use Rattle.base.specs.Choose.{if_then_else_}
-use Rattle.base.specs.Lists.{All, member}
-use Rattle.base.proofs.Lists.{all-getD}
-use Rattle.base.proofs.Tests.{cases, by-test}
+use Rattle.base.specs.Lists.{member}
+use Rattle.base.proofs.Tests.{cases}
 use Rattle.token.specs.Kinds as K
 use Rattle.grammar.specs.Tree.{Operand, number, place, Sign, plain, abs, neg, negAbs, Term, Assignment, Width, full, short, byte}
 use Rattle.grammar.specs.Derives.{isOperand, areTerms, isAssignment}
 use Rattle.tape.specs.Tape.{widthOf}
-use Rattle.static_rules.specs.Functions.{Function, functionTable, noFunction, functionAt}
+use Rattle.static_rules.specs.Functions.{Function}
 use Rattle.static_rules.specs.Meaning.{Meaning, nothing, register, cell, routine, function, isFull}
 use Rattle.static_rules.specs.Tables.{Tables, kindAt, meaningAt}
 use Rattle.static_rules.specs.Rules.{shifts}
-use Rattle.tables.specs.Packed.{numberIn, isFunctionIn, meaningsOf}
+use Rattle.tables.specs.Packed.{meaningsOf}
 use Rattle.translation.specs.Instructions.{Datum, element, literal, Instruction, shift, branch, opcode, column, loadRow, timesRow, storeRow, rowOf, absOp, negOp, negAbsOp, shiftCode}
 use Rattle.translation.specs.Core as C
 use Rattle.translation.specs.Core.{apply, signed, load, useOf, sourceOf, numberOf, shiftBy, productTarget, termOf, chainOf, toRegister, assignBy, assignmentOf, functionWith, functionOn}
@@ -27,7 +26,8 @@ use Rattle.emit.specs.declared.Code.{Code}
 use Rattle.emit.specs.declared.Code.the-variants.{Four}
 use Rattle.emit.specs.declared.Codes.the-variants.{None}
 use Rattle.emit.specs.Codes.{listOf, columnOf, applyCode, isAbsent, applyCodes, applyThen, signCode, signedCodes, loadCodes, heldIn, amountIn, isLongUse, productRegister, termCodes, firstCodes, nextCodes, halfOf, functionCodes}
-use Rattle.emit.specs.Events.{functionIn}
+use Rattle.functions.specs.Arguments.{functionIn}
+use Rattle.functions.proofs.Packed.{by-function}
 use Rattle.emit.specs.Along.{codeAt, codeFor, signEvent}
 use Rattle.emit.proofs.Operands.{Small, offsetAt, stands, placed, used, by-place, by-use}
 
@@ -44,11 +44,6 @@ column-is full = refl
 column-is short = refl
 column-is (byte false) = refl
 column-is (byte true) = refl
-
--- what holds of each standard function, and of what takes nothing
-pub by-function : (P : Function → Type 0) → All P functionTable → P noFunction → (m : ℕ) → P (functionIn m)
-unfolding functionIn functionAt
-by-function P each none m = by-test P (isFunctionIn m) _ _ (λ e. all-getD P functionTable (numberIn m) noFunction each none) (λ e. none)
 
 -- the number of MVI and CLI stands in place of the register and the index; no other opcode has one
 function-with :

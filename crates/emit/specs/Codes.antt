@@ -2,8 +2,10 @@
 -- The instructions of an event are a list.
 use mathlib.Core.Bool.{Bool, true, false}
 use mathlib.Core.List.{List, [], _∷_}
-use Prim.Native.Nat.{ℕ, _+_, _-_, _*_, _/_, _%_}
+use mathlib.Core.Path.{_≡_}
+use Prim.Native.Nat.{ℕ, _+_, _-_, _*_, _/_, _%_, _<_}
 use lib.Dec.{eqb, leb}
+use lib.ListN.{getD}
 use Rattle.base.specs.Choose.{if_then_else_}
 use Rattle.base.specs.Lists.{member}
 use Rattle.token.specs.Kinds as K
@@ -41,6 +43,18 @@ codeSizes [] = 0
 codeSizes (c ∷ cs) = codeSize c + codeSizes cs
 
 -- ── the code table at an operand ──
+
+-- the code table, a row a number: two digits to the base 16 a column
+abbrev pub codeRows : List ℕ
+codeRows =
+    0x18584800 ∷ 0x1a5a4a00 ∷ 0x1b5b4b00 ∷ 0x1c5c4c00 ∷ 0x1e5e0000 ∷ 0x1f5f0000 ∷ 0x14540000 ∷ 0x16560000 ∷ 0x17570000 ∷ 0x19594900 ∷ 0x00504000 ∷ []
+
+-- what the code has for row k of the table
+abbrev pub IsRow : (k row : ℕ) → Type 0
+IsRow k row = (k < 11) × (row ≡ getD codeRows k 0)
+
+abbrev pub opcodeIn : (row column : ℕ) → ℕ
+opcodeIn row column = if eqb column 0 then row / 16777216 % 256 else if eqb column 1 then row / 65536 % 256 else if eqb column 2 then row / 256 % 256 else row % 256
 
 -- by the number of a cell's width; a byte cell has no column
 abbrev pub columnOf : (width : ℕ) → ℕ

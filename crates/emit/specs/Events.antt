@@ -10,8 +10,9 @@ use Rattle.base.specs.Choose.{if_then_else_}
 use Rattle.token.specs.Kinds as K
 use Rattle.tape.specs.Events as E
 use Rattle.tape.specs.Numbers.{familyAt, formAt}
-use Rattle.tables.specs.Packed.{low, numberIn, isRegisterIn, isRoutineIn, isCellIn, isFunctionIn, sizeIn, registerIn, packedAt}
-use Rattle.static_rules.specs.Functions.{Function, noFunction, functionAt, arity}
+use Rattle.tables.specs.Packed.{low, numberIn, isRegisterIn, isRoutineIn, isCellIn, widthNumberIn, registerIn, packedAt}
+use Rattle.static_rules.specs.Functions.{Function, arity}
+use Rattle.functions.specs.Arguments.{functionIn}
 use Rattle.translation.specs.Instructions.{addRow, compareRow, falseMask, always}
 use Rattle.translation.specs.Core.{exitMask}
 use Rattle.ledger.specs.Book.{Wide, Thin}
@@ -39,7 +40,7 @@ indexIn found means shape t =
 
 -- an element of the cell that is declared at token d, with the packed meaning m
 unfoldable pub elementIn : (under offsets : List ℕ) (d m subscript index : ℕ) → Use
-elementIn under offsets d m subscript index = Stored (sizeIn m) index (getD under d 0 / 4294967296) (low (getD offsets d 0) + low subscript)
+elementIn under offsets d m subscript index = Stored (widthNumberIn m) index (getD under d 0 / 4294967296) (low (getD offsets d 0) + low subscript)
 
 -- what is declared at token d, by its packed meaning m
 unfoldable pub placeBy : (under offsets : List ℕ) (d m subscript index : ℕ) → Use
@@ -75,10 +76,6 @@ goalAt found goes opens family t =
     if eqb family E.BASE then getD opens t 0 else
     if eqb family E.CALL then getD found t 0 else
     getD goes t 0
-
--- the function of a use; of what means none, one that takes nothing
-unfoldable pub functionIn : ℕ → Function
-functionIn m = if isFunctionIn m then functionAt (numberIn m) else noFunction
 
 -- ── the assignment or use that is written ──
 

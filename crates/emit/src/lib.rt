@@ -1,7 +1,7 @@
 // Document 01, "Code": the instructions of each event of a tape, by the tables of a text.
 ghost use mathlib.Core.Path.{_≡_};
 ghost use mathlib.Core.List.{[], _∷_};
-ghost use Prim.Native.Nat.{_+_, _-_, _*_, _≤_, _<_};
+ghost use Prim.Native.Nat.{ℕ, _+_, _-_, _*_, _≤_, _<_};
 ghost use Rattle.tape.specs.Events.{TOKEN-LIMIT};
 ghost use lib.ListN.{length, getD};
 ghost use Rattle.base.specs.Lists.{member};
@@ -9,10 +9,10 @@ ghost use Rattle.base.specs.Runs.{indexOf};
 ghost use Rattle.ledger.specs.Book.{wideOf, thinOf, thinLimit};
 ghost use Rattle.static_rules.specs.Functions.{functionAt};
 ghost use Rattle.static_rules.specs.Rules.{shifts};
-ghost use Rattle.translation.specs.Instructions.{opcode as opcodeOf, rowOf, shiftCode, falseMask};
+ghost use Rattle.translation.specs.Instructions.{rowOf, shiftCode, falseMask};
 ghost use Rattle.translation.specs.Core.{exitMask};
-ghost use Rattle.emit.specs.Codes.{listOf, blank as blankCode, codeSize, codeSizes, columnOf, applyCode, isAbsent, applyCodes, applyThen, signCode, signedCodes, loadCodes, heldIn, amountIn, isLongUse, productRegister, termCodes, firstCodes, nextCodes, isImmediate, halfOf, functionCodes, branchCode, linkCode, baseCode, returnCode, stopCode};
-ghost use Rattle.emit.specs.Events.{subscriptIn, indexIn, elementIn, placeBy, placeIn, useIn, returnIn, registerAt, goalAt, functionIn, more as moreOf, noWriting, signing as signingOf, writtenAfter, comparedCodes, bareCodes, limitCodes, stepCodes, secondCodes, usedCodes, otherCodes, codesOf, emittedIn};
+ghost use Rattle.emit.specs.Codes.{opcodeIn, IsRow, listOf, blank as blankCode, codeSize, codeSizes, columnOf, applyCode, isAbsent, applyCodes, applyThen, signCode, signedCodes, loadCodes, heldIn, amountIn, isLongUse, productRegister, termCodes, firstCodes, nextCodes, isImmediate, halfOf, functionCodes, branchCode, linkCode, baseCode, stopCode};
+ghost use Rattle.emit.specs.Events.{subscriptIn, indexIn, elementIn, placeBy, placeIn, useIn, returnIn, registerAt, goalAt, more as moreOf, noWriting, signing as signingOf, writtenAfter, comparedCodes, bareCodes, limitCodes, stepCodes, secondCodes, usedCodes, otherCodes, codesOf, emittedIn};
 use arrays::kind;
 use base::less;
 use ledger::found;
@@ -24,7 +24,6 @@ use ledger::under;
 use ledger::value;
 use ledger::written;
 use tables::is_cell;
-use tables::is_function;
 use tables::is_register;
 use tables::is_routine;
 use tables::number;
@@ -35,7 +34,7 @@ pub enum Use {
     Absent,
     Held(u64),
     Number(u64),
-    Stored(u64, u64, u64, u64),
+    Stored(u8, u64, u64, u64),
 }
 
 // An instruction to be laid: of two bytes: opcode, r, s; of four: opcode, r, index, base, displacement; one that takes a number from storage: opcode, r, index,
@@ -64,7 +63,7 @@ pub struct Named {
 pub struct Writing {
     pub aim: Use,
     pub sign: u32,
-    pub arguments: u64,
+    pub arguments: u32,
 }
 
 // What an event makes: its instructions, and what is written after it.
@@ -75,52 +74,30 @@ pub struct Emitted {
 
 // ── the tables ──
 
-// By row: register, integer cell or number, short cell, byte cell; 0 where there is no instruction.
-const CODES: [u8; 44] = [
-    0x18,
-    0x58,
-    0x48,
-    0, // :=
-    0x1a,
-    0x5a,
-    0x4a,
-    0, // +
-    0x1b,
-    0x5b,
-    0x4b,
-    0, // -
-    0x1c,
-    0x5c,
-    0x4c,
-    0, // *
-    0x1e,
-    0x5e,
-    0,
-    0, // ++
-    0x1f,
-    0x5f,
-    0,
-    0, // --
-    0x14,
-    0x54,
-    0,
-    0, // AND
-    0x16,
-    0x56,
-    0,
-    0, // OR
-    0x17,
-    0x57,
-    0,
-    0, // XOR
-    0x19,
-    0x59,
-    0x49,
-    0, // compare
-    0,
-    0x50,
-    0x40,
-    0, // store
+// The code table by operator, a row a number: the opcodes with a register, an integer cell or number, a short cell and a byte cell, two digits each; 00 where there is
+// no instruction. Rows that are named are taken by their names, since an array is laid out anew wherever one of its elements is taken.
+const LOAD: u32 = 0x18584800;
+
+const ADD: u32 = 0x1a5a4a00;
+
+const TIMES: u32 = 0x1c5c4c00;
+
+const COMPARE: u32 = 0x19594900;
+
+const STORE: u32 = 0x00504000;
+
+const CODES: [u32; 11] = [
+    LOAD, // :=
+    ADD, // +
+    0x1b5b4b00, // -
+    TIMES, // *
+    0x1e5e0000, // ++
+    0x1f5f0000, // --
+    0x14540000, // AND
+    0x16560000, // OR
+    0x17570000, // XOR
+    COMPARE,
+    STORE,
 ];
 
 // "Masks when a condition is false: = 7, ^= 9, < 11, <= 3, >= 5, > 13, OVERFLOW 14."
@@ -159,16 +136,6 @@ const SHIFT_KINDS: [u8; 4] = [
     token::kinds::SHRA,
 ];
 
-const LOAD: usize = 0;
-
-const ADD: usize = 1;
-
-const TIMES: usize = 3;
-
-const COMPARE: usize = 9;
-
-const STORE: usize = 10;
-
 // "ABS 10, NEG 13, NEG ABS 11"
 const ABS: u64 = 0x10;
 
@@ -199,11 +166,17 @@ fn wide(b: u8) -> u64
     b as u64
 }
 
-fn opcode(row: usize, column: usize) -> u64
-    requires { ⌜ (row < 11) × (column < 4) ⌝ }
-    ensures { λ r. ⌜ (r ≡ opcodeOf row column) × (r < 256) ⌝ }
+// The opcode in a column of a row.
+fn opcode(row: u32, column: usize) -> u64
+    ensures { λ r. ⌜ (r ≡ opcodeIn row column) × (r < 256) ⌝ }
 {
-    wide(CODES[row * 4 + column])
+    let all = row as u64;
+    match column {
+        0 => all / 16777216 % 256,
+        1 => all / 65536 % 256,
+        2 => all / 256 % 256,
+        _ => all % 256,
+    }
 }
 
 // The place of a kind in a table of kinds; the table's length where it is not in it.
@@ -220,10 +193,11 @@ fn index_of(k: u8, table: &[u8]) -> usize
     i
 }
 
-fn row_of(k: u8) -> usize
-    ensures { λ r. ⌜ (r ≡ rowOf k) × (r < 11) ⌝ }
+fn row_of(k: u8) -> u32
+    ensures { λ r. ⌜ IsRow (rowOf k) r ⌝ }
 {
-    index_of(k, &ROW_KINDS)
+    let i = index_of(k, &ROW_KINDS);
+    CODES[i]
 }
 
 fn false_mask(k: u8) -> u64
@@ -317,7 +291,7 @@ pub fn nth(m: Codes, k: usize) -> Code
 }
 
 // By the number of a cell's width.
-fn column_of(width: u64) -> usize
+fn column_of(width: u8) -> usize
     ensures { λ r. ⌜ (r ≡ columnOf width) × (r < 4) ⌝ }
 {
     if width == tables::FULL {
@@ -330,9 +304,8 @@ fn column_of(width: u64) -> usize
 }
 
 // The instruction of a row of the code table at register r.
-fn apply(row: usize, r: u64, u: Use) -> Code
-    requires { ⌜ row < 11 ⌝ }
-    ensures { λ c. ⌜ c ≡ applyCode row r u ⌝ }
+fn apply(row: u32, r: u64, u: Use) -> Code
+    ensures { λ c. ⌜ ((k : ℕ) → IsRow k row → c ≡ applyCode k r u) ⌝ }
 {
     match u {
         Use::Absent => blank(),
@@ -354,9 +327,8 @@ fn is_absent(u: Use) -> bool
 }
 
 // None for an operand that there is not.
-fn applied(row: usize, r: u64, u: Use) -> Codes
-    requires { ⌜ row < 11 ⌝ }
-    ensures { λ m. ⌜ m ≡ applyCodes row r u ⌝ }
+fn applied(row: u32, r: u64, u: Use) -> Codes
+    ensures { λ m. ⌜ ((k : ℕ) → IsRow k row → m ≡ applyCodes k r u) ⌝ }
 {
     if is_absent(u) {
         return Codes::None;
@@ -365,9 +337,8 @@ fn applied(row: usize, r: u64, u: Use) -> Codes
 }
 
 // And another behind it.
-fn apply_then(row: usize, r: u64, u: Use, c: Code) -> Codes
-    requires { ⌜ row < 11 ⌝ }
-    ensures { λ m. ⌜ m ≡ applyThen row r u c ⌝ }
+fn apply_then(row: u32, r: u64, u: Use, c: Code) -> Codes
+    ensures { λ m. ⌜ ((k : ℕ) → IsRow k row → m ≡ applyThen k r u c) ⌝ }
 {
     if is_absent(u) {
         return Codes::One(c);
@@ -594,7 +565,7 @@ fn element(wide: &[u64], d: usize, m: u64, subscript: u64, index: u64) -> Use
 {
     let displacement = offset(wide, d) % 4294967296 + subscript % 4294967296;
     Use::Stored(
-        tables::size(m),
+        tables::width(m),
         index,
         under(wide, d) / 4294967296,
         displacement,
@@ -675,16 +646,6 @@ pub fn goal_at(thin: &[u16], family: u32, t: usize) -> usize
     goes(thin, t)
 }
 
-// The function of a use by its place; what means none is behind all of them, and takes nothing.
-fn function(m: u64) -> u64
-    ensures { λ r. ⌜ functionAt r ≡ functionIn m ⌝ }
-{
-    if is_function(m) {
-        return number(m);
-    }
-    functions::FUNCTIONS
-}
-
 // ── the assignment or use that is written ──
 
 fn no_writing() -> Writing
@@ -698,7 +659,7 @@ fn no_writing() -> Writing
 }
 
 // No function takes three.
-fn more(n: u64) -> u64
+fn more(n: u32) -> u32
     ensures { λ r. ⌜ r ≡ moreOf n ⌝ }
 {
     if n < 3 {
@@ -847,7 +808,7 @@ fn used(kinds: &[u8], wide: &[u64], thin: &[u16], t: usize, k: u64, w: Writing) 
     let op = functions::op(k);
     let last = w.aim;
     let count = w.arguments;
-    if count != functions::arity(k) as u64 {
+    if count as usize != functions::arity(k) {
         return Codes::None;
     }
     if count == 1 {
@@ -916,7 +877,14 @@ pub fn codes_of(
         return step(wide, thin, t);
     }
     if family == tape::COUNTED {
-        return used(kinds, wide, thin, t, function(meaning(wide, thin, t)), w);
+        return used(
+            kinds,
+            wide,
+            thin,
+            t,
+            functions::meant(meaning(wide, thin, t)),
+            w,
+        );
     }
     others(thin, family, t, n)
 }

@@ -1,9 +1,10 @@
--- What a standard function takes in a parenthesis, by number; a function as a row of numbers.
+-- What a standard function takes in a parenthesis, by number; a function as a row of numbers; the function that a packed meaning is.
 use mathlib.Core.List.{List, [], _∷_}
 use Prim.Native.Nat.{ℕ}
 use lib.Dec.{eqb}
 use Rattle.base.specs.Choose.{if_then_else_}
-use Rattle.static_rules.specs.Functions.{Argument, writtenRegister, readRegister, byteNumber, indexedCell, plainCell, surplus, Function, arity, argumentAt}
+use Rattle.static_rules.specs.Functions.{Argument, writtenRegister, readRegister, byteNumber, indexedCell, plainCell, surplus, Function, noFunction, functionAt, arity, argumentAt}
+use Rattle.tables.specs.Packed.{numberIn, isFunctionIn}
 
 abbrev pub SURPLUS : ℕ
 SURPLUS = 0
@@ -38,3 +39,7 @@ argumentBy a =
 -- what it takes in its first and in its second parenthesis, in how many, its opcode, its number
 abbrev pub rowOf : Function → List ℕ
 rowOf g = argumentNumber (argumentAt g 0) ∷ argumentNumber (argumentAt g 1) ∷ arity g ∷ g .op ∷ g .number ∷ []
+
+-- of what means none, one that takes nothing
+unfoldable pub functionIn : ℕ → Function
+functionIn m = if isFunctionIn m then functionAt (numberIn m) else noFunction

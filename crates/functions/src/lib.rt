@@ -3,7 +3,8 @@ ghost use mathlib.Core.Path.{_≡_};
 ghost use Prim.Native.Nat.{_<_};
 ghost use lib.ListN.{getD};
 ghost use Rattle.static_rules.specs.Functions.{functionAt, arity as arityOf, argumentAt, isWritten};
-ghost use Rattle.functions.specs.Arguments.{argumentNumber, rowOf};
+ghost use Rattle.functions.specs.Arguments.{argumentNumber, rowOf, functionIn};
+use tables::is_function;
 
 // What stands in a parenthesis: a register that is written, one that is read, a number 0 to 255, a cell that may be indexed, one that may not; or more than is taken.
 pub const SURPLUS: u8 = 0;
@@ -19,7 +20,7 @@ pub const INDEXED_CELL: u8 = 4;
 pub const PLAIN_CELL: u8 = 5;
 
 // How many functions there are.
-pub const FUNCTIONS: u64 = 9;
+const FUNCTIONS: u64 = 9;
 
 // A row each: what it takes in its first and in its second parenthesis, in how many; its opcode; the number of SET, RESET and TEST.
 const TABLE: [[u8; 5]; 9] = [
@@ -40,6 +41,16 @@ const ARITY: usize = 2;
 const OP: usize = 3;
 
 const NUMBER: usize = 4;
+
+// The function that a packed meaning is, by its place; what means none is behind all of them, and takes nothing.
+pub fn meant(m: u64) -> u64
+    ensures { λ k. ⌜ functionAt k ≡ functionIn m ⌝ }
+{
+    if is_function(m) {
+        return tables::number(m);
+    }
+    FUNCTIONS
+}
 
 // A column of function k's row; past the table 0 stands.
 fn column(k: u64, c: usize) -> u8

@@ -10,21 +10,21 @@ use lib.Dec.{eqb}
 use borrow.Author.Tests.{eqb-true, eqb-false}
 use Rattle.base.specs.Choose.{if_then_else_}
 use Rattle.base.specs.Lists.{_∈_, All, member}
-use Rattle.base.proofs.Lists.{member-in, in-member, all-getD}
+use Rattle.base.proofs.Lists.{member-in, in-member}
 use Rattle.base.proofs.Tests.{never-true, both}
 use Rattle.token.specs.Kinds as K
 use Rattle.grammar.specs.Tree.{Designator, Operand, number, place, Sign, plain, abs, neg, negAbs, Term, Width, full, short, byte}
-use Rattle.scopes.specs.declared.Broken.{Broken}
 use Rattle.scopes.specs.Broken.{_⊕_, rule}
 use Rattle.scopes.proofs.Joins.{quiet-left, quiet-right, rule-holds}
 use Rattle.static_rules.specs.Functions as F
 use Rattle.static_rules.specs.Functions.{Argument, writtenRegister, readRegister, byteNumber, indexedCell, plainCell, surplus, Form, Function, functionTable, functionAt, arity, argumentAt, isWritten}
-use Rattle.static_rules.specs.Meaning.{Meaning, nothing, register, cell, routine, function, Cell, elementSize, isFull, isHalf, isByte, isLong, operandMeaning, registerOf, longOperand}
+use Rattle.static_rules.specs.Meaning.{Meaning, nothing, register, cell, routine, function, Cell, elementSize, isFull, isHalf, isByte, isLong, operandMeaning, registerOf, functionOf, longOperand}
 use Rattle.static_rules.specs.Tables.{Tables, kindAt, valueAt, meaningAt}
 use Rattle.static_rules.specs.Rules as R
 use Rattle.static_rules.specs.Rules.{isRegister, shifts, fullOnly, inside, isShort, isCell, isByteCell}
 use Rattle.static_rules.proofs.Elements.{in-range, inside-is}
 use Rattle.static_rules.proofs.Small.{Small, register-small, meaning-small}
+use Rattle.static_rules.proofs.Uses.{by-meaning}
 use Rattle.machine.specs.declared.Fun.{Fun}
 use Rattle.machine.specs.declared.Fun.the-variants.{Positive, Complement, Negative, MultiplyHalf, Insert, Test}
 use Rattle.machine.specs.declared.Shift.{Shift}
@@ -521,9 +521,9 @@ module _
         ltr : PlainUse (functionAt 8)
         ltr = with-two (functionAt 8) refl (λ a b x y. on-register (functionAt 8) (sourceOf f a) (numberOf f a) b y (omega arith, (Test, refl)) (x .1))
 
-    pub function-plain : (k : ℕ) → PlainUse (functionAt k)
-    unfolding functionAt functionCode
-    function-plain k = all-getD PlainUse functionTable k F.noFunction all-plain (λ a xs h. no-code a xs)
+    pub function-plain : (m : Meaning) → PlainUse (functionOf m)
+    unfolding functionCode
+    function-plain m = by-meaning PlainUse all-plain (λ a xs h. no-code a xs) m
       where
         no-code : (a : Operand) (xs : List Operand) → All (Plain l p) (functionCode f F.noFunction a xs)
         no-code a [] = tt

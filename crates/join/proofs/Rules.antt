@@ -19,8 +19,6 @@ use Rattle.grammar.specs.Events as E
 use Rattle.grammar.specs.Events.{opened, closed, entered, labelled, sent, celled, based, aimed, driven, given, joined, tested, called, argued, Event, edge, route, entry, phrase, mark, operandNames, uses, each, eventsValue, eventsItem, eventsRegister, eventsDeclaration, eventsSign, eventsTerm, eventsChain, eventsArguments, labelsOnto, eventsStatement, eventsBody, eventsItems, eventsOf}
 use Rattle.grammar.specs.Places.{Block, Place, after, Along}
 use Rattle.grammar.specs.Places as P
-use Rattle.scopes.specs.declared.Broken.{Broken}
-use Rattle.scopes.specs.Broken.{rule}
 use Rattle.scopes.specs.Search.{firstToken, around, innermost}
 use Rattle.scopes.specs.Names.{namesIn}
 use Rattle.scopes.specs.Labels.{labelsIn}
@@ -29,8 +27,7 @@ use Rattle.scopes.proofs.Led.{none-at-edge}
 use Rattle.scopes.proofs.Bound as B
 use Rattle.scopes.proofs.Bound.{Bound}
 use Rattle.static_rules.specs.Registers.{noRegisters, has, spares}
-use Rattle.static_rules.specs.Functions.{functionAt, argumentAt, isWritten}
-use Rattle.static_rules.specs.Meaning.{Meaning, nothing, register, cell, routine, function, Based, Cell, registerOf, argumentOf}
+use Rattle.static_rules.specs.Meaning.{Meaning, nothing, register, cell, routine, function, Based, Cell, registerOf, functionOf, argumentOf}
 use Rattle.static_rules.specs.Meanings.{Meant, meaningIn, ownIn, newest, baseIn, dataBase}
 use Rattle.static_rules.specs.Tables.{Tables, valueAt, meaningAt}
 use Rattle.static_rules.specs.Rules as R
@@ -42,7 +39,7 @@ use Rattle.static_rules.proofs.Unbroken.{Unbroken}
 use Rattle.static_rules.proofs.Kept.{kept-return, kept-in-block, kept-in-body}
 use Rattle.static_rules.proofs.Told.{WrittenBy, NotAround, Told}
 use Rattle.translation.specs.Instructions.{Instruction}
-use Rattle.translation.specs.Core.{Core, useOf, load, chainOf, termOf, toRegister, sourceOf, assignBy, assignmentOf, testOf, controlOf, useCode, returnOf, coreStatement, coreBody, coreItems}
+use Rattle.translation.specs.Core.{Core, useOf, load, chainOf, termOf, toRegister, sourceOf, assignBy, assignmentOf, testOf, controlOf, functionCode, returnOf, coreStatement, coreBody, coreItems}
 use Rattle.translation.specs.Code.{Mark, own, sizeOf}
 use Rattle.translation.specs.Layout.{Layout, offsetOf}
 use Rattle.translation.proofs.Rooms.{CellAt}
@@ -279,24 +276,16 @@ module _ (kinds values found goes : List ℕ) (z : Meant) (l : Layout) where
         arguments-of n q [] k h = (tt, h .1)
         arguments-of n q (a ∷ xs) k (h, hs) = let r = arguments-of n (q + 1) xs k hs in ((h, r .0), r .1)
 
-        given-all : (n i : ℕ) → meaningAt f n ≡ function i → (q : ℕ) (xs : List Operand) → Argued n q xs → Given f small l (pointIn p) stands (functionAt i) q xs
-        given-all n i e q [] h = tt
-        given-all n i e q (a ∷ xs) (h, hs) = (
-          taken f small l (pointIn p) stands (argumentAt (functionAt i) q) a (seen-operand p gs x a (h .bound))
-              (subst (λ (m : Meaning). R.argumentRules f (keptIn f p) (argumentOf m q) a .number ≡ 0) e (h .unbroken))
-              (λ w r s o. counted-in p r s (h .told r s o (ap (λ (m : Meaning). isWritten (argumentOf m q)) e ∙ w))),
-          given-all n i e (q + 1) xs hs,
+        given-all : (n q : ℕ) (xs : List Operand) → Argued n q xs → Given f small l (pointIn p) stands (functionOf (meaningAt f n)) q xs
+        given-all n q [] h = tt
+        given-all n q (a ∷ xs) (h, hs) = (
+          taken f small l (pointIn p) stands (argumentOf (meaningAt f n) q) a (seen-operand p gs x a (h .bound)) (h .unbroken)
+              (λ w r s o. counted-in p r s (h .told r s o w)),
+          given-all n (q + 1) xs hs,
         )
 
-        use-plain : (n : ℕ) (a : Operand) (xs : List Operand) → Argued n 0 (a ∷ xs) → PlainHere (useCode f (meaningAt f n) a xs)
-        use-plain n a xs h = go (meaningAt f n) refl
-          where
-            go : (m : Meaning) → meaningAt f n ≡ m → PlainHere (useCode f m a xs)
-            go nothing e = tt
-            go (register r) e = tt
-            go (cell c) e = tt
-            go (routine r) e = tt
-            go (function i) e = function-plain f small l (pointIn p) stands i a xs (given-all n i e 0 (a ∷ xs) h)
+        use-plain : (n : ℕ) (a : Operand) (xs : List Operand) → Argued n 0 (a ∷ xs) → PlainHere (functionCode f (functionOf (meaningAt f n)) a xs)
+        use-plain n a xs h = function-plain f small l (pointIn p) stands (meaningAt f n) a xs (given-all n 0 (a ∷ xs) h)
 
         -- ── calls ──
 

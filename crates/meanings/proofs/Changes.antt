@@ -6,25 +6,19 @@ use Prim.Native.Nat.{ℕ, _+_, _-_, _≤_, _<_}
 use native.Mathlib.Numerals.{add-one}
 use lib.Dec.{eqb}
 use lib.ListN.{getD, set, length}
-use Rattle.base.proofs.Tests.{cases, never-true}
+use Rattle.base.proofs.Tests.{never-true}
 use Rattle.token.specs.Kinds as K
-use Rattle.static_rules.specs.Functions.{isWritten}
-use Rattle.static_rules.specs.Meaning.{Meaning, register, routine, Based, meaningOf, registerOf, argumentOf, isLong}
+use Rattle.static_rules.specs.Functions.{Function, functionAt, argumentAt, isWritten}
+use Rattle.static_rules.specs.Meaning.{Meaning, register, routine, meaningOf, registerOf, functionOf, argumentOf, isLong}
 use Rattle.static_rules.specs.Meanings.{mean, callWrites}
 use Rattle.tape.specs.Numbers.{formAt}
-use Rattle.tables.specs.Packed.{REGISTER, ROUTINE, low, packed, numberIn, isRoutineIn, isFunctionIn, basedIn, unpacked, meaningsOf, registerIn, longIn, packedAt, setsOf}
-use Rattle.tables.proofs.Meanings.{by-sort, as-function, low-is, long-is, packed-register, packed-routine, meaning-at, meaning-set, meaning-set-both}
+use Rattle.tables.specs.Packed.{REGISTER, ROUTINE, low, packed, isRoutineIn, basedIn, unpacked, meaningsOf, registerIn, longIn, packedAt, setsOf}
+use Rattle.tables.proofs.Meanings.{by-sort, low-is, long-is, packed-register, packed-routine, meaning-at, meaning-set, meaning-set-both}
+use Rattle.functions.specs.Arguments.{functionIn}
+use Rattle.functions.proofs.Packed.{meant-is}
 use Rattle.meanings.specs.Along.{targetOf, isProductAt}
-use Rattle.meanings.specs.Flat.{meantOf, standardMeaning, standardNamed, targetIn, firstIn}
+use Rattle.meanings.specs.Flat.{meantOf, standardMeaning, standardNamed, targetIn}
 use Rattle.meanings.proofs.Moves.{register-at}
-
--- ── "IC, LA and LTR write the first" ──
-
-first-is : (t m : ℕ) (b : Based) → isWritten (argumentOf (unpacked t m b) 0) ≡ firstIn m
-unfolding firstIn
-first-is t m b =
-    cases (isFunctionIn m) (λ q. ap (λ (y : Meaning). isWritten (argumentOf y 0)) (as-function t m b q) ∙ rw q)
-    (λ q. rw q (by-sort (λ y. isWritten (argumentOf y 0) ≡ false) t m b (λ e. refl) (λ e f. refl) (λ e f g. refl) (λ e f g h. never-true (sym q ∙ h)) (λ e f g h. refl)))
 
 -- ── by the packed meaning ──
 
@@ -38,8 +32,11 @@ module _ (found means bases : List ℕ) (t : ℕ) where
       f ∙ (ap targetIn e ∙ sym (ap targetOf meant-at ∙ by-sort (λ y. targetOf y ≡ targetIn (packedAt found means t)) _ (packedAt found means t) _ (λ e. rw e)
       (λ e f. rw e) (λ e f g. rw e) (λ e f g h. rw e) (λ e f g h. rw e)))
 
-  pub first-at : (m : ℕ) (g : Bool) → m ≡ packedAt found means t → g ≡ firstIn m → g ≡ isWritten (argumentOf (meaningOf found (meaningsOf means bases) t) 0)
-  first-at m g e f = f ∙ (ap firstIn e ∙ sym (ap (λ (y : Meaning). isWritten (argumentOf y 0)) meant-at ∙ first-is _ _ _))
+  -- "IC, LA and LTR write the first"
+  pub first-at :
+      (m k : ℕ) (g : Bool) → m ≡ packedAt found means t → functionAt k ≡ functionIn m → g ≡ isWritten (argumentAt (functionAt k) 0)
+      → g ≡ isWritten (argumentOf (meaningOf found (meaningsOf means bases) t) 0)
+  first-at m k g e f h = h ∙ ap (λ (y : Function). isWritten (argumentAt y 0)) (f ∙ (ap functionIn e ∙ sym (ap functionOf meant-at ∙ meant-is _ _ _)))
 
   long-at : isLong (meaningOf found (meaningsOf means bases) t) ≡ longIn (packedAt found means t)
   long-at = ap isLong meant-at ∙ long-is _ _ _

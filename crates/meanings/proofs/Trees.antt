@@ -4,14 +4,12 @@ use mathlib.Core.Path.{_≡_, refl, ap, ap₂, sym, _∙_}
 use mathlib.Core.List.{List, [], _∷_}
 use mathlib.Core.Bool.{Bool, true, false, _&&_}
 use mathlib.Core.Option.{Option, none, some}
-use Prim.Native.Nat.{ℕ, zero, suc, _+_, _-_, _≤_, _<_}
+use Prim.Native.Nat.{ℕ, _+_, _-_, _≤_, _<_}
 use native.Mathlib.Omega.{arith}
-use native.Mathlib.Numerals.{add-one}
 use lib.Dec.{eqb}
 use lib.ListN.{getD, set, length}
 use lib.Seq.{getD-set-same}
 use Rattle.base.specs.Choose.{if_then_else_}
-use Rattle.base.proofs.Lists.{all-getD}
 use Rattle.token.specs.Kinds as K
 use Rattle.grammar.specs.Tree.{Designator, Operand, number, place, Sign, plain, abs, neg, negAbs, Condition, compared, bare, Statement, Width, full, short, byte}
 use Rattle.grammar.specs.Derives.{isRegister, isProgram}
@@ -32,13 +30,14 @@ use Rattle.tape.specs.Written.{operandShape, signCode, conditionCode, opOf, tok
 use Rattle.tape.proofs.Numbers.{by-shape, by-operand, by-width}
 use Rattle.tape.proofs.Written.{tree-tape, follows-in}
 use Rattle.scopes.proofs.Early.{Early}
-use Rattle.static_rules.specs.Functions.{Function, Argument, readRegister, indexedCell, plainCell, surplus, functionTable, noFunction, functionAt, isWritten}
+use Rattle.static_rules.specs.Functions.{isWritten}
 use Rattle.static_rules.specs.Meaning.{Meaning, nothing, register, cell, routine, function, Based, meaningOf, operandMeaning, registerOf, argumentOf, isLong, longOperand, isProduct}
 use Rattle.static_rules.specs.Meanings as D
 use Rattle.static_rules.specs.Meanings.{Meant, write, writeText, callWrites, targetWrites, openBase, addCell, countOf, isArray, meaningIn, ownIn, newest, baseIn, meanProgram}
 use Rattle.static_rules.proofs.Heeds.{phrase-alike}
 use Rattle.static_rules.proofs.Lengths.{event-long}
 use Rattle.static_rules.proofs.Stays.{Stays, event-stays}
+use Rattle.static_rules.proofs.Uses.{later-read}
 use Rattle.tables.specs.Packed.{CELL, ARRAY, WIDTHS, low, packed, widthBy, unpacked}
 use Rattle.tables.proofs.Meanings.{low-is, packed-cell}
 use Rattle.meanings.specs.Along.{targetOf, writeTarget, writeLower, withinAfter, formAfter, targetAfter, firstAfter, declaredAfter, isProductAt, writeProduct, writtenAfter, Meaning-walk, meanEvent, beginning}
@@ -62,31 +61,6 @@ width-is full = refl
 width-is short = refl
 width-is (byte false) = refl
 width-is (byte true) = refl
-
--- no argument behind the first is written
-abbrev ReadLater : Function → Type 0
-ReadLater g = (p : ℕ) → isWritten (getD (g .takes) (suc p) surplus) ≡ false
-
-second-read : (x : Argument) → isWritten x ≡ false → (p : ℕ) → isWritten (getD (x ∷ []) p surplus) ≡ false
-second-read x e zero = e
-second-read x e (suc p) = refl
-
-later-read : (m : Meaning) (p : ℕ) → isWritten (argumentOf m (p + 1)) ≡ false
-unfolding functionAt
-later-read nothing p = refl
-later-read (register r) p = refl
-later-read (cell c) p = refl
-later-read (routine r) p = refl
-later-read (function k) p = rw (add-one p) (all-getD ReadLater functionTable k noFunction (
-  second-read indexedCell refl,
-  (
-    second-read indexedCell refl,
-    (
-      second-read indexedCell refl,
-      (second-read plainCell refl, (second-read plainCell refl, ((λ p. refl), ((λ p. refl), ((λ p. refl), (second-read readRegister refl, tt)))))),
-    ),
-  ),
-) (λ p. refl) p)
 
 module _ (kinds values found : List ℕ) where
   -- numbers have 32 bits

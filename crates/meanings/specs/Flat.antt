@@ -1,6 +1,5 @@
 -- The state of the walk as arrays, and what the ledger shows of the tables.
 use mathlib.Core.Path.{_≡_}
-use mathlib.Core.Bool.{Bool, _&&_}
 use mathlib.Core.List.{List, [], map}
 use Prim.Native.Nat.{ℕ, zero, suc, _-_, _<_}
 use lib.Dec.{ltb}
@@ -9,9 +8,8 @@ use Rattle.base.specs.Choose.{if_then_else_}
 use Rattle.grammar.specs.Grammar.{nesting}
 use Rattle.ledger.specs.Book.{Wide, Thin, onWide}
 use Rattle.ledger.specs.Bounds.{Nested}
-use Rattle.static_rules.specs.Functions.{functionAt, argumentAt, isWritten}
 use Rattle.static_rules.specs.Meanings.{Meant}
-use Rattle.tables.specs.Packed.{REGISTER, FUNCTION, packed, numberIn, isRegisterIn, isFunctionIn, basedIn, meaningsOf, setsOf}
+use Rattle.tables.specs.Packed.{REGISTER, FUNCTION, packed, numberIn, isRegisterIn, basedIn, meaningsOf, setsOf}
 use Rattle.tables.specs.Stacks.{stackOf}
 use Rattle.meanings.specs.declared.Scope.{Scope}
 use Rattle.meanings.specs.Along.{Within}
@@ -58,10 +56,6 @@ standardNamed (suc n) means = set (standardNamed n means) (suc n) (standardMeani
 -- of a packed meaning, the register that it is, and one; 0 where it is none
 unfoldable pub targetIn : ℕ → ℕ
 targetIn m = if isRegisterIn m then suc (numberIn m) else 0
-
--- a function that writes its first argument
-unfoldable pub firstIn : ℕ → Bool
-firstIn m = isFunctionIn m && isWritten (argumentAt (functionAt (numberIn m)) 0)
 
 -- ── what the ledger shows: the tables that this pass makes, beside the lists that it leaves ──
 

@@ -12,7 +12,7 @@ ghost use Rattle.ledger.specs.Book.{Wide, wideOf, thinOf, thinLimit};
 ghost use Rattle.ledger.specs.Bounds.{blocksOpen, proceduresOpen};
 ghost use Rattle.scopes.specs.Search.{standardNames};
 ghost use Rattle.meanings.specs.Along.{enterBlock, leaveBlock, enterProcedure, leaveProcedure, changeBase, writeTarget, writeLower, withinAfter, formAfter, targetAfter, firstAfter, declaredAfter, isProductAt, writeProduct, writtenAfter, meanEvent, beginning};
-ghost use Rattle.meanings.specs.Flat.{withinOf, Moved, targetIn, firstIn, viewOf, changed, standardMeaning, namedTo, Roomy};
+ghost use Rattle.meanings.specs.Flat.{withinOf, Moved, targetIn, viewOf, changed, standardMeaning, namedTo, Roomy};
 use arrays::kind;
 use arrays::put_wide;
 use base::less;
@@ -25,7 +25,6 @@ use ledger::put_under;
 use ledger::put_written;
 use ledger::value;
 use ledger::written;
-use tables::is_function;
 use tables::is_long;
 use tables::is_register;
 use tables::is_routine;
@@ -190,19 +189,12 @@ fn target_after(op: u32, t: usize, wide: &[u64], thin: &[u16], first: bool, targ
     target
 }
 
-// "IC, LA and LTR write the first".
-fn writes_first(m: u64) -> bool
-    ensures { λ r. ⌜ r ≡ firstIn m ⌝ }
-{
-    is_function(m) & functions::writes_first(number(m))
-}
-
-// The argument that follows is written: it stands behind the name of one of these.
+// The argument that follows is written: "IC, LA and LTR write the first".
 fn first_after(op: u32, t: usize, wide: &[u64], thin: &[u16]) -> bool
     ensures { λ r. ⌜ ((under : List ℕ) → r ≡ firstAfter (thinOf (now (thin .entry)) .found) op t (meaningsOf (wideOf (now (wide .entry)) .means) under)) ⌝ }
 {
     if op == tape::APPLIED {
-        return writes_first(meaning(wide, thin, t));
+        return functions::writes_first(functions::meant(meaning(wide, thin, t)));
     }
     false
 }

@@ -1,34 +1,34 @@
 -- What each rule function answers is the definition's rule, by what its callees answer.
 use mathlib.Core.Path.{_≡_, refl, sym, ap, ap₂, _∙_}
 use mathlib.Core.Bool.{Bool, true, false, _&&_, _||_, not}
-use mathlib.Core.List.{List, [], _∷_}
+use mathlib.Core.List.{List}
 use mathlib.Core.Option.{Option, none, some}
-use Prim.Native.Nat.{ℕ, zero, suc, _+_, _-_, _*_, _/_, _%_}
-use lib.Dec.{eqb, leb, ltb}
+use Prim.Native.Nat.{ℕ, _+_, _-_, _%_}
+use lib.Dec.{eqb, leb}
 use lib.ListN.{getD}
 use borrow.Author.Tests.{ne-eqb}
-use Rattle.base.specs.Choose.{choose, if_then_else_}
+use Rattle.base.specs.Choose.{if_then_else_}
 use Rattle.base.specs.Lists.{member}
-use Rattle.base.proofs.Tests.{cases, never-true}
+use Rattle.base.proofs.Tests.{never-true}
 use Rattle.token.specs.Kinds as K
-use Rattle.grammar.specs.Tree.{Designator, Operand, number, place, Term}
+use Rattle.grammar.specs.Tree.{number, place}
 use Rattle.ledger.specs.Book.{Wide, Thin}
 use Rattle.scopes.specs.declared.Broken.{Broken}
 use Rattle.scopes.specs.Broken.{unbroken, rule, broken, _⊕_}
-use Rattle.static_rules.specs.Registers.{Registers, noRegisters, spares}
-use Rattle.static_rules.specs.Functions.{functionAt, arity}
-use Rattle.static_rules.specs.Meaning.{Meaning, nothing, register, cell, routine, Based, Cell, meaningOf, argumentOf, registerOf, isLong, longOperand}
-use Rattle.static_rules.specs.Tables.{Tables, meaningAt, valueAt, kindAt}
-use Rattle.static_rules.specs.Rules.{isRegister, isZero, isShort, isCell, isBare, inside, shifts, fullOnly, writeRule, registerRule, zeroRule, indexRules, subscriptRules, placeBy, placeRules, operandRules, onlyRegister, shiftRules, noByte, noShort, productRules, termRules, callBy, callRules, noIndex, targetBy, countBy, baseRules}
-use Rattle.functions.specs.Arguments.{argumentNumber, argumentBy}
+use Rattle.static_rules.specs.Registers.{spares}
+use Rattle.static_rules.specs.Functions.{Function, functionAt, arity, argumentAt}
+use Rattle.static_rules.specs.Meaning.{Meaning, cell, Based, Cell, argumentOf, registerOf, isLong, longOperand}
+use Rattle.static_rules.specs.Tables.{Tables, meaningAt}
+use Rattle.static_rules.specs.Rules.{isRegister, isZero, isCell, isBare, inside, shifts, fullOnly, writeRule, registerRule, zeroRule, indexRules, subscriptRules, placeBy, placeRules, operandRules, onlyRegister, shiftRules, noByte, noShort, productRules, termRules, callBy, callRules, noIndex, targetBy, countBy, baseRules}
+use Rattle.functions.specs.Arguments.{argumentNumber, argumentBy, functionIn}
+use Rattle.functions.proofs.Packed.{meant-is}
 use Rattle.functions.proofs.Table.{by-number}
-use Rattle.tables.specs.Packed.{numberIn, isRegisterIn, isRoutineIn, isCellIn, isFunctionIn, isShortIn, isByteIn, basedIn, cellIn, unpacked, registerIn, longIn, packedAt, setOf, setsOf}
-use Rattle.tables.specs.Stacks.{stackOf}
+use Rattle.tables.specs.Packed.{numberIn, isRegisterIn, isRoutineIn, isCellIn, isFunctionIn, isShortIn, isByteIn, cellIn, unpacked, registerIn, longIn, packedAt, setOf}
 use Rattle.tables.proofs.Meanings.{by-sort, as-register, as-routine, as-cell, as-function, register-is, long-is}
 use Rattle.tables.proofs.Sets.{sets-at}
 use Rattle.rules.specs.Parts.{subscriptAt, indexAt, designatorAt, operandAt, termAt}
 use Rattle.rules.specs.Shows.{Listed}
-use Rattle.rules.proofs.Sorts.{register-sort, zero-sort, short-sort, byte-sort, cell-sort, baseAt, meant-at}
+use Rattle.rules.proofs.Sorts.{register-sort, short-sort, byte-sort, cell-sort, baseAt, meant-at}
 
 or-none : (x : Bool) → x ≡ (x || false)
 or-none true = refl
@@ -143,8 +143,9 @@ module _ {f : Tables} {w : Wide} {l : Thin} (s : Listed f w l) (t m : ℕ) (e : 
       q ∙ at (λ (y : Meaning). targetBy f y kept t)
       (λ k b. by-sort (λ y. unbroken ≡ targetBy f y kept t) k m b (λ a. never-true (sym h ∙ a)) (λ a b. refl) (λ a b c. refl) (λ a b c d. refl) (λ a b c d. refl))
 
-  pub takes-at : (p : ℕ) {a : ℕ} → ((n : ℕ) (b : Based) → a ≡ argumentNumber (argumentOf (unpacked n m b) p)) → argumentBy a ≡ argumentOf (meaningAt f t) p
-  takes-at p q = rw (meant-at s t m e) (ap argumentBy (q _ _) ∙ by-number _)
+  pub takes-at : (p k : ℕ) {a : ℕ} → functionAt k ≡ functionIn m → a ≡ argumentNumber (argumentAt (functionAt k) p) → argumentBy a ≡ argumentOf (meaningAt f t) p
+  takes-at p k g q =
+      rw (meant-at s t m e) (ap argumentBy q ∙ (by-number _ ∙ ap (λ (y : Function). argumentAt y p) (g ∙ sym (meant-is (getD (l .found) t 0) m (baseAt s t)))))
 
   pub counts-function : (count : ℕ) {k a : ℕ} {x : Broken} → isFunctionIn m ≡ true → k ≡ numberIn m → a ≡ arity (functionAt k) → x ≡ rule (eqb count a) 8 t
       → x ≡ countBy (meaningAt f t) t count

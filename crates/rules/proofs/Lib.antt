@@ -1,4 +1,3 @@
 -- Laws of the rules by packed meanings and parts by their tokens.
 pub mod Sorts
-pub mod Arguments
 pub mod Answers

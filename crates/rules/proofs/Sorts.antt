@@ -18,7 +18,7 @@ use Rattle.static_rules.specs.Registers.{Registers, has, spares}
 use Rattle.static_rules.specs.Meaning.{Meaning, nothing, register, cell, routine, Based, Cell, elementSize}
 use Rattle.static_rules.specs.Tables.{Tables, meaningAt}
 use Rattle.static_rules.specs.Rules.{isRegister, isZero, isShort, isCell, isByteCell, isBare, inside}
-use Rattle.tables.specs.Packed.{numberIn, isRegisterIn, isCellIn, sizeIn, isShortIn, isByteIn, basedIn, cellIn, widthIn, unpacked, meaningsOf, packedAt}
+use Rattle.tables.specs.Packed.{numberIn, isRegisterIn, isCellIn, widthNumberIn, isShortIn, isByteIn, basedIn, cellIn, widthIn, unpacked, meaningsOf, packedAt}
 use Rattle.tables.specs.Stacks.{stackOf}
 use Rattle.tables.proofs.Meanings.{half-is, byte-is, by-sort, register-alone, routine-alone, meaning-at}
 use Rattle.rules.specs.Parts.{subscriptAt, indexAt}
@@ -36,12 +36,12 @@ module _ (n m : ℕ) (b : Based) where
   pub short-sort : (isCellIn m && isShortIn m) ≡ isShort (unpacked n m b)
   short-sort =
       by-sort (λ x. (isCellIn m && isShortIn m) ≡ isShort x) n m b (λ e. rw (register-alone m e .1)) (λ e f. rw (routine-alone m f .1))
-      (λ e f g. rw g (sym (half-is (sizeIn m)))) (λ e f g h. rw g) (λ e f g h. rw g)
+      (λ e f g. rw g (sym (half-is (widthNumberIn m)))) (λ e f g h. rw g) (λ e f g h. rw g)
 
   pub byte-sort : (isCellIn m && isByteIn m) ≡ isByteCell (unpacked n m b)
   byte-sort =
       by-sort (λ x. (isCellIn m && isByteIn m) ≡ isByteCell x) n m b (λ e. rw (register-alone m e .1)) (λ e f. rw (routine-alone m f .1))
-      (λ e f g. rw g (sym (byte-is (sizeIn m)))) (λ e f g h. rw g) (λ e f g h. rw g)
+      (λ e f g. rw g (sym (byte-is (widthNumberIn m)))) (λ e f g h. rw g) (λ e f g h. rw g)
 
   pub cell-sort : isCellIn m ≡ isCell (unpacked n m b)
   cell-sort = by-sort (λ x. isCellIn m ≡ isCell x) n m b (λ e. register-alone m e .1) (λ e f. routine-alone m f .1) (λ e f g. g) (λ e f g h. g) (λ e f g h. g)

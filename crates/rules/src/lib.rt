@@ -1,6 +1,6 @@
 // Document 01, "Names, cells, protected registers": the rules on kinds, registers and values, refusals 8 to 12, one function each.
 ghost use mathlib.Core.Path.{_≡_};
-ghost use mathlib.Core.Bool.{Bool, not};
+ghost use mathlib.Core.Bool.{not};
 ghost use Prim.Native.Nat.{ℕ, _+_, _-_, _<_};
 ghost use lib.ListN.{getD};
 ghost use Rattle.base.specs.Lists.{member};
@@ -8,9 +8,9 @@ ghost use Rattle.ledger.specs.Book.{wideOf, thinOf};
 ghost use Rattle.scopes.specs.Broken.{unbroken, rule as ruleOf, broken as brokenOf, _⊕_};
 ghost use Rattle.static_rules.specs.Registers.{spares as sparesOf};
 ghost use Rattle.static_rules.specs.Meaning.{Based, cell, argumentOf};
-ghost use Rattle.static_rules.specs.Tables.{Tables, valueAt, meaningAt};
-ghost use Rattle.static_rules.specs.Rules.{isRegister, isZero, isShort, inside, isBare, shifts, fullOnly, writeRule, registerRule, zeroRule, indexRules, subscriptRules, placeBy, placeRules, operandRules, onlyRegister, shiftRules, noByte, noShort, productRules, termRules, callRules, noIndex, writtenRules, byteRules, cellRules, plainRules, argumentRules, countBy, baseRules};
-ghost use Rattle.functions.specs.Arguments.{argumentNumber, argumentBy};
+ghost use Rattle.static_rules.specs.Tables.{Tables, meaningAt};
+ghost use Rattle.static_rules.specs.Rules.{isRegister, isZero, inside, isBare, shifts, fullOnly, writeRule, registerRule, zeroRule, indexRules, subscriptRules, placeBy, placeRules, operandRules, onlyRegister, shiftRules, noByte, noShort, productRules, termRules, callRules, noIndex, writtenRules, byteRules, cellRules, plainRules, argumentRules, countBy, baseRules};
+ghost use Rattle.functions.specs.Arguments.{argumentBy};
 ghost use Rattle.tables.specs.Packed.{cellIn, unpacked, setOf};
 ghost use Rattle.tables.specs.Stacks.{stackOf};
 ghost use Rattle.rules.specs.Parts.{subscriptAt, indexAt, designatorAt, operandAt, termAt};
@@ -307,16 +307,6 @@ pub fn call_rules(wide: &[u64], thin: &[u16], depth: usize, t: usize) -> Broken
 
 // ── uses of functions ──
 
-// What a name that means m takes at a position: only functions take anything.
-fn argument(m: u64, position: usize) -> u8
-    ensures { λ r. ⌜ ((n : ℕ) (b : Based) → r ≡ argumentNumber (argumentOf (unpacked n m b) position)) ⌝ }
-{
-    if is_function(m) {
-        return functions::argument(number(m), position);
-    }
-    functions::SURPLUS
-}
-
 // "IC, LA and LTR write the first, so the protected rule counts it": at the register's name.
 fn written_rules(shape: u32, wide: &[u64], thin: &[u16], depth: usize, t: usize) -> Broken
     ensures { λ x.
@@ -428,7 +418,8 @@ pub fn argued_rules(
         ⌜ ((f : Tables) → Listed f (wideOf (now (wide .entry))) (thinOf (now (thin .entry)))
         → x ≡ argumentRules f (stackOf (wideOf (now (wide .entry)) .offsets) depth) (argumentOf (meaningAt f n) position) (operandAt shape t)) ⌝ }
 {
-    let takes = argument(meaning(wide, thin, n), position);
+    let function = functions::meant(meaning(wide, thin, n));
+    let takes = functions::argument(function, position);
     argument_rules(takes, shape, wide, thin, depth, t)
 }
 

@@ -6,7 +6,7 @@ use lib.Dec.{eqb}
 use lib.ListN.{getD}
 use Rattle.token.specs.Kinds as K
 use Rattle.grammar.specs.Tree.{Operand, number, place, Term, Width, full, short, byte}
-use Rattle.static_rules.specs.Functions.{Argument, surplus, functionAt, argumentAt}
+use Rattle.static_rules.specs.Functions.{Function, Argument, noFunction, functionAt, argumentAt}
 
 -- "Cells take the next multiple of their size (4, or 2 for short)."; "BYTE and CHARACTER cells (one byte, any offset …)"
 abbrev pub elementSize : Width → ℕ
@@ -70,9 +70,13 @@ registerOf m = byTarget m (λ r. r) 0 0
 abbrev pub cellIs : (Width → Bool) → Meaning → Bool
 cellIs test m = elim m [ nothing ↦ false | register r ↦ false | cell c ↦ test (c .width) | routine r ↦ false | function k ↦ false ]
 
--- what a name takes in its parenthesis at a position: only functions take anything
+-- the function that a name means; what means none takes nothing
+abbrev pub functionOf : Meaning → Function
+functionOf m = elim m [ nothing ↦ noFunction | register r ↦ noFunction | cell c ↦ noFunction | routine r ↦ noFunction | function k ↦ functionAt k ]
+
+-- what a name takes in its parenthesis at a position
 abbrev pub argumentOf : Meaning → ℕ → Argument
-argumentOf m p = elim m [ nothing ↦ surplus | register r ↦ surplus | cell c ↦ surplus | routine r ↦ surplus | function k ↦ argumentAt (functionAt k) p ]
+argumentOf m p = argumentAt (functionOf m) p
 
 -- "`*` by a number, or by what begins with the name of a register or integer cell, needs an odd target and also writes the register below."
 abbrev pub isLong : Meaning → Bool

@@ -13,7 +13,7 @@ use Rattle.base.specs.Choose.{choose, if_then_else_}
 use Rattle.base.proofs.Tests.{cases, by-test, never-true}
 use Rattle.grammar.specs.Tree.{Width, full, short, byte}
 use Rattle.static_rules.specs.Meaning.{Meaning, nothing, register, cell, routine, function, Based, registerOf, isFull, isHalf, isByte, isLong}
-use Rattle.tables.specs.Packed.{REGISTER, ROUTINE, CELL, ARRAY, FUNCTION, SORTS, WIDTHS, low, packed, sortIn, numberIn, isRegisterIn, isRoutineIn, isArrayIn, isCellIn, isFunctionIn, sizeIn, isFullIn, widthBy, basedIn, cellIn, unpacked, meaningsFrom, meaningsOf, registerIn, longIn, packedAt}
+use Rattle.tables.specs.Packed.{REGISTER, ROUTINE, CELL, ARRAY, FUNCTION, SORTS, WIDTHS, low, packed, sortIn, numberIn, isRegisterIn, isRoutineIn, isArrayIn, isCellIn, isFunctionIn, widthNumberIn, isFullIn, widthBy, basedIn, cellIn, unpacked, meaningsFrom, meaningsOf, registerIn, longIn, packedAt}
 
 pub low-low : (v : ℕ) → low (low v) ≡ low v
 unfolding low
@@ -38,9 +38,9 @@ module _ (sort w v : ℕ) (few : sort < SORTS) (bits : w < WIDTHS) where
   unfolding packed low
   packed-sort = omega arith
 
-  packed-size : sizeIn (packed sort w v) ≡ w
-  unfolding sizeIn packed low
-  packed-size = omega arith
+  packed-width : widthNumberIn (packed sort w v) ≡ w
+  unfolding widthNumberIn packed low
+  packed-width = omega arith
 
   packed-register-sort : isRegisterIn (packed sort w v) ≡ eqb sort REGISTER
   unfolding isRegisterIn
@@ -142,7 +142,7 @@ register-is t m b = by-sort (λ x. registerOf x ≡ registerIn m) t m b (λ e. r
 pub long-is : (t m : ℕ) (b : Based) → isLong (unpacked t m b) ≡ longIn m
 unfolding longIn
 long-is t m b =
-    by-sort (λ x. isLong x ≡ longIn m) t m b (λ e. rw e) (λ e f. rw (e, routine-alone m f .1)) (λ e f g. rw (e, g) (full-is (sizeIn m)))
+    by-sort (λ x. isLong x ≡ longIn m) t m b (λ e. rw e) (λ e f. rw (e, routine-alone m f .1)) (λ e f g. rw (e, g) (full-is (widthNumberIn m)))
     (λ e f g h. rw (e, g)) (λ e f g h. rw (e, g))
 
 pub packed-register : (t v : ℕ) (b : Based) → unpacked t (packed REGISTER 0 v) b ≡ register (low v)
@@ -207,4 +207,4 @@ pub packed-cell :
     → unpacked t (packed sort w v) b ≡ cell (record { name = t; base = b; width = widthBy w; elements = low v; array = eqb sort ARRAY })
 packed-cell t v sort w b (h, k) e =
     as-cell t (packed sort w v) b (packed-cell-sort sort w v h k ∙ e)
-    ∙ rw (packed-size sort w v h k, packed-number sort w v h k, packed-array-sort sort w v h k)
+    ∙ rw (packed-width sort w v h k, packed-number sort w v h k, packed-array-sort sort w v h k)

@@ -5,11 +5,11 @@ use mathlib.Core.List.{List, [], _∷_, map}
 use Prim.Native.Nat.{ℕ, zero, suc, _+_, _*_, _/_, _%_, _^_, _≤_, _<_, max}
 use native.Mathlib.Omega.{arith}
 use lib.Dec.{eqb, T}
-use lib.Bits.{bitOr, or-step, or-lt}
-use lib.Pow.{shr-shr, shl-exact, pow-lt}
-use lib.ListN.{getD, set, length, List·getD-eq-default}
+use lib.Bits.{bitOr, or-step}
+use lib.Pow.{shr-shr, shl-exact}
+use lib.ListN.{getD, set, List·getD-eq-default}
 use borrow.Author.Tests.{ne-eqb}
-use Rattle.base.specs.Choose.{choose, if_then_else_}
+use Rattle.base.specs.Choose.{if_then_else_}
 use Rattle.base.specs.Lists.{All}
 use Rattle.base.specs.Tables.{allBelow}
 use Rattle.base.proofs.Tables.{all-below}
@@ -108,9 +108,6 @@ unfolding setOf flags hasBit
 set-none = refl
 
 -- ── code ──
-
-pub more-small : (x m : ℕ) → x < 16 → m < 4294967296 → bitOr m (2 ^ x) < 4294967296
-more-small x m h k = or-lt 32 m (2 ^ x) k (pow-lt {i = x} {j = 32} (omega arith))
 
 pub shifted : (x : ℕ) → x < 16 → (1 * 2 ^ x) % 2 ^ 64 ≡ 2 ^ x
 shifted x h = shl-exact 1 x 64 (omega arith) (omega arith) ∙ omega arith

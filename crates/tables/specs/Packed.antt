@@ -64,24 +64,24 @@ isCellIn m = eqb (sortIn m) CELL || eqb (sortIn m) ARRAY
 unfoldable pub isFunctionIn : ℕ → Bool
 isFunctionIn m = eqb (sortIn m) FUNCTION
 
-unfoldable pub sizeIn : ℕ → ℕ
-sizeIn m = m / SORTS % WIDTHS
+unfoldable pub widthNumberIn : ℕ → ℕ
+widthNumberIn m = m / SORTS % WIDTHS
 
 abbrev pub isFullIn : ℕ → Bool
-isFullIn m = eqb (sizeIn m) 0
+isFullIn m = eqb (widthNumberIn m) 0
 
 abbrev pub isShortIn : ℕ → Bool
-isShortIn m = eqb (sizeIn m) 1
+isShortIn m = eqb (widthNumberIn m) 1
 
 abbrev pub isByteIn : ℕ → Bool
-isByteIn m = leb 2 (sizeIn m)
+isByteIn m = leb 2 (widthNumberIn m)
 
 -- the width by its number
 abbrev pub widthBy : ℕ → Width
 widthBy w = if eqb w 0 then full else if eqb w 1 then short else byte (eqb w 3)
 
 abbrev pub widthIn : ℕ → Width
-widthIn m = widthBy (sizeIn m)
+widthIn m = widthBy (widthNumberIn m)
 
 -- a base in force: its register, and below it its segment
 unfoldable pub basedIn : ℕ → Based

@@ -10,7 +10,7 @@ use lib.ListN.{length, getD}
 use borrow.Author.Tests.{eqb-true}
 use Rattle.base.specs.Choose.{if_then_else_}
 use Rattle.base.specs.Lists.{All, member}
-use Rattle.base.proofs.Lists.{all-both, all-getD}
+use Rattle.base.proofs.Lists.{all-both}
 use Rattle.base.proofs.Tests.{both}
 use Rattle.token.specs.Kinds as K
 use Rattle.grammar.specs.Tree as T
@@ -20,8 +20,8 @@ use Rattle.grammar.specs.Places.{Place, Along}
 use Rattle.scopes.specs.Broken.{_⊕_, rule}
 use Rattle.scopes.proofs.Joins.{quiet-left, quiet-right, rule-holds}
 use Rattle.static_rules.specs.Functions as F
-use Rattle.static_rules.specs.Functions.{Argument, writtenRegister, readRegister, byteNumber, indexedCell, plainCell, surplus, Form, Function, functionTable, noFunction, functionAt, arity, argumentAt}
-use Rattle.static_rules.specs.Meaning.{Meaning, nothing, register, cell, routine, function, Cell, elementSize, registerOf, argumentOf, longOperand}
+use Rattle.static_rules.specs.Functions.{Argument, writtenRegister, readRegister, byteNumber, indexedCell, plainCell, surplus, Form, Function, functionTable, arity, argumentAt}
+use Rattle.static_rules.specs.Meaning.{Meaning, nothing, register, cell, routine, function, Cell, elementSize, registerOf, functionOf, longOperand}
 use Rattle.static_rules.specs.Tables.{Tables, kindAt, valueAt, meaningAt}
 use Rattle.static_rules.specs.Rules as R
 use Rattle.static_rules.specs.Rules.{shifts, fullOnly, inside}
@@ -29,9 +29,10 @@ use Rattle.static_rules.specs.Kinds.{keptIn}
 use Rattle.static_rules.proofs.Elements.{inside-is, in-range}
 use Rattle.static_rules.proofs.Small.{Small, register-small, meaning-small}
 use Rattle.static_rules.proofs.Unbroken.{Unbroken}
+use Rattle.static_rules.proofs.Uses.{by-meaning}
 use Rattle.static_rules.proofs.Bases.{base-segment}
 use Rattle.translation.specs.Instructions.{Datum, Instruction, rowOf, loadRow, compareRow, timesRow, storeRow, column, shiftCode}
-use Rattle.translation.specs.Core.{Use, held, stored, absent, apply, signed, load, functionWith, functionOn, isToken, exitMask, returnOf, subscriptOf, indexOf, useBy, useOf, shiftBy, productTarget, termOf, chainOf, toRegister, sourceOf, numberOf, assignBy, assignmentOf, compareWith, testOf, maskOf, controlOf, functionCode, useCode, coreStatement, coreBody, coreItems}
+use Rattle.translation.specs.Core.{Use, held, stored, absent, apply, signed, load, functionWith, functionOn, isToken, exitMask, returnOf, subscriptOf, indexOf, useBy, useOf, shiftBy, productTarget, termOf, chainOf, toRegister, sourceOf, numberOf, assignBy, assignmentOf, compareWith, testOf, maskOf, controlOf, functionCode, coreStatement, coreBody, coreItems}
 use Rattle.translation.specs.Layout.{Layout, segmentLimit, offsetOf}
 use Rattle.translation.proofs.Ready.{Ready, ReadyDatum, ReadyCore, opcode-small, shift-small, mask-small}
 
@@ -255,9 +256,8 @@ module _ (f : Tables) (l : Layout) (n : ℕ) (small : All Small (f .means))
   abbrev Sound : Function → Type 0
   Sound g = (g .op < 256) × (g .number < 256) × All Taken (g .takes)
 
-  sound-at : (k : ℕ) → Sound (functionAt k)
-  unfolding functionAt
-  sound-at k = all-getD Sound functionTable k noFunction rows (omega arith, omega arith, tt)
+  all-sound : (m : Meaning) → Sound (functionOf m)
+  all-sound m = by-meaning Sound rows (omega arith, omega arith, tt) m
     where
       rows : All Sound functionTable
       rows = (
@@ -295,33 +295,23 @@ module _ (f : Tables) (l : Layout) (n : ℕ) (small : All Small (f .means))
   if-ready false is h = tt
 
   -- the arguments of a use from position q on, each with the registers that are protected there
-  abbrev Arguments : Meaning → ℕ → List Operand → Type 0
-  Arguments m q [] = Unit {0}
-  Arguments m q (a ∷ xs) = ((kept : List ℕ) × (R.argumentRules f kept (argumentOf m q) a .number ≡ 0)) × Arguments m (q + 1) xs
+  abbrev Arguments : Function → ℕ → List Operand → Type 0
+  Arguments g q [] = Unit {0}
+  Arguments g q (a ∷ xs) = ((kept : List ℕ) × (R.argumentRules f kept (argumentAt g q) a .number ≡ 0)) × Arguments g (q + 1) xs
 
-  function-ready : (k : ℕ) (a : Operand) (xs : List Operand) → Arguments (function k) 0 (a ∷ xs) → AllReady (functionCode f (functionAt k) a xs)
+  function-ready : (g : Function) → Sound g → (a : Operand) (xs : List Operand) → Arguments g 0 (a ∷ xs) → AllReady (functionCode f g a xs)
   unfolding functionCode
-  function-ready k a [] ((kept, q), u) =
-      let g = functionAt k in
+  function-ready g s a [] ((kept, q), u) =
       if-ready (eqb 1 (arity g)) (functionOn g 0 (g .number) (useOf f a))
       (λ e. let h = eqb-true 1 (arity g) e in
-      on-ready g 0 (g .number) (useOf f a) (sound-at k) (omega arith) (sound-at k .1)
-      (argument-ready kept (argumentAt g 0) a (taken-at (g .takes) 0 (omega arith) (sound-at k .2)) q .0))
-  function-ready k a (b ∷ []) ((kept, q), ((kept′, q′), u)) =
-      let g = functionAt k in
+      on-ready g 0 (g .number) (useOf f a) s (omega arith) (s .1) (argument-ready kept (argumentAt g 0) a (taken-at (g .takes) 0 (omega arith) (s .2)) q .0))
+  function-ready g s a (b ∷ []) ((kept, q), ((kept′, q′), u)) =
       if-ready (eqb 2 (arity g) && isToken a) (functionOn g (sourceOf f a) (numberOf f a) (useOf f b))
       (λ e. let h = eqb-true 2 (arity g) (both (eqb 2 (arity g)) (isToken a) e .0) in
-      on-ready g (sourceOf f a) (numberOf f a) (useOf f b) (sound-at k) (source-ready a)
-      (argument-ready kept (argumentAt g 0) a (taken-at (g .takes) 0 (omega arith) (sound-at k .2)) q .1)
-      (argument-ready kept′ (argumentAt g 1) b (taken-at (g .takes) 1 (omega arith) (sound-at k .2)) q′ .0))
-  function-ready k a (b ∷ c ∷ xs) q = tt
-
-  use-code-ready : (m : Meaning) (a : Operand) (xs : List Operand) → Arguments m 0 (a ∷ xs) → AllReady (useCode f m a xs)
-  use-code-ready nothing a xs q = tt
-  use-code-ready (register r) a xs q = tt
-  use-code-ready (cell c) a xs q = tt
-  use-code-ready (routine r) a xs q = tt
-  use-code-ready (function k) a xs q = function-ready k a xs q
+      on-ready g (sourceOf f a) (numberOf f a) (useOf f b) s (source-ready a)
+      (argument-ready kept (argumentAt g 0) a (taken-at (g .takes) 0 (omega arith) (s .2)) q .1)
+      (argument-ready kept′ (argumentAt g 1) b (taken-at (g .takes) 1 (omega arith) (s .2)) q′ .0))
+  function-ready g s a (b ∷ c ∷ xs) q = tt
 
   -- ── the whole text ──
 
@@ -365,7 +355,7 @@ module _ (f : Tables) (l : Layout) (n : ℕ) (small : All Small (f .means))
       let (t, s) = terms-quiet (a .target) (a .rest) k p r in
       (q, t, s)
 
-  arguments-quiet : (m q : ℕ) (xs : List Operand) (k : List Event) (p : Place) → Quiet (eventsArguments m q xs k) p → Arguments (meaningAt f m) q xs × Quiet k p
+  arguments-quiet : (m q : ℕ) (xs : List Operand) (k : List Event) (p : Place) → Quiet (eventsArguments m q xs k) p → Arguments (functionOf (meaningAt f m)) q xs × Quiet k p
   unfolding eventsArguments Along
   arguments-quiet m q [] k p (h, hs) = (tt, hs)
   arguments-quiet m q (a ∷ xs) k p (h, hs) = let (r, s) = arguments-quiet m (q + 1) xs k p hs in (((keptIn f p, h), r), s)
@@ -378,7 +368,7 @@ module _ (f : Tables) (l : Layout) (n : ℕ) (small : All Small (f .means))
         let (q, r, s) = chain-quiet a k p hs in
         (assign-ready (meaningAt f (a .target .name)) a (small-at (a .target .name)) (quiet-left (R.placeRules f (a .target)) _ h) q r, (p, s))
     core-made (T.call m) k p (h, hs) = (return-ready (meaningAt f m) (small-at m), (p, hs))
-    core-made (T.apply m a xs) k p (h, hs) = let (r, s) = arguments-quiet m 0 (a ∷ xs) k p hs in (use-code-ready (meaningAt f m) a xs r, (p, s))
+    core-made (T.apply m a xs) k p (h, hs) = let (r, s) = arguments-quiet m 0 (a ∷ xs) k p hs in (function-ready (functionOf (meaningAt f m)) (all-sound (meaningAt f m)) a xs r, (p, s))
     core-made (T.block t x) k p (h, hs) = let (r, (o, (g, gs))) = core-made-body x (edge (closed t) ∷ k) _ hs in (r, (_, gs))
     core-made (T.goto t m) k p (h, hs) = (tt, (p, hs))
     core-made T.null k p h = (tt, (p, h))

@@ -11,8 +11,8 @@ use Rattle.token.specs.Kinds as K
 use Rattle.grammar.specs.Tree as T
 use Rattle.grammar.specs.Tree.{Designator, Operand, number, place, Sign, plain, abs, neg, negAbs, Term, Assignment, Condition, compared, bare, Width, full, Statement, Body, Items}
 use Rattle.static_rules.specs.Functions as F
-use Rattle.static_rules.specs.Functions.{Form, Function, functionAt, arity}
-use Rattle.static_rules.specs.Meaning.{Meaning, nothing, register, cell, routine, function, byTarget, registerOf, longOperand}
+use Rattle.static_rules.specs.Functions.{Form, Function, arity}
+use Rattle.static_rules.specs.Meaning.{Meaning, nothing, register, cell, routine, function, byTarget, registerOf, functionOf, longOperand}
 use Rattle.static_rules.specs.Tables.{Tables, kindAt, valueAt, meaningAt}
 use Rattle.static_rules.specs.Rules.{negative, bareName, shifts}
 use Rattle.translation.specs.Instructions.{Datum, element, literal, Instruction, rr, rx, address, immediate, shift, opcode, rowOf, loadRow, compareRow, timesRow, storeRow, column, absOp, negOp, negAbsOp, shiftCode, falseMask}
@@ -172,20 +172,13 @@ module _ (f : Tables) where
   functionCode g a (b ∷ []) = if eqb 2 (arity g) && isToken a then functionOn g (sourceOf a) (numberOf a) (useOf b) else []
   functionCode g a (b ∷ c ∷ more) = []
 
-  abbrev pub useCode : Meaning → Operand → List Operand → List Instruction
-  useCode nothing a more = []
-  useCode (register r) a more = []
-  useCode (cell c) a more = []
-  useCode (routine r) a more = []
-  useCode (function k) a more = functionCode (functionAt k) a more
-
   -- ── the whole text ──
 
   unfoldable mutual
     pub coreStatement : Statement → Core
     coreStatement (T.assign a) = run (assignmentOf a)
     coreStatement (T.call n) = call (getD (f .found) n 0) (returnOf (meaningAt f n))
-    coreStatement (T.apply n a more) = run (useCode (meaningAt f n) a more)
+    coreStatement (T.apply n a more) = run (functionCode (functionOf (meaningAt f n)) a more)
     coreStatement (T.block t x) = coreBody x
     coreStatement (T.goto t n) = jump (getD (f .goes) n 0)
     coreStatement T.null = skip

@@ -87,8 +87,8 @@ returns-6 c =
 meaning-requires : tie.Need-meaning-requires
 meaning-requires c κs = search needs
 
-function-requires : tie.Need-function-requires
-function-requires c κs = search needs
+meant-requires : tie.Need-meant-requires
+meant-requires c κs = search needs
 
 used-requires : tie.Need-used-requires
 used-requires c κs = search needs
@@ -105,7 +105,7 @@ returns-7 c =
       ne-eqb _ _ (c .before .before .before .before .if6 .left),
       eq-eqb _ _ (c .before .before .before .if7 .taken),
       ← (c .before .before .meaning .ensures),
-      ← (c .before .function .ensures),
+      ← (c .before .meant .ensures),
     )
     (c .used .ensures)
 
@@ -129,4 +129,4 @@ returns-8 c =
 pub codes-of-spec : {M : Type 1} → statement M
 codes-of-spec = tie.close
     (tie.spec first-requires returns less-requires kind-requires next-requires returns-2 compared-requires returns-3 limit-requires returns-4 bare-requires
-    returns-5 step-requires returns-6 meaning-requires function-requires used-requires returns-7 others-requires returns-8)
+    returns-5 step-requires returns-6 meaning-requires meant-requires used-requires returns-7 others-requires returns-8)

@@ -1,4 +1,7 @@
 -- A compare, and the branch on false. Assumes nothing.
+use mathlib.Core.Path.{refl}
+use native.Mathlib.Omega.{arith}
+use Rattle.translation.specs.Instructions.{compareRow}
 use borrow.Author.Needs.{needs}
 use Rattle.emit.specs.Events.{comparedCodes}
 use Rattle.emit.proofs.compared.Statement.{statement}
@@ -36,7 +39,7 @@ returns c =
       ← (c .before .before .mark .ensures .0),
       ← (c .before .branch .ensures),
     )
-    (c .apply-then .ensures)
+    (c .apply-then .ensures compareRow (omega arith, refl))
 
 pub compared-spec : {M : Type 1} → statement M
 compared-spec = tie.close (tie.spec less-requires kind-requires false-mask-requires less-requires-2 mark-requires branch-requires apply-then-requires returns)

@@ -11,15 +11,15 @@ offset-requires c κs = search needs
 add-displacement : tie.Need-add-displacement
 add-displacement c = search needs
 
-size-requires : tie.Need-size-requires
-size-requires c κs = search needs
+width-requires : tie.Need-width-requires
+width-requires c κs = search needs
 
 under-requires : tie.Need-under-requires
 under-requires c κs = search needs
 
 returns : tie.Need-returns
 unfolding elementIn low
-returns c = rw (c .before .before .offset .ensures, c .before .size .ensures .0, c .under .ensures)
+returns c = rw (c .before .before .offset .ensures, c .before .width .ensures .0, c .under .ensures)
 
 pub element-spec : {M : Type 1} → statement M
-element-spec = tie.close (tie.spec offset-requires add-displacement size-requires under-requires returns)
+element-spec = tie.close (tie.spec offset-requires add-displacement width-requires under-requires returns)

@@ -1,4 +1,7 @@
 -- By the cases of the target. Assumes nothing.
+use mathlib.Core.Path.{refl}
+use native.Mathlib.Omega.{arith}
+use Rattle.translation.specs.Instructions.{storeRow}
 use borrow.Author.Needs.{needs}
 use Rattle.emit.specs.Codes.{firstCodes}
 use Rattle.emit.proofs.first.Statement.{statement}
@@ -39,7 +42,7 @@ returns-3 c = rw (c .enum-told2 .given .1)
 
 returns-4 : tie.Need-returns-4
 unfolding firstCodes
-returns-4 c = rw (c .before .before .before .aim2 .given .1, ← (c .before .held .ensures)) (c .applied .ensures)
+returns-4 c = rw (c .before .before .before .aim2 .given .1, ← (c .before .held .ensures)) (c .applied .ensures storeRow (omega arith, refl))
 
 pub first-spec : {M : Type 1} → statement M
 first-spec =

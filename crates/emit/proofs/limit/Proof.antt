@@ -1,4 +1,7 @@
 -- A compare, and the exit branch. Assumes nothing.
+use mathlib.Core.Path.{refl}
+use native.Mathlib.Omega.{arith}
+use Rattle.translation.specs.Instructions.{compareRow}
 use borrow.Author.Needs.{needs}
 use Rattle.emit.specs.Events.{limitCodes}
 use Rattle.emit.proofs.limit.Statement.{statement}
@@ -40,7 +43,7 @@ returns c =
       ← (c .before .before .mark .ensures .0),
       ← (c .before .branch .ensures),
     )
-    (c .apply-then .ensures)
+    (c .apply-then .ensures compareRow (omega arith, refl))
 
 pub limit-spec : {M : Type 1} → statement M
 limit-spec =

@@ -1,4 +1,7 @@
 -- With and without a sign. Assumes nothing.
+use mathlib.Core.Path.{refl}
+use native.Mathlib.Omega.{arith}
+use Rattle.translation.specs.Instructions.{loadRow}
 use borrow.Author.Needs.{needs}
 use borrow.Author.Tests.{eq-eqb, ne-eqb}
 use Rattle.emit.specs.Codes.{loadCodes}
@@ -10,7 +13,7 @@ applied-requires c κs = search needs
 
 returns : tie.Need-returns
 unfolding loadCodes
-returns c = rw (eq-eqb _ _ (c .before .if1 .taken)) (c .applied .ensures)
+returns c = rw (eq-eqb _ _ (c .before .if1 .taken)) (c .applied .ensures loadRow (omega arith, refl))
 
 sign-code-requires : tie.Need-sign-code-requires
 sign-code-requires c κs = search needs

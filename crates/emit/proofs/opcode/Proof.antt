@@ -1,24 +1,20 @@
--- The table is the definition's, a row after the other. Assumes nothing.
-use mathlib.Core.Path.{_∙_}
-use borrow.Author.Needs.{needs}
-use Rattle.emit.proofs.Tables.{opcode-is}
+-- By the column. Assumes nothing.
+use native.Mathlib.Omega.{arith}
+use borrow.Author.Tests.{ne-eqb}
 use Rattle.emit.proofs.opcode.Statement.{statement}
 use Rattle.emit.proofs.opcode.Tie as tie
 
-mul-wide : tie.Need-mul-wide
-mul-wide c = search needs
-
-add-wide : tie.Need-add-wide
-add-wide c = search needs
-
-array-read-wide : tie.Need-array-read-wide
-array-read-wide c = search needs
-
-wide-requires : tie.Need-wide-requires
-wide-requires c κs = search needs
-
 returns : tie.Need-returns
-returns c = (c .wide .ensures .0 ∙ opcode-is (c .before .args .row) (c .before .args .column) (c .before .pre .0) (c .before .pre .1), c .wide .ensures .1)
+returns c = (rw (c .match .keys1), omega arith)
+
+returns-2 : tie.Need-returns-2
+returns-2 c = (rw (c .match .keys2), omega arith)
+
+returns-3 : tie.Need-returns-3
+returns-3 c = (rw (c .match .keys3), omega arith)
+
+returns-4 : tie.Need-returns-4
+returns-4 c = let q = c .match .rest in (rw (ne-eqb _ 0 (q .0 .0 .1), ne-eqb _ 1 (q .0 .1), ne-eqb _ 2 (q .1)), omega arith)
 
 pub opcode-spec : {M : Type 1} → statement M
-opcode-spec = tie.close (tie.spec mul-wide add-wide array-read-wide wide-requires returns)
+opcode-spec = tie.close (tie.spec returns returns-2 returns-3 returns-4)

@@ -1,4 +1,7 @@
 -- By the cases of the operand. Assumes nothing.
+use mathlib.Core.Path.{refl}
+use native.Mathlib.Omega.{arith}
+use Rattle.translation.specs.Instructions.{loadRow}
 use borrow.Author.Needs.{needs}
 use Rattle.emit.specs.Codes.{signedCodes}
 use Rattle.emit.proofs.signed.Statement.{statement}
@@ -32,11 +35,11 @@ returns-2 c = rw (c .before .u .given .1)
 
 returns-3 : tie.Need-returns-3
 unfolding signedCodes
-returns-3 c = rw (c .before .before .u2 .given .1) (c .apply-then .ensures)
+returns-3 c = rw (c .before .before .u2 .given .1) (c .apply-then .ensures loadRow (omega arith, refl))
 
 returns-4 : tie.Need-returns-4
 unfolding signedCodes
-returns-4 c = rw (c .before .before .u3 .given .1) (c .apply-then2 .ensures)
+returns-4 c = rw (c .before .before .u3 .given .1) (c .apply-then2 .ensures loadRow (omega arith, refl))
 
 pub signed-spec : {M : Type 1} → statement M
 signed-spec =

@@ -1,4 +1,7 @@
 -- The step is added, then the compare comes again. Assumes nothing.
+use mathlib.Core.Path.{refl}
+use native.Mathlib.Omega.{arith}
+use Rattle.translation.specs.Instructions.{addRow}
 use borrow.Author.Needs.{needs}
 use Rattle.emit.specs.Events.{stepCodes}
 use Rattle.emit.proofs.step.Statement.{statement}
@@ -31,7 +34,7 @@ returns c =
       ← (c .before .before .mark2 .ensures .0),
       ← (c .before .branch .ensures),
     )
-    (c .apply-then .ensures)
+    (c .apply-then .ensures addRow (omega arith, refl))
 
 pub step-spec : {M : Type 1} → statement M
 step-spec =

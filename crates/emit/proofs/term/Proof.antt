@@ -1,4 +1,7 @@
 -- By the operator's kind. Assumes nothing.
+use mathlib.Core.Path.{refl}
+use native.Mathlib.Omega.{arith}
+use Rattle.translation.specs.Instructions.{timesRow}
 use borrow.Author.Needs.{needs}
 use borrow.Author.Tests.{eq-eqb, ne-eqb}
 use Rattle.base.proofs.Tests.{told}
@@ -42,7 +45,7 @@ returns-2 c =
       eq-eqb _ _ (c .before .before .if2 .taken),
       ← (c .before .product-register .ensures),
     )
-    (c .applied .ensures)
+    (c .applied .ensures timesRow (omega arith, refl))
 
 row-of-requires : tie.Need-row-of-requires
 row-of-requires c κs = search needs
@@ -56,9 +59,8 @@ returns-3 c =
     rw (
       told (c .before .before .before .before .is-shift .ensures) (c .before .before .before .if1 .left),
       ne-eqb _ _ (c .before .before .if2 .left),
-      ← (c .before .row-of .ensures .0),
     )
-    (c .applied2 .ensures)
+    (c .applied2 .ensures _ (c .before .row-of .ensures))
 
 pub term-spec : {M : Type 1} → statement M
 term-spec =

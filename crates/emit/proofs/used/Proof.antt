@@ -8,6 +8,9 @@ use Rattle.emit.proofs.used.Tie as tie
 op-requires : tie.Need-op-requires
 op-requires c κs = search needs
 
+cast-if1 : tie.Need-cast-if1
+cast-if1 c = search needs
+
 arity-requires : tie.Need-arity-requires
 arity-requires c κs = search needs
 
@@ -48,4 +51,4 @@ returns-3 c =
     (c .second .ensures)
 
 pub used-spec : {M : Type 1} → statement M
-used-spec = tie.close (tie.spec op-requires arity-requires returns number-requires function-codes-requires returns-2 second-requires returns-3)
+used-spec = tie.close (tie.spec op-requires cast-if1 arity-requires returns number-requires function-codes-requires returns-2 second-requires returns-3)

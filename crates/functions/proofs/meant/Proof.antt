@@ -3,9 +3,9 @@ use mathlib.Core.Path.{ap}
 use borrow.Author.Needs.{needs}
 use Rattle.base.proofs.Tests.{told}
 use Rattle.static_rules.specs.Functions.{functionAt}
-use Rattle.emit.specs.Events.{functionIn}
-use Rattle.emit.proofs.function.Statement.{statement}
-use Rattle.emit.proofs.function.Tie as tie
+use Rattle.functions.specs.Arguments.{functionIn}
+use Rattle.functions.proofs.meant.Statement.{statement}
+use Rattle.functions.proofs.meant.Tie as tie
 
 is-function-requires : tie.Need-is-function-requires
 is-function-requires c κs = search needs
@@ -21,5 +21,5 @@ returns-2 : tie.Need-returns-2
 unfolding functionIn functionAt
 returns-2 c = rw (told (c .before .is-function .ensures) (c .if1 .left))
 
-pub function-spec : {M : Type 1} → statement M
-function-spec = tie.close (tie.spec is-function-requires number-requires returns returns-2)
+pub meant-spec : {M : Type 1} → statement M
+meant-spec = tie.close (tie.spec is-function-requires number-requires returns returns-2)
