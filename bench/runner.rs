@@ -36,7 +36,7 @@ fn time(rounds: usize, budget: u32) {
         let text = case_text(name, budget);
         let (mut ours, mut theirs) = (vec![0; STORAGE_NEEDED], vec![0; STORAGE_NEEDED]);
         let filled = |line: String| {
-            assert_eq!(line.split(' ').nth(5), Some(budget.to_string().as_str()), "the loop has to fill its budget");
+            assert_eq!(line.split(' ').nth(7), Some(budget.to_string().as_str()), "the loop has to fill its budget");
             line
         };
         let medians =

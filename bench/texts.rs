@@ -11,6 +11,7 @@ use proved_texts::{proved_grammar, reference_tokens, tautgaff_read_tokens, verdi
 use reference::gen;
 use reference::grammar;
 use reference::random::Random;
+use reference::spot::Spot;
 
 const ORDINARY: [usize; 3] = [1_000, 8_000, 32_000];
 const GROWING: [usize; 3] = [8_192, 16_384, 32_768];
@@ -56,13 +57,13 @@ pub extern "C" fn main(_count: i32, _words: *const *const u8) -> i32 {
         |text: &[u8]| in_turn(rounds, bytes / text.len() + 1, || proved_grammar(text), || reference_grammar(text));
     for length in ORDINARY {
         let text = gen::sized_text(&mut Random::new(7, length as u64), length);
-        assert_eq!(proved_grammar(&text), (0, 0));
+        assert_eq!(proved_grammar(&text), (0, Spot::NONE));
         println!("ordinary text of {} bytes, tokens: {}", text.len(), tokens(&text).speeds(text.len(), "MB"));
         println!("ordinary text of {} bytes, tokens and grammar: {}", text.len(), grammar(&text).speeds(text.len(), "MB"));
     }
     for length in GROWING {
         for (name, text) in growing(length) {
-            assert_eq!(proved_grammar(&text), (0, 0));
+            assert_eq!(proved_grammar(&text), (0, Spot::NONE));
             let medians = grammar(&text);
             let byte = |seconds: f64| seconds / text.len() as f64 * 1e9;
             println!(

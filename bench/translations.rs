@@ -42,7 +42,7 @@ fn with_length(length: usize) -> String {
 fn reference_translation(text: &[u8], buffer: &mut [u8]) -> Told {
     let answer = translate(text, Some(buffer.len()));
     buffer[..answer.object.len()].copy_from_slice(&answer.object);
-    (answer.number as u64, answer.place, answer.object.len())
+    Told::from(&answer)
 }
 
 /// Without a runtime of Rust's around it, which the emulator does not carry.
@@ -58,7 +58,7 @@ pub extern "C" fn main(_count: i32, _words: *const *const u8) -> i32 {
             || proved_translation(text, &mut ours),
             || reference_translation(text, &mut theirs),
         );
-        assert_eq!(proved_translation(text, &mut ours).0, 0, "an accepted text");
+        assert_eq!(proved_translation(text, &mut ours).number, 0, "an accepted text");
         assert_eq!(ours, theirs);
         medians
     };

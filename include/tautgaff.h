@@ -58,17 +58,29 @@ enum {
 #define TAUTGAFF_STACK_LONG (2400 * 1024)
 #define TAUTGAFF_STACK_RUN (16 * 1024)
 
+/* Where a source is refused, and how long its object text is. */
+struct tautgaff_answer {
+    size_t place;  /* the offset in the source of the first byte of what is refused */
+    size_t line;   /* its line, from 1: one more than the bytes 10 before it */
+    size_t column; /* its column, from 1: one more than the bytes since the last of them, or since the source's first byte */
+    size_t length; /* how many bytes the object text has */
+};
+
 /* Translates a source into the buffer, and answers 0 or a refusal from 1 to 16.
  *
  * source   any bytes, any length; read only, and of more than 32,768 bytes not at all.
- * buffer   0: its first *length bytes are the object text, and every later byte is as it was. Otherwise: every byte is as it was.
- * *place   0: 0. Otherwise: the offset in the source of the first byte of what is refused; for 14 and 15, 0; for 16, the length that is needed.
- * *length  0: how many bytes the object text has, at least 1 and at most buffer_length. Otherwise: 0.
- * What stood in *place and *length before is not read. */
-uint64_t tautgaff_translate(const uint8_t *source, size_t source_length, uint8_t *buffer, size_t buffer_length, size_t *place, size_t *length);
+ * buffer   0: its first answer->length bytes are the object text, and every later byte is as it was. Otherwise: every byte is as it was.
+ * *answer  all four are written; what stood there before is not read.
+ *          0: length is at least 1 and at most buffer_length; place, line and column are 0.
+ *          2 to 13: place, line and column of what is refused, which may be the source's end; length is 0.
+ *          1, 14, 15, 16: place is 32768, 0, 0 and the length that is needed; line, column and length are 0. */
+uint64_t tautgaff_translate(const uint8_t *source, size_t source_length, uint8_t *buffer, size_t buffer_length, struct tautgaff_answer *answer);
 
 /* How a run ended. */
 struct tautgaff_results {
+    uint64_t place;   /* place, line and column are 0: what the runner refuses stands at no place of a text */
+    uint64_t line;
+    uint64_t column;
     uint64_t stop;    /* TAUTGAFF_BUDGET_USED to TAUTGAFF_NO_INSTRUCTION */
     uint64_t counter; /* the address of the next instruction, or of the one that stopped */
     uint64_t code;    /* the condition code, 0 to 3 */
@@ -82,7 +94,7 @@ struct tautgaff_results {
  * registers  16 of them, 0 to 15. 0: as the run left them (14 is 8192 and 15 is 4096 when it begins). Otherwise: as they were.
  * storage    under 20,480 bytes is refusal 19. 0: the first 20,480 bytes are the loaded program and data as the run left them, whatever stood there, and
  *            every later byte is as it was. Otherwise: every byte is as it was. Segment k begins at 4096 * (k + 1), cells are big-endian.
- * *results   all four are written. Otherwise than 0: stop, counter and count are 0, and code is as given. What stood there before is not read.
+ * *results   all seven are written. Otherwise than 0: stop, counter and count are 0, and code is as given. What stood there before is not read.
  *
  * The time is in proportion to the budget at most: a run cannot be broken off but by it. */
 uint64_t tautgaff_run(const uint8_t *object, size_t object_length, uint64_t code, uint32_t budget, uint32_t registers[16], uint8_t *storage,

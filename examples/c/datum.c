@@ -22,10 +22,10 @@ int main(int argc, char **argv) {
     size_t source_length = fread(source, 1, sizeof source, file);
     fclose(file);
 
-    size_t place, length;
-    uint64_t refusal = tautgaff_translate(source, source_length, object, sizeof object, &place, &length);
+    struct tautgaff_answer answer;
+    uint64_t refusal = tautgaff_translate(source, source_length, object, sizeof object, &answer);
     if (refusal != TAUTGAFF_ACCEPTED) {
-        fprintf(stderr, "%s: refusal %" PRIu64 " at %zu\n", argv[1], refusal, place);
+        fprintf(stderr, "%s:%zu:%zu: refusal %" PRIu64 "\n", argv[1], answer.line, answer.column, refusal);
         return 1;
     }
 
@@ -34,7 +34,7 @@ int main(int argc, char **argv) {
     registers[3] = (uint32_t)atol(argv[3]);
     registers[5] = argc == 5 ? (uint32_t)atol(argv[4]) : 0;
     struct tautgaff_results end;
-    refusal = tautgaff_run(object, length, 0, BUDGET, registers, storage, sizeof storage, &end);
+    refusal = tautgaff_run(object, answer.length, 0, BUDGET, registers, storage, sizeof storage, &end);
     if (refusal != TAUTGAFF_ACCEPTED || end.stop != TAUTGAFF_AT_END) {
         fprintf(stderr, "%s: refusal %" PRIu64 ", stop %" PRIu64 " at %" PRIu64 "\n", argv[1], refusal, end.stop, end.counter);
         return 1;

@@ -141,7 +141,7 @@ fn report(answer: &RunAnswer) -> String {
             18 => "the condition code is over 3",
             _ => "storage is under 20,480 bytes",
         };
-        return format!("refusal {} at {}: {why}\n", answer.number, answer.place);
+        return format!("refusal {} at {}: {why}\n", answer.number, answer.spot);
     }
     let why = match answer.stop {
         0 => "budget used",

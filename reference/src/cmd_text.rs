@@ -3,15 +3,16 @@
 use crate::examples;
 use crate::gen;
 use crate::random::Random;
-use crate::translate::translate;
+use crate::spot::Spot;
+use crate::translate::{translate, Answer};
 use crate::vectors;
 use std::io::{self, Read, Write};
 use std::path::Path;
 use std::time::Instant;
 
 pub const USAGE: &str = "usage:
-  reference translate FILE   the object text, or `refused NUMBER at PLACE` and exit status 1
-  reference batch            cases from standard input, a line `number place length hash` for each
+  reference translate FILE   the object text, or `refused NUMBER at PLACE, line LINE column COLUMN` and exit status 1
+  reference batch            cases from standard input, a line `number place line column length hash` for each
   reference gen SEED COUNT   generated texts as cases for `batch`
   reference gen --histogram SEED COUNT   how these are answered
   reference sized LENGTH SEED   an accepted text of about that length
@@ -62,7 +63,7 @@ fn translate_file(file: &str) -> io::Result<i32> {
         io::stdout().write_all(&answer.object)?;
         return Ok(0);
     }
-    eprintln!("refused {} at {}", answer.number, answer.place);
+    eprintln!("refused {} at {}", answer.number, answer.spot);
     Ok(1)
 }
 
@@ -89,7 +90,7 @@ pub fn fnv1a(bytes: &[u8]) -> u64 {
     bytes.iter().fold(0xcbf2_9ce4_8422_2325, |hash, &byte| (hash ^ u64::from(byte)).wrapping_mul(0x100_0000_01b3))
 }
 
-/// "and writes a line `number place length hash` for each, the room unlimited"
+/// "and writes a line `number place line column length hash` for each, the room unlimited"
 fn batch() -> io::Result<i32> {
     let mut input = Vec::new();
     io::stdin().lock().read_to_end(&mut input)?;
@@ -104,9 +105,9 @@ fn batch() -> io::Result<i32> {
                 return Ok(2);
             }
         };
-        let answer = translate(text, None);
-        let (length, hash) = (answer.object.len(), fnv1a(&answer.object));
-        writeln!(output, "{} {} {length} {hash:016x}", answer.number, answer.place)?;
+        let Answer { number, spot, object } = translate(text, None);
+        let Spot { place, line, column } = spot;
+        writeln!(output, "{number} {place} {line} {column} {} {:016x}", object.len(), fnv1a(&object))?;
     }
     output.flush()?;
     Ok(0)
@@ -121,14 +122,18 @@ fn generate(seed: u64, count: u64) -> io::Result<i32> {
     Ok(0)
 }
 
-/// Numbers of answers, with the room unlimited; 16 is counted with rooms at, one below and far below the length needed.
+/// Numbers of answers, with the room unlimited, and how many of them are reported on a later line than the first, and there in a
+/// later column; 16 is counted with rooms at, one below and far below the length needed.
 fn histogram(seed: u64, count: u64) -> io::Result<i32> {
-    let mut answers = [0u64; 17];
+    let (mut answers, mut later_lines, mut later_columns) = ([0u64; 17], [0u64; 17], [0u64; 17]);
     let mut lengths = Vec::new();
     for number in 0..count {
         let text = gen::case(seed, number);
         let answer = translate(&text, None);
-        answers[answer.number as usize] += 1;
+        let class = answer.number as usize;
+        answers[class] += 1;
+        later_lines[class] += u64::from(answer.spot.line > 1);
+        later_columns[class] += u64::from(answer.spot.line > 1 && answer.spot.column > 1);
         lengths.push(text.len());
         if answer.number == 0 {
             let needed = answer.object.len();
@@ -137,7 +142,8 @@ fn histogram(seed: u64, count: u64) -> io::Result<i32> {
         }
     }
     for (number, times) in answers.iter().enumerate() {
-        println!("{number:2} {times:8} {:7.3} %", *times as f64 * 100.0 / count as f64);
+        let share = *times as f64 * 100.0 / count as f64;
+        println!("{number:2} {times:8} {share:7.3} % {:8} {:8}", later_lines[number], later_columns[number]);
     }
     lengths.sort_unstable();
     let (total, median) = (lengths.iter().sum::<usize>(), lengths[lengths.len() / 2]);

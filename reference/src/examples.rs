@@ -8,8 +8,9 @@ use crate::manual;
 use crate::refusals::{entries, page, Entry, Example};
 use crate::runcase::{answer_line, Case};
 use crate::runner::{RunAnswer, STORAGE_NEEDED};
+use crate::spot::Spot;
 use crate::token::{spelling, tokens, Spelling};
-use crate::translate::translate;
+use crate::translate::{translate, Answer};
 use crate::vectors::{self, UNLIMITED};
 use crate::violations::Violations;
 use std::collections::HashMap;
@@ -222,11 +223,11 @@ fn sources(dir: &Path) -> io::Result<Vec<(String, Vec<u8>)>> {
     Ok(sources)
 }
 
-/// `texts` made again: a line `FILE number place length` for each text.
+/// `texts` made again: a line `FILE number place line column length` for each text.
 pub fn texts(dir: &Path) -> io::Result<String> {
     let line = |(file, text): &(String, Vec<u8>)| {
-        let answer = translate(text, None);
-        format!("{file} {} {} {}\n", answer.number, answer.place, answer.object.len())
+        let Answer { number, spot: Spot { place, line, column }, object } = translate(text, None);
+        format!("{file} {number} {place} {line} {column} {}\n", object.len())
     };
     Ok(sources(dir)?.iter().map(line).collect())
 }

@@ -6,7 +6,7 @@ use crate::functions::{Takes, FUNCTIONS};
 use crate::grammar::Type;
 use crate::layout::next_multiple;
 use crate::random::Random;
-use crate::spell::{any_value, number, number_out_of_range, set_in_lines, text};
+use crate::spell::{any_value, ended_by_margin, number, number_out_of_range, set_in_lines, text};
 use crate::token::{RESERVED, SIGNS, TEXT_LIMIT};
 
 /// The text with this number under the seed.
@@ -19,7 +19,9 @@ fn any_text(random: &mut Random) -> Vec<u8> {
         return rows(random);
     }
     match random.below(1000) {
-        0..=349 => right_text(random),
+        0..=314 => right_text(random),
+        315..=339 => cut_short(random),
+        340..=349 => carriage_returns(random),
         350..=579 => careless_text(random),
         580..=719 => mutated_tokens(random),
         720..=779 => mutated_bytes(random),
@@ -211,6 +213,24 @@ pub fn mutated_bytes(random: &mut Random) -> Vec<u8> {
     text
 }
 
+/// A program that ends early, at times before its first token.
+fn cut_short(random: &mut Random) -> Vec<u8> {
+    let mut tokens = right_tokens(random);
+    let kept = if random.chance(1, 10) { 0 } else { random.below(tokens.len()) };
+    tokens.truncate(kept);
+    ended_by_margin(random, &tokens)
+}
+
+/// A text with byte 13 before its bytes 10, or before one of them.
+fn carriage_returns(random: &mut Random) -> Vec<u8> {
+    let mut text = right_text(random);
+    let newlines: Vec<usize> = (0..text.len()).filter(|&at| text[at] == b'\n').collect();
+    let one = random.pick(&newlines).copied();
+    let chosen = if random.chance(1, 2) { newlines } else { one.into_iter().collect() };
+    chosen.into_iter().rev().for_each(|at| text.insert(at, b'\r'));
+    text
+}
+
 /// A text of about 32,768 bytes, at the limit or one past it.
 fn source_length(random: &mut Random) -> Vec<u8> {
     let mut text = if random.chance(1, 2) { right_text(random) } else { mutated_tokens(random) };
@@ -225,8 +245,8 @@ fn source_length(random: &mut Random) -> Vec<u8> {
     if random.chance(1, 2) {
         text.extend(std::iter::repeat(filling).take(room));
     } else {
-        let blanks = std::iter::repeat(b' ').take(room);
-        text.splice(0..0, blanks);
+        let front = std::iter::repeat(*random.of(b" \n")).take(room);
+        text.splice(0..0, front);
     }
     text
 }
@@ -631,7 +651,10 @@ fn tiny(random: &mut Random) -> Vec<u8> {
             0 => text.push(random.next() as u8),
             1 => text.extend(random.of(&SIGNS).0.as_bytes()),
             2 => text.extend(random.of(&RESERVED).0.as_bytes()),
-            _ => text.extend(random.of(&["BEGIN ", "END ", "@", " ", "COMMENT", "COMMENT;", "\n", "R1"]).as_bytes()),
+            _ => {
+                let few = ["BEGIN ", "END ", "@", " ", "COMMENT", "COMMENT;", "COMMENT\n;", "\n", "\n ", "\r\n", "R1"];
+                text.extend(random.of(&few).as_bytes());
+            }
         }
     }
     text

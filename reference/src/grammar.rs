@@ -182,14 +182,14 @@ impl Reader<'_> {
 
     /// "no program begins with the tokens up to here"
     fn unexpected<T>(&self) -> Read<T> {
-        Err(Refusal { number: 4, place: self.tokens[self.at].place })
+        Err(Refusal { number: 4, spot: self.tokens[self.at].spot })
     }
 
     /// "BEGIN, IF, WHILE, FOR or PROCEDURE inside 64 such constructs"
     fn open(&mut self, kind: Kind) -> Read<TokenNo> {
         let opening = self.expect(kind)?;
         if self.inside == self.limit {
-            return Err(Refusal { number: 5, place: self.tokens[opening].place });
+            return Err(Refusal { number: 5, spot: self.tokens[opening].spot });
         }
         self.inside += 1;
         Ok(opening)

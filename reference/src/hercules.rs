@@ -11,6 +11,7 @@ use crate::objread;
 use crate::random::Random;
 use crate::runcase::{answer_line, Case, STORAGE_BEFORE};
 use crate::runner::{self, RunAnswer, STORAGE_NEEDED};
+use crate::spot::Spot;
 use std::io::{self, Write};
 use std::path::Path;
 
@@ -413,7 +414,7 @@ fn emulated(trial: &Trial, record: &[u8]) -> Result<(RunAnswer, Vec<u8>), String
     runner::load(&object, &mut storage);
     storage[origin(1) as usize..][..CELLS_1].copy_from_slice(&record[OUT_1..][..CELLS_1]);
     storage[origin(2) as usize..][..CELLS_2].copy_from_slice(&record[OUT_2..][..CELLS_2]);
-    Ok((RunAnswer { number: 0, place: 0, stop, counter, regs, cc, count }, storage))
+    Ok((RunAnswer { number: 0, spot: Spot::NONE, stop, counter, regs, cc, count }, storage))
 }
 
 /// Compares what `savecore` wrote with the machine here; writes the emulator's answers to the stored cases beside it.

@@ -12,7 +12,7 @@
 //! `watch` watches a run of an accepted text, by what `meant` reads in the text; `hunt` makes texts that aim at protection,
 //! `slips` has wrong translators, and `watching` runs and tries the watcher on many.
 //!
-//! `functions` has the standard functions of document 02, 1/13.
+//! Document 02: `functions` has the standard functions of 1/13, `spot` the lines and columns of 2/13.
 //!
 //! `examples` makes the results beside the examples, `refusals` the page on refusals, and `manual` reads the manual's texts.
 
@@ -36,6 +36,7 @@ pub mod hunt;
 pub mod kinds;
 pub mod labels;
 pub mod layout;
+pub mod line_points;
 pub mod machine;
 pub mod manual;
 pub mod meant;
@@ -52,6 +53,7 @@ pub mod runspeed;
 pub mod runvectors;
 pub mod slips;
 pub mod spell;
+pub mod spot;
 pub mod token;
 pub mod translate;
 pub mod vectors;

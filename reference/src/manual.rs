@@ -2,7 +2,7 @@
 //!
 //! In the second stand the program's instructions, a line of bytes with words behind them each; `segment K` with a segment's bytes;
 //! `object` with a line of the object text;
-//! `refusal N at PLACE`; or `run NAME=VALUE … : NAME=VALUE …`, what a run is given and what it ends with.
+//! `refusal N at PLACE, line LINE column COLUMN`; or `run NAME=VALUE … : NAME=VALUE …`, what a run is given and what it ends with.
 
 use crate::examples::{finished, pairs, Given};
 use crate::objread;
@@ -61,11 +61,11 @@ pub fn wrong(told: &Told) -> Vec<String> {
     for line in &told.gives {
         let words: Vec<&str> = line.split_ascii_whitespace().collect();
         match words.as_slice() {
-            ["refusal", number, "at", place] => {
+            ["refusal", ..] => {
                 refused = true;
-                let found = (answer.number.to_string(), answer.place.to_string());
-                if found != (number.to_string(), place.to_string()) {
-                    wrong.push(format!("{line}: it is {found:?}"));
+                let found = format!("refusal {} at {}", answer.number, answer.spot);
+                if found != *line {
+                    wrong.push(format!("{line}: it is {found}"));
                 }
             }
             ["segment", number, bytes @ ..] => {
@@ -87,7 +87,7 @@ pub fn wrong(told: &Told) -> Vec<String> {
         wrong.push("another object text".to_string());
     }
     if !refused && (answer.number != 0 || segments.first() != Some(&code)) {
-        wrong.push(format!("answer {} at {}, program {:?}", answer.number, answer.place, segments.first()));
+        wrong.push(format!("answer {} at {}, program {:?}", answer.number, answer.spot, segments.first()));
     }
     wrong
 }

@@ -1,15 +1,26 @@
 //! The points on which document 01 can be read in more than one way, decided in docs/DECISIONS.md: each with its letter
 //! and number, a text, the number and place that answer it, and the program's bytes where they tell the readings apart.
+//! Those of document 02 stand in `byte_points` and `line_points`.
 
 use crate::byte_points::BYTE_POINTS;
+use crate::line_points::LINE_POINTS;
 
 pub struct Point {
     pub name: &'static str,
     pub text: &'static [u8],
     pub number: u32,
     pub place: usize,
+    /// Where they are decided too.
+    pub line_and_column: Option<(usize, usize)>,
     /// Hexadecimal with blanks; empty where the bytes do not matter.
     pub code: &'static str,
+}
+
+impl Point {
+    /// The text with a newline for each blank, so that it has the same tokens at the same places.
+    pub fn in_lines(&self) -> Vec<u8> {
+        self.text.iter().map(|&byte| if byte == b' ' { b'\n' } else { byte }).collect()
+    }
 }
 
 pub(crate) const fn point(
@@ -19,12 +30,12 @@ pub(crate) const fn point(
     place: usize,
     code: &'static str,
 ) -> Point {
-    Point { name, text, number, place, code }
+    Point { name, text, number, place, line_and_column: None, code }
 }
 
 /// All that are decided of the language in force.
 pub fn points() -> impl Iterator<Item = &'static Point> {
-    POINTS.iter().chain(BYTE_POINTS)
+    POINTS.iter().chain(BYTE_POINTS).chain(LINE_POINTS)
 }
 
 const POINTS: &[Point] = &[

@@ -77,10 +77,10 @@ impl Example {
     pub fn answer(&self) -> Answer {
         match self.case().map(|case| case.run().0) {
             Some(told) if told.number == 0 => Answer::Stop(told.stop),
-            Some(told) => Answer::Number { number: told.number, place: told.place as usize },
+            Some(told) => Answer::Number { number: told.number, place: told.spot.place },
             None => {
                 let told = translate(&self.text(), self.with("room").map(|room| room as usize));
-                Answer::Number { number: told.number, place: told.place }
+                Answer::Number { number: told.number, place: told.spot.place }
             }
         }
     }
@@ -211,10 +211,10 @@ pub fn section(entry: &Entry) -> String {
 /// `docs/REFUSALS.md`.
 pub fn page(entries: &[Entry]) -> String {
     let mut page = "# Refusals and stops\n\nMade from `examples/refusals.data` by `examples/make`; the texts stand in `examples/refusals/`.\n\n\
-        A translation answers a number, a place and a length. Number 0 means accepted; 1 to 16 say why not, and the place is the offset of the byte from which on\n\
-        the matter stands, counted from 0. When several apply, the first of these groups decides: 1; 2, 3; 4, 5; 6 to 13; 14; 15; 16; inside a group the smallest\n\
-        place, then the smaller number. A run answers 17 to 19, asked in this order, or it ran and says why it stopped: 0 to 4. A stopped instruction has changed\n\
-        nothing and is not counted.\n\n\
+        A translation answers a number, a place, a line, a column and a length. Number 0 means accepted; 1 to 16 say why not, and the place is the offset of the\n\
+        byte from which on the matter stands, counted from 0; line and column of that byte are counted from 1, and are 0 for 0, 1 and 14 to 16. When several apply,\n\
+        the first of these groups decides: 1; 2, 3; 4, 5; 6 to 13; 14; 15; 16; inside a group the smallest place, then the smaller number. A run answers 17 to 19,\n\
+        asked in this order, with line and column 0, or it ran and says why it stopped: 0 to 4. A stopped instruction has changed nothing and is not counted.\n\n\
         | | |\n|---|---|\n"
         .to_string();
     for entry in entries {

@@ -91,7 +91,7 @@ pub fn broken(tokens: &[Token]) -> BTreeSet<(usize, u32)> {
     ];
     let mut all = BTreeSet::new();
     for (number, set) in sets {
-        all.extend(set.into_iter().map(|token| (tokens[token].place, number)));
+        all.extend(set.into_iter().map(|token| (tokens[token].spot.place, number)));
     }
     all
 }
@@ -104,7 +104,7 @@ pub fn too_deep(tokens: &[Token]) -> Option<usize> {
     let deep = openings.iter().find(|&&token| {
         constructs.iter().filter(|construct| construct.first < token && construct.holds(token)).count() >= 64
     });
-    deep.map(|&token| tokens[token].place)
+    deep.map(|&token| tokens[token].spot.place)
 }
 
 /// A BEGIN reaches to its END, a statement or procedure to the first `;` outside all blocks inside it.

@@ -2,6 +2,7 @@
 
 use crate::cmd_text::fnv1a;
 use crate::runner::{run, RunAnswer};
+use crate::spot::Spot;
 use std::io::{self, BufRead, Write};
 
 /// Every byte of storage before a run.
@@ -64,10 +65,11 @@ impl Case {
     }
 }
 
-/// `number place stop counter cc count r0 … r15 hash`, the hash of all storage after.
+/// `number place line column stop counter cc count r0 … r15 hash`, the hash of all storage after.
 pub fn answer_line(answer: &RunAnswer, storage: &[u8]) -> String {
-    let RunAnswer { number, place, stop, counter, regs, cc, count } = answer;
-    format!("{number} {place} {stop} {counter} {cc} {count} {} {:016x}", words(regs), fnv1a(storage))
+    let RunAnswer { number, spot: Spot { place, line, column }, stop, counter, regs, cc, count } = answer;
+    let (regs, hash) = (words(regs), fnv1a(storage));
+    format!("{number} {place} {line} {column} {stop} {counter} {cc} {count} {regs} {hash:016x}")
 }
 
 fn words(regs: &[u32; 16]) -> String {

@@ -2,15 +2,16 @@
 
 use crate::machine::{origin, step, Map, Segment, State, Stop};
 use crate::objread::{self, ObjectText};
+use crate::spot::Spot;
 
 /// "19 storage under 20,480 bytes".
 pub const STORAGE_NEEDED: usize = 20_480;
 
-/// The answer of a run; a refusal has registers and code as given and zeros elsewhere.
+/// The answer of a run; a refusal has registers and code as given and zeros elsewhere. Place, line and column are always 0.
 #[derive(Clone, Copy, Debug, PartialEq, Eq)]
 pub struct RunAnswer {
     pub number: u32,
-    pub place: u32,
+    pub spot: Spot,
     pub stop: u32,
     pub counter: u32,
     pub regs: [u32; 16],
@@ -20,7 +21,7 @@ pub struct RunAnswer {
 
 /// Loads the object text into storage and carries out at most `budget` instructions.
 pub fn run(object: &[u8], regs: [u32; 16], cc: u64, budget: u32, storage: &mut [u8]) -> RunAnswer {
-    let refusal = |number| RunAnswer { number, place: 0, stop: 0, counter: 0, regs, cc, count: 0 };
+    let refusal = |number| RunAnswer { number, spot: Spot::NONE, stop: 0, counter: 0, regs, cc, count: 0 };
     let object = match objread::read(object) {
         Some(object) => object,
         None => return refusal(17),
@@ -39,7 +40,7 @@ pub fn run(object: &[u8], regs: [u32; 16], cc: u64, budget: u32, storage: &mut [
     let mut state = State { regs: &mut regs, cc: cc as u32, counter: origin(0) };
     let (stop, count) = go(&mut state, &map, storage, budget);
     let (cc, counter) = (state.cc as u64, state.counter);
-    RunAnswer { number: 0, place: 0, stop: stop as u32, counter, regs, cc, count }
+    RunAnswer { number: 0, spot: Spot::NONE, stop: stop as u32, counter, regs, cc, count }
 }
 
 /// "Segment k goes to 4096·(k+1); the word at offset 4k of segment 1 becomes segment k's origin where

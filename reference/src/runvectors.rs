@@ -58,7 +58,7 @@ fn manifest(cases: usize, counts: &Counts, runs: usize, emulated: usize) -> Stri
          stops 0: {budget}, 1: {end}, 2: {forbidden}, 3: {misaligned}, 4: {instruction}.\n\
          hercules-runs: {} single instructions, {emulated} bytes; the answers are Hercules' (outside/hercules/check compares them).\n\
          Each run is a case of `runbatch` (a line `length budget cc storage-length r0 … r15`, the object text, a newline)\n\
-         and the line that answers it (`number place stop counter cc count r0 … r15 hash`).\n\
+         and the line that answers it (`number place line column stop counter cc count r0 … r15 hash`).\n\
          runs are the papers' cases 1, 6 and 8, the edges of storage and budget around them, and generated ones from seed {SEED}.\n\
          Made again by `reference runvectors DIR`.\n",
         hercules::stored()

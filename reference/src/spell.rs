@@ -73,24 +73,64 @@ pub fn number_out_of_range(random: &mut Random) -> String {
 enum Style {
     Tight,
     Blanks,
+    /// A line or more for each statement, as people write.
     Lines,
     Wild,
 }
 
-/// A source text of these tokens: they stay the same tokens, however they are set.
+/// A source text of these tokens: they stay the same tokens, however they are set. At times any bytes stand behind them.
 pub fn text(random: &mut Random, tokens: &[String]) -> Vec<u8> {
-    let style = *random.of(&[Style::Tight, Style::Tight, Style::Blanks, Style::Blanks, Style::Lines, Style::Wild]);
+    let mut text = set(random, tokens);
+    match random.below(8) {
+        0..=1 => text.extend((0..random.below(12)).map(|_| random.next() as u8)),
+        2 => margin(random, &mut text),
+        _ => {}
+    }
+    text
+}
+
+/// The same with nothing but blanks, newlines and comments behind the last token.
+pub fn ended_by_margin(random: &mut Random, tokens: &[String]) -> Vec<u8> {
+    let mut text = set(random, tokens);
+    margin(random, &mut text);
+    text
+}
+
+fn set(random: &mut Random, tokens: &[String]) -> Vec<u8> {
+    let style = *random.of(&[Style::Tight, Style::Blanks, Style::Blanks, Style::Lines, Style::Lines, Style::Wild]);
     let mut text = Vec::new();
+    if random.chance(1, 6) {
+        margin(random, &mut text);
+    }
     for token in tokens {
         gap(random, style, &mut text, token.as_bytes());
         text.extend(token.as_bytes());
     }
-    if random.chance(1, 4) {
-        for _ in 0..random.below(12) {
-            text.push(random.next() as u8);
+    text
+}
+
+/// What may stand before the first token of a text and behind its last.
+fn margin(random: &mut Random, text: &mut Vec<u8>) {
+    for _ in 0..random.range(1, 4) {
+        match random.below(4) {
+            0..=1 => new_line(random, text),
+            2 => blanks(random, text),
+            _ => comment(random, text),
         }
     }
-    text
+}
+
+/// A newline, at times behind empty lines, and at times blanks behind it.
+fn new_line(random: &mut Random, text: &mut Vec<u8>) {
+    let empty = if random.chance(1, 8) { random.range(1, 3) } else { 0 };
+    text.extend(std::iter::repeat(b'\n').take(empty + 1));
+    if random.chance(1, 2) {
+        blanks(random, text);
+    }
+}
+
+fn blanks(random: &mut Random, text: &mut Vec<u8>) {
+    text.extend(std::iter::repeat(b' ').take(random.range(1, 8)));
 }
 
 /// The tokens with blanks between them, and a new line after each `;`.
@@ -108,11 +148,22 @@ fn gap(random: &mut Random, style: Style, text: &mut Vec<u8>, token: &[u8]) {
     match style {
         Style::Tight if !needed => {}
         Style::Tight | Style::Blanks => text.push(b' '),
-        Style::Lines if text.last() == Some(&b';') => text.push(b'\n'),
-        Style::Lines => text.push(b' '),
+        Style::Lines => {
+            if text.last() == Some(&b';') && random.chance(1, 20) {
+                comment(random, text);
+            }
+            if text.last() == Some(&b';') || random.chance(1, 12) {
+                new_line(random, text);
+            } else {
+                text.push(b' ');
+            }
+        }
         Style::Wild => {
             if needed || random.chance(1, 3) {
                 text.push(*random.of(b" \n"));
+            }
+            if random.chance(1, 12) {
+                new_line(random, text);
             }
             if random.chance(1, 12) {
                 comment(random, text);
@@ -133,7 +184,8 @@ fn touch_badly(text: &[u8], token: &[u8]) -> bool {
         || (last == first && matches!(first, b'+' | b'-'))
 }
 
-/// A comment with any bytes in it, set apart from a word before it.
+/// A comment with any bytes in it, set apart from a word before it; newlines, at times with byte 13 before them, and characters of
+/// several bytes come up often.
 fn comment(random: &mut Random, text: &mut Vec<u8>) {
     if matches!(text.last(), Some(last) if last.is_ascii_alphanumeric()) {
         text.push(b' ');
@@ -141,9 +193,16 @@ fn comment(random: &mut Random, text: &mut Vec<u8>) {
     text.extend(b"COMMENT");
     if random.chance(3, 4) {
         text.push(*random.of(b" \n@_#=\xFF"));
-        for _ in 0..random.below(9) {
-            let byte = if random.chance(1, 4) { random.next() as u8 } else { *random.of(b"AZ19 @:BEGINEND") };
-            text.push(if byte == b';' { b'.' } else { byte });
+        let most = if random.chance(1, 10) { 40 } else { 9 };
+        for _ in 0..random.below(most) {
+            match random.below(8) {
+                0 => text.extend(random.of(&["\n", "\n\n", "\r\n", "\r", "\t", "\u{e9}", "\u{2192}"]).as_bytes()),
+                1..=2 => {
+                    let byte = random.next() as u8;
+                    text.push(if byte == b';' { b'.' } else { byte });
+                }
+                _ => text.push(*random.of(b"AZ19 @:BEGINEND")),
+            }
         }
     }
     text.push(b';');

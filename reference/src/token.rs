@@ -1,5 +1,7 @@
 //! Text and tokens: the bytes of a source text, read as the words, numbers and signs of document 01.
 
+use crate::spot::Spot;
+
 /// "source over 32,768 bytes"
 pub const TEXT_LIMIT: usize = 32_768;
 
@@ -9,11 +11,11 @@ pub const NAME_LENGTH: usize = 10;
 /// The first 10 characters of a name, filled up with zero bytes.
 pub type Spelling = [u8; NAME_LENGTH];
 
-/// A refusal's number and place.
+/// A refusal's number, and where it is.
 #[derive(Clone, Copy, PartialEq, Eq, Debug)]
 pub struct Refusal {
     pub number: u32,
-    pub place: usize,
+    pub spot: Spot,
 }
 
 #[derive(Clone, Copy, PartialEq, Eq, Hash, Debug)]
@@ -138,8 +140,8 @@ const COMMENT: &[u8] = b"COMMENT";
 #[derive(Clone, Copy, PartialEq, Eq, Debug)]
 pub struct Token {
     pub kind: Kind,
-    /// "A place is the offset of the first byte of what is named."
-    pub place: usize,
+    /// "Each token carries its line and column": those of its first byte, and its place.
+    pub spot: Spot,
     /// The 32 bits of a number, else 0.
     pub value: u32,
     /// What counts of a name, else zero bytes.
@@ -157,24 +159,24 @@ impl Token {
 /// the refusal 2 or 3 with the smallest place.
 pub fn tokens(source: &[u8]) -> Result<Vec<Token>, Refusal> {
     let mut found = Vec::with_capacity(source.len() / 3 + 1);
-    let mut at = 0;
+    let mut spot = Spot::START;
     loop {
-        at += gap(&source[at..]);
-        let rest = &source[at..];
+        spot = spot.past(gap(&source[spot.place..]));
+        let rest = &source[spot.place..];
         if rest.is_empty() {
-            found.push(plain(Kind::TextEnd, at));
+            found.push(plain(Kind::TextEnd, spot));
             return Ok(found);
         }
         if rest[..word_length(rest)] == *COMMENT {
             match rest.iter().position(|&byte| byte == b';') {
-                Some(end) => at += end + 1,
-                None => return Err(Refusal { number: 2, place: at }),
+                Some(end) => spot = spot.past(&rest[..=end]),
+                None => return Err(Refusal { number: 2, spot }),
             }
             continue;
         }
-        let (token, length) = one_token(rest, at)?;
+        let (token, length) = one_token(rest, spot)?;
         found.push(token);
-        at += length;
+        spot = spot.along(length);
         if token.kind == Kind::At {
             return Ok(found);
         }
@@ -182,8 +184,8 @@ pub fn tokens(source: &[u8]) -> Result<Vec<Token>, Refusal> {
 }
 
 /// "Blank (32) and newline (10) separate tokens."
-fn gap(rest: &[u8]) -> usize {
-    count_while(rest, |byte| byte == 32 || byte == 10)
+fn gap(rest: &[u8]) -> &[u8] {
+    &rest[..count_while(rest, |byte| byte == 32 || byte == 10)]
 }
 
 /// "Names: a capital letter, then capitals or digits"
@@ -195,32 +197,32 @@ fn word_length(rest: &[u8]) -> usize {
 }
 
 /// The token at the front of `rest` and its length in bytes.
-fn one_token(rest: &[u8], place: usize) -> Result<(Token, usize), Refusal> {
+fn one_token(rest: &[u8], spot: Spot) -> Result<(Token, usize), Refusal> {
     let length = word_length(rest);
     if length > 0 {
-        return Ok((word(&rest[..length], place), length));
+        return Ok((word(&rest[..length], spot), length));
     }
     if let Some((value, length)) = number(rest) {
         return match value {
-            Some(value) => Ok((Token { value, ..plain(Kind::Number, place) }, length)),
-            None => Err(Refusal { number: 3, place }),
+            Some(value) => Ok((Token { value, ..plain(Kind::Number, spot) }, length)),
+            None => Err(Refusal { number: 3, spot }),
         };
     }
     for (sign, kind) in SIGNS {
         if rest.starts_with(sign.as_bytes()) {
-            return Ok((plain(kind, place), sign.len()));
+            return Ok((plain(kind, spot), sign.len()));
         }
     }
-    Err(Refusal { number: 2, place })
+    Err(Refusal { number: 2, spot })
 }
 
-fn word(text: &[u8], place: usize) -> Token {
+fn word(text: &[u8], spot: Spot) -> Token {
     for (reserved, kind) in &RESERVED {
         if text == reserved.as_bytes() {
-            return plain(*kind, place);
+            return plain(*kind, spot);
         }
     }
-    Token { name: spelling(text), ..plain(Kind::Name, place) }
+    Token { name: spelling(text), ..plain(Kind::Name, spot) }
 }
 
 /// What counts of a name.
@@ -269,6 +271,6 @@ fn count_while(bytes: &[u8], wanted: impl Fn(u8) -> bool) -> usize {
     bytes.iter().take_while(|&&byte| wanted(byte)).count()
 }
 
-fn plain(kind: Kind, place: usize) -> Token {
-    Token { kind, place, value: 0, name: [0; NAME_LENGTH] }
+fn plain(kind: Kind, spot: Spot) -> Token {
+    Token { kind, spot, value: 0, name: [0; NAME_LENGTH] }
 }

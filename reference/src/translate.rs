@@ -8,14 +8,16 @@ use crate::layout::{layout, next_multiple, FIRST_DATA, SEGMENT_LIMIT};
 use crate::names::names;
 use crate::object::{data_segments, object_text};
 use crate::slips::Slip;
+use crate::spot::Spot;
 use crate::token::{tokens, Refusal, TEXT_LIMIT};
 use crate::violations::Violations;
 
-/// "Translator: number, place, length." The length is that of the object text, which is empty in a refusal.
+/// "Translator: number, place, length.", with line and column. The length is that of the object text, which is empty in a
+/// refusal.
 #[derive(Clone, PartialEq, Eq, Debug)]
 pub struct Answer {
     pub number: u32,
-    pub place: usize,
+    pub spot: Spot,
     pub object: Vec<u8>,
 }
 
@@ -27,8 +29,8 @@ pub fn translate(source: &[u8], room: Option<usize>) -> Answer {
 /// The answer of a translator with a slip.
 pub fn translate_with(slip: Slip, source: &[u8], room: Option<usize>) -> Answer {
     match object_for(slip, source, room) {
-        Ok(object) => Answer { number: 0, place: 0, object },
-        Err(Refusal { number, place }) => Answer { number, place, object: Vec::new() },
+        Ok(object) => Answer { number: 0, spot: Spot::NONE, object },
+        Err(Refusal { number, spot }) => Answer { number, spot, object: Vec::new() },
     }
 }
 
@@ -64,9 +66,10 @@ fn object_for(slip: Slip, source: &[u8], room: Option<usize>) -> Result<Vec<u8>,
     Ok(object)
 }
 
+/// Refusals 1 and 14 to 16, which report no line and column.
 fn refuse_if(broken: bool, number: u32, place: usize) -> Result<(), Refusal> {
     if broken {
-        return Err(Refusal { number, place });
+        return Err(Refusal { number, spot: Spot::without_line(place) });
     }
     Ok(())
 }

@@ -1,8 +1,10 @@
 //! Stored texts with their answers and object texts, for others to be held against.
 
 use crate::gen;
+use crate::line_points::long_line_points;
 use crate::points::points;
 use crate::random::Random;
+use crate::spot::Spot;
 use crate::translate::{translate, Answer};
 
 const SEED: u64 = 360;
@@ -31,13 +33,23 @@ pub fn case(text: Vec<u8>, room: usize) -> Case {
     Case { text, room, answer }
 }
 
-/// Document 01's cases, limits and slips, the points decided, then generated texts.
+/// Document 01's cases, limits and slips, the points decided, the same in many lines, then generated texts.
 pub fn cases() -> Vec<Case> {
     let mut cases: Vec<Case> = papers_texts().into_iter().map(|text| case(text.into_bytes(), UNLIMITED)).collect();
     cases.extend(points().map(|point| case(point.text.to_vec(), UNLIMITED)));
+    cases.extend(long_line_points().into_iter().map(|point| case(point.text, point.room.unwrap_or(UNLIMITED))));
+    cases.extend(points().map(|point| case(point.in_lines(), UNLIMITED)));
+    cases.extend(behind_many_lines().map(|text| case(text, UNLIMITED)));
     cases.extend([138, 137, 0].map(|room| case(CASE_1.into(), room)));
     generated(&mut cases);
     cases
+}
+
+/// A point of each refusal that reports a line, where there is one, behind a thousand lines and behind a comment of five hundred.
+fn behind_many_lines() -> impl Iterator<Item = Vec<u8>> {
+    let fronts = ["\n".repeat(1000), format!("COMMENT{};", "\nLINE".repeat(500))];
+    let refused = (2..=13).filter_map(|number| points().find(|point| point.number == number));
+    refused.flat_map(move |point| fronts.clone().map(|front| [front.as_bytes(), point.text].concat()))
 }
 
 const CASE_1: &str = "BEGIN INTEGER A(5); R1 := A + 3; A := R1; END @";
@@ -108,12 +120,14 @@ fn some_room(text: &[u8], number: u64) -> usize {
     }
 }
 
-/// "for each case a line `textlen room number place length` in decimal, the text, a newline, the object text, a newline"
+/// "for each case a line `textlength room number place line column length` in decimal, the text, a newline, the object text,
+/// a newline"
 pub fn records(cases: &[Case]) -> Vec<u8> {
     let mut records = Vec::new();
     for Case { text, room, answer } in cases {
-        let Answer { number, place, object } = answer;
-        records.extend(format!("{} {room} {number} {place} {}\n", text.len(), object.len()).into_bytes());
+        let Answer { number, spot: Spot { place, line, column }, object } = answer;
+        let (text_length, length) = (text.len(), object.len());
+        records.extend(format!("{text_length} {room} {number} {place} {line} {column} {length}\n").into_bytes());
         records.extend(text);
         records.push(b'\n');
         records.extend(object);
@@ -130,9 +144,10 @@ pub fn manifest(cases: &[Case]) -> String {
         "# Stored texts
 
 `texts` holds {} source texts with the answers of `reference/`, {} bytes in all: document 01's nine cases, its limits and
-slips, the texts of docs/DECISIONS.md, then generated texts from seed {SEED}, of each answer as many as are wanted.
+slips, the texts of docs/DECISIONS.md, the same in many lines, then generated texts from seed {SEED}, of each answer as
+many as are wanted.
 
-Each is a line `textlength room number place length` in decimal with single blanks between, the text, a newline, the
+Each is a line `textlength room number place line column length` in decimal with single blanks between, the text, a newline, the
 `length` bytes of the object text, a newline; the end of the file ends them. A room of {UNLIMITED} stands for an unlimited
 one.
 

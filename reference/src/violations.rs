@@ -1,11 +1,11 @@
-//! All that breaks the rules 6 to 13, gathered as (place, number).
+//! All that breaks the rules 6 to 13, gathered as (token, number).
 
 use crate::grammar::TokenNo;
 use crate::token::{Refusal, Token};
 
 pub struct Violations<'a> {
     tokens: &'a [Token],
-    pub found: Vec<(usize, u32)>,
+    found: Vec<(TokenNo, u32)>,
 }
 
 impl<'a> Violations<'a> {
@@ -14,7 +14,7 @@ impl<'a> Violations<'a> {
     }
 
     pub fn add(&mut self, number: u32, at: TokenNo) {
-        self.found.push((self.tokens[at].place, number));
+        self.found.push((at, number));
     }
 
     pub fn add_if(&mut self, broken: bool, number: u32, at: TokenNo) {
@@ -23,9 +23,9 @@ impl<'a> Violations<'a> {
         }
     }
 
-    /// "Inside a group the smallest place wins, then the smaller number."
+    /// "Inside a group the smallest place wins, then the smaller number." A token with a smaller number has the smaller place.
     pub fn least(&self) -> Option<Refusal> {
-        let &(place, number) = self.found.iter().min()?;
-        Some(Refusal { number, place })
+        let &(at, number) = self.found.iter().min()?;
+        Some(Refusal { number, spot: self.tokens[at].spot })
     }
 }

@@ -9,6 +9,7 @@ use crate::meant::{Does, Extent, InStorage, Meant, Named, Written};
 use crate::objread;
 use crate::random::Random;
 use crate::runner::{self, RunAnswer, STORAGE_NEEDED};
+use crate::spot::Spot;
 use std::fmt;
 use std::ops::Range;
 
@@ -171,7 +172,8 @@ impl Watcher<'_> {
         let mut regs = given.regs;
         regs[15] = origin(0);
         regs[14] = origin(1);
-        let expected = RunAnswer { number: 0, place: 0, stop: 0, counter: origin(0), regs, cc: given.cc, count: 0 };
+        let expected =
+            RunAnswer { number: 0, spot: Spot::NONE, stop: 0, counter: origin(0), regs, cc: given.cc, count: 0 };
         self.ask(first.answer == expected, clause, || format!("{:?}, not {expected:?}", first.answer))?;
         let mut storage = first.storage.clone();
         runner::load(&object, &mut storage);

@@ -80,7 +80,11 @@ fn byte_and_character_cells_are_alike() {
         let other = text.replace("BYTE", "CHARACTER");
         let (one, two) = (answer(text.as_bytes()), answer(other.as_bytes()));
         let longer = |place: usize| place + 5 * text[..place].matches("BYTE").count();
-        assert_eq!((one.number, longer(one.place), one.object), (two.number, two.place, two.object), "{text}");
+        assert_eq!(
+            (one.number, longer(one.spot.place), one.object),
+            (two.number, two.spot.place, two.object),
+            "{text}"
+        );
     }
 }
 
@@ -214,7 +218,7 @@ fn compare(recognizer: &Recognizer, text: &[u8]) -> usize {
     let tokens = tokens(text).expect("tokens");
     let unfit = recognizer.first_unfit(tokens.iter().map(|token| token.kind));
     let opinion = match unfit {
-        Some(at) => (4, tokens[at].place),
+        Some(at) => (4, tokens[at].spot.place),
         None => broken(&tokens).first().map_or((0, 0), |&(place, number)| (number, place)),
     };
     let answer = verdict(text);

@@ -6,8 +6,9 @@ use reference::build::Builder;
 use reference::gen;
 use reference::random::Random;
 use reference::spell;
+use reference::spot::Spot;
 use reference::token::{tokens, Kind, RESERVED, SIGNS};
-use reference::translate::translate;
+use reference::translate::{translate, Answer};
 use reference::vectors;
 use std::collections::{BTreeMap, BTreeSet, HashSet};
 
@@ -21,7 +22,7 @@ fn what_is_right_by_construction_is_accepted_with_the_length_and_literals_that_w
         let (tokens, length, literals, ends) = (builder.tokens, builder.length, builder.literals, builder.ends);
         let text = spell::text(&mut random, &tokens);
         let answer = answer(&text);
-        assert_eq!((answer.number, answer.place), (0, 0), "{}", show(&text));
+        assert_eq!((answer.number, answer.spot), (0, Spot::NONE), "{}", show(&text));
         assert_eq!(segment(&answer.object, 0).len(), length, "{}", show(&text));
         let cells_end = if literals.is_empty() { ends[1] } else { ends[1].next_multiple_of(4) };
         assert_eq!(segment(&answer.object, 1).len(), cells_end + 4 * literals.len(), "{}", show(&text));
@@ -53,6 +54,29 @@ fn every_refusal_comes_up_once_in_200_and_a_third_is_accepted() {
     println!("{answers:?}");
     assert!(answers[0] >= COUNT / 3, "{answers:?}");
     assert!(answers.iter().all(|&count| count >= COUNT / 200), "{answers:?}");
+}
+
+/// Lines and columns are tried well: every refusal that reports them on later lines in later columns, and 4 at the end of a text
+/// behind a newline, blanks behind one, and a comment behind one.
+#[test]
+fn every_refusal_that_has_a_line_stands_on_later_ones() {
+    const COUNT: usize = 40_000;
+    let mut later = [0; 17];
+    let (mut behind_newline, mut behind_blanks, mut behind_comment) = (0, 0, 0);
+    for number in 0..COUNT {
+        let text = gen::case(22, number as u64);
+        let Answer { number, spot, .. } = translate(&text, None);
+        later[number as usize] += usize::from(spot.line > 1 && spot.column > 1);
+        if number == 4 && spot.place == text.len() && spot.line > 1 {
+            behind_newline += usize::from(text.ends_with(b"\n"));
+            behind_blanks += usize::from(text.ends_with(b" "));
+            behind_comment += usize::from(text.ends_with(b";"));
+        }
+    }
+    println!("{later:?}, 4 at the end: {behind_newline} {behind_blanks} {behind_comment}");
+    assert!(later[2..=13].iter().all(|&count| count >= COUNT / 400), "{later:?}");
+    let at_the_end = [behind_newline, behind_blanks, behind_comment];
+    assert!(at_the_end.iter().all(|&count| count >= COUNT / 400), "{at_the_end:?}");
 }
 
 #[test]
@@ -174,18 +198,18 @@ fn a_hundred_thousand_texts_are_translated() {
         let answer = translate(&text, None);
         if answer.number != 0 {
             assert!((1..=15).contains(&answer.number) && answer.object.is_empty());
-            assert!(answer.place <= text.len(), "{}", show(&text));
+            assert_eq!(answer.spot, reported(answer.number, answer.spot.place, &text), "{}", show(&text));
             continue;
         }
         accepted += 1;
-        assert_eq!(answer.place, 0);
+        assert_eq!(answer.spot, Spot::NONE);
         assert_object_is_sound(&answer.object, &text);
         let needed = answer.object.len();
         let exactly = translate(&text, Some(needed));
         assert_eq!(exactly, answer);
         for room in [needed - 1, number as usize % needed] {
             let short = translate(&text, Some(room));
-            assert_eq!((short.number, short.place, short.object.len()), (16, needed, 0));
+            assert_eq!((short.number, short.spot, short.object.len()), (16, Spot::without_line(needed), 0));
         }
     }
     println!("{accepted} of 100000 accepted");
@@ -199,8 +223,8 @@ fn any_bytes_are_answered() {
         let text: Vec<u8> = (0..random.below(60))
             .map(|_| if from_all { random.next() as u8 } else { *random.of(b"BEGIND RAO_#059:=<>^+-*(),;@ \n") })
             .collect();
-        let answer = translate(&text, None);
-        assert!(answer.number <= 15 && answer.place <= text.len());
+        let (number, place) = verdict(&text);
+        assert!(number <= 15 && place <= text.len());
     }
 }
 
@@ -209,7 +233,7 @@ fn what_stands_behind_the_end_of_the_program_is_not_read() {
     for number in 0..5_000 {
         let mut random = Random::new(10, number);
         let text = gen::right_text(&mut random);
-        let end = tokens(&text).expect("tokens").last().expect("`@`").place;
+        let end = tokens(&text).expect("tokens").last().expect("`@`").spot.place;
         let mut cut = text[..=end].to_vec();
         let before = answer(&cut);
         assert_eq!(before, answer(&text));
@@ -222,7 +246,7 @@ fn what_stands_behind_the_end_of_the_program_is_not_read() {
 fn every_beginning_of_a_text_is_refused() {
     for number in 0..200 {
         let text = gen::right_text(&mut Random::new(11, number));
-        let end = tokens(&text).expect("tokens").last().expect("`@`").place;
+        let end = tokens(&text).expect("tokens").last().expect("`@`").spot.place;
         for length in 0..=end {
             let (refusal, place) = verdict(&text[..length]);
             assert!(matches!(refusal, 2 | 4) && place <= length, "{}", show(&text[..length]));

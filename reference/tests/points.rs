@@ -2,17 +2,61 @@
 
 mod helpers;
 use helpers::*;
-use reference::points::points;
+use reference::points::{points, Point};
 
 #[test]
 fn every_point_is_read_as_decided() {
     for point in points() {
         assert_eq!(verdict(point.text), (point.number, point.place), "{}: {}", point.name, show(point.text));
+        if let Some(decided) = point.line_and_column {
+            let spot = answer(point.text).spot;
+            assert_eq!((spot.line, spot.column), decided, "{}: {}", point.name, show(point.text));
+        }
         if !point.code.is_empty() {
             let program = segment(&answer(point.text).object, 0);
             assert_eq!(program, bytes(point.code), "{}: {}", point.name, show(point.text));
         }
     }
+}
+
+/// The line of the document that has the point.
+fn decision(point: &Point) -> String {
+    let escaped = |&byte: &u8| match byte {
+        b'\n' => "\\n".to_string(),
+        b'\r' => "\\r".to_string(),
+        b'\t' => "\\t".to_string(),
+        b' '..=b'~' => char::from(byte).to_string(),
+        _ => format!("\\x{byte:02x}"),
+    };
+    let text: String = point.text.iter().map(escaped).collect();
+    let place = if point.number == 0 { String::new() } else { format!(" at {}", point.place) };
+    let line = point.line_and_column.map_or(String::new(), |(line, column)| format!(", line {line} column {column}"));
+    let code = if point.code.is_empty() { String::new() } else { format!(", code {}", point.code) };
+    format!("- `{text}` gives {}{place}{line}{code}", point.number)
+}
+
+#[test]
+fn the_points_are_the_texts_of_the_document() {
+    let document = include_str!("../../docs/DECISIONS.md");
+    let mut told = Vec::new();
+    let mut section = "";
+    for line in document.lines() {
+        if let Some(heading) = line.strip_prefix("### ") {
+            section = heading.split(' ').next().unwrap_or(heading);
+        }
+        if line.starts_with("- `") && line.contains("` gives ") {
+            told.push((section, line));
+        }
+    }
+    for point in points() {
+        let decision = decision(point);
+        let is_it = |&(section, line): &(&str, &str)| {
+            let behind = line.strip_prefix(decision.as_str());
+            section == point.name && matches!(behind, Some(rest) if rest.is_empty() || rest.starts_with([';', ',']))
+        };
+        assert!(told.iter().any(is_it), "{}: {decision}", point.name);
+    }
+    assert_eq!(told.len(), points().count());
 }
 
 /// `text` has one `!` where the refusal is.

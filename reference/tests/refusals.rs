@@ -2,6 +2,7 @@
 
 mod helpers;
 use helpers::*;
+use reference::spot::Spot;
 use reference::translate::translate;
 
 fn all_refused(number: u32, texts: &[&str]) {
@@ -594,11 +595,11 @@ fn refusal_16_buffer_too_short() {
     let one = b"BEGIN INTEGER A(5); R1 := A + 3; A := R1; END @";
     for (room, number, place) in [(138, 0, 0), (139, 0, 0), (137, 16, 138), (1, 16, 138), (0, 16, 138)] {
         let answer = translate(one, Some(room));
-        assert_eq!((answer.number, answer.place), (number, place), "room {room}");
+        assert_eq!((answer.number, answer.spot), (number, Spot::without_line(place)), "room {room}");
         assert_eq!(answer.object.len(), if number == 0 { 138 } else { 0 }, "room {room}");
     }
     // The shortest object text has 9 + 15 + 17 + 43 + 3 bytes.
-    assert_eq!((translate(b"BEGIN END @", Some(87)).number, translate(b"BEGIN END @", Some(86)).place), (0, 87));
+    assert_eq!((translate(b"BEGIN END @", Some(87)).number, translate(b"BEGIN END @", Some(86)).spot.place), (0, 87));
     // All other refusals come before.
     assert_eq!(translate(b"BEGIN RE := R1; END @", Some(0)).number, 10);
     assert_eq!(translate(program_of(2047, 0).as_bytes(), Some(0)).number, 14);

@@ -34,11 +34,11 @@ fn runbatch_answers_a_line_for_each_case() {
     assert!(output.status.success());
     let lines: Vec<String> = text(&output).lines().map(str::to_string).collect();
     assert_eq!(lines.len(), 3);
-    assert!(lines[0].starts_with("0 0 1 4108 2 3 0 8 0 0 0 0 0 0 0 0 0 0 0 0 8192 4096 "), "{}", lines[0]);
-    assert!(lines[1].starts_with(&format!("18 0 0 0 4 0 {zeros} ")));
+    assert!(lines[0].starts_with("0 0 0 0 1 4108 2 3 0 8 0 0 0 0 0 0 0 0 0 0 0 0 8192 4096 "), "{}", lines[0]);
+    assert!(lines[1].starts_with(&format!("18 0 0 0 0 0 4 0 {zeros} ")));
     // FNV-1a of three bytes 165, worked out by hand from its two constants.
     let hash = (0..3).fold(0xcbf29ce484222325u64, |hash, _| (hash ^ 165).wrapping_mul(0x100000001b3));
-    assert_eq!(lines[2], format!("19 0 0 0 0 0 {zeros} {hash:016x}"));
+    assert_eq!(lines[2], format!("19 0 0 0 0 0 0 0 {zeros} {hash:016x}"));
 }
 
 #[test]

@@ -3,13 +3,14 @@ mod run_support;
 use reference::assemble::{data, text};
 use reference::objread::DataSegment;
 use reference::runner::run;
+use reference::spot::Spot;
 use run_support::*;
 
 /// Storage after loading alone (budget 0), from `length` bytes of 165.
 fn load(program: &[u8], segments: &[DataSegment], length: usize) -> Vec<u8> {
     let mut storage = vec![165; length];
     let answer = run(&text(program, segments), registers(), 2, 0, &mut storage);
-    assert_eq!((answer.number, answer.place, answer.stop, answer.count), (0, 0, 0, 0));
+    assert_eq!((answer.number, answer.spot, answer.stop, answer.count), (0, Spot::NONE, 0, 0));
     assert_eq!((answer.counter, answer.regs, answer.cc), (4096, loaded(registers()), 2));
     storage
 }

@@ -3,6 +3,7 @@ mod run_support;
 use reference::assemble::{data, text, text_of};
 use reference::objread::{read, ObjectText};
 use reference::runner::run;
+use reference::spot::Spot;
 use run_support::registers;
 
 const CASE_1: &str = "0100000E\n000000000E5810E0105A10E0145010E0100A00\n0201001800100014\n\
@@ -13,7 +14,7 @@ fn number(object: &[u8], cc: u64, storage_length: usize) -> u32 {
     let mut storage = vec![165; storage_length];
     let answer = run(object, registers(), cc, 7, &mut storage);
     if answer.number != 0 {
-        assert_eq!((answer.place, answer.stop, answer.counter, answer.count), (0, 0, 0, 0));
+        assert_eq!((answer.spot, answer.stop, answer.counter, answer.count), (Spot::NONE, 0, 0, 0));
         assert_eq!((answer.regs, answer.cc), (registers(), cc));
         assert!(storage.iter().all(|&byte| byte == 165), "storage untouched");
     }

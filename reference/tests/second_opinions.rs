@@ -1,5 +1,6 @@
 //! The translator against the second opinions: refusal 4 against a general recognizer of the grammar, refusals 5 to 13
-//! against the rules as sets. Each test prints how many comparisons it has made.
+//! against the rules as sets, lines and columns against a list of where lines begin. Each test prints how many comparisons
+//! it has made.
 
 mod helpers;
 use helpers::*;
@@ -8,7 +9,9 @@ use reference::gen;
 use reference::grammar::program_nested_to;
 use reference::random::Random;
 use reference::rules::{broken, too_deep};
+use reference::spot::Spot;
 use reference::token::{tokens, Kind, Token, RESERVED, SIGNS, TEXT_LIMIT};
+use reference::translate::Answer;
 
 /// All kinds of tokens.
 fn kinds() -> Vec<Kind> {
@@ -19,7 +22,9 @@ fn kinds() -> Vec<Kind> {
 /// Tokens of these kinds with places 0, 1, 2, ... and the end of the text behind them.
 fn made_of(kinds: &[Kind]) -> Vec<Token> {
     let all = kinds.iter().copied().chain([Kind::TextEnd]);
-    all.enumerate().map(|(place, kind)| Token { kind, place, value: 0, name: [0; 10] }).collect()
+    all.enumerate()
+        .map(|(place, kind)| Token { kind, spot: Spot::START.along(place), value: 0, name: [0; 10] })
+        .collect()
 }
 
 /// Where the reader of the grammar, with no limit on nesting, gives refusal 4.
@@ -28,7 +33,7 @@ fn place_of_4(tokens: &[Token]) -> Option<usize> {
         Ok(_) => None,
         Err(refusal) => {
             assert_eq!(refusal.number, 4);
-            Some(refusal.place)
+            Some(refusal.spot.place)
         }
     }
 }
@@ -112,7 +117,7 @@ fn refusal_4_on_generated_texts() {
         if tokens.len() > 500 {
             continue;
         }
-        let unfit = recognizer.first_unfit(tokens.iter().map(|token| token.kind)).map(|at| tokens[at].place);
+        let unfit = recognizer.first_unfit(tokens.iter().map(|token| token.kind)).map(|at| tokens[at].spot.place);
         assert_eq!(place_of_4(&tokens), unfit, "{}", show(&text));
         compared += 1;
         refused += usize::from(unfit.is_some());
@@ -171,4 +176,46 @@ fn refusals_6_to_13_when_many_rules_are_broken() {
     }
     println!("refusals 6 to 13, careless texts: {compared} comparisons");
     assert!(compared > 40_000);
+}
+
+/// Where each line begins: at the start, and behind every byte 10.
+fn line_starts(text: &[u8]) -> Vec<usize> {
+    let behind = text.iter().enumerate().filter(|(_, &byte)| byte == 10).map(|(at, _)| at + 1);
+    [0].into_iter().chain(behind).collect()
+}
+
+fn in_lines(starts: &[usize], place: usize) -> Spot {
+    let line = starts.partition_point(|&start| start <= place);
+    Spot { place, line, column: place - starts[line - 1] + 1 }
+}
+
+/// The tokens of a text, up to what is refused by 2 or 3 if anything is.
+fn tokens_read(text: &[u8]) -> Vec<Token> {
+    match tokens(text) {
+        Ok(tokens) => tokens,
+        Err(refusal) => tokens(&text[..refusal.spot.place]).expect("the first refusal"),
+    }
+}
+
+#[test]
+fn lines_and_columns_on_generated_texts() {
+    let (mut answers, mut read, mut on_later_lines) = (0, 0, 0);
+    for number in 0..60_000 {
+        let text = gen::case(213, number);
+        let starts = line_starts(&text);
+        let Answer { number, spot, .. } = answer(&text);
+        let opinion = match number {
+            2..=13 => in_lines(&starts, spot.place),
+            _ => Spot { place: spot.place, line: 0, column: 0 },
+        };
+        assert_eq!(spot, opinion, "{}", show(&text));
+        answers += 1;
+        for token in tokens_read(&text) {
+            assert_eq!(token.spot, in_lines(&starts, token.spot.place), "{}", show(&text));
+            read += 1;
+            on_later_lines += usize::from(token.spot.line > 1);
+        }
+    }
+    println!("lines and columns: {answers} answers, {read} tokens, {on_later_lines} of them on later lines");
+    assert!(on_later_lines > read / 3);
 }

@@ -34,20 +34,27 @@ fn translate_prints_the_object_text_or_the_refusal() {
     let output = reference(&["translate", &path], b"");
     assert_eq!((output.status.code(), output.stdout), (Some(0), translate(text, None).object));
 
-    std::fs::write(&file, b"BEGIN RE := R1; END @").expect("a file");
-    let output = reference(&["translate", &path], b"");
-    assert_eq!(output.status.code(), Some(1));
-    assert_eq!((output.stdout.as_slice(), output.stderr.as_slice()), (&b""[..], &b"refused 10 at 6\n"[..]));
+    let refused = [
+        ("BEGIN\nRE := R1; END @", "refused 10 at 6, line 2 column 1\n"),
+        ("\nBEGIN ARRAY (1020) INTEGER A; R1 := 5; END @", "refused 15 at 0\n"),
+    ];
+    for (text, said) in refused {
+        std::fs::write(&file, text).expect("a file");
+        let output = reference(&["translate", &path], b"");
+        assert_eq!(output.status.code(), Some(1));
+        assert_eq!((output.stdout.as_slice(), output.stderr.as_slice()), (&b""[..], said.as_bytes()));
+    }
     std::fs::remove_dir_all(&dir).expect("the directory goes");
 }
 
 #[test]
 fn batch_answers_each_case_on_a_line() {
-    let output = reference(&["batch"], b"11\nBEGIN END @\n0\n\n21\nBEGIN RE := R1; END @\n6\nBE\nGIN\n");
-    let accepted = translate(b"BEGIN END @", None).object;
+    let cases = b"11\nBEGIN END @\n0\n\n21\nBEGIN RE := R1; END @\n6\nBE\nGIN\n12\nBEGIN END\n  \n";
+    let output = reference(&["batch"], cases);
+    let accepted = fnv1a(&translate(b"BEGIN END @", None).object);
+    let nothing = "0 cbf29ce484222325";
     let wanted = format!(
-        "0 0 87 {:016x}\n4 0 0 cbf29ce484222325\n10 6 0 cbf29ce484222325\n4 0 0 cbf29ce484222325\n",
-        fnv1a(&accepted)
+        "0 0 0 0 87 {accepted:016x}\n4 0 1 1 {nothing}\n10 6 1 7 {nothing}\n4 0 1 1 {nothing}\n4 12 2 3 {nothing}\n"
     );
     assert_eq!(String::from_utf8_lossy(&output.stdout), wanted);
     assert_eq!(output.status.code(), Some(0));

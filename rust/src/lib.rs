@@ -37,8 +37,7 @@ extern "C" {
         source_length: usize,
         buffer: *mut u8,
         buffer_length: usize,
-        place: *mut usize,
-        length: *mut usize,
+        answer: *mut [usize; 4],
     ) -> u64;
 
     fn tautgaff_run(
@@ -49,7 +48,7 @@ extern "C" {
         registers: *mut [u32; 16],
         storage: *mut u8,
         storage_length: usize,
-        results: *mut [u64; 4],
+        results: *mut [u64; 7],
     ) -> u64;
 }
 
@@ -59,6 +58,9 @@ pub struct Refusal {
     pub number: u8,
     /// The offset in the source of the first byte of what is refused; for 16 the length that the buffer has to have; for 14, 15 and 17 to 19 it is 0.
     pub place: usize,
+    /// Its line and its column in the source, both from 1, counted in bytes; only byte 10 ends a line. For 1 and for 14 to 19 both are 0.
+    pub line: usize,
+    pub column: usize,
 }
 
 impl Refusal {
@@ -90,7 +92,11 @@ impl Refusal {
 
 impl fmt::Display for Refusal {
     fn fmt(&self, f: &mut fmt::Formatter<'_>) -> fmt::Result {
-        write!(f, "refusal {} at {}: {}", self.number, self.place, self.meaning())
+        let Refusal { number, place, line, column } = self;
+        match line {
+            0 => write!(f, "refusal {number} at {place}: {}", self.meaning()),
+            _ => write!(f, "refusal {number} at line {line}, column {column}: {}", self.meaning()),
+        }
     }
 }
 
@@ -150,15 +156,16 @@ pub fn translate(source: &[u8], buffer: &mut [u8]) -> Result<usize, Refusal> {
 }
 
 fn translate_here(source: &[u8], buffer: &mut [u8]) -> Result<usize, Refusal> {
-    let (mut place, mut length) = (0, 0);
+    let mut answer = [0; 4];
     // Safety: each pointer and length is that of a slice or a local, which are valid for the call; the ones written are lent alone.
     let number = unsafe {
-        tautgaff_translate(source.as_ptr(), source.len(), buffer.as_mut_ptr(), buffer.len(), &mut place, &mut length)
+        tautgaff_translate(source.as_ptr(), source.len(), buffer.as_mut_ptr(), buffer.len(), &mut answer)
     };
+    let [place, line, column, length] = answer;
     if number == 0 {
         Ok(length)
     } else {
-        Err(Refusal { number: number as u8, place })
+        Err(Refusal { number: number as u8, place, line, column })
     }
 }
 
@@ -186,7 +193,7 @@ pub fn run(
     registers: &mut [u32; 16],
     storage: &mut [u8],
 ) -> Result<End, Refusal> {
-    let mut results = [0; 4];
+    let mut results = [0; 7];
     // Safety: each pointer and length is that of a slice, an array or a local, which are valid for the call; the ones written are lent alone.
     let number = unsafe {
         tautgaff_run(
@@ -200,9 +207,10 @@ pub fn run(
             &mut results,
         )
     };
+    let [place, line, column, stop, counter, code, count] = results;
     if number != 0 {
-        return Err(Refusal { number: number as u8, place: 0 });
+        let [place, line, column] = [place, line, column].map(|number| number as usize);
+        return Err(Refusal { number: number as u8, place, line, column });
     }
-    let [stop, counter, code, count] = results;
     Ok(End { stop: Stop::of(stop), counter: counter as u32, code: code as u8, count: count as u32 })
 }

@@ -18,8 +18,9 @@ fn lines(name: &str) -> Vec<String> {
     text.lines().filter(|line| !line.starts_with('#')).map(str::to_string).collect()
 }
 
+/// One that stands at no line.
 fn refusal(number: u8, place: usize) -> Refusal {
-    Refusal { number, place }
+    Refusal { number, place, line: 0, column: 0 }
 }
 
 /// Sixteen registers, no two of them alike.
@@ -35,9 +36,9 @@ fn every_example_has_its_stored_answer() {
         let words: Vec<&str> = line.split(' ').collect();
         let source = read(words[0]);
         let answer = translated(&source).map(|object| object.len());
-        let number: u8 = words[1].parse().unwrap();
+        let [number, place, line, column, length] = [1, 2, 3, 4, 5].map(|i| words[i].parse::<usize>().unwrap());
         let expected =
-            if number == 0 { Ok(words[3].parse().unwrap()) } else { Err(refusal(number, words[2].parse().unwrap())) };
+            if number == 0 { Ok(length) } else { Err(Refusal { number: number as u8, place, line, column }) };
         assert_eq!(answer, expected, "{}", words[0]);
     }
 }
@@ -185,11 +186,24 @@ fn from_many_threads_at_once() {
 }
 
 #[test]
+fn lines_and_columns() {
+    let stands = |source: &[u8]| translated(source).map(|_| ()).map_err(|at| (at.number, at.place, at.line, at.column));
+    assert_eq!(stands(b"BEGIN\n  RE := R1; END @"), Err((10, 8, 2, 3)));
+    assert_eq!(stands(b"BEGIN\r\nEND @"), Err((2, 5, 1, 6)));
+    assert_eq!(stands(b"BEGIN END\n"), Err((4, 10, 2, 1)));
+    assert_eq!(stands(b""), Err((4, 0, 1, 1)));
+    assert_eq!(stands(&[b'\n'; SOURCE_LIMIT]), Err((4, SOURCE_LIMIT, SOURCE_LIMIT + 1, 1)));
+    assert_eq!(stands(&[b'\n'; SOURCE_LIMIT + 1]), Err((1, SOURCE_LIMIT, 0, 0)));
+}
+
+#[test]
 fn a_refusal_says_itself() {
+    let said = |source: &[u8]| translated(source).unwrap_err().to_string();
     assert_eq!(
-        translated(b"BEGIN RE := R1; END @").unwrap_err().to_string(),
-        "refusal 10 at 6: a protected register is written"
+        said(b"BEGIN\n  RE := R1; END @"),
+        "refusal 10 at line 2, column 3: a protected register is written"
     );
+    assert_eq!(said(&[b' '; SOURCE_LIMIT + 1]), "refusal 1 at 32768: the source is too long");
 }
 
 #[test]

@@ -14,9 +14,9 @@ pub extern "C" fn main(_count: i32, _words: *const *const u8) -> i32 {
     let words: Vec<u64> = std::env::args().skip(1).map(|word| word.parse().expect("a number")).collect();
     let mut buffer = vec![0; ROOM];
     for number in 0..words[1] {
-        let (answer, _, length) = proved_translation(&right_text(&mut Random::new(words[0], number)), &mut buffer);
-        assert_eq!(answer, 0, "an accepted text");
-        print!("{}", codetable::named(&buffer[..length]));
+        let told = proved_translation(&right_text(&mut Random::new(words[0], number)), &mut buffer);
+        assert_eq!(told.number, 0, "an accepted text");
+        print!("{}", codetable::named(&buffer[..told.length]));
     }
     0
 }

@@ -21,30 +21,44 @@ static int all(const uint8_t *bytes, size_t from, size_t to, uint8_t value) {
     return 1;
 }
 
-/* A refusal of a text: its number, its place, and nothing written. */
-static void refuses(const char *text, uint64_t number, size_t at) {
-    size_t place = 77, length = 77;
+static uint64_t translated(const char *text, size_t room, struct tautgaff_answer *answer) {
+    *answer = (struct tautgaff_answer){77, 77, 77, 77};
     memset(buffer, 165, sizeof buffer);
-    uint64_t said = tautgaff_translate((const uint8_t *)text, strlen(text), buffer, sizeof buffer, &place, &length);
-    expect(said == number && place == at && length == 0 && all(buffer, 0, sizeof buffer, 165), text);
+    return tautgaff_translate((const uint8_t *)text, strlen(text), buffer, room, answer);
+}
+
+/* A refusal of a text: its number, its place, line and column, and nothing written. */
+static void stands(const char *text, size_t room, uint64_t number, size_t place, size_t line, size_t column) {
+    struct tautgaff_answer answer;
+    uint64_t said = translated(text, room, &answer);
+    expect(said == number && answer.length == 0 && all(buffer, 0, sizeof buffer, 165), text);
+    expect(answer.place == place && answer.line == line && answer.column == column, text);
+}
+
+/* On the first line. */
+static void refuses(const char *text, uint64_t number, size_t place) {
+    stands(text, sizeof buffer, number, place, 1, place + 1);
 }
 
 static size_t object_of(const char *text) {
-    size_t place = 77, length = 77;
-    memset(buffer, 165, sizeof buffer);
-    uint64_t said = tautgaff_translate((const uint8_t *)text, strlen(text), buffer, sizeof buffer, &place, &length);
-    expect(said == TAUTGAFF_ACCEPTED && place == 0 && all(buffer, length, sizeof buffer, 165), text);
-    return length;
+    struct tautgaff_answer answer;
+    uint64_t said = translated(text, sizeof buffer, &answer);
+    expect(said == TAUTGAFF_ACCEPTED && all(buffer, answer.length, sizeof buffer, 165), text);
+    expect(answer.place == 0 && answer.line == 0 && answer.column == 0, text);
+    return answer.length;
 }
+
+/* Place, line and column of a run. */
+static int nowhere(const struct tautgaff_results *results) { return results->place == 0 && results->line == 0 && results->column == 0; }
 
 /* A run: what it answers, and where it stops. */
 static void ends(size_t length, uint64_t code, uint32_t budget, uint32_t index, uint64_t stop, uint64_t counter, uint64_t count, const char *what) {
     uint32_t registers[16] = {0};
-    struct tautgaff_results results = {77, 77, 77, 77};
+    struct tautgaff_results results = {77, 77, 77, 77, 77, 77, 77};
     registers[1] = index;
     memset(storage, 165, sizeof storage);
     uint64_t said = tautgaff_run(buffer, length, code, budget, registers, storage, sizeof storage, &results);
-    expect(said == TAUTGAFF_ACCEPTED && results.stop == stop && results.counter == counter && results.code == code && results.count == count, what);
+    expect(said == TAUTGAFF_ACCEPTED && nowhere(&results) && results.stop == stop && results.counter == counter && results.code == code && results.count == count, what);
     expect(registers[14] == 8192 && registers[15] == 4096 && registers[1] == index, what);
     expect(all(storage, 0, 4096, 0) && all(storage, TAUTGAFF_STORAGE_NEEDED, sizeof storage, 165), what);
 }
@@ -52,19 +66,22 @@ static void ends(size_t length, uint64_t code, uint32_t budget, uint32_t index, 
 /* A refused run: its number, and nothing written but the results. */
 static void refuses_run(size_t length, uint64_t code, size_t room, uint64_t number, const char *what) {
     uint32_t registers[16], before[16];
-    struct tautgaff_results results = {77, 77, 77, 77};
+    struct tautgaff_results results = {77, 77, 77, 77, 77, 77, 77};
     for (uint32_t i = 0; i < 16; i++) registers[i] = before[i] = 1000 + i;
     memset(storage, 165, sizeof storage);
     uint64_t said = tautgaff_run(buffer, length, code, 100, registers, storage, room, &results);
-    expect(said == number && results.stop == 0 && results.counter == 0 && results.code == code && results.count == 0, what);
+    expect(said == number && nowhere(&results) && results.stop == 0 && results.counter == 0 && results.code == code && results.count == 0, what);
     expect(memcmp(registers, before, sizeof before) == 0 && all(storage, 0, sizeof storage, 165), what);
 }
 
 int main(void) {
     static char text[TAUTGAFF_SOURCE_LIMIT + 2];
-    size_t place, length;
+    size_t length;
     memset(text, ' ', TAUTGAFF_SOURCE_LIMIT + 1);
-    refuses(text, TAUTGAFF_SOURCE_TOO_LONG, TAUTGAFF_SOURCE_LIMIT);
+    stands(text, sizeof buffer, TAUTGAFF_SOURCE_TOO_LONG, TAUTGAFF_SOURCE_LIMIT, 0, 0);
+    memset(text, '\n', TAUTGAFF_SOURCE_LIMIT);
+    text[TAUTGAFF_SOURCE_LIMIT] = 0;
+    stands(text, sizeof buffer, TAUTGAFF_NO_PROGRAM, TAUTGAFF_SOURCE_LIMIT, TAUTGAFF_SOURCE_LIMIT + 1, 1);
     refuses("BEGIN r1 := R2; END @", TAUTGAFF_NO_TOKEN, 6);
     refuses("BEGIN R1 := 2147483648; END @", TAUTGAFF_NUMBER_OUT_OF_RANGE, 12);
     refuses("BEGIN END", TAUTGAFF_NO_PROGRAM, 9);
@@ -93,10 +110,11 @@ int main(void) {
     length = object_of("BEGIN ARRAY (4) BYTE B; IC(R2)(B(R1)); END @");
     ends(length, 3, 9, 1, TAUTGAFF_AT_END, 4100, 1, "a byte at an odd address");
 
-    const char *source = "BEGIN END @";
-    memset(buffer, 165, sizeof buffer);
-    expect(tautgaff_translate((const uint8_t *)source, strlen(source), buffer, 10, &place, &length) == TAUTGAFF_BUFFER_TOO_SHORT, "a short buffer");
-    expect(place == 87 && length == 0 && all(buffer, 0, sizeof buffer, 165), "a short buffer");
+    stands("BEGIN END @", 10, TAUTGAFF_BUFFER_TOO_SHORT, 87, 0, 0);
+    stands("BEGIN\n  RE := R1;\nEND @\n", sizeof buffer, TAUTGAFF_PROTECTED_REGISTER, 8, 2, 3);
+    stands("BEGIN\r\nEND @\n", sizeof buffer, TAUTGAFF_NO_TOKEN, 5, 1, 6);
+    stands("BEGIN END\n", sizeof buffer, TAUTGAFF_NO_PROGRAM, 10, 2, 1);
+    stands("\nBEGIN ARRAY (1020) INTEGER A; R1 := 5; END @\n", sizeof buffer, TAUTGAFF_NO_ROOM_FOR_LITERALS, 0, 0, 0);
     printf("the header's names and every lent byte: %d tried, %d wrong\n", tried, wrong);
     return wrong != 0;
 }

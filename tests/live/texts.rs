@@ -1,4 +1,5 @@
-//! Random and mutated texts through the proved token reader and grammar and through the reference in one process: number and place, and every token.
+//! Random and mutated texts through the proved token reader and grammar and through the reference in one process: number, place, line and column, and every
+//! token.
 #![no_main]
 
 #[macro_use]
@@ -7,14 +8,18 @@ mod tally;
 
 use proved_texts::{proved_grammar, reference_tokens, tautgaff_read_tokens, verdict, Lists, Reader, Verdict};
 use reference::gen;
+use reference::spot::Spot;
 use reference::token::{tokens, Kind, Token, TEXT_LIMIT};
 use reference::translate::translate;
 use tally::{numbers, Tally};
 
 reader!(tautgaff_tokens);
 
-/// Every entry of a list before a reading.
-const BEFORE: (u8, u64, u32) = (165, 165, 165);
+/// A token as the lists have it: kind and value; place, line and column.
+type Entry = (u8, u64, [u32; 3]);
+
+/// Every entry before a reading.
+const BEFORE: Entry = (165, 165, [165; 3]);
 
 /// The proved side counts from the text's end, 0, has COMMENT's number among the words, before INTEGER's, and the signs from 64 on.
 fn kind_number(kind: Kind) -> u8 {
@@ -36,28 +41,32 @@ fn value(token: &Token) -> u64 {
     key + token.value as u64
 }
 
-fn listed(token: &Token) -> (u8, u64, u32) {
-    (kind_number(token.kind), value(token), token.place as u32)
+fn listed(token: &Token) -> Entry {
+    let Spot { place, line, column } = token.spot;
+    (kind_number(token.kind), value(token), [place, line, column].map(|number| number as u32))
 }
 
 /// Does the reader, with so much room lent, answer this and lay these tokens, and leave what is behind them?
 fn reads(lists: &mut Lists, reader: Reader, text: &[u8], room: usize, expected: Verdict, laid: &[Token]) -> bool {
     lists.kinds[..room].fill(BEFORE.0);
     lists.values[..room].fill(BEFORE.1);
-    lists.places[..room].fill(BEFORE.2);
+    for (list, before) in lists.spots.iter_mut().zip(BEFORE.2) {
+        list[..room].fill(before);
+    }
     let answer = lists.read(reader, text, room);
     let count = if expected.0 == 0 { laid.len() } else { 0 };
-    let entries = (0..room).map(|i| (lists.kinds[i], lists.values[i], lists.places[i]));
+    let spot = |i: usize| [0, 1, 2].map(|list| lists.spots[list][i]);
+    let entries = (0..room).map(|i| (lists.kinds[i], lists.values[i], spot(i)));
     let behind = std::iter::repeat(BEFORE);
     answer == (expected, count) && entries.eq(laid.iter().map(listed).chain(behind).take(room))
 }
 
 /// The tokens before a refusal, read as those of a text that ends there.
-fn tokens_before(text: &[u8], (number, place): Verdict) -> Vec<Token> {
+fn tokens_before(text: &[u8], (number, spot): Verdict) -> Vec<Token> {
     if number == 1 {
         return Vec::new();
     }
-    let mut before = tokens(&text[..place]).expect("the first refusal");
+    let mut before = tokens(&text[..spot.place]).expect("the first refusal");
     before.pop();
     before
 }
@@ -71,13 +80,14 @@ fn same_tokens(lists: &mut Lists, text: &[u8]) -> bool {
         Ok(tokens) => tokens.clone(),
         Err(_) => tokens_before(text, expected),
     };
-    let no_room = if expected.0 == 1 { expected } else { (16, room) };
+    let too_little = |needed| (16, Spot::without_line(needed));
+    let no_room = if expected.0 == 1 { expected } else { too_little(room) };
     let in_one_pass = reads(lists, tautgaff_read_tokens, text, room, expected, &laid)
         && reads(lists, tautgaff_read_tokens, text, room - 1, no_room, &[]);
     let looked_over = match &answer {
         Ok(tokens) => {
             reads(lists, tautgaff_tokens, text, tokens.len(), expected, tokens)
-                && reads(lists, tautgaff_tokens, text, tokens.len() - 1, (16, tokens.len()), &[])
+                && reads(lists, tautgaff_tokens, text, tokens.len() - 1, too_little(tokens.len()), &[])
         }
         Err(_) => reads(lists, tautgaff_tokens, text, room, expected, &[]),
     };
@@ -96,7 +106,7 @@ pub extern "C" fn main(_count: i32, _words: *const *const u8) -> i32 {
             tally.differs(format!("text {number}: other tokens"));
         }
         let answer = translate(&text, None);
-        let expected = if answer.number <= 5 { (answer.number as u64, answer.place) } else { (0, 0) };
+        let expected = if answer.number <= 5 { (answer.number as u64, answer.spot) } else { (0, Spot::NONE) };
         let said = proved_grammar(&text);
         if said != expected {
             tally.differs(format!("text {number}: {said:?}, reference {expected:?}"));

@@ -47,7 +47,7 @@ fn on_thread(text: &[u8], stack: usize) -> (Told, Vec<u8>) {
     let work = move || {
         let mut buffer = vec![0; ROOM];
         let told = proved_translation(&text, &mut buffer);
-        buffer.truncate(told.2);
+        buffer.truncate(told.length);
         (told, buffer)
     };
     thread::Builder::new().stack_size(stack).spawn(work).expect("a thread").join().expect("an answer")
@@ -65,7 +65,7 @@ pub extern "C" fn main(_count: i32, _words: *const *const u8) -> i32 {
     for (number, text) in texts.iter().enumerate() {
         let stack = STACKS.iter().find(|(length, _)| text.len() <= *length).map_or(SHORT_STACK, |(_, stack)| *stack);
         let answer = translate(text, Some(ROOM));
-        let told = (answer.number as u64, answer.place, answer.object.len());
+        let told = Told::from(&answer);
         tally.answered(format!("on {} KB", stack >> 10));
         if on_thread(text, stack) != (told, answer.object) {
             tally.differs(format!("text {number} of {} bytes", text.len()));

@@ -1,11 +1,11 @@
-//! Random and mutated texts through the proved translator and the reference in one process, each in several rooms: number, place and length, and every byte of
-//! the buffer.
+//! Random and mutated texts through the proved translator and the reference in one process, each in several rooms: number, place, line, column and length, and
+//! every byte of the buffer.
 #![no_main]
 
 mod proved_translator;
 mod tally;
 
-use proved_translator::{proved_translation, ROOM};
+use proved_translator::{proved_translation, Told, ROOM};
 use reference::gen;
 use reference::translate::{translate, Answer};
 use tally::{numbers, Tally};
@@ -16,8 +16,8 @@ const BEFORE: [u8; ROOM] = [165; ROOM];
 /// The reference's answer in so much of the buffer, and what the proved translator does otherwise.
 fn both(text: &[u8], room: usize, buffer: &mut [u8]) -> (Answer, Option<String>) {
     let answer = translate(text, Some(room));
-    let length = answer.object.len();
-    let expected = (answer.number as u64, answer.place, length);
+    let expected = Told::from(&answer);
+    let length = expected.length;
     buffer.copy_from_slice(&BEFORE);
     let said = proved_translation(text, &mut buffer[..room]);
     let difference = if said != expected {

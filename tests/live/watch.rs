@@ -8,20 +8,21 @@ use proved_runner::proved_line;
 use proved_translator::{proved_translation, ROOM};
 use reference::runcase::{Case, STORAGE_BEFORE};
 use reference::runner::RunAnswer;
+use reference::spot::Spot;
 use reference::watch::Seen;
 use reference::watching::{campaign, Texts};
 
-/// The answer in a line of the proved runner, `number place stop counter cc count r0 … r15 hash`.
+/// The answer in a line of the proved runner, `number place line column stop counter cc count r0 … r15 hash`.
 fn answer(line: &str) -> RunAnswer {
-    let fields: Vec<u64> = line.split(' ').take(22).map(|word| word.parse().expect("a number")).collect();
+    let fields: Vec<u64> = line.split(' ').take(24).map(|word| word.parse().expect("a number")).collect();
     RunAnswer {
         number: fields[0] as u32,
-        place: fields[1] as u32,
-        stop: fields[2] as u32,
-        counter: fields[3] as u32,
-        cc: fields[4],
-        count: fields[5] as u32,
-        regs: std::array::from_fn(|register| fields[6 + register] as u32),
+        spot: Spot { place: fields[1] as usize, line: fields[2] as usize, column: fields[3] as usize },
+        stop: fields[4] as u32,
+        counter: fields[5] as u32,
+        cc: fields[6],
+        count: fields[7] as u32,
+        regs: std::array::from_fn(|register| fields[8 + register] as u32),
     }
 }
 
@@ -33,8 +34,8 @@ pub extern "C" fn main(_count: i32, _words: *const *const u8) -> i32 {
     let (seed, count) = (words[1].parse().expect("a number"), words[2].parse().expect("a number"));
     let (mut buffer, mut text) = (vec![0; ROOM], Vec::new());
     let mut translate = |source: &[u8]| {
-        let (number, _, length) = proved_translation(source, &mut buffer);
-        (number, buffer[..length].to_vec())
+        let told = proved_translation(source, &mut buffer);
+        (told.number, buffer[..told.length].to_vec())
     };
     let mut run = |case: &Case| {
         text.clear();

@@ -1,5 +1,5 @@
-// The runner for C and Rust: an object text, a condition code, a budget, and lent memory: 16 registers, the storage, four results. The number is answered;
-// stop, counter, code and count are left in the results.
+// The runner for C and Rust: an object text, a condition code, a budget, and lent memory: 16 registers, the storage, seven results. The number is
+// answered; place, line, column, stop, counter, code and count are left in the results.
 ghost use mathlib.Core.Path.{_≡_};
 ghost use mathlib.Core.List.{_∷_, []};
 ghost use Rattle.runner.specs.Numbers.{numberOf as numberFor, stopOf as stopFor};
@@ -39,7 +39,7 @@ pub extern "C" fn tautgaff_run(
     budget: u32,
     registers: &mut [u32; 16],
     storage: &mut [u8],
-    results: &mut [u64; 4],
+    results: &mut [u64; 7],
 ) -> u64
     ensures { λ r. ⌜ lent r (now (registers .exit)) (now (results .exit)) (now (storage .exit)) ≡ runner (now (object .entry)) (now (registers .entry)) code budget (now (storage .entry)) ⌝ }
 {
@@ -48,8 +48,12 @@ pub extern "C" fn tautgaff_run(
     let after = answer.regs;
     let verdict = answer.verdict;
     let stop = answer.stop;
+    let spot = answer.spot;
     *registers = after;
     *results = [
+        spot.place as u64,
+        spot.line as u64,
+        spot.column as u64,
         stop_of(stop),
         answer.counter as u64,
         answer.code,

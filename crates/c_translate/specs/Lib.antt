@@ -1,2 +1,2 @@
 -- What the interface for C promises.
-pub mod Answered
+pub mod Lent

@@ -1,24 +1,26 @@
-// The translator for C and Rust: a source and a buffer, each as its first byte and its length. The number is answered; place and length are left where the
-// caller says.
-ghost use lib.ListN.{length as sizeOf};
-ghost use Rattle.translation.specs.Translate.{translate as answerTo};
-ghost use Rattle.c_translate.specs.Answered.{Answered, Told};
+// The translator for C and Rust: a source and a buffer, each as its first byte and its length. The number is answered; place, line, column and length are left
+// where the caller says.
+ghost use mathlib.Core.Path.{_≡_};
+ghost use mathlib.Core.List.{_∷_, []};
+ghost use Rattle.translate.specs.Answers.{numberOf, spotOf, lengthOf};
+ghost use Rattle.c_translate.specs.Lent.{Lent, partsOf};
 use translate::Answer;
 
-fn told(answer: Answer, place: &mut usize, length: &mut usize) -> u64
-    ensures { λ r. ⌜ Told answer r (now (place .exit)) (now (length .exit)) ⌝ }
+fn number_of(answer: Answer) -> u64
+    ensures { λ r. ⌜ r ≡ numberOf answer ⌝ }
 {
-    *place = 0;
-    *length = 0;
     match answer {
-        Answer::Accepted(written) => {
-            *length = written;
-            0
-        }
-        Answer::Refused(number, at) => {
-            *place = at;
-            number as u64
-        }
+        Answer::Accepted(written) => 0,
+        Answer::Refused(number, spot) => number as u64,
+    }
+}
+
+fn parts_of(answer: Answer) -> [usize; 4]
+    ensures { λ r. ⌜ r ≡ partsOf (spotOf answer) (lengthOf answer) ⌝ }
+{
+    match answer {
+        Answer::Accepted(written) => [0, 0, 0, written],
+        Answer::Refused(number, spot) => [spot.place, spot.line, spot.column, 0],
     }
 }
 
@@ -27,11 +29,11 @@ fn told(answer: Answer, place: &mut usize, length: &mut usize) -> u64
 pub extern "C" fn tautgaff_translate(
     source: &[u8],
     buffer: &mut [u8],
-    place: &mut usize,
-    length: &mut usize,
+    answer: &mut [usize; 4],
 ) -> u64
-    ensures { λ r. ⌜ Answered (answerTo (now (source .entry)) (sizeOf (now (buffer .entry)))) (now (buffer .entry)) (now (buffer .exit)) r (now (place .exit)) (now (length .exit)) ⌝ }
+    ensures { λ r. ⌜ Lent (now (source .entry)) (now (buffer .entry)) (now (buffer .exit)) r (now (answer .exit)) ⌝ }
 {
-    let answer = translate::translate(source, buffer);
-    told(answer, place, length)
+    let told = translate::translate(source, buffer);
+    *answer = parts_of(told);
+    number_of(told)
 }

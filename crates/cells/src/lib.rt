@@ -60,7 +60,16 @@ fn asked_in(word: &[u8]) -> Asked
     let mut kinds = [0u8; 5];
     let mut values = [0u64; 5];
     let mut places = [0u32; 5];
-    token_lists::tokens_of(word, &mut kinds, &mut values, &mut places);
+    let mut lines = [0u32; 5];
+    let mut columns = [0u32; 5];
+    token_lists::tokens_of(
+        word,
+        &mut kinds,
+        &mut values,
+        &mut places,
+        &mut lines,
+        &mut columns,
+    );
     asked_by(&kinds, &values)
 }
 

@@ -1,23 +1,12 @@
--- How the loops along a line go: bytes since a newline, bytes made visible. Assumes nothing.
-use Prim.Native.Nat.{ℕ, _+_, _-_, _≤_, _<_}
-use mathlib.Core.Path.{_≡_, refl, sym, ap, _∙_}
+-- How the loop along a line goes: bytes made visible. Assumes nothing.
+use Prim.Native.Nat.{ℕ, _+_, _<_}
+use mathlib.Core.Path.{_≡_, refl, ap}
 use mathlib.Core.List.{List, [], _∷_, _++_}
 use native.Mathlib.Numerals.{add-one}
-use lib.Dec.{eqb}
-use lib.ListN.{length, take, drop, getD, drop-of-length-le}
-use lib.Seq.{drop-cons, take-suc}
-use Rattle.base.specs.Choose.{choose}
+use lib.ListN.{length, take, getD}
+use lib.Seq.{take-suc}
 use Rattle.figures.specs.Writing.{Adds}
-use Rattle.excerpts.specs.Lines.{sinceNewline, visible, visibles}
-
-module _ (s : List ℕ) (i k : ℕ) (inv : sinceNewline 0 s ≡ sinceNewline k (drop i s)) where
-  pub since-on : i < length s → sinceNewline 0 s ≡ sinceNewline (choose (eqb (getD s i 0) 10) 0 (k + 1)) (drop (i + 1) s)
-  unfolding sinceNewline
-  since-on h = rw (add-one i) (inv ∙ rw (drop-cons s i 0))
-
-  pub since-end : length s ≤ i → k ≡ sinceNewline 0 s
-  unfolding sinceNewline
-  since-end h = sym (inv ∙ rw (drop-of-length-le s h))
+use Rattle.excerpts.specs.Lines.{visible, visibles}
 
 visibles-more : (s t : List ℕ) → visibles (s ++ t) ≡ visibles s ++ visibles t
 unfolding visibles

@@ -1,2 +1,2 @@
--- A place in a text: its line and column, and the line as it is shown.
+-- A place in a text as it is shown.
 pub mod Lines

@@ -1,5 +1,5 @@
--- The line and the column of a place: "line = 1 + newlines before, column = 1 + bytes since"; the part of the line that is shown, and what is underlined.
-use Prim.Native.Nat.{ℕ, _+_, _-_, min}
+-- A place as a message begins with it, the part of its line that is shown, and what is underlined.
+use Prim.Native.Nat.{ℕ, _-_, min}
 use mathlib.Core.Bool.{Bool, _||_}
 use mathlib.Core.List.{List, [], _∷_, _++_}
 use lib.Dec.{eqb}
@@ -8,25 +8,11 @@ use Rattle.base.specs.Choose.{choose}
 use Rattle.base.specs.Text.{bytes, within}
 use Rattle.base.specs.Runs.{runLen}
 use Rattle.figures.specs.Digits.{decimal}
-use Rattle.figures.specs.Parts.{partCount, firstPart}
-
-unfoldable pub lineOf : List ℕ → ℕ → ℕ
-lineOf text place = partCount 10 (take place text) + 1
-
--- how many bytes come after the last newline, after k bytes without one
-unfoldable pub sinceNewline : ℕ → List ℕ → ℕ
-sinceNewline k [] = k
-sinceNewline k (x ∷ xs) = sinceNewline (choose (eqb x 10) 0 (k + 1)) xs
-
-abbrev pub since : List ℕ → ℕ → ℕ
-since text place = sinceNewline 0 (take place text)
-
-unfoldable pub columnOf : List ℕ → ℕ → ℕ
-columnOf text place = since text place + 1
+use Rattle.figures.specs.Parts.{firstPart}
 
 -- at most 60 bytes of the line before the place are shown, and at most 100 in all
-unfoldable pub shownBefore : List ℕ → ℕ → ℕ
-shownBefore text place = min 60 (since text place)
+abbrev pub shownBefore : (column : ℕ) → ℕ
+shownBefore column = min 60 (column - 1)
 
 -- a byte as it is shown: a blank for TAB, `?` for any other byte that is not printed
 abbrev pub visible : ℕ → ℕ
@@ -36,8 +22,8 @@ unfoldable pub visibles : List ℕ → List ℕ
 visibles [] = []
 visibles (x ∷ xs) = visible x ∷ visibles xs
 
-unfoldable pub shownLine : List ℕ → ℕ → List ℕ
-shownLine text place = take 100 (firstPart 10 (drop (place - shownBefore text place) text))
+unfoldable pub shownLine : List ℕ → (place column : ℕ) → List ℕ
+shownLine text place column = take 100 (firstPart 10 (drop (place - shownBefore column) text))
 
 -- the word or number that begins at the place
 abbrev pub inWord : ℕ → Bool

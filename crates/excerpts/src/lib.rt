@@ -1,14 +1,10 @@
-// A place in a text: its line and column, the line as it is shown, and the word there.
+// A place in a text as it is shown: line and column, the line, and the word there.
 ghost use mathlib.Core.Path.{_≡_};
-ghost use Prim.Native.Nat.{_+_, _≤_, _<_};
-ghost use lib.ListN.{length, take};
-ghost use lib.Dec.{eqb};
-ghost use Rattle.base.specs.Choose.{choose};
+ghost use lib.ListN.{take};
 ghost use Rattle.base.specs.Runs.{runLen};
 ghost use Rattle.figures.specs.Parts.{firstPart};
 ghost use Rattle.figures.specs.Writing.{Adds};
-ghost use Rattle.excerpts.specs.Lines.{sinceNewline, visible as visibleOf, visibles, inWord, wordOf, underlined as underlinedOf, lineOf, since as sinceOf};
-ghost use Rattle.excerpts.specs.Lines.{columnOf, shownBefore, shownLine, wordAt, wideAt, placeText, lineText};
+ghost use Rattle.excerpts.specs.Lines.{shownBefore, shownLine, visible as visibleOf, visibles, inWord, wordOf, wordAt, underlined as underlinedOf, wideAt, placeText, lineText};
 use base::least;
 use base::less;
 use figures::put;
@@ -23,56 +19,10 @@ const SHOWN: usize = 100;
 
 const UNDERLINED: usize = 40;
 
-pub fn line_of(text: &[u8], place: usize) -> usize
-    requires { ⌜ place ≤ 32768 ⌝ }
-    ensures { λ r. ⌜ r ≡ lineOf (now (text .entry)) place ⌝ }
+pub fn shown_before(column: usize) -> usize
+    ensures { λ r. ⌜ r ≡ shownBefore column ⌝ }
 {
-    figures::part_count(figures::front(text, place), NEWLINE) + 1
-}
-
-fn since_after(b: u8, k: usize) -> usize
-    requires { ⌜ k < 32768 ⌝ }
-    ensures { λ r. ⌜ (r ≡ choose (eqb b 10) 0 (k + 1)) × (r ≤ k + 1) ⌝ }
-{
-    if b == NEWLINE {
-        return 0;
-    }
-    k + 1
-}
-
-// How many bytes come after the last newline.
-fn since_newline(s: &[u8]) -> usize
-    requires { ⌜ length (now s) ≤ 32768 ⌝ }
-    ensures { λ r. ⌜ (r ≡ sinceNewline 0 (now (s .entry))) × (r ≤ length (now (s .entry))) ⌝ }
-{
-    let mut k: usize = 0;
-    let mut i: usize = 0;
-    while i < s.len() {
-        k = since_after(s[i], k);
-        i += 1;
-    }
-    k
-}
-
-fn since(text: &[u8], place: usize) -> usize
-    requires { ⌜ place ≤ 32768 ⌝ }
-    ensures { λ r. ⌜ (r ≡ sinceOf (now (text .entry)) place) × (r ≤ 32768) ⌝ }
-{
-    since_newline(figures::front(text, place))
-}
-
-pub fn column_of(text: &[u8], place: usize) -> usize
-    requires { ⌜ place ≤ 32768 ⌝ }
-    ensures { λ r. ⌜ r ≡ columnOf (now (text .entry)) place ⌝ }
-{
-    since(text, place) + 1
-}
-
-pub fn shown_before(text: &[u8], place: usize) -> usize
-    requires { ⌜ place ≤ 32768 ⌝ }
-    ensures { λ r. ⌜ r ≡ shownBefore (now (text .entry)) place ⌝ }
-{
-    least(SHOWN_BEFORE, since(text, place))
+    least(SHOWN_BEFORE, less(column, 1))
 }
 
 // The part of the line at the front that is shown.
@@ -83,11 +33,10 @@ fn shown(s: &[u8]) -> &[u8]
     figures::front(figures::front(s, size), SHOWN)
 }
 
-pub fn shown_line(text: &[u8], place: usize) -> &[u8]
-    requires { ⌜ place ≤ 32768 ⌝ }
-    ensures { λ r. ⌜ now r ≡ shownLine (now (text .entry)) place ⌝ }
+pub fn shown_line(text: &[u8], place: usize, column: usize) -> &[u8]
+    ensures { λ r. ⌜ now r ≡ shownLine (now (text .entry)) place column ⌝ }
 {
-    let before = shown_before(text, place);
+    let before = shown_before(column);
     shown(figures::rest(text, less(place, before)))
 }
 

@@ -5,11 +5,12 @@
 use Prim.Native.Nat.{ℕ, _+_, _-_, _/_, _%_, min}
 use mathlib.Core.List.{List, _++_}
 use lib.Dec.{eqb, ltb}
-use lib.ListN.{length, drop, replicate}
+use lib.ListN.{drop, replicate}
 use Rattle.base.specs.Choose.{choose}
 use Rattle.base.specs.Text.{bytes}
+use Rattle.spots.specs.Spots.{spotAt}
 use Rattle.figures.specs.Parts.{partLength, partOf, filled}
-use Rattle.excerpts.specs.Lines.{lineOf, columnOf, shownBefore, shownLine, placeText, lineText}
+use Rattle.excerpts.specs.Lines.{shownBefore, shownLine, placeText, lineText}
 use Rattle.reports.specs.Reports.{stops, toldText}
 
 -- why, each behind a newline, counted from 1; `%` stands for the address
@@ -25,22 +26,20 @@ abbrev pub reasonFor : (stop opcode : ℕ) → ℕ
 reasonFor stop opcode = choose (eqb stop 3) (choose (eqb (opcode / 16) 4) 3 4) (choose (ltb (opcode % 16) 3) 2 1)
 
 -- as much of the operand as stands in its line, 40 bytes at most
-abbrev pub wideFor : (from to : ℕ) → (text : List ℕ) → (place : ℕ) → ℕ
-wideFor from to text place = min (min 39 (to - from) + 1) (partLength 10 (drop place text))
+abbrev pub wideFor : (from to : ℕ) → (text : List ℕ) → ℕ
+wideFor from to text = min (min 39 (to - from) + 1) (partLength 10 (drop from text))
 
-unfoldable pub headText : List ℕ → (stop : ℕ) → (text : List ℕ) → (place : ℕ) → List ℕ
-headText file stop text place = placeText file (lineOf text place) (columnOf text place) ++ bytes ": " ++ toldText (bytes "stop ") stop stops
+unfoldable pub headText : List ℕ → (stop line column : ℕ) → List ℕ
+headText file stop line column = placeText file line column ++ bytes ": " ++ toldText (bytes "stop ") stop stops
 
 unfoldable pub underText : (before wide address k : ℕ) → List ℕ
 underText before wide address k = replicate before 32 ++ replicate wide 94 ++ filled address (partOf 10 k reasons) ++ bytes "\n"
 
--- a place past the end of the text is its end; none is past 32,768
-abbrev pub placeIn : (place : ℕ) → List ℕ → ℕ
-placeIn place text = min 32768 (min place (length text))
+unfoldable pub linesText : (from to address k : ℕ) → (text : List ℕ) → (column : ℕ) → List ℕ
+linesText from to address k text column = lineText (shownLine text from column) ++ underText (shownBefore column) (wideFor from to text) address k
 
-unfoldable pub linesText : (from to address k : ℕ) → (text : List ℕ) → (place : ℕ) → List ℕ
-linesText from to address k text place = lineText (shownLine text place) ++ underText (shownBefore text place) (wideFor from to text place) address k
-
-unfoldable pub haltText : List ℕ → (stop from to address opcode : ℕ) → List ℕ → List ℕ
+-- the operand stands from `from` on in the text, its last token at `to`
+abbrev pub haltText : List ℕ → (stop from to address opcode : ℕ) → List ℕ → List ℕ
 haltText file stop from to address opcode text =
-    headText file stop text (placeIn from text) ++ linesText from to address (reasonFor stop opcode) text (placeIn from text)
+    let p = spotAt text from in
+    headText file stop (p .line) (p .column) ++ linesText from to address (reasonFor stop opcode) text (p .column)

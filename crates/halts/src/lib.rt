@@ -1,7 +1,6 @@
 // What is said of a stop 2 or 3 of a source's run: where it is, the line, the operand as it is written, and its address.
 ghost use mathlib.Core.Path.{_≡_};
 ghost use mathlib.Core.List.{_++_};
-ghost use Prim.Native.Nat.{_≤_};
 ghost use Rattle.figures.specs.Writing.{Adds, Holds};
 ghost use Rattle.excerpts.specs.Lines.{lineText};
 ghost use Rattle.halts.specs.Halts.{reasonFor, wideFor, headText, underText, haltText};
@@ -10,6 +9,7 @@ use base::less;
 use figures::put_all;
 use figures::put_phrase;
 use figures::put_times;
+use spots::spot_at;
 
 const REASONS: [u8; 140] = *b"\n address % is in no data segment\
     \n address % is in no cell that may be written\
@@ -33,22 +33,23 @@ fn reason(stop: usize, opcode: u8) -> usize
     1
 }
 
-fn wide(from: usize, to: usize, text: &[u8], place: usize) -> usize
-    ensures { λ r. ⌜ r ≡ wideFor from to (now (text .entry)) place ⌝ }
+fn wide(from: usize, to: usize, text: &[u8]) -> usize
+    ensures { λ r. ⌜ r ≡ wideFor from to (now (text .entry)) ⌝ }
 {
     let size = least(UNDERLINED, less(to, from)) + 1;
-    least(
-        size,
-        figures::part_length(figures::rest(text, place), b'\n'),
-    )
+    least(size, figures::part_length(figures::rest(text, from), b'\n'))
 }
 
-fn put_head(out: &mut [u8], at: usize, file: &[u8], stop: usize, text: &[u8], place: usize) -> usize
-    requires { ⌜ place ≤ 32768 ⌝ }
-    ensures { λ r. ⌜ Adds (headText (now (file .entry)) stop (now (text .entry)) place) (now (out .entry)) at (now (out .exit)) r ⌝ }
+fn put_head(
+    out: &mut [u8],
+    at: usize,
+    file: &[u8],
+    stop: usize,
+    line: usize,
+    column: usize,
+) -> usize
+    ensures { λ r. ⌜ Adds (headText (now (file .entry)) stop line column) (now (out .entry)) at (now (out .exit)) r ⌝ }
 {
-    let line = excerpts::line_of(text, place);
-    let column = excerpts::column_of(text, place);
     let placed = excerpts::put_place(out, at, file, line, column);
     let parted = put_all(out, placed, b": ");
     reports::put_stop(out, parted, stop)
@@ -98,11 +99,11 @@ pub fn stopped(
 ) -> usize
     ensures { λ r. ⌜ Holds (now (out .entry)) (haltText (now (file .entry)) stop from to address opcode (now (text .entry))) (now (out .exit)) r ⌝ }
 {
-    let place = least(32768, least(from, text.len()));
+    let spot = spot_at(text, from);
     let k = reason(stop, opcode);
-    let headed = put_head(out, 0, file, stop, text, place);
-    let before = excerpts::shown_before(text, place);
-    let under = wide(from, to, text, place);
-    let line = excerpts::shown_line(text, place);
+    let headed = put_head(out, 0, file, stop, spot.line, spot.column);
+    let before = excerpts::shown_before(spot.column);
+    let under = wide(from, to, text);
+    let line = excerpts::shown_line(text, from, spot.column);
     put_lines(out, headed, before, under, address, k, line)
 }

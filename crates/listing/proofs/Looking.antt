@@ -33,7 +33,7 @@ use Rattle.listing.specs.declared.Seen.{Seen}
 use Rattle.listing.specs.declared.Site.{Site}
 use Rattle.listing.specs.Sound.{ruled, onGrammar, afterTokens, soundOf}
 use Rattle.listing.specs.Cells.{sited, sitesFrom, siteIn}
-use Rattle.listing.specs.Operands.{spotAlong}
+use Rattle.listing.specs.Operands.{spanAlong}
 use Rattle.listing.specs.Seeing.{Shows, Sees}
 
 -- ── cells ──
@@ -84,8 +84,8 @@ module _ (q : Seen) (key address : ℕ) where
             goes-is = k .goes-stays ∙ d .goes-is;
             opens-are = s .opens-are;
           };
-          spot = spotAlong address kinds w b tape;
-          spot-is = rw (ek, t .tape-is);
+          span = spanAlong address kinds w b tape;
+          span-is = rw (ek, t .tape-is);
           from-is = g .from-is;
           to-is = g .to-is;
         };

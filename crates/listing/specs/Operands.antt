@@ -13,17 +13,17 @@ use Rattle.emit.specs.declared.Use.the-variants.{Absent, Held, Number, Stored}
 use Rattle.emit.specs.declared.Writing.{Writing}
 use Rattle.emit.specs.Codes.{listOf, codeSizes}
 use Rattle.emit.specs.Events.{noWriting, writingIn, codesIn}
-use Rattle.listing.specs.declared.Spot.{Spot}
+use Rattle.listing.specs.declared.Span.{Span}
 
 -- from its first token to its last, by its shape: a name, name(number), name(name), name(number)(name), or a number
 abbrev pub reach : (shape : ℕ) → ℕ
 reach shape = choose (eqb shape 1 || eqb shape 2) 3 (choose (eqb shape 3) 6 0)
 
-unfoldable pub spotOf : (token shape : ℕ) → Spot
-spotOf t shape = record { token = t; last = t + reach shape }
+unfoldable pub spanOf : (token shape : ℕ) → Span
+spanOf t shape = record { token = t; last = t + reach shape }
 
-abbrev pub noSpot : Spot
-noSpot = record { token = 0; last = 0 }
+abbrev pub noSpan : Span
+noSpan = record { token = 0; last = 0 }
 
 -- the assignment that is written stores
 unfoldable pub stores : Use → Bool
@@ -33,37 +33,37 @@ stores (Number v) = false
 stores (Stored width x b d) = true
 
 -- what is written: the target of an assignment, or the last argument of a use
-abbrev pub targetAfter : (family : ℕ) → (own target : Spot) → Spot
+abbrev pub targetAfter : (family : ℕ) → (own target : Span) → Span
 targetAfter family own target = choose (eqb family E.TARGET || (eqb family E.CONTROL || eqb family E.ARGUED)) own target
 
 -- "store": the operand in storage is the target; that of a use is its last argument; else it is the event's own
-abbrev pub operandBy : (family : ℕ) → Use → (own target : Spot) → Spot
+abbrev pub operandBy : (family : ℕ) → Use → (own target : Span) → Span
 operandBy family aim own target = choose ((eqb family E.FIRST && stores aim) || eqb family E.COUNTED) target own
 
 -- an event from address p to address q is the one at the address
-abbrev pub spotAfter : (address p q : ℕ) → (operand spot : Spot) → Spot
-spotAfter address p q operand spot = choose (eqb p address && ltb p q) operand spot
+abbrev pub spanAfter : (address p q : ℕ) → (operand span : Span) → Span
+spanAfter address p q operand span = choose (eqb p address && ltb p q) operand span
 
 -- the address so far, the assignment or use that is written, with its target, and the operand
-pub record Spotting : Type 0 where
+pub record Spanning : Type 0 where
   pub at : ℕ
   pub writing : Writing
-  pub target : Spot
-  pub spot : Spot
+  pub target : Span
+  pub span : Span
 
-abbrev pub spottingOf : ℕ → Writing → (target spot : Spot) → Spotting
-spottingOf at w target spot = record { at = at; writing = w; target = target; spot = spot }
+abbrev pub spanningOf : ℕ → Writing → (target span : Span) → Spanning
+spanningOf at w target span = record { at = at; writing = w; target = target; span = span }
 
 module _ (address : ℕ) (kinds : List ℕ) (w : Wide) (b : Thin) where
-  abbrev pub behind : (op t : ℕ) → Spotting → ℕ
+  abbrev pub behind : (op t : ℕ) → Spanning → ℕ
   behind op t s = s .at + codeSizes (listOf (codesIn kinds w b op t (s .writing)))
 
-  unfoldable pub spotEvent : (op t : ℕ) → Spotting → Spotting
-  spotEvent op t s =
-      let own : Spot = spotOf t (formAt op) in
-      spottingOf (behind op t s) (writingIn w b op t (s .writing)) (targetAfter (familyAt op) own (s .target))
-      (spotAfter address (s .at) (behind op t s) (operandBy (familyAt op) (s .writing .aim) own (s .target)) (s .spot))
+  unfoldable pub spanEvent : (op t : ℕ) → Spanning → Spanning
+  spanEvent op t s =
+      let own : Span = spanOf t (formAt op) in
+      spanningOf (behind op t s) (writingIn w b op t (s .writing)) (targetAfter (familyAt op) own (s .target))
+      (spanAfter address (s .at) (behind op t s) (operandBy (familyAt op) (s .writing .aim) own (s .target)) (s .span))
 
   -- along a whole tape
-  unfoldable pub spotAlong : List ℕ → Spot
-  spotAlong tape = pass spotEvent (spottingOf 0 noWriting noSpot noSpot) tape .spot
+  unfoldable pub spanAlong : List ℕ → Span
+  spanAlong tape = pass spanEvent (spanningOf 0 noWriting noSpan noSpan) tape .span

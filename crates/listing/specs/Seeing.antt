@@ -18,8 +18,8 @@ use Rattle.listing.specs.declared.Seen.{Seen}
 use Rattle.listing.specs.declared.Site.{Site}
 use Rattle.listing.specs.Sound.{Sound, ruled, afterTokens}
 use Rattle.listing.specs.Cells.{sited, sitesFrom, siteBy}
-use Rattle.listing.specs.declared.Spot.{Spot}
-use Rattle.listing.specs.Operands.{spotAlong}
+use Rattle.listing.specs.declared.Span.{Span}
+use Rattle.listing.specs.Operands.{spanAlong}
 
 -- The ledger of a text, as the instructions of its events are made by it.
 pub record Book (ts : List Token) (x : Statement) : Type 0 where
@@ -35,10 +35,10 @@ pub record Book (ts : List Token) (x : Statement) : Type 0 where
 -- the places of the first and the last token of the operand, which is `)` where it is indexed
 pub record Located (ts : List Token) (x : Statement) (address from to : ℕ) : Type 0 where
   pub book : Book ts x
-  pub spot : Spot
-  pub spot-is : spot ≡ spotAlong address (kindsOf ts) (book .wide) (book .thin) (tapeStatement x [])
-  pub from-is : from ≡ placeAt ts (spot .token)
-  pub to-is : to ≡ placeAt ts (spot .last)
+  pub span : Span
+  pub span-is : span ≡ spanAlong address (kindsOf ts) (book .wide) (book .thin) (tapeStatement x [])
+  pub from-is : from ≡ placeAt ts (span .token)
+  pub to-is : to ≡ placeAt ts (span .last)
 
 abbrev pub LocatedBy : Option Sound → (address from to : ℕ) → Type 0
 LocatedBy none address from to = (from ≡ 0) × (to ≡ 0)
@@ -63,8 +63,8 @@ sitesIn w key = sitesFrom (w .values) (placeBy w) key 0 (meaningsOf (w .means) (
 -- of a text on its tape
 pub record Shows (ts : List Token) (kinds : List ℕ) (w : Wide) (b : Thin) (tape : List ℕ) (key address : ℕ) (r : Seen) : Type 0 where
   pub site-is : r .site ≡ sitesIn w key
-  pub from-is : r .from ≡ placeAt ts (spotAlong address kinds w b tape .token)
-  pub to-is : r .to ≡ placeAt ts (spotAlong address kinds w b tape .last)
+  pub from-is : r .from ≡ placeAt ts (spanAlong address kinds w b tape .token)
+  pub to-is : r .to ≡ placeAt ts (spanAlong address kinds w b tape .last)
 
 -- ── where the tape, or the tokens, are still to be found to be a program's ──
 

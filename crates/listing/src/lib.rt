@@ -12,7 +12,7 @@ ghost use Rattle.ledger.specs.Bounds.{Narrow, Nested};
 ghost use Rattle.settled.specs.Texts.{allTokens, Lent, Rooms};
 ghost use Rattle.listing.specs.Sound.{soundOf};
 ghost use Rattle.listing.specs.Cells.{nowhere as nowhereOf, siteNamed};
-ghost use Rattle.listing.specs.Operands.{noSpot, spotOf, stores as storesOf, targetAfter, operandBy, spotAfter, spotAlong, reach as reachOf};
+ghost use Rattle.listing.specs.Operands.{noSpan, spanOf, stores as storesOf, targetAfter, operandBy, spanAfter, spanAlong, reach as reachOf};
 ghost use Rattle.listing.specs.Seeing.{sitedIn, sitesIn, Shows, LooksOn, LooksAt, Sees};
 use emit::Use;
 use emit::Writing;
@@ -92,15 +92,15 @@ fn sites(wide: &[u64], key: u64) -> Site
 // ── operands ──
 
 // An operand as it is written: its first and its last token; 0 and 0 for none.
-pub struct Spot {
+pub struct Span {
     pub token: usize,
     pub last: usize,
 }
 
-fn no_spot() -> Spot
-    ensures { λ r. ⌜ r ≡ noSpot ⌝ }
+fn no_span() -> Span
+    ensures { λ r. ⌜ r ≡ noSpan ⌝ }
 {
-    Spot { token: 0, last: 0 }
+    Span { token: 0, last: 0 }
 }
 
 // From the first token of an operand to its last.
@@ -116,12 +116,12 @@ fn reach(shape: u32) -> usize
     0
 }
 
-fn spot_at(token: usize, shape: u32) -> Spot
+fn span_at(token: usize, shape: u32) -> Span
     requires { ⌜ token < TOKEN-LIMIT ⌝ }
-    ensures { λ r. ⌜ r ≡ spotOf token shape ⌝ }
+    ensures { λ r. ⌜ r ≡ spanOf token shape ⌝ }
 {
     let last = token + reach(shape);
-    Spot { token, last }
+    Span { token, last }
 }
 
 fn stores(aim: Use) -> bool
@@ -136,7 +136,7 @@ fn stores(aim: Use) -> bool
 }
 
 // What is written: an assignment's target, or the last argument of a use.
-fn target_after(family: u32, own: Spot, target: Spot) -> Spot
+fn target_after(family: u32, own: Span, target: Span) -> Span
     ensures { λ r. ⌜ r ≡ targetAfter family own target ⌝ }
 {
     if (family == tape::TARGET) | ((family == tape::CONTROL) | (family == tape::ARGUED)) {
@@ -146,7 +146,7 @@ fn target_after(family: u32, own: Spot, target: Spot) -> Spot
 }
 
 // A store's operand is the target, and that of a use its last argument.
-fn operand_by(family: u32, aim: Use, own: Spot, target: Spot) -> Spot
+fn operand_by(family: u32, aim: Use, own: Span, target: Span) -> Span
     ensures { λ r. ⌜ r ≡ operandBy family aim own target ⌝ }
 {
     if ((family == tape::FIRST) & stores(aim)) | (family == tape::COUNTED) {
@@ -155,19 +155,19 @@ fn operand_by(family: u32, aim: Use, own: Spot, target: Spot) -> Spot
     own
 }
 
-fn spot_after(address: usize, p: usize, q: usize, operand: Spot, spot: Spot) -> Spot
-    ensures { λ r. ⌜ r ≡ spotAfter address p q operand spot ⌝ }
+fn span_after(address: usize, p: usize, q: usize, operand: Span, span: Span) -> Span
+    ensures { λ r. ⌜ r ≡ spanAfter address p q operand span ⌝ }
 {
     if (p == address) & (p < q) {
         return operand;
     }
-    spot
+    span
 }
 
 // The operand of the event whose first instruction is at the address.
-fn spot_along(tape: &[u32], kinds: &[u8], wide: &[u64], thin: &[u16], address: usize) -> Spot
+fn span_along(tape: &[u32], kinds: &[u8], wide: &[u64], thin: &[u16], address: usize) -> Span
     requires { ⌜ length (now tape) ≤ 2 * TOKEN-LIMIT ⌝ }
-    ensures { λ r. ⌜ r ≡ spotAlong address (now (kinds .entry)) (wideOf (now (wide .entry))) (thinOf (now (thin .entry))) (now (tape .entry)) ⌝ }
+    ensures { λ r. ⌜ r ≡ spanAlong address (now (kinds .entry)) (wideOf (now (wide .entry))) (thinOf (now (thin .entry))) (now (tape .entry)) ⌝ }
 {
     let mut p: usize = 0;
     let mut w = Writing {
@@ -175,8 +175,8 @@ fn spot_along(tape: &[u32], kinds: &[u8], wide: &[u64], thin: &[u16], address: u
         sign: 0,
         arguments: 0,
     };
-    let mut target = no_spot();
-    let mut spot = no_spot();
+    let mut target = no_span();
+    let mut span = no_span();
     let mut i: usize = 0;
     while i < tape.len() {
         let e = tape[i];
@@ -187,15 +187,15 @@ fn spot_along(tape: &[u32], kinds: &[u8], wide: &[u64], thin: &[u16], address: u
         let q = p + size(codes);
         let aim = w.aim;
         let family = tape::family(op);
-        let own = spot_at(t, tape::form(op));
-        spot = spot_after(address, p, q, operand_by(family, aim, own, target), spot);
+        let own = span_at(t, tape::form(op));
+        span = span_after(address, p, q, operand_by(family, aim, own, target), span);
         target = target_after(family, own, target);
         let next = made.writing;
         w = next;
         p = q;
         i += 1;
     }
-    spot
+    span
 }
 
 // ── both, of a text ──
@@ -231,11 +231,11 @@ fn look_settled(
     ensures { λ r. ⌜ Shows (allTokens (now (src .entry))) (now (kinds .entry)) (wideOf (now (wide .entry))) (thinOf (now (thin .entry))) (now (tape .entry)) key address r ⌝ }
 {
     let site = sites(wide, key);
-    let spot = spot_along(tape, kinds, wide, thin, address);
+    let span = span_along(tape, kinds, wide, thin, address);
     Seen {
         site,
-        from: place_of(src, spot.token),
-        to: place_of(src, spot.last),
+        from: place_of(src, span.token),
+        to: place_of(src, span.last),
     }
 }
 

@@ -10,6 +10,7 @@ use lib.ListN.{length, drop}
 use lib.Seq.{take-at}
 use borrow.Author.Tests.{ne-eqb, le-ltb, ltb-false}
 use Rattle.base.specs.Choose.{choose}
+use Rattle.spots.specs.Spots.{unplaced}
 use Rattle.objtext.specs.Object.{Form, of-object, of-none}
 use Rattle.objtext.proofs.Exact.{form}
 use Rattle.machine.specs.Space.{needed}
@@ -47,7 +48,7 @@ module _ (source regs : List ℕ) (k budget : ℕ) (buffer s : List ℕ) where
           tests false true m = refl
           tests false false m = absurd (m refl)
 
-  refused-stays : (n p : ℕ) → (gone (refused n p) regs k budget buffer s .number ≡ 0 → ⊥) → Untouched (gone (refused n p) regs k budget buffer s)
+  refused-stays : (n p : ℕ) → (gone source (refused n p) regs k budget buffer s .number ≡ 0 → ⊥) → Untouched (gone source (refused n p) regs k budget buffer s)
   unfolding gone
   refused-stays zero p n = (refl, runner-refuses [] n)
   refused-stays (suc m) p n = rw (ne-eqb (suc m) 0 (λ e. omega arith)) (refl, refl)
@@ -57,15 +58,15 @@ module _ (source regs : List ℕ) (k budget : ℕ) (buffer s : List ℕ) where
   unfolding loadAndGo
   refused-touches-nothing sixteen n = tests (ltb 3 k) (ltb (length s) needed) refl refl n
     where
-      go : (d : T.Answer) → translate source (length buffer) ≡ d → k ≤ 3 → needed ≤ length s → (gone d regs k budget buffer s .number ≡ 0 → ⊥)
-          → Untouched (gone d regs k budget buffer s)
+      go : (d : T.Answer) → translate source (length buffer) ≡ d → k ≤ 3 → needed ≤ length s → (gone source d regs k budget buffer s .number ≡ 0 → ⊥)
+          → Untouched (gone source d regs k budget buffer s)
       go (refused m p) e h l z = refused-stays m p z
       go (accepted t) e h l z =
           absurd (n (ap (λ (o : Outcome). o .number) (accepted-goes t e h l) ∙ it-runs source t (length buffer) e regs sixteen k h budget s l))
 
       tests : (a b : Bool) → ltb 3 k ≡ a → ltb (length s) needed ≡ b
-          → (choose a (notRun 18 0 regs k buffer s) (choose b (notRun 19 0 regs k buffer s) (gone (translate source (length buffer)) regs k budget buffer s)) .number ≡ 0 → ⊥)
-          → Untouched (choose a (notRun 18 0 regs k buffer s) (choose b (notRun 19 0 regs k buffer s) (gone (translate source (length buffer)) regs k budget buffer s)))
+          → (choose a (notRun 18 (unplaced 0) regs k buffer s) (choose b (notRun 19 (unplaced 0) regs k buffer s) (gone source (translate source (length buffer)) regs k budget buffer s)) .number ≡ 0 → ⊥)
+          → Untouched (choose a (notRun 18 (unplaced 0) regs k buffer s) (choose b (notRun 19 (unplaced 0) regs k buffer s) (gone source (translate source (length buffer)) regs k budget buffer s)))
       tests true b h l z = (refl, refl)
       tests false true h l z = (refl, refl)
       tests false false h l z = go (translate source (length buffer)) refl (ltb-false 3 k h) (ltb-false (length s) needed l) z

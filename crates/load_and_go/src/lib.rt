@@ -7,6 +7,8 @@ ghost use Rattle.translation.specs.Translate.{translate as translation};
 ghost use Rattle.runner.specs.Numbers.{numberOf as numberOfVerdict};
 ghost use Rattle.runner.specs.Runner.{runner as runs};
 ghost use Rattle.load_and_go.specs.Going.{Told, outcome, refusal, ran, gone, loadAndGo};
+use spots::Spot;
+use spots::unplaced;
 
 // "code over 3", "storage under 20,480 bytes".
 const LAST_CODE: u64 = 3;
@@ -15,7 +17,7 @@ const NEEDED: usize = machine::ROOM * machine::PAGES;
 
 pub struct Answer {
     pub number: usize,
-    pub place: usize,
+    pub spot: Spot,
     pub length: usize,
     pub stop: runner::Stop,
     pub counter: u32,
@@ -24,10 +26,10 @@ pub struct Answer {
     pub count: u32,
 }
 
-// The translator's three numbers.
+// The translator's answer.
 struct Translated {
     number: usize,
-    place: usize,
+    spot: Spot,
     length: usize,
 }
 
@@ -37,12 +39,12 @@ fn told(answer: translate::Answer) -> Translated
     match answer {
         translate::Answer::Accepted(written) => Translated {
             number: 0,
-            place: 0,
+            spot: unplaced(0),
             length: written,
         },
-        translate::Answer::Refused(number, at) => Translated {
-            number: number,
-            place: at,
+        translate::Answer::Refused(number, spot) => Translated {
+            number,
+            spot,
             length: 0,
         },
     }
@@ -59,12 +61,12 @@ fn number_of(verdict: runner::Verdict) -> usize
     }
 }
 
-fn refused(number: usize, place: usize, regs: [u32; 16], code: u64) -> Answer
-    ensures { λ r. ⌜ r ≡ refusal number place regs code ⌝ }
+fn refused(number: usize, spot: Spot, regs: [u32; 16], code: u64) -> Answer
+    ensures { λ r. ⌜ r ≡ refusal number spot regs code ⌝ }
 {
     Answer {
-        number: number,
-        place: place,
+        number,
+        spot,
         length: 0,
         stop: runner::Stop::BudgetUsed,
         counter: 0,
@@ -81,9 +83,10 @@ fn run(object: &[u8], regs: [u32; 16], code: u64, budget: u32, s: &mut [u8]) -> 
     let verdict = q.verdict;
     let stop = q.stop;
     let after = q.regs;
+    let spot = q.spot;
     Answer {
         number: number_of(verdict),
-        place: 0,
+        spot,
         length: object.len(),
         stop: stop,
         counter: q.counter,
@@ -102,11 +105,12 @@ fn go(
     budget: u32,
     s: &mut [u8],
 ) -> Answer
-    ensures { λ r. ⌜ outcome r (now (object .exit)) (now (s .exit)) ≡ gone (translation (now (src .entry)) (length (now (object .entry)))) regs code budget (now (object .entry)) (now (s .entry)) ⌝ }
+    ensures { λ r. ⌜ outcome r (now (object .exit)) (now (s .exit)) ≡ gone (now (src .entry)) (translation (now (src .entry)) (length (now (object .entry)))) regs code budget (now (object .entry)) (now (s .entry)) ⌝ }
 {
     let t = told(translate::translate(src, object));
     if t.number != 0 {
-        return refused(t.number, t.place, regs, code);
+        let spot = t.spot;
+        return refused(t.number, spot, regs, code);
     }
     let n = t.length;
     run(&object[..n], regs, code, budget, s)
@@ -123,10 +127,10 @@ pub fn load_and_go(
     ensures { λ r. ⌜ outcome r (now (object .exit)) (now (s .exit)) ≡ loadAndGo (now (src .entry)) regs code budget (now (object .entry)) (now (s .entry)) ⌝ }
 {
     if LAST_CODE < code {
-        return refused(18, 0, regs, code);
+        return refused(18, unplaced(0), regs, code);
     }
     if s.len() < NEEDED {
-        return refused(19, 0, regs, code);
+        return refused(19, unplaced(0), regs, code);
     }
     go(src, object, regs, code, budget, s)
 }

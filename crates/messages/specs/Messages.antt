@@ -1,23 +1,20 @@
--- A message is a function of a file's name, a refusal's number and place, and the text:
+-- A message is a function of a file's name, a refusal's number and where it stands, as the translator answers them, and the text:
 --     survey.pl360:2:3: refusal 10: register 14 is protected here
 --       RE := R1;
 --       ^^ the data base: cells without SEGMENT BASE belong to it
-use Prim.Native.Nat.{ℕ, _+_, min}
-use mathlib.Core.Bool.{Bool, _&&_}
+use Prim.Native.Nat.{ℕ}
+use mathlib.Core.Bool.{Bool}
 use mathlib.Core.List.{List, _++_}
 use lib.Dec.{eqb, ltb, leb}
 use lib.ListN.{length, getD, replicate}
 use Rattle.base.specs.Choose.{choose}
 use Rattle.base.specs.Text.{bytes, within}
+use Rattle.spots.specs.declared.Spot.{Spot}
 use Rattle.figures.specs.Digits.{decimal}
 use Rattle.figures.specs.Parts.{partOf, filled}
 use Rattle.words.specs.Wishes.{registerIn}
-use Rattle.excerpts.specs.Lines.{lineOf, columnOf, shownBefore, shownLine, wordAt, wideAt, placeText, lineText}
+use Rattle.excerpts.specs.Lines.{shownBefore, shownLine, wordAt, wideAt, placeText, lineText}
 use Rattle.messages.specs.Phrases.{headlines, notes, faults}
-
--- refusals 2 to 13 have a place in the text
-abbrev pub hasPlace : ℕ → Bool
-hasPlace number = ltb 1 number && ltb number 14
 
 -- which headline a byte that is in no token gets
 abbrev pub byteHeadline : ℕ → ℕ
@@ -71,21 +68,20 @@ figureAt number text place = figureFor number (getD text place 0) (registerAt te
 unfoldable pub noteAt : ℕ → List ℕ → ℕ → ℕ
 noteAt number text place = noteFor number (getD text place 0) (registerAt text place) (leb (length text) place)
 
-unfoldable pub firstLine : List ℕ → ℕ → ℕ → List ℕ → List ℕ
-firstLine file number place text =
-    placeText file (lineOf text place) (columnOf text place) ++ headText number (headlineAt number text place) (figureAt number text place)
+unfoldable pub firstLine : List ℕ → ℕ → Spot → List ℕ → List ℕ
+firstLine file number p text =
+    placeText file (p .line) (p .column) ++ headText number (headlineAt number text (p .place)) (figureAt number text (p .place))
 
-unfoldable pub otherLines : ℕ → ℕ → List ℕ → List ℕ
-otherLines number place text =
-    lineText (shownLine text place) ++ caretText (shownBefore text place) (wideAt text place) (noteAt number text place)
+unfoldable pub otherLines : ℕ → Spot → List ℕ → List ℕ
+otherLines number p text =
+    lineText (shownLine text (p .place) (p .column)) ++ caretText (shownBefore (p .column)) (wideAt text (p .place)) (noteAt number text (p .place))
 
-unfoldable pub placedText : List ℕ → ℕ → ℕ → List ℕ → List ℕ
-placedText file number place text = firstLine file number place text ++ otherLines number place text
+unfoldable pub placedText : List ℕ → ℕ → Spot → List ℕ → List ℕ
+placedText file number p text = firstLine file number p text ++ otherLines number p text
 
--- a place past the end of the text is its end; none is past 32,768
-abbrev pub messageText : List ℕ → ℕ → ℕ → List ℕ → List ℕ
-messageText file number place text =
-    choose (hasPlace number) (placedText file number (min 32768 (min place (length text))) text) (file ++ headText number number place)
+-- where no line is reported, nothing of the text is shown
+abbrev pub messageText : List ℕ → ℕ → Spot → List ℕ → List ℕ
+messageText file number p text = choose (eqb (p .line) 0) (file ++ headText number number (p .place)) (placedText file number p text)
 
 -- a file that is accepted
 abbrev pub acceptedText : List ℕ → ℕ → List ℕ

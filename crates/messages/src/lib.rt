@@ -7,14 +7,14 @@ ghost use Rattle.base.specs.Runs.{runLen};
 ghost use Rattle.base.specs.Choose.{choose};
 ghost use Rattle.figures.specs.Parts.{firstPart};
 ghost use lib.Dec.{eqb};
-ghost use Rattle.messages.specs.Messages.{hasPlace, byteHeadline, registerHeadline, headline as headlineOf, registerNote, byteNote, noteFor, figureFor};
+ghost use Rattle.messages.specs.Messages.{byteHeadline, registerHeadline, headline as headlineOf, registerNote, byteNote, noteFor, figureFor};
 ghost use Rattle.messages.specs.Messages.{registerAt, headlineAt, figureAt, noteAt, headText, caretText, firstLine, otherLines, messageText};
 ghost use Rattle.messages.specs.Messages.{acceptedText, equalText, faultText};
-use base::least;
 use figures::put_all;
 use figures::put_decimal;
 use figures::put_phrase;
 use figures::put_times;
+use spots::Spot;
 
 // What is refused, by its number; from 20 on what is told more closely.
 const HEADLINES: [u8; 901] = *b"\nthe source has more than 32,768 bytes\
@@ -93,12 +93,6 @@ const FAULTS: [u8; 614] = *b"\nthere is no such command\
     \nthis is no value for a BYTE or CHARACTER cell: 0 to 255";
 
 // ── what is said ──
-
-fn has_place(number: usize) -> bool
-    ensures { λ r. ⌜ r ≡ hasPlace number ⌝ }
-{
-    (1 < number) & (number < 14)
-}
 
 fn byte_headline(b: u8) -> usize
     ensures { λ r. ⌜ r ≡ byteHeadline b ⌝ }
@@ -270,42 +264,38 @@ fn put_first(
     at: usize,
     file: &[u8],
     number: usize,
-    place: usize,
+    spot: Spot,
     text: &[u8],
 ) -> usize
-    requires { ⌜ place ≤ 32768 ⌝ }
-    ensures { λ r. ⌜ Adds (firstLine (now (file .entry)) number place (now (text .entry))) (now (out .entry)) at (now (out .exit)) r ⌝ }
+    ensures { λ r. ⌜ Adds (firstLine (now (file .entry)) number spot (now (text .entry))) (now (out .entry)) at (now (out .exit)) r ⌝ }
 {
-    let line = excerpts::line_of(text, place);
-    let column = excerpts::column_of(text, place);
-    let k = headline_at(number, text, place);
-    let n = figure_at(number, text, place);
-    let placed = excerpts::put_place(out, at, file, line, column);
+    let k = headline_at(number, text, spot.place);
+    let n = figure_at(number, text, spot.place);
+    let placed = excerpts::put_place(out, at, file, spot.line, spot.column);
     put_head(out, placed, number, k, n)
 }
 
-fn put_others(out: &mut [u8], at: usize, number: usize, place: usize, text: &[u8]) -> usize
-    requires { ⌜ place ≤ 32768 ⌝ }
-    ensures { λ r. ⌜ Adds (otherLines number place (now (text .entry))) (now (out .entry)) at (now (out .exit)) r ⌝ }
+fn put_others(out: &mut [u8], at: usize, number: usize, spot: Spot, text: &[u8]) -> usize
+    ensures { λ r. ⌜ Adds (otherLines number spot (now (text .entry))) (now (out .entry)) at (now (out .exit)) r ⌝ }
 {
-    let before = excerpts::shown_before(text, place);
-    let wide = excerpts::wide_at(text, place);
-    let k = note_at(number, text, place);
-    let lined = excerpts::put_line(out, at, excerpts::shown_line(text, place));
+    let before = excerpts::shown_before(spot.column);
+    let wide = excerpts::wide_at(text, spot.place);
+    let k = note_at(number, text, spot.place);
+    let line = excerpts::shown_line(text, spot.place, spot.column);
+    let lined = excerpts::put_line(out, at, line);
     put_carets(out, lined, before, wide, k)
 }
 
-// The message of a refusal.
-pub fn message(out: &mut [u8], file: &[u8], number: usize, place: usize, text: &[u8]) -> usize
-    ensures { λ r. ⌜ Holds (now (out .entry)) (messageText (now (file .entry)) number place (now (text .entry))) (now (out .exit)) r ⌝ }
+// The message of a refusal, where the translator says that it stands.
+pub fn message(out: &mut [u8], file: &[u8], number: usize, spot: Spot, text: &[u8]) -> usize
+    ensures { λ r. ⌜ Holds (now (out .entry)) (messageText (now (file .entry)) number spot (now (text .entry))) (now (out .exit)) r ⌝ }
 {
-    if has_place(number) {
-        let p = least(32768, least(place, text.len()));
-        let headed = put_first(out, 0, file, number, p, text);
-        return put_others(out, headed, number, p, text);
+    if spot.line == 0 {
+        let named = put_all(out, 0, file);
+        return put_head(out, named, number, number, spot.place);
     }
-    let named = put_all(out, 0, file);
-    put_head(out, named, number, number, place)
+    let headed = put_first(out, 0, file, number, spot, text);
+    put_others(out, headed, number, spot, text)
 }
 
 // What is said of a file that is accepted.

@@ -7,7 +7,8 @@ use lib.ListN.{replicate}
 use Rattle.base.specs.Text.{bytes, sameBytes}
 use Rattle.base.specs.Runs.{runLen}
 use Rattle.base.specs.Numbers.{numberFrom}
-use Rattle.base.specs.Walk.{walk}
+use Rattle.base.specs.Walk.{walk, fold}
+use Rattle.spots.specs.Spots.{spot, unplaced}
 use Rattle.token.specs.Kinds as K
 use Rattle.token.specs.Text.{wordKind, comment, nameOrWord, number, begins, sign, lexeme, nextStep, nextToken, readFrom, tokensOf}
 use Rattle.token.specs.Answers.{kindOf}
@@ -15,11 +16,11 @@ use Rattle.grammar.specs.Reader.{andThen, look, next, want, wantOne}
 use Rattle.grammar.specs.Grammar.{designatorOf, operand, condition, terms, signOf, assignedTo, assignmentOf, numbers, cellItem, registerItem, listOf, typeOf, cellsOf, afterType, declaration, arguments, targetOf, assignOr, afterName, statementOf, itemsOf, bodyOf, ifOf, constructOf, statement, procedureOf, program}
 use Rattle.tape.specs.Events as E
 use Rattle.tape.specs.Tape.{event, tapeDesignator, tapeOperand, tapeCondition, tapeSign, tapeEach, tapeAssignment, tapeItem, tapeDeclaration, tapeStatement, tapeBody, tapeItems}
-use Rattle.parse.specs.Programs.{toldOf, judged}
+use Rattle.parse.specs.Programs.{toldOf, says, judged}
 
 -- number and place
 abbrev verdict : String → ℕ × ℕ
-verdict s = (judged (bytes s) .number, judged (bytes s) .place)
+verdict s = (judged (bytes s) .number, judged (bytes s) .spot .place)
 
 verdicts :
     map verdict
@@ -41,6 +42,18 @@ unfolding sameBytes runLen numberFrom walk wordKind comment nameOrWord number be
     want wantOne designatorOf operand terms signOf assignedTo numbers cellItem listOf typeOf cellsOf afterType declaration arguments targetOf assignOr afterName
     statementOf itemsOf bodyOf constructOf statement procedureOf program
 uses = refl
+
+-- document 02, 2/13: a refusal reports its line and column, "and one at the end where the next byte would stand"; success reports 0
+spots :
+    map (λ s. judged (bytes s))
+    ("" ∷ "BEGIN END" ∷ "BEGIN END\n" ∷ "BEGIN END\n  " ∷ "BEGIN COMMENT X;\n\n" ∷ "BEGIN\n  NULL;\n  R1 := ;\nEND @" ∷ "BEGIN\nNULL;\n 2147483648;\nEND @" ∷
+    "BEGIN\n?" ∷ "BEGIN\n\nEND\n@" ∷ [])
+    ≡ says 4 (spot 0 1 1) ∷ says 4 (spot 9 1 10) ∷ says 4 (spot 10 2 1) ∷ says 4 (spot 12 2 3) ∷ says 4 (spot 18 3 1) ∷ says 4 (spot 22 3 9)
+    ∷ says 3 (spot 13 3 2) ∷ says 2 (spot 6 2 1) ∷ says 0 (unplaced 0) ∷ []
+unfolding sameBytes runLen numberFrom walk fold wordKind comment nameOrWord number begins sign lexeme nextStep nextToken readFrom tokensOf judged andThen look next
+    want wantOne designatorOf operand condition terms signOf assignedTo assignmentOf numbers cellItem registerItem listOf typeOf cellsOf afterType declaration
+    arguments targetOf assignOr afterName statementOf itemsOf bodyOf ifOf constructOf statement procedureOf program
+spots = refl
 
 abbrev tape : String → List ℕ
 tape s = toldOf (program (map kindOf (tokensOf (bytes s) .tokens)) 0) .events

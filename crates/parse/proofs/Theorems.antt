@@ -10,18 +10,18 @@ verdictBack : Judged → Verdict
 verdictBack j =
     choose (eqb (j .number) 0) S.Program
     (choose (eqb (j .number) 1) S.TooLong
-    (choose (eqb (j .number) 2) (S.NoToken (j .place))
-    (choose (eqb (j .number) 3) (S.OutOfRange (j .place))
-    (choose (eqb (j .number) 4) (S.Unexpected (j .place)) (S.TooDeep (j .place))))))
+    (choose (eqb (j .number) 2) (S.NoToken (j .spot))
+    (choose (eqb (j .number) 3) (S.OutOfRange (j .spot))
+    (choose (eqb (j .number) 4) (S.Unexpected (j .spot)) (S.TooDeep (j .spot))))))
 
 verdict-back : (v : Verdict) → verdictBack (verdictOf v) ≡ v
 unfolding verdictBack
 verdict-back S.Program = refl
 verdict-back S.TooLong = refl
-verdict-back (S.NoToken place) = refl
-verdict-back (S.OutOfRange place) = refl
-verdict-back (S.Unexpected place) = refl
-verdict-back (S.TooDeep place) = refl
+verdict-back (S.NoToken spot) = refl
+verdict-back (S.OutOfRange spot) = refl
+verdict-back (S.Unexpected spot) = refl
+verdict-back (S.TooDeep spot) = refl
 
 -- verdicts that say the same are the same
 pub one-verdict : (v w : Verdict) → verdictOf v ≡ verdictOf w → v ≡ w

@@ -2,19 +2,22 @@
 // (crate `tape`); one that is none is refused, 4 or 5, at a token.
 ghost use mathlib.Core.Path.{_≡_};
 ghost use Prim.Native.Nat.{_≤_, _<_};
-ghost use lib.ListN.{length, take, getD};
+ghost use lib.ListN.{length};
 ghost use Rattle.token.specs.Text.{TEXT-LIMIT};
 ghost use Rattle.tape.specs.Events.{TOKEN-LIMIT};
-ghost use Rattle.grammar.specs.Grammar as G;
-ghost use Rattle.parse.specs.Programs.{Parsed, judgedBy, judged, verdictOf};
+ghost use Rattle.parse.specs.Programs.{Parsed, KindsRead, judged, verdictOf};
 use readers::tokens::Answer;
 use readers::tokens::kind_at;
 use readers::tokens::read;
 use readers::tokens::refused;
 use readers::tokens::wanted;
+use spots::Spot;
 use statements::statement;
+use token::Tokens;
 use token::kinds;
 use token_lists::TEXT_LIMIT;
+use token_lists::read_kinds;
+use token_lists::spot_in;
 
 // "inside 64 such constructs"
 const NESTING: usize = 64;
@@ -42,55 +45,41 @@ pub fn program(kinds: &[u8], first: usize, tape: &mut [u32]) -> Answer
 pub enum Verdict {
     Program,
     TooLong,
-    NoToken(usize),
-    OutOfRange(usize),
-    Unexpected(usize),
-    TooDeep(usize),
+    NoToken(Spot),
+    OutOfRange(Spot),
+    Unexpected(Spot),
+    TooDeep(Spot),
 }
 
-fn place_at(places: &[u32], i: usize) -> usize
-    ensures { λ r. ⌜ r ≡ getD (now (places .entry)) i 0 ⌝ }
-{
-    if i < places.len() {
-        return places[i] as usize;
-    }
-    0
-}
-
-// The first n tokens, by their kinds and places.
-fn answer_tokens(kinds: &[u8], places: &[u32], n: usize, tape: &mut [u32]) -> Verdict
-    requires { ⌜ (n ≤ length (now kinds)) × ((n ≤ length (now places)) × ((n ≤ length (now tape)) × (n < TOKEN-LIMIT))) ⌝ }
-    ensures { λ r. ⌜ verdictOf r ≡ judgedBy (take n (now (places .entry))) (G.program (take n (now (kinds .entry))) 0) ⌝ }
+// A text whose n tokens were read, by their kinds; where a refused token stands is sought in the text.
+fn answer_tokens(src: &[u8], kinds: &[u8], n: usize, tape: &mut [u32]) -> Verdict
+    requires { ⌜ KindsRead (now src) (now kinds) n × (length (now src) < length (now tape)) ⌝ }
+    ensures { λ r. ⌜ verdictOf r ≡ judged (now (src .entry)) ⌝ }
 {
     let r = program(&kinds[..n], 0, tape);
     if r.number == 0 {
         return Verdict::Program;
     }
-    let place = place_at(&places[..n], r.at);
+    let spot = spot_in(src, r.at);
     if r.number == 4 {
-        return Verdict::Unexpected(place);
+        return Verdict::Unexpected(spot);
     }
-    Verdict::TooDeep(place)
+    Verdict::TooDeep(spot)
 }
 
 // Is this text grammatical? The lists have room for a token at each byte and one at the end.
-fn answer_text(
-    src: &[u8],
-    kinds: &mut [u8],
-    values: &mut [u64],
-    places: &mut [u32],
-    tape: &mut [u32],
-) -> Verdict
-    requires { ⌜ (length (now src) < length (now kinds)) × ((length (now src) < length (now values)) × ((length (now src) < length (now places)) × (length (now src) < length (now tape)))) ⌝ }
+fn answer_text(src: &[u8], kinds: &mut [u8], tape: &mut [u32]) -> Verdict
+    requires { ⌜ (length (now src) < length (now kinds)) × (length (now src) < length (now tape)) ⌝ }
     ensures { λ r. ⌜ verdictOf r ≡ judged (now (src .entry)) ⌝ }
 {
-    let read = token_lists::read_tokens(src, kinds, values, places);
+    let read = read_kinds(src, kinds);
     match read {
-        token::Tokens::Read(n) => answer_tokens(kinds, places, n, tape),
-        token::Tokens::TooLong => Verdict::TooLong,
-        token::Tokens::NoToken(place) => Verdict::NoToken(place),
-        token::Tokens::OutOfRange(place) => Verdict::OutOfRange(place),
-        token::Tokens::Room(needed) => Verdict::NoToken(needed),
+        Tokens::Read(n) => answer_tokens(src, kinds, n, tape),
+        Tokens::TooLong => Verdict::TooLong,
+        Tokens::NoToken(spot) => Verdict::NoToken(spot),
+        Tokens::OutOfRange(spot) => Verdict::OutOfRange(spot),
+        // Never: the list has room.
+        Tokens::Room(needed) => Verdict::TooLong,
     }
 }
 
@@ -104,10 +93,8 @@ fn short(src: &[u8]) -> Verdict
     ensures { λ r. ⌜ verdictOf r ≡ judged (now (src .entry)) ⌝ }
 {
     let mut kinds = [0u8; SHORT + 1];
-    let mut values = [0u64; SHORT + 1];
-    let mut places = [0u32; SHORT + 1];
     let mut tape = [0u32; SHORT + 1];
-    answer_text(src, &mut kinds, &mut values, &mut places, &mut tape)
+    answer_text(src, &mut kinds, &mut tape)
 }
 
 fn middling(src: &[u8]) -> Verdict
@@ -115,10 +102,8 @@ fn middling(src: &[u8]) -> Verdict
     ensures { λ r. ⌜ verdictOf r ≡ judged (now (src .entry)) ⌝ }
 {
     let mut kinds = [0u8; MIDDLING + 1];
-    let mut values = [0u64; MIDDLING + 1];
-    let mut places = [0u32; MIDDLING + 1];
     let mut tape = [0u32; MIDDLING + 1];
-    answer_text(src, &mut kinds, &mut values, &mut places, &mut tape)
+    answer_text(src, &mut kinds, &mut tape)
 }
 
 fn long(src: &[u8]) -> Verdict
@@ -126,10 +111,8 @@ fn long(src: &[u8]) -> Verdict
     ensures { λ r. ⌜ verdictOf r ≡ judged (now (src .entry)) ⌝ }
 {
     let mut kinds = [0u8; TEXT_LIMIT + 1];
-    let mut values = [0u64; TEXT_LIMIT + 1];
-    let mut places = [0u32; TEXT_LIMIT + 1];
     let mut tape = [0u32; TEXT_LIMIT + 1];
-    answer_text(src, &mut kinds, &mut values, &mut places, &mut tape)
+    answer_text(src, &mut kinds, &mut tape)
 }
 
 // Is this text grammatical?

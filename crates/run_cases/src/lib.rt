@@ -1,5 +1,5 @@
 // A case for the runner as `runbatch` has it (a line `length budget cc storage-length r0 … r15`, the object text, a newline), run on storage of 165s, and the
-// line that answers it (`number place stop counter cc count r0 … r15 hash`).
+// line that answers it (`number place line column stop counter cc count r0 … r15 hash`).
 ghost use mathlib.Core.Path.{_≡_};
 ghost use Prim.Native.Nat.{_+_, _≤_, _<_};
 ghost use lib.ListN.{length};
@@ -26,17 +26,18 @@ fn wide(regs: [u32; 16]) -> [u64; 16]
 }
 
 // The line that answers, with its newline: how many bytes it has.
-fn put_answer(out: &mut [u8], number: u64, results: [u64; 4], regs: [u32; 16], hash: u64) -> usize
+fn put_answer(out: &mut [u8], number: u64, results: [u64; 7], regs: [u32; 16], hash: u64) -> usize
     ensures { λ r. ⌜ r ≤ length (now (out .entry)) ⌝ }
 {
-    let place = 0;
     let first = [
         number,
-        place,
         results[0],
         results[1],
         results[2],
         results[3],
+        results[4],
+        results[5],
+        results[6],
     ];
     let rest = wide(regs);
     let mut end = output::put_fields(out, 0, &first);
@@ -95,7 +96,7 @@ fn run(
 {
     checksum::fill(store, BEFORE);
     let mut left = regs;
-    let mut results = [0u64; 4];
+    let mut results = [0u64; 7];
     let number = c_run::tautgaff_run(text, code, budget, &mut left, store, &mut results);
     put_answer(out, number, results, left, checksum::checksum(store))
 }

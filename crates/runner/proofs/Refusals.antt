@@ -117,4 +117,4 @@ pub answer-told : (a b : Answer) (s t : List ℕ) → outcome a s ≡ outcome b 
 answer-told a b s t e =
     let v : a .verdict ≡ b .verdict = sym (verdict-back (a .verdict)) ∙ ap (λ (o : Outcome). verdictOf (o .number)) e ∙ verdict-back (b .verdict) in
     let p : a .stop ≡ b .stop = sym (stop-back (a .stop)) ∙ ap (λ (o : Outcome). stopBy (o .stop)) e ∙ stop-back (b .stop) in
-    ((λ i. record { verdict = v i; stop = p i; counter = e i .counter; regs = e i .regs; code = e i .code; count = e i .count }), ap (λ (o : Outcome). o .store) e)
+    ((λ i. record { verdict = v i; spot = e i .spot; stop = p i; counter = e i .counter; regs = e i .regs; code = e i .code; count = e i .count }), ap (λ (o : Outcome). o .store) e)

@@ -1,4 +1,4 @@
--- Document 01, "Numbers answered" and "Runner": the number and the place of each verdict, and the number of each stop.
+-- Document 01, "Numbers answered" and "Runner": the number of each verdict, and the number of each stop.
 use Prim.Native.Nat.{ℕ}
 use Rattle.runner.specs.declared.Verdict.{Verdict}
 use Rattle.runner.specs.declared.Verdict.the-variants.{Ran, NoObject, BadCode, SmallStorage}
@@ -11,13 +11,6 @@ numberOf Ran = 0
 numberOf NoObject = 17
 numberOf BadCode = 18
 numberOf SmallStorage = 19
-
--- "Refusals, in order, place 0"
-abbrev pub placeOf : Verdict → ℕ
-placeOf Ran = 0
-placeOf NoObject = 0
-placeOf BadCode = 0
-placeOf SmallStorage = 0
 
 -- "Stop 0 budget used, 1 at `0A 00`, 2 forbidden operand, 3 misaligned operand, 4 an odd counter, an instruction not wholly in the program's bytes, one not
 -- listed, or an odd register field in 1C or 5C."

@@ -4,6 +4,8 @@ use Prim.Native.Nat.{ℕ}
 use lib.Dec.{ltb}
 use lib.ListN.{length}
 use Rattle.base.specs.Choose.{choose}
+use Rattle.spots.specs.declared.Spot.{Spot}
+use Rattle.spots.specs.Spots.{unplaced}
 use Rattle.objtext.specs.Object.{Segment, Form, of-object, of-none}
 use Rattle.objtext.proofs.Exact.{form}
 use Rattle.machine.specs.Space.{needed}
@@ -12,12 +14,12 @@ use Rattle.runner.specs.declared.Answer.{Answer}
 use Rattle.runner.specs.declared.Verdict.{Verdict}
 use Rattle.runner.specs.declared.Stop.the-variants.{BudgetUsed}
 use Rattle.runner.specs.Load.{loaded, spaceOf, started}
-use Rattle.runner.specs.Numbers.{numberOf, placeOf, stopOf}
+use Rattle.runner.specs.Numbers.{numberOf, stopOf}
 
--- number, place, stop, counter, registers, code, count, and the whole storage
+-- number, place with line and column, stop, counter, registers, code, count, and the whole storage
 pub record Outcome : Type 0 where
   pub number : ℕ
-  pub place : ℕ
+  pub spot : Spot
   pub stop : ℕ
   pub counter : ℕ
   pub regs : List ℕ
@@ -25,16 +27,16 @@ pub record Outcome : Type 0 where
   pub count : ℕ
   pub store : List ℕ
 
--- "place 0, storage untouched, registers and code as given, stop, counter and count 0"
+-- "place 0, storage untouched, registers and code as given, stop, counter and count 0"; document 02, 2/13: "Success and refusals 1 and 14 to 19 report line and column 0"
 abbrev pub refused : ℕ → List ℕ → ℕ → List ℕ → Outcome
-refused n regs k s = record { number = n; place = 0; stop = 0; counter = 0; regs = regs; code = k; count = 0; store = s }
+refused n regs k s = record { number = n; spot = unplaced 0; stop = 0; counter = 0; regs = regs; code = k; count = 0; store = s }
 
 -- "The result gives stop, counter, registers, code and the count of completed instructions."
 abbrev pub accepted : Result → Outcome
 accepted r =
     record {
       number = 0;
-      place = 0;
+      spot = unplaced 0;
       stop = r .stop;
       counter = r .cpu .counter;
       regs = r .cpu .regs;
@@ -60,14 +62,14 @@ runner text regs k budget s = onForm (form text) regs k budget s
 
 -- the answer of a refusal
 abbrev pub refusal : Verdict → List ℕ → ℕ → Answer
-refusal v regs k = record { verdict = v; stop = BudgetUsed; counter = 0; regs = regs; code = k; count = 0 }
+refusal v regs k = record { verdict = v; spot = unplaced 0; stop = BudgetUsed; counter = 0; regs = regs; code = k; count = 0 }
 
 -- the code's answer in the paper's numbers
 abbrev pub outcome : Answer → List ℕ → Outcome
 outcome a s =
     record {
       number = numberOf (a .verdict);
-      place = placeOf (a .verdict);
+      spot = a .spot;
       stop = stopOf (a .stop);
       counter = a .counter;
       regs = a .regs;

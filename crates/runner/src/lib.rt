@@ -10,6 +10,8 @@ ghost use Rattle.runner.specs.Load.{placed, tableWord, tabled, loaded, s
 ghost use Rattle.runner.specs.Charted.{charted};
 ghost use Rattle.runner.specs.Numbers.{stopOf};
 ghost use Rattle.runner.specs.Runner.{runner, outcome, refusal, accepted};
+use spots::Spot;
+use spots::unplaced;
 
 // "Segment k goes to 4096·(k+1)", and what four of them need.
 const ROOM: usize = machine::ROOM;
@@ -37,8 +39,10 @@ pub enum Stop {
     NoInstruction,
 }
 
+// Place, line and column are 0 in every answer.
 pub struct Answer {
     pub verdict: Verdict,
+    pub spot: Spot,
     pub stop: Stop,
     pub counter: u32,
     pub regs: [u32; 16],
@@ -141,8 +145,10 @@ fn stop_of(n: u32) -> Stop
 fn refused(v: Verdict, regs: [u32; 16], code: u64) -> Answer
     ensures { λ r. ⌜ r ≡ refusal v regs code ⌝ }
 {
+    let spot = unplaced(0);
     Answer {
         verdict: v,
+        spot,
         stop: Stop::BudgetUsed,
         counter: 0,
         regs: regs,
@@ -178,8 +184,10 @@ pub fn started(
         s,
     );
     let after = q.regs;
+    let spot = unplaced(0);
     Answer {
         verdict: Verdict::Ran,
+        spot,
         stop: stop_of(q.stop),
         counter: q.at,
         regs: after,

@@ -5,6 +5,7 @@ ghost use Rattle.runner.specs.Numbers.{stopOf};
 use base::less;
 use runner::Stop;
 use runner::Verdict;
+use spots::unplaced;
 
 const STORAGE: usize = machine::ROOM * machine::PAGES;
 
@@ -101,9 +102,9 @@ fn run_text(words: &[u8], w: words::Wish, name: &[u8], source: &[u8], object: &[
     let verdict = a.verdict;
     match verdict {
         Verdict::Ran => tell_run(words, name, source, a, &storage),
-        Verdict::NoObject => saying::refuse(name, 17, 0, object),
-        Verdict::BadCode => saying::refuse(name, 18, w.options.code as usize, object),
-        Verdict::SmallStorage => saying::refuse(name, 19, 0, object),
+        Verdict::NoObject => saying::refuse(name, 17, unplaced(0), object),
+        Verdict::BadCode => saying::refuse(name, 18, unplaced(w.options.code as usize), object),
+        Verdict::SmallStorage => saying::refuse(name, 19, unplaced(0), object),
     }
 }
 

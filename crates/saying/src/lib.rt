@@ -2,6 +2,7 @@
 // cannot be read or written; 3 the budget is used up; 4 stopped by 2, 3 or 4.
 ghost use mathlib.Core.Path.{_≡_};
 ghost use Rattle.saying.specs.Statuses.{statusOf};
+use spots::Spot;
 
 pub const DONE: u8 = 0;
 
@@ -29,17 +30,17 @@ pub fn worse(a: u8, b: u8) -> u8 {
 }
 
 // A refusal, on standard error.
-pub fn refuse(name: &[u8], number: usize, place: usize, text: &[u8]) -> u8 {
+pub fn refuse(name: &[u8], number: usize, spot: Spot, text: &[u8]) -> u8 {
     let mut out = [0u8; MESSAGE_ROOM];
-    let n = messages::message(&mut out, name, number, place, text);
+    let n = messages::message(&mut out, name, number, spot, text);
     files::complain(figures::front(&out, n));
     REFUSED
 }
 
 // On standard output, where it is what was asked for.
-pub fn tell_refusal(name: &[u8], number: usize, place: usize, text: &[u8]) -> u8 {
+pub fn tell_refusal(name: &[u8], number: usize, spot: Spot, text: &[u8]) -> u8 {
     let mut out = [0u8; MESSAGE_ROOM];
-    let n = messages::message(&mut out, name, number, place, text);
+    let n = messages::message(&mut out, name, number, spot, text);
     said(files::print(figures::front(&out, n)), REFUSED)
 }
 

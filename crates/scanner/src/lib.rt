@@ -11,6 +11,7 @@ ghost use Rattle.token.specs.Answers.{outcomeOf};
 ghost use Rattle.scanner.specs.Inner.{inClass, Ran, Digited, Named, keyKind, inBase, bitsOf, twoOr, longerBy};
 use crate::entries::entry;
 use crate::entries::place;
+use spots::spot_at;
 use token::Lexeme;
 use token::Next;
 use token::Token;
@@ -274,24 +275,19 @@ pub fn next_token(s: &[u8]) -> Next
                 at += n;
             }
             Lexeme::Token(kind, value, size) => {
-                return Next::Token(
-                    Token {
-                        kind,
-                        value,
-                        place: at,
-                    },
-                    at + size,
-                );
+                let spot = spot_at(s, at);
+                return Next::Token(Token { kind, value, spot }, at + size);
             }
-            Lexeme::NoToken => return Next::NoToken(at),
-            Lexeme::OutOfRange => return Next::OutOfRange(at),
+            Lexeme::NoToken => return Next::NoToken(spot_at(s, at)),
+            Lexeme::OutOfRange => return Next::OutOfRange(spot_at(s, at)),
         }
     }
+    let spot = spot_at(s, at);
     Next::Token(
         Token {
             kind: kinds::END_OF_TEXT,
             value: 0,
-            place: at,
+            spot,
         },
         at,
     )

@@ -6,6 +6,7 @@ use lib.Dec.{eqb}
 use lib.ListN.{getD}
 use Rattle.base.specs.Choose.{if_then_else_}
 use Rattle.base.specs.Text.{bytes}
+use Rattle.spots.specs.Spots.{unplaced}
 use Rattle.token.specs.Kinds as K
 use Rattle.token.specs.declared.Token.{Token}
 use Rattle.token.specs.Text.{token, keyOf}
@@ -26,10 +27,10 @@ abbrev pub namesInFront : List (List ℕ)
 namesInFront = map registerName (bytes "0123456789ABCDEF") ++ functionNames
 
 abbrev pub standardName : List ℕ → Token
-standardName name = token K.NAME (keyOf name) 0
+standardName name = token K.NAME (keyOf name) (unplaced 0)
 
 abbrev pub inFront : List Token
-inFront = token K.END-OF-TEXT 0 0 ∷ map standardName namesInFront
+inFront = token K.END-OF-TEXT 0 (unplaced 0) ∷ map standardName namesInFront
 
 -- how many names are declared around the program
 abbrev pub standardNames : ℕ

@@ -9,6 +9,8 @@ use lib.ListN.{length, length-map, length-drop, take, drop, set}
 use lib.Seq.{sets, length-sets, take-add, take-set-le, drop-set-add, length-take-le}
 use borrow.Author.Tests.{le-ltb}
 use Rattle.base.proofs.Parts.{part-sets}
+use Rattle.spots.specs.declared.Spot.{Spot}
+use Rattle.spots.specs.Spots.{spotAt}
 use Rattle.token.specs.Text.{Reading, moved, nextToken, refused, isLast, readFrom, tokensOf, TEXT-LIMIT}
 use Rattle.token.specs.Answers.{outcomeOf, Summary, summary, summaryOf, summed, laid, kindOf, valueOf}
 use Rattle.token.specs.declared.Token.{Token}
@@ -22,7 +24,7 @@ use Rattle.scopes.specs.Search.{inFront, firstToken}
 use Rattle.settled.specs.Texts.{allTokens, LaidBehind, ButValues, Behind, Fronted, rowsFor}
 
 -- a text that is not too long is read from its start
-pub read-whole : (s : List ℕ) → length s ≤ TEXT-LIMIT → tokensOf s ≡ readFrom 0 0 s
+pub read-whole : (s : List ℕ) → length s ≤ TEXT-LIMIT → tokensOf s ≡ readFrom s 0 0 s
 unfolding tokensOf
 read-whole s h = rw (le-ltb TEXT-LIMIT (length s) h)
 
@@ -35,7 +37,7 @@ module _ (s : List ℕ) (answer : Tokens) (is : summaryOf answer ≡ summed (tok
 
   pub few-read : n ≤ length s + 1
   few-read =
-      let m = few-tokens 0 0 s in
+      let m = few-tokens s 0 0 s in
       let q = count-is ∙ ap (λ (r : Reading). length (r .tokens)) (all-read-from s all-read) in
       omega arith
 
@@ -50,27 +52,27 @@ pub laying-start : (part : Token → ℕ) (s l : List ℕ) → Laying part s l l
 laying-start part s l = record { front = refl; on = refl }
 
 module _ {s : List ℕ} {at n : ℕ} {r : Next} {t : Token} {end : ℕ} (g : Answered s at n r) (q : r ≡ N.Token t end) (part : Token → ℕ) (old now : List ℕ) (w : Laying part s old now at n) where
-  front-stays : take firstToken (set now (firstToken + n) (part (moved at t))) ≡ take firstToken old
-  front-stays = take-set-le firstToken now (firstToken + n) (part (moved at t)) (omega arith) ∙ w .front
+  front-stays : take firstToken (set now (firstToken + n) (part (moved s at t))) ≡ take firstToken old
+  front-stays = take-set-le firstToken now (firstToken + n) (part (moved s at t)) (omega arith) ∙ w .front
 
-  pub laying-on : isLast (t .kind) ≡ false → Laying part s old (set now (firstToken + n) (part (moved at t))) (at + end) (n + 1)
+  pub laying-on : isLast (t .kind) ≡ false → Laying part s old (set now (firstToken + n) (part (moved s at t))) (at + end) (n + 1)
   laying-on l = record {
     front = front-stays;
     on =
-        subst (λ (k : List ℕ). LaidOn part s (drop firstToken old) k (at + end) (n + 1)) (sym (drop-set-add firstToken now n (part (moved at t))))
+        subst (λ (k : List ℕ). LaidOn part s (drop firstToken old) k (at + end) (n + 1)) (sym (drop-set-add firstToken now n (part (moved s at t))))
         (laid-on g q part (drop firstToken old) (drop firstToken now) (w .on) l);
   }
 
-  pub laying-last : length s ≤ TEXT-LIMIT → isLast (t .kind) ≡ true → LaidBehind part s old (set now (firstToken + n) (part (moved at t)))
+  pub laying-last : length s ≤ TEXT-LIMIT → isLast (t .kind) ≡ true → LaidBehind part s old (set now (firstToken + n) (part (moved s at t)))
   laying-last h l = record {
     front = front-stays;
     behind =
-        drop-set-add firstToken now n (part (moved at t))
+        drop-set-add firstToken now n (part (moved s at t))
         ∙ (laid-last g q part (drop firstToken old) (drop firstToken now) (w .on) l ∙ ap (λ (x : Reading). laid part (x .tokens) (drop firstToken old)) (sym (read-whole s h)));
   }
 
 pub laying-no :
-    {s : List ℕ} {at n : ℕ} {r : Next} {number place : ℕ} → Answered s at n r → outcomeOf r ≡ refused number place → (part : Token → ℕ) (old now : List ℕ)
+    {s : List ℕ} {at n : ℕ} {r : Next} {number : ℕ} {spot : Spot} → Answered s at n r → outcomeOf r ≡ refused number spot → (part : Token → ℕ) (old now : List ℕ)
     → Laying part s old now at n → length s ≤ TEXT-LIMIT → LaidBehind part s old now
 laying-no {s} g q part old now w h = record {
   front = w .front;
@@ -124,16 +126,16 @@ module _
 
 -- it answered with a refusal
 module _
-    (r : Next) {s kinds₀ kinds : List ℕ} {w₀ w : Wide} {at n number place : ℕ} (u : Underway s kinds₀ kinds w₀ w at n)
-    (e : outcomeOf r ≡ nextToken (take (length s - at) (drop at s))) (q : outcomeOf r ≡ refused number place)
+    (r : Next) {s kinds₀ kinds : List ℕ} {w₀ w : Wide} {at n number : ℕ} {spot : Spot} (u : Underway s kinds₀ kinds w₀ w at n)
+    (e : outcomeOf r ≡ nextToken (take (length s - at) (drop at s))) (q : outcomeOf r ≡ refused number spot)
   where
     stopped : Answered s at n r
     stopped = record { reads = u .reads; next = e }
 
-    pub underway-inside : at + place ≤ length s
+    pub underway-inside : at + spot .place ≤ length s
     underway-inside = refused-inside stopped q
 
-    pub underway-no : eqb number 0 ≡ false → length s ≤ TEXT-LIMIT → (answer : Tokens) → summaryOf answer ≡ summary number (at + place) 0 → Behind s kinds₀ kinds w₀ w answer
+    pub underway-no : eqb number 0 ≡ false → length s ≤ TEXT-LIMIT → (answer : Tokens) → summaryOf answer ≡ summary number (spotAt s (at + spot .place)) 0 → Behind s kinds₀ kinds w₀ w answer
     underway-no z h answer ea = record {
       is = ea ∙ (reads-no stopped q z ∙ ap summed (sym (read-whole s h)));
       kinds-laid = laying-no stopped q kindOf kinds₀ kinds (u .kinds-on) h;

@@ -30,7 +30,7 @@ abbrev pub allTokens : List ℕ → List Token
 allTokens source = inFront ++ tokensOf source .tokens
 
 abbrev pub placesOf : List Token → List ℕ
-placesOf ts = map (λ (t : Token). t .place) ts
+placesOf ts = map (λ (t : Token). t .spot .place) ts
 
 -- one part of each token of a source, laid behind the standard names
 pub record LaidBehind (part : Token → ℕ) (source before after : List ℕ) : Type 0 where

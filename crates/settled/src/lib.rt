@@ -23,9 +23,11 @@ use ledger::put_value;
 use ledger::written;
 use scopes::Broken;
 use scopes::join;
+use spots::spot_at;
 use token::Next;
 use token::Tokens;
 use token_lists::is_last;
+use token_lists::spot_in;
 
 // ── the tokens ──
 
@@ -129,8 +131,8 @@ fn lay_tokens(src: &[u8], kinds: &mut [u8], wide: &mut [u64]) -> Tokens
                 }
                 at += end;
             }
-            Next::NoToken(place) => return Tokens::NoToken(at + place),
-            Next::OutOfRange(place) => return Tokens::OutOfRange(at + place),
+            Next::NoToken(there) => return Tokens::NoToken(spot_at(src, at + there.place)),
+            Next::OutOfRange(there) => return Tokens::OutOfRange(spot_at(src, at + there.place)),
         }
     }
 }
@@ -145,34 +147,6 @@ pub fn read(src: &[u8], kinds: &mut [u8], wide: &mut [u64]) -> Tokens
 
 // ── a token's place ──
 
-// The place of a token of a text that was read, which is read again as far as that.
-fn place_in(src: &[u8], wanted: usize) -> usize
-    requires { ⌜ tokensOf (now src) .number ≡ 0 ⌝ }
-    ensures { λ r. ⌜ r ≡ getD (placesOf (tokensOf (now (src .entry)) .tokens)) wanted 0 ⌝ }
-{
-    let mut at: usize = 0;
-    let mut n: usize = 0;
-    loop {
-        let next = scanner::next_token(&src[at..]);
-        match next {
-            Next::Token(t, end) => {
-                let kind = t.kind;
-                let place = t.place;
-                if n == wanted {
-                    return at + place;
-                }
-                if is_last(kind) {
-                    return 0;
-                }
-                n += 1;
-                at += end;
-            }
-            Next::NoToken(place) => return 0,
-            Next::OutOfRange(place) => return 0,
-        }
-    }
-}
-
 // The names in front have no place.
 pub fn place_of(src: &[u8], t: usize) -> usize
     requires { ⌜ tokensOf (now src) .number ≡ 0 ⌝ }
@@ -181,7 +155,8 @@ pub fn place_of(src: &[u8], t: usize) -> usize
     if t < FIRST_TOKEN {
         return 0;
     }
-    place_in(src, t - FIRST_TOKEN)
+    let spot = spot_in(src, t - FIRST_TOKEN);
+    spot.place
 }
 
 // ── the rules ──

@@ -6,8 +6,8 @@ pub fn object(name: &[u8], text: &[u8], room: &mut [u8]) -> usize {
     let answer = translate::translate(text, room);
     match answer {
         Answer::Accepted(n) => n,
-        Answer::Refused(number, place) => {
-            saying::refuse(name, number, place, text);
+        Answer::Refused(number, spot) => {
+            saying::refuse(name, number, spot, text);
             0
         }
     }
@@ -25,6 +25,6 @@ pub fn check(name: &[u8], text: &[u8]) -> u8 {
     let answer = translate::translate(text, &mut out);
     match answer {
         Answer::Accepted(n) => tell_accepted(name, n),
-        Answer::Refused(number, place) => saying::tell_refusal(name, number, place, text),
+        Answer::Refused(number, spot) => saying::tell_refusal(name, number, spot, text),
     }
 }

@@ -1,35 +1,38 @@
-// A text among others, after a line of numbers the first of which is its length, and what the grammar says of it: number and place, refusals 1 to 5.
+// A text among others, after a line of numbers the first of which is its length, and what the grammar says of it: number, place, line and column,
+// refusals 1 to 5.
 ghost use mathlib.Core.Path.{_≡_};
 ghost use Prim.Native.Nat.{_+_, _≤_, _<_};
 ghost use lib.ListN.{length};
-ghost use Rattle.parse.specs.Programs.{judged};
+ghost use Rattle.parse.specs.Programs.{says, judged};
 use lines::decimal;
-use lines::output;
 use parse::Verdict;
+use spots::Spot;
+use spots::unplaced;
+use token_lists::TEXT_LIMIT;
 
-// Number and place of the paper.
+// Number and place of the paper, with line and column.
 pub struct Said {
     pub number: u64,
-    pub place: usize,
+    pub spot: Spot,
 }
 
 pub fn judge(text: &[u8]) -> Said
-    ensures { λ r. ⌜ (r .number ≡ judged (now (text .entry)) .number) × (r .place ≡ judged (now (text .entry)) .place) ⌝ }
+    ensures { λ r. ⌜ says (r .number) (r .spot) ≡ judged (now (text .entry)) ⌝ }
 {
     let v = parse::grammatical(text);
     match v {
         Verdict::Program => Said {
             number: 0,
-            place: 0,
+            spot: unplaced(0),
         },
         Verdict::TooLong => Said {
             number: 1,
-            place: 32768,
+            spot: unplaced(TEXT_LIMIT),
         },
-        Verdict::NoToken(place) => Said { number: 2, place },
-        Verdict::OutOfRange(place) => Said { number: 3, place },
-        Verdict::Unexpected(place) => Said { number: 4, place },
-        Verdict::TooDeep(place) => Said { number: 5, place },
+        Verdict::NoToken(spot) => Said { number: 2, spot },
+        Verdict::OutOfRange(spot) => Said { number: 3, spot },
+        Verdict::Unexpected(spot) => Said { number: 4, spot },
+        Verdict::TooDeep(spot) => Said { number: 5, spot },
     }
 }
 

@@ -1,5 +1,5 @@
 -- Worked texts, by computing the definition: refusals with their places, then whole lists of tokens. Assumes nothing.
-use Prim.Native.Nat.{ℕ}
+use Prim.Native.Nat.{ℕ, _+_}
 use Prim.Native.String.{String}
 use mathlib.Core.Path.{_≡_, refl}
 use mathlib.Core.Bool.{Bool, true, _&&_, not}
@@ -9,14 +9,17 @@ use Rattle.base.specs.Lists.{member}
 use Rattle.base.specs.Text.{bytes, sameBytes}
 use Rattle.base.specs.Runs.{runLen}
 use Rattle.base.specs.Numbers.{numberFrom}
-use Rattle.base.specs.Walk.{walk}
+use Rattle.base.specs.Walk.{walk, fold}
+use Rattle.spots.specs.declared.Spot.{Spot}
+use Rattle.spots.specs.Spots.{spot}
 use Rattle.token.specs.Kinds as K
 use Rattle.token.specs.Text.{keyOf, wordKind, comment, nameOrWord, number, begins, sign, lexeme, token, nextStep, nextToken, readFrom, tokensOf}
+use Rattle.token.specs.Answers.{spotOf}
 use Rattle.token.specs.declared.Token.{Token}
 
 -- 0, or a refusal's number, with the place
 abbrev verdict : String → ℕ × ℕ
-verdict s = (tokensOf (bytes s) .number, tokensOf (bytes s) .place)
+verdict s = (tokensOf (bytes s) .number, tokensOf (bytes s) .spot .place)
 
 verdicts :
     map verdict
@@ -27,17 +30,39 @@ verdicts :
 unfolding sameBytes runLen numberFrom walk wordKind comment nameOrWord number begins sign lexeme nextStep nextToken readFrom tokensOf
 verdicts = refl
 
+-- kind, value and place of each token, all on the first line
 abbrev tokens : String → List Token
 tokens s = tokensOf (bytes s) .tokens
 
+abbrev first : ℕ → ℕ → ℕ → Token
+first kind value place = token kind value (spot place 1 (place + 1))
+
 read :
     map tokens ("R1:=_1+#FFOR ABCDEFGHIJK<=5THEN COMMENT @;@ 7" ∷ "COMMENTX : = " ∷ "BYTE BYTES CHARACTER" ∷ [])
-    ≡ (token K.NAME 973 0 ∷ token K.BECOMES 0 2 ∷ token K.NUMBER 4294967295 4 ∷ token K.PLUS 0 6 ∷ token K.NUMBER 255 7 ∷ token K.OR 0 10
-    ∷ token K.NAME (keyOf (bytes "ABCDEFGHIJL")) 13 ∷ token K.AT-MOST 0 24 ∷ token K.NUMBER 5 26 ∷ token K.THEN 0 27 ∷ token K.AT 0 42 ∷ [])
-    ∷ (token K.NAME (keyOf (bytes "COMMENTX")) 0 ∷ token K.COLON 0 9 ∷ token K.EQUAL 0 11 ∷ token K.END-OF-TEXT 0 13 ∷ [])
-    ∷ (token K.BYTE 0 0 ∷ token K.NAME (keyOf (bytes "BYTES")) 5 ∷ token K.CHARACTER 0 11 ∷ token K.END-OF-TEXT 0 20 ∷ []) ∷ []
-unfolding sameBytes runLen numberFrom walk wordKind comment nameOrWord number begins sign lexeme nextStep nextToken readFrom tokensOf
+    ≡ (first K.NAME 973 0 ∷ first K.BECOMES 0 2 ∷ first K.NUMBER 4294967295 4 ∷ first K.PLUS 0 6 ∷ first K.NUMBER 255 7 ∷ first K.OR 0 10
+    ∷ first K.NAME (keyOf (bytes "ABCDEFGHIJL")) 13 ∷ first K.AT-MOST 0 24 ∷ first K.NUMBER 5 26 ∷ first K.THEN 0 27 ∷ first K.AT 0 42 ∷ [])
+    ∷ (first K.NAME (keyOf (bytes "COMMENTX")) 0 ∷ first K.COLON 0 9 ∷ first K.EQUAL 0 11 ∷ first K.END-OF-TEXT 0 13 ∷ [])
+    ∷ (first K.BYTE 0 0 ∷ first K.NAME (keyOf (bytes "BYTES")) 5 ∷ first K.CHARACTER 0 11 ∷ first K.END-OF-TEXT 0 20 ∷ []) ∷ []
+unfolding sameBytes runLen numberFrom walk fold wordKind comment nameOrWord number begins sign lexeme nextStep nextToken readFrom tokensOf
 read = refl
+
+-- document 02, 2/13: where tokens stand, behind newlines between them and in comments, and the text's end behind its last newline
+spots :
+    map (λ s. map spotOf (tokens s)) ("BEGIN\nRE\n\n  ;" ∷ "BEGIN COMMENT A\nB\n Ã© ; X" ∷ "END\n" ∷ "END\n  " ∷ "COMMENT X;\n\n" ∷ [])
+    ≡ (spot 0 1 1 ∷ spot 6 2 1 ∷ spot 12 4 3 ∷ spot 13 4 4 ∷ []) ∷ (spot 0 1 1 ∷ spot 24 3 7 ∷ spot 25 3 8 ∷ [])
+    ∷ (spot 0 1 1 ∷ spot 4 2 1 ∷ []) ∷ (spot 0 1 1 ∷ spot 6 2 3 ∷ []) ∷ (spot 12 3 1 ∷ []) ∷ []
+unfolding sameBytes runLen numberFrom walk fold wordKind comment nameOrWord number begins sign lexeme nextStep nextToken readFrom tokensOf
+spots = refl
+
+-- and refusals: byte 13 ends no line, bytes of a comment are counted one by one
+abbrev refusal : String → ℕ × Spot
+refusal s = (tokensOf (bytes s) .number, tokensOf (bytes s) .spot)
+
+refusals :
+    map refusal ("?" ∷ "BEGIN\r\nEND @" ∷ "BEGIN\n COMMENT X\n" ∷ "\n\nX;\nBEGIN END 99999999999 @" ∷ [])
+    ≡ (2, spot 0 1 1) ∷ (2, spot 5 1 6) ∷ (2, spot 7 2 2) ∷ (3, spot 15 4 11) ∷ []
+unfolding sameBytes runLen numberFrom walk fold wordKind comment nameOrWord number begins sign lexeme nextStep nextToken readFrom tokensOf
+refusals = refl
 
 -- no two words or signs share a kind, and none has that of the end of the text, of a name or of a number
 abbrev allDiffer : List ℕ → Bool

@@ -3,6 +3,7 @@ pub mod Cases
 pub mod Sizes
 pub mod Gaps
 pub mod Readings
+pub mod Seeking
 pub mod Shape
 pub mod Values
 pub mod Refused

@@ -5,9 +5,13 @@ use mathlib.Core.Path.{_≡_, refl, sym, subst}
 use mathlib.Core.Bool.{Bool, true, false}
 use mathlib.Core.List.{List, [], _∷_, map}
 use native.Mathlib.Omega.{arith}
+use lib.Dec.{ltb}
 use lib.ListN.{length, getD}
+use Rattle.base.specs.Lists.{All}
+use Rattle.base.proofs.Tests.{cases}
+use Rattle.spots.specs.Spots.{spotAt}
 use Rattle.token.specs.Kinds as K
-use Rattle.token.specs.Text.{token, Outcome, read, refused, nextToken, isLast, moved, readBy, readFrom, tokensOf}
+use Rattle.token.specs.Text.{token, Outcome, read, refused, nextToken, isLast, moved, readBy, readFrom, TEXT-LIMIT, tokensOf}
 use Rattle.token.specs.Answers.{kindOf}
 use Rattle.token.specs.declared.Token.{Token}
 use Rattle.token.proofs.Gaps.{Held, held}
@@ -15,48 +19,66 @@ use Rattle.token.proofs.Readings.{all-read-from}
 
 -- tokens from a place on, in a text of so many bytes
 pub data Tokened : ℕ → ℕ → List Token → Type 0 where
-  last : {from size : ℕ} (t : Token) → from ≤ t .place → t .place ≤ size → isLast (t .kind) ≡ true → Tokened from size (t ∷ [])
-  more : {from size : ℕ} (t : Token) {ts : List Token} → from ≤ t .place → t .place < size → isLast (t .kind) ≡ false → Tokened (suc (t .place)) size ts → Tokened from size (t ∷ ts)
+  last : {from size : ℕ} (t : Token) → from ≤ t .spot .place → t .spot .place ≤ size → isLast (t .kind) ≡ true → Tokened from size (t ∷ [])
+  more : {from size : ℕ} (t : Token) {ts : List Token} → from ≤ t .spot .place → t .spot .place < size → isLast (t .kind) ≡ false → Tokened (suc (t .spot .place)) size ts → Tokened from size (t ∷ ts)
 
 lower : {a b size : ℕ} {ts : List Token} → a ≤ b → Tokened b size ts → Tokened a size ts
-lower {a} h (last t p q r) = let l : a ≤ t .place = omega arith in last t l q r
-lower {a} h (more t p q r m) = let l : a ≤ t .place = omega arith in more t l q r m
+lower {a} h (last t p q r) = let l : a ≤ t .spot .place = omega arith in last t l q r
+lower {a} h (more t p q r m) = let l : a ≤ t .spot .place = omega arith in more t l q r m
 
-tokened : (at k : ℕ) (s : List ℕ) (size : ℕ) → size ≡ at + length s → k ≤ length s → readFrom at k s .number ≡ 0 → Tokened (at + k) size (readFrom at k s .tokens)
+tokened : (text : List ℕ) (at k : ℕ) (s : List ℕ) (size : ℕ) → size ≡ at + length s → k ≤ length s → readFrom text at k s .number ≡ 0 → Tokened (at + k) size (readFrom text at k s .tokens)
 unfolding readFrom
-tokened at k [] size e h z =
+tokened text at k [] size e h z =
     let l : at + k ≤ at = omega arith in
     let m : at ≤ size = omega arith in
-    last (token K.END-OF-TEXT 0 at) l m refl
-tokened at (suc k) (x ∷ xs) size e h z =
+    last (token K.END-OF-TEXT 0 (spotAt text at)) l m refl
+tokened text at (suc k) (x ∷ xs) size e h z =
     let j : suc at + k ≡ at + suc k = omega arith in
-    subst (λ (f : ℕ). Tokened f size (readFrom (suc at) k xs .tokens)) j (tokened (suc at) k xs size (omega arith) (omega arith) z)
-tokened at zero (x ∷ xs) size e h z = by (nextToken (x ∷ xs)) (held (x ∷ xs)) (λ n l. tokened (suc at) (pred n) xs size (omega arith) l) z
+    subst (λ (f : ℕ). Tokened f size (readFrom text (suc at) k xs .tokens)) j (tokened text (suc at) k xs size (omega arith) (omega arith) z)
+tokened text at zero (x ∷ xs) size e h z = by (nextToken (x ∷ xs)) (held (x ∷ xs)) (λ n l. tokened text (suc at) (pred n) xs size (omega arith) l) z
   where
     by : (o : Outcome) → Held (x ∷ xs) o
-        → ((n : ℕ) → pred n ≤ length xs → readFrom (suc at) (pred n) xs .number ≡ 0 → Tokened (suc at + pred n) size (readFrom (suc at) (pred n) xs .tokens))
-        → readBy o at (λ n. readFrom (suc at) (pred n) xs) .number ≡ 0 → Tokened (at + 0) size (readBy o at (λ n. readFrom (suc at) (pred n) xs) .tokens)
-    by (refused number place) g ih y = absurd (omega (arith, g .real))
+        → ((n : ℕ) → pred n ≤ length xs → readFrom text (suc at) (pred n) xs .number ≡ 0 → Tokened (suc at + pred n) size (readFrom text (suc at) (pred n) xs .tokens))
+        → readBy text o at (λ n. readFrom text (suc at) (pred n) xs) .number ≡ 0 → Tokened (at + 0) size (readBy text o at (λ n. readFrom text (suc at) (pred n) xs) .tokens)
+    by (refused number spot) g ih y = absurd (omega (arith, g .real))
     by (read t end) g ih y = go (isLast (t .kind)) refl
       where
-        from : at + 0 ≤ at + t .place
+        from : at + 0 ≤ at + t .spot .place
         from = omega arith
 
-        go : (b : Bool) → isLast (t .kind) ≡ b → Tokened (at + 0) size (readBy (read t end) at (λ n. readFrom (suc at) (pred n) xs) .tokens)
+        go : (b : Bool) → isLast (t .kind) ≡ b → Tokened (at + 0) size (readBy text (read t end) at (λ n. readFrom text (suc at) (pred n) xs) .tokens)
         go true l =
-            let m : at + t .place ≤ size = (let f = g .fits in let p = g .before in omega arith) in
-            rw l (last (moved at t) from m l)
+            let m : at + t .spot .place ≤ size = (let f = g .fits in let p = g .before in omega arith) in
+            rw l (last (moved text at t) from m l)
         go false l =
             let p = g .some l in
             let f = g .fits in
-            let m : at + t .place < size = omega arith in
-            let n : suc (at + t .place) ≤ suc at + pred end = omega arith in
-            rw l (more (moved at t) from m l (lower n (ih end (omega arith) (rw l at y))))
+            let m : at + t .spot .place < size = omega arith in
+            let n : suc (at + t .spot .place) ≤ suc at + pred end = omega arith in
+            rw l (more (moved text at t) from m l (lower n (ih end (omega arith) (rw l at y))))
 
 pub tokens-whole : (s : List ℕ) → tokensOf s .number ≡ 0 → Tokened 0 (length s) (tokensOf s .tokens)
 tokens-whole s z =
     let w = all-read-from s z in
-    rw w (tokened 0 0 s (length s) (omega arith) (omega arith) (rw w at z))
+    rw w (tokened s 0 0 s (length s) (omega arith) (omega arith) (rw w at z))
+
+-- each token stands where the text has its place
+abbrev Stands : List ℕ → Token → Type 0
+Stands text t = t .spot ≡ spotAt text (t .spot .place)
+
+stand : (text : List ℕ) (at k : ℕ) (s : List ℕ) → All (Stands text) (readFrom text at k s .tokens)
+unfolding readFrom
+stand text at k [] = (refl, tt)
+stand text at (suc k) (x ∷ xs) = stand text (suc at) k xs
+stand text at zero (x ∷ xs) = by (nextToken (x ∷ xs)) (λ n. stand text (suc at) (pred n) xs)
+  where
+    by : (o : Outcome) → ((n : ℕ) → All (Stands text) (readFrom text (suc at) (pred n) xs .tokens)) → All (Stands text) (readBy text o at (λ n. readFrom text (suc at) (pred n) xs) .tokens)
+    by (refused number spot) ih = tt
+    by (read t end) ih = cases (isLast (t .kind)) (λ e. rw e (refl, tt)) (λ e. rw e (refl, ih end))
+
+pub tokens-stand : (s : List ℕ) → All (λ t. t .spot ≡ spotAt s (t .spot .place)) (tokensOf s .tokens)
+unfolding tokensOf
+tokens-stand s = cases (ltb TEXT-LIMIT (length s)) (λ e. rw e tt) (λ e. rw e (stand s 0 0 s))
 
 -- the token with the last number
 pub tokened-last : {from size : ℕ} {ts : List Token} → Tokened from size ts → (0 < length ts) × (isLast (getD (map kindOf ts) (length ts - 1) 0) ≡ true)

@@ -20,6 +20,7 @@ use Rattle.token.specs.Answers.{kindOf, valueOf}
 use Rattle.token.specs.declared.Token.{Token}
 use Rattle.token.specs.declared.Lexeme.{Lexeme}
 use Rattle.token.specs.declared.Lexeme.the-variants as L
+use Rattle.token.proofs.Gaps.{ending}
 
 -- 32 bits hold the value that goes with the kind
 abbrev Bits : ℕ → ℕ → Type 0
@@ -80,16 +81,16 @@ lexeme-fits s =
 
 abbrev OutcomeFits : Outcome → Type 0
 OutcomeFits (read t end) = Fits t
-OutcomeFits (refused number place) = Unit {0}
+OutcomeFits (refused number spot) = Unit {0}
 
-walk-fits : (at k : ℕ) (s : List ℕ) → OutcomeFits (walk nextStep (λ at. read (token K.END-OF-TEXT 0 at) at) at k s)
+walk-fits : (text : List ℕ) (at k : ℕ) (s : List ℕ) → OutcomeFits (walk (nextStep text) (ending text) at k s)
 unfolding walk nextStep
-walk-fits at k [] = λ q. omega arith
-walk-fits at (suc k) (x ∷ xs) = walk-fits (suc at) k xs
-walk-fits at zero (x ∷ xs) = by (λ n. walk-fits (suc at) (pred n) xs) (lexeme (x ∷ xs)) refl (lexeme-fits (x ∷ xs))
+walk-fits text at k [] = λ q. omega arith
+walk-fits text at (suc k) (x ∷ xs) = walk-fits text (suc at) k xs
+walk-fits text at zero (x ∷ xs) = by (λ n. walk-fits text (suc at) (pred n) xs) (lexeme (x ∷ xs)) refl (lexeme-fits (x ∷ xs))
   where
-    by : ((n : ℕ) → OutcomeFits (walk nextStep (λ at. read (token K.END-OF-TEXT 0 at) at) (suc at) (pred n) xs)) → (l : Lexeme) → lexeme (x ∷ xs) ≡ l → LexemeFits l
-        → OutcomeFits (walk nextStep (λ at. read (token K.END-OF-TEXT 0 at) at) at 0 (x ∷ xs))
+    by : ((n : ℕ) → OutcomeFits (walk (nextStep text) (ending text) (suc at) (pred n) xs)) → (l : Lexeme) → lexeme (x ∷ xs) ≡ l → LexemeFits l
+        → OutcomeFits (walk (nextStep text) (ending text) at 0 (x ∷ xs))
     by ih (L.Gap n) e h = rw (e, walk) (ih n)
     by ih (L.Token kind value n) e h = rw (e, walk) h
     by ih L.NoToken e h = rw (e, walk) tt
@@ -97,21 +98,21 @@ walk-fits at zero (x ∷ xs) = by (λ n. walk-fits (suc at) (pred n) xs) (lexeme
 
 next-fits : (s : List ℕ) → OutcomeFits (nextToken s)
 unfolding nextToken
-next-fits s = walk-fits 0 0 s
+next-fits s = walk-fits s 0 0 s
 
-read-fit : (at k : ℕ) (s : List ℕ) → All Fits (readFrom at k s .tokens)
+read-fit : (text : List ℕ) (at k : ℕ) (s : List ℕ) → All Fits (readFrom text at k s .tokens)
 unfolding readFrom
-read-fit at k [] = (λ q. omega arith, tt)
-read-fit at (suc k) (x ∷ xs) = read-fit (suc at) k xs
-read-fit at zero (x ∷ xs) = by (nextToken (x ∷ xs)) (next-fits (x ∷ xs)) (λ n. read-fit (suc at) (pred n) xs)
+read-fit text at k [] = (λ q. omega arith, tt)
+read-fit text at (suc k) (x ∷ xs) = read-fit text (suc at) k xs
+read-fit text at zero (x ∷ xs) = by (nextToken (x ∷ xs)) (next-fits (x ∷ xs)) (λ n. read-fit text (suc at) (pred n) xs)
   where
-    by : (o : Outcome) → OutcomeFits o → ((n : ℕ) → All Fits (readFrom (suc at) (pred n) xs .tokens)) → All Fits (readBy o at (λ n. readFrom (suc at) (pred n) xs) .tokens)
-    by (refused number place) h ih = tt
+    by : (o : Outcome) → OutcomeFits o → ((n : ℕ) → All Fits (readFrom text (suc at) (pred n) xs .tokens)) → All Fits (readBy text o at (λ n. readFrom text (suc at) (pred n) xs) .tokens)
+    by (refused number spot) h ih = tt
     by (read t end) h ih = cases (isLast (t .kind)) (λ e. rw e (h, tt)) (λ e. rw e (h, ih end))
 
 pub tokens-fit : (s : List ℕ) → All Fits (tokensOf s .tokens)
 unfolding tokensOf
-tokens-fit s = cases (ltb TEXT-LIMIT (length s)) (λ e. rw e tt) (λ e. rw e (read-fit 0 0 s))
+tokens-fit s = cases (ltb TEXT-LIMIT (length s)) (λ e. rw e tt) (λ e. rw e (read-fit s 0 0 s))
 
 -- ── by the token's number, in the lists of kinds and values ──
 

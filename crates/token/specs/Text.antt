@@ -12,6 +12,8 @@ use Rattle.base.specs.Runs.{runLen}
 use Rattle.base.specs.Numbers.{numberFrom}
 use Rattle.base.specs.Walk.{Step, walk}
 use Rattle.base.specs.Walk.Step.{stop, pass}
+use Rattle.spots.specs.declared.Spot.{Spot}
+use Rattle.spots.specs.Spots.{spotAt, unplaced}
 use Rattle.token.specs.Kinds as K
 use Rattle.token.specs.declared.Lexeme.{Lexeme}
 use Rattle.token.specs.declared.Lexeme.the-variants.{Gap, Token, NoToken, OutOfRange}
@@ -114,42 +116,44 @@ lexeme s =
     if eqb b (code "#") then number isHexadecimal 16 mostHexadecimal plain 1 (drop 1 s) else
     sign K.signs s
 
--- a token: its kind; its value, which is a number's 32 bits and a name's key, and 0 for any other; and its place, "the offset of the first byte"
-abbrev pub token : ℕ → ℕ → ℕ → T.Token
-token kind value place = record { kind = kind; value = value; place = place }
+-- a token: its kind; its value, which is a number's 32 bits and a name's key, and 0 for any other; and where it stands: its place, "the offset of the first byte",
+-- and, document 02, 2/13, "its line and column"
+abbrev pub token : ℕ → ℕ → Spot → T.Token
+token kind value spot = record { kind = kind; value = value; spot = spot }
 
--- what reading a token gives: the token and where it ended; or a refusal's number and place
+-- what reading a token gives: the token and where it ended; or a refusal's number and where it stands
 pub data Outcome : Type 0 where
   read : (token : T.Token) (end : ℕ) → Outcome
-  refused : (number place : ℕ) → Outcome
+  refused : (number : ℕ) (spot : Spot) → Outcome
 
-abbrev pub nextBy : Lexeme → ℕ → Step Outcome
-nextBy (Gap n) at = pass n
-nextBy (Token kind value n) at = stop (read (token kind value at) (at + n))
-nextBy NoToken at = stop (refused 2 at)
-nextBy OutOfRange at = stop (refused 3 at)
+abbrev pub nextBy : List ℕ → Lexeme → ℕ → Step Outcome
+nextBy s (Gap n) at = pass n
+nextBy s (Token kind value n) at = stop (read (token kind value (spotAt s at)) (at + n))
+nextBy s NoToken at = stop (refused 2 (spotAt s at))
+nextBy s OutOfRange at = stop (refused 3 (spotAt s at))
 
-unfoldable pub nextStep : ℕ → List ℕ → Step Outcome
-nextStep at s = nextBy (lexeme s) at
+-- at a place of what remains of a text, s, where this is left of it
+unfoldable pub nextStep : List ℕ → ℕ → List ℕ → Step Outcome
+nextStep s at left = nextBy s (lexeme left) at
 
--- the next token of what remains of a text, with places counted from there; at the end of the text a token that says so
+-- the next token of what remains of a text, with places, lines and columns counted from there; at the end of the text a token that says so
 unfoldable pub nextToken : List ℕ → Outcome
-nextToken s = walk nextStep (λ at. read (token K.END-OF-TEXT 0 at) at) 0 0 s
+nextToken s = walk (nextStep s) (λ at. read (token K.END-OF-TEXT 0 (spotAt s at)) at) 0 0 s
 
 -- all tokens of a text, and the refusal that ends them, or 0
 pub record Reading : Type 0 where
   pub tokens : List T.Token
   pub number : ℕ
-  pub place : ℕ
+  pub spot : Spot
 
 abbrev pub ended : List T.Token → Reading
-ended ts = record { tokens = ts; number = 0; place = 0 }
+ended ts = record { tokens = ts; number = 0; spot = unplaced 0 }
 
-abbrev pub refusedAt : ℕ → ℕ → Reading
-refusedAt number place = record { tokens = []; number = number; place = place }
+abbrev pub refusedAt : ℕ → Spot → Reading
+refusedAt number spot = record { tokens = []; number = number; spot = spot }
 
 abbrev pub after : T.Token → Reading → Reading
-after t r = record { tokens = t ∷ r .tokens; number = r .number; place = r .place }
+after t r = record { tokens = t ∷ r .tokens; number = r .number; spot = r .spot }
 
 -- `@` and the end of the text are the last token
 abbrev pub isLast : ℕ → Bool
@@ -159,25 +163,25 @@ abbrev pub lastOr : Bool → T.Token → ℕ → (ℕ → Reading) → Reading
 lastOr true t n rest = ended (t ∷ [])
 lastOr false t n rest = after t (rest n)
 
--- a token's place as one of the whole text, from one counted from `at`
-abbrev pub moved : ℕ → T.Token → T.Token
-moved at t = token (t .kind) (t .value) (at + t .place)
+-- a token as one of the whole text, whose place was counted from `at`
+abbrev pub moved : List ℕ → ℕ → T.Token → T.Token
+moved text at t = token (t .kind) (t .value) (spotAt text (at + t .spot .place))
 
 -- what remains after the token is read by `rest`, which is given the bytes to pass over
-abbrev pub readBy : Outcome → ℕ → (ℕ → Reading) → Reading
-readBy (read t end) at rest = lastOr (isLast (t .kind)) (moved at t) end rest
-readBy (refused number place) at rest = refusedAt number (at + place)
+abbrev pub readBy : List ℕ → Outcome → ℕ → (ℕ → Reading) → Reading
+readBy text (read t end) at rest = lastOr (isLast (t .kind)) (moved text at t) end rest
+readBy text (refused number spot) at rest = refusedAt number (spotAt text (at + spot .place))
 
 -- "Only the bytes up to the first `@` outside a comment are read." "The remaining text after each token is read from where that token ended."
--- `at` is the place of what remains, k bytes of which are still to be passed over.
-unfoldable pub readFrom : ℕ → ℕ → List ℕ → Reading
-readFrom at k [] = ended (token K.END-OF-TEXT 0 at ∷ [])
-readFrom at (suc k) (x ∷ xs) = readFrom (suc at) k xs
-readFrom at zero (x ∷ xs) = readBy (nextToken (x ∷ xs)) at (λ n. readFrom (suc at) (pred n) xs)
+-- `at` is the place in the text of what remains, k bytes of which are still to be passed over.
+unfoldable pub readFrom : List ℕ → ℕ → ℕ → List ℕ → Reading
+readFrom text at k [] = ended (token K.END-OF-TEXT 0 (spotAt text at) ∷ [])
+readFrom text at (suc k) (x ∷ xs) = readFrom text (suc at) k xs
+readFrom text at zero (x ∷ xs) = readBy text (nextToken (x ∷ xs)) at (λ n. readFrom text (suc at) (pred n) xs)
 
--- "1: source over 32,768 bytes, place 32,768"
+-- "1: source over 32,768 bytes, place 32,768"; document 02, 2/13: "refusals 1 and … report line and column 0"
 abbrev pub TEXT-LIMIT : ℕ
 TEXT-LIMIT = 32768
 
 unfoldable pub tokensOf : List ℕ → Reading
-tokensOf s = if ltb TEXT-LIMIT (length s) then refusedAt 1 TEXT-LIMIT else readFrom 0 0 s
+tokensOf s = if ltb TEXT-LIMIT (length s) then refusedAt 1 (unplaced TEXT-LIMIT) else readFrom s 0 0 s

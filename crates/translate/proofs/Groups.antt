@@ -31,10 +31,11 @@ use Rattle.settled.proofs.Programs.{tree, reads, text-is}
 use Rattle.settled.proofs.Judging.{program-front}
 use Rattle.made.specs.declared.Answer.{Answer}
 use Rattle.made.specs.declared.Answer.the-variants.{Refused}
-use Rattle.made.specs.Answers.{Gives, outcome, defined}
+use Rattle.made.specs.Answers.{Gives}
 use Rattle.made.specs.Making.{madeAlong}
 use Rattle.made.proofs.Defined.{made-as-defined}
-use Rattle.translate.proofs.Theorems.{outcome-parts, defined-parts}
+use Rattle.translate.specs.Answers.{outcome, answered, stood}
+use Rattle.translate.proofs.Theorems.{stood-parts}
 
 -- ── "6 to 13", then 14, 15, 16 ──
 
@@ -104,11 +105,11 @@ module _ (ts : List Token) (kinds tape : List ℕ) (p : P.Answer) (d : Parsed ki
 -- ── "1; 2, 3" ──
 
 module _ (src kinds values : List ℕ) (answer : Tokens) (d : Fronted src kinds values answer) where
-  pub text-refused : (out : List ℕ) (a : Tokens) (m : ℕ) → answer ≡ a → summaryOf a .number ≡ suc m → Gives (translate src (length out)) out out (Refused (suc m) (summaryOf a .place))
+  pub text-refused : (out : List ℕ) (a : Tokens) (m : ℕ) → answer ≡ a → summaryOf a .number ≡ suc m → Gives (translate src (length out)) out out (Refused (suc m) (summaryOf a .spot .place))
   unfolding translate translated inRoom
   text-refused out a m e z =
       let n : tokensOf src .number ≡ suc m = sym (ap (λ (y : Summary). y .number) (d .is)) ∙ (ap (λ (y : Tokens). summaryOf y .number) e ∙ z) in
-      let p : summaryOf a .place ≡ tokensOf src .place = sym (ap (λ (y : Tokens). summaryOf y .place) e) ∙ ap (λ (y : Summary). y .place) (d .is) in
+      let p : summaryOf a .spot .place ≡ tokensOf src .spot .place = sym (ap (λ (y : Tokens). summaryOf y .spot .place) e) ∙ ap (λ (y : Summary). y .spot .place) (d .is) in
       rw n (record { number-is = refl; place-is = p; length-is = refl; buffer-is = refl })
 
   pub some-room : {c : ℕ} → answer ≡ S.Room c → ⊥
@@ -123,9 +124,9 @@ module _ (src kinds values : List ℕ) (answer : Tokens) (d : Fronted src kinds 
   text-read n e w b out out′ a v bs g =
       rw (all-read src answer (d .is) n e, read-grammar (allTokens src)) (rw (d .kinds-are n e) at (g (d .kinds-are n e) (v ∙ d .values-are n e) (small-text src) bs))
 
--- number, place, length and buffer in one
-pub as-one : {a : T.Answer} {before after : List ℕ} {r : Answer} → Gives a before after r → outcome r after ≡ defined a before
-as-one {a} {before} {after} {r} g = outcome-parts r after ∙ (rw (g .number-is, g .place-is, g .length-is, g .buffer-is) (sym (defined-parts a before)))
+-- number, place, line, column, length and buffer in one
+pub as-one : (source : List ℕ) {a : T.Answer} {before after : List ℕ} {r : Answer} → Gives a before after r → outcome (stood source r) after ≡ answered source a before
+as-one source {a} {before} {after} {r} g = stood-parts source r after ∙ rw (g .number-is, g .place-is, g .length-is, g .buffer-is)
 
 -- "1: source over 32,768 bytes … 32,768"
 pub too-long : (src out : List ℕ) → TEXT-LIMIT < length src → Gives (translate src (length out)) out out (Refused 1 TEXT-LIMIT)

@@ -3,57 +3,35 @@ use mathlib.Core.Path.{_≡_, refl, sym, ap, ap₂, _∙_}
 use mathlib.Core.List.{List}
 use Prim.Native.Nat.{ℕ}
 use lib.ListN.{length}
-use Rattle.translation.specs.Translate as T
-use Rattle.translation.specs.Translate.{translate}
+use Rattle.spots.specs.declared.Spot.{Spot}
+use Rattle.translation.specs.Translate.{spotFor}
 use Rattle.translation.proofs.Theorems.{not-both}
-use Rattle.made.specs.declared.Answer.{Answer}
-use Rattle.made.specs.declared.Answer.the-variants.{Accepted, Refused}
-use Rattle.made.specs.Answers.{Outcome, outcome, defined, numberOf, placeOf, lengthOf, Gives}
+use Rattle.made.specs.declared.Answer as M
+use Rattle.made.specs.declared.Answer.the-variants as W
+use Rattle.made.specs.Answers as A
+use Rattle.translate.specs.declared.Answer.{Answer}
+use Rattle.translate.specs.declared.Answer.the-variants.{Accepted, Refused}
+use Rattle.translate.specs.Answers.{Outcome, outcome, defined, stood}
 
--- ── an outcome part by part ──
+-- ── the last step, part by part ──
 
-pub outcome-parts : (r : Answer) (after : List ℕ) → outcome r after ≡ record { number = numberOf r; place = placeOf r; length = lengthOf r; buffer = after }
-outcome-parts (Accepted n) after = refl
-outcome-parts (Refused n p) after = refl
-
-pub defined-parts : (a : T.Answer) (before : List ℕ) → defined a before ≡ record { number = T.numberOf a; place = T.placeOf a; length = T.lengthOf a; buffer = T.leaves a before }
-defined-parts (T.accepted t) before = refl
-defined-parts (T.refused n p) before = refl
-
-pub in-parts : (a : T.Answer) (before after : List ℕ) (r : Answer) → outcome r after ≡ defined a before → Gives a before after r
-in-parts a before after r e =
-    let q = sym (outcome-parts r after) ∙ (e ∙ defined-parts a before) in
-    record {
-      number-is = ap (λ (o : Outcome). o .number) q;
-      place-is = ap (λ (o : Outcome). o .place) q;
-      length-is = ap (λ (o : Outcome). o .length) q;
-      buffer-is = ap (λ (o : Outcome). o .buffer) q;
-    }
+pub stood-parts : (source : List ℕ) (r : M.Answer) (after : List ℕ)
+    → outcome (stood source r) after ≡ record { number = A.numberOf r; spot = spotFor source (A.numberOf r) (A.placeOf r); length = A.lengthOf r; buffer = after }
+stood-parts source (W.Accepted n) after = refl
+stood-parts source (W.Refused n p) after = refl
 
 -- ── no second answer ──
 
-pub one-answer : (source before : List ℕ) (r q : Answer) (after other : List ℕ) → outcome r after ≡ defined (translate source (length before)) before
-    → outcome q other ≡ defined (translate source (length before)) before → (r ≡ q) × (after ≡ other)
-one-answer source before r q after other e f = (
-  go r q e f,
-  in-parts (translate source (length before)) before after r e .buffer-is
-      ∙ sym (in-parts (translate source (length before)) before other q f .buffer-is),
-)
+pub one-answer : (source before : List ℕ) (r q : Answer) (after other : List ℕ) → outcome r after ≡ defined source before → outcome q other ≡ defined source before
+    → (r ≡ q) × (after ≡ other)
+one-answer source before r q after other e f = (go r q e f, ap (λ (o : Outcome). o .buffer) (e ∙ sym f))
   where
-    is : Outcome
-    is = defined (translate source (length before)) before
-
     -- an acceptance of nothing and a refusal with the number 0 would say the same: the definition has neither
-    neither : (n m p : ℕ) → outcome (Accepted n) after ≡ is → outcome (Refused m p) other ≡ is → ⊥
-    neither n m p a b = not-both source (length before) (sym (in-parts (translate source (length before)) before after (Accepted n) a .number-is))
-        (sym (in-parts (translate source (length before)) before other (Refused m p) b .length-is))
+    neither : (n m : ℕ) (p : Spot) (a b : List ℕ) → outcome (Accepted n) a ≡ defined source before → outcome (Refused m p) b ≡ defined source before → ⊥
+    neither n m p a b x y = not-both source (length before) (sym (ap (λ (o : Outcome). o .number) x)) (sym (ap (λ (o : Outcome). o .length) y))
 
-    turned : (n m p : ℕ) → outcome (Refused m p) after ≡ is → outcome (Accepted n) other ≡ is → ⊥
-    turned n m p a b = not-both source (length before) (sym (in-parts (translate source (length before)) before other (Accepted n) b .number-is))
-        (sym (in-parts (translate source (length before)) before after (Refused m p) a .length-is))
-
-    go : (r q : Answer) → outcome r after ≡ is → outcome q other ≡ is → r ≡ q
+    go : (r q : Answer) → outcome r after ≡ defined source before → outcome q other ≡ defined source before → r ≡ q
     go (Accepted n) (Accepted m) a b = ap Accepted (ap (λ (o : Outcome). o .length) (a ∙ sym b))
-    go (Accepted n) (Refused m p) a b = absurd (neither n m p a b)
-    go (Refused m p) (Accepted n) a b = absurd (turned n m p a b)
-    go (Refused n p) (Refused m t) a b = ap₂ Refused (ap (λ (o : Outcome). o .number) (a ∙ sym b)) (ap (λ (o : Outcome). o .place) (a ∙ sym b))
+    go (Accepted n) (Refused m p) a b = absurd (neither n m p after other a b)
+    go (Refused m p) (Accepted n) a b = absurd (neither n m p other after b a)
+    go (Refused n p) (Refused m t) a b = ap₂ Refused (ap (λ (o : Outcome). o .number) (a ∙ sym b)) (ap (λ (o : Outcome). o .spot) (a ∙ sym b))

@@ -8,18 +8,27 @@ ghost use Rattle.grammar.specs.Grammar.{nesting};
 ghost use Rattle.scopes.specs.Search.{firstToken};
 ghost use Rattle.ledger.specs.Book.{wideOf, thinOf};
 ghost use Rattle.ledger.specs.Bounds.{Narrow, Nested};
-ghost use Rattle.translation.specs.Translate.{translate as translation};
+ghost use Rattle.translation.specs.Translate.{translate as translation, reportsNone};
 ghost use Rattle.settled.specs.Texts.{Lent, Fits, Rooms};
-ghost use Rattle.made.specs.Answers.{Gives, outcome, defined};
+ghost use Rattle.made.specs.Answers.{Gives};
+ghost use Rattle.translate.specs.Answers.{outcome, defined, stood};
 ghost use Rattle.translate.specs.Groups.{OnTokens, OnTape};
 ghost use Rattle.translate.specs.Sizes as S;
 use ledger::clear_written;
-pub use made::Answer;
 use settled::FIRST_TOKEN;
 use settled::MORE_ROWS;
 use settled::TEXT_LIMIT;
 use settled::place_of;
+use spots::Spot;
+use spots::spot_at;
+use spots::unplaced;
 use token::Tokens;
+
+// The bytes written; or a refusal's number and where it stands.
+pub enum Answer {
+    Accepted(usize),
+    Refused(usize, Spot),
+}
 
 // ── the groups ──
 
@@ -31,7 +40,7 @@ fn translate_tape(
     wide: &mut [u64],
     thin: &mut [u16],
     out: &mut [u8],
-) -> Answer
+) -> made::Answer
     requires { ⌜ (tokensOf (now src) .number ≡ 0) × (firstToken + length (now tape) ≤ length (now kinds)) × Narrow (now tape) × Nested nesting 0 0 (now tape)
         × Lent (length (now kinds)) (now wide) (now thin) ⌝ }
     ensures { λ r. ⌜ OnTape (now (src .entry)) (now (kinds .entry)) (wideOf (now (wide .entry))) (thinOf (now (thin .entry))) (now (out .entry)) (now (out .exit)) r (now (tape .entry)) ⌝ }
@@ -42,7 +51,7 @@ fn translate_tape(
     let number = broken.number;
     let at = broken.at;
     if number != 0 {
-        return Answer::Refused(number, place_of(src, at));
+        return made::Answer::Refused(number, place_of(src, at));
     }
     clear_written(thin);
     made::make(tape, kinds, wide, thin, s, out)
@@ -56,7 +65,7 @@ fn translate_tokens(
     wide: &mut [u64],
     thin: &mut [u16],
     out: &mut [u8],
-) -> Answer
+) -> made::Answer
     requires { ⌜ (tokensOf (now src) .number ≡ 0) × (firstToken ≤ length (now kinds)) × (length (now tape) ≡ length (now kinds)) × Lent (length (now kinds)) (now wide) (now thin) ⌝ }
     ensures { λ r. ⌜ OnTokens (now (src .entry)) (now (kinds .entry)) (wideOf (now (wide .entry))) (thinOf (now (thin .entry))) (now (out .entry)) (now (out .exit)) r ⌝ }
 {
@@ -65,7 +74,7 @@ fn translate_tokens(
     let at = p.at;
     let size = p.value;
     if number != 0 {
-        return Answer::Refused(number as usize, place_of(src, at));
+        return made::Answer::Refused(number as usize, place_of(src, at));
     }
     translate_tape(src, &tape[..size], kinds, wide, thin, out)
 }
@@ -79,7 +88,7 @@ fn translate_read(
     wide: &mut [u64],
     thin: &mut [u16],
     out: &mut [u8],
-) -> Answer
+) -> made::Answer
     requires { ⌜ (tokensOf (now src) .number ≡ 0) × Fits (firstToken + n) (now kinds) (now tape) (now wide) (now thin) ⌝ }
     ensures { λ r. ⌜ (let m = firstToken + n in OnTokens (now (src .entry)) (take m (now (kinds .entry))) (wideOf (take (4 * m) (now (wide .entry))))
         (thinOf (take (4 * m) (now (thin .entry)))) (now (out .entry)) (now (out .exit)) r) ⌝ }
@@ -104,17 +113,17 @@ fn translate_in(
     wide: &mut [u64],
     thin: &mut [u16],
     out: &mut [u8],
-) -> Answer
+) -> made::Answer
     requires { ⌜ Rooms (length (now src)) (now kinds) (now tape) (now wide) (now thin) ⌝ }
     ensures { λ r. ⌜ Gives (translation (now (src .entry)) (length (now (out .entry)))) (now (out .entry)) (now (out .exit)) r ⌝ }
 {
     let tokens = settled::read(src, kinds, wide);
     match tokens {
         Tokens::Read(n) => translate_read(src, n, kinds, tape, wide, thin, out),
-        Tokens::TooLong => Answer::Refused(1, TEXT_LIMIT),
-        Tokens::NoToken(place) => Answer::Refused(2, place),
-        Tokens::OutOfRange(place) => Answer::Refused(3, place),
-        Tokens::Room(needed) => Answer::Refused(16, needed),
+        Tokens::TooLong => made::Answer::Refused(1, TEXT_LIMIT),
+        Tokens::NoToken(there) => made::Answer::Refused(2, there.place),
+        Tokens::OutOfRange(there) => made::Answer::Refused(3, there.place),
+        Tokens::Room(needed) => made::Answer::Refused(16, needed),
     }
 }
 
@@ -124,7 +133,7 @@ const SHORT: usize = 1024;
 
 const MIDDLING: usize = 8192;
 
-fn short(src: &[u8], out: &mut [u8]) -> Answer
+fn short(src: &[u8], out: &mut [u8]) -> made::Answer
     requires { ⌜ length (now src) ≤ S.SHORT ⌝ }
     ensures { λ r. ⌜ Gives (translation (now (src .entry)) (length (now (out .entry)))) (now (out .entry)) (now (out .exit)) r ⌝ }
 {
@@ -135,7 +144,7 @@ fn short(src: &[u8], out: &mut [u8]) -> Answer
     translate_in(src, &mut kinds, &mut tape, &mut wide, &mut thin, out)
 }
 
-fn middling(src: &[u8], out: &mut [u8]) -> Answer
+fn middling(src: &[u8], out: &mut [u8]) -> made::Answer
     requires { ⌜ length (now src) ≤ S.MIDDLING ⌝ }
     ensures { λ r. ⌜ Gives (translation (now (src .entry)) (length (now (out .entry)))) (now (out .entry)) (now (out .exit)) r ⌝ }
 {
@@ -146,7 +155,7 @@ fn middling(src: &[u8], out: &mut [u8]) -> Answer
     translate_in(src, &mut kinds, &mut tape, &mut wide, &mut thin, out)
 }
 
-fn long(src: &[u8], out: &mut [u8]) -> Answer
+fn long(src: &[u8], out: &mut [u8]) -> made::Answer
     requires { ⌜ length (now src) ≤ TEXT-LIMIT ⌝ }
     ensures { λ r. ⌜ Gives (translation (now (src .entry)) (length (now (out .entry)))) (now (out .entry)) (now (out .exit)) r ⌝ }
 {
@@ -159,7 +168,7 @@ fn long(src: &[u8], out: &mut [u8]) -> Answer
 
 // By length. A function that calls itself takes none with large arrays into its own frame: so each of the three has a frame of its own, and a short text
 // needs little stack.
-fn sized(src: &[u8], out: &mut [u8]) -> Answer
+fn sized(src: &[u8], out: &mut [u8]) -> made::Answer
     requires { ⌜ length (now src) ≤ TEXT-LIMIT ⌝ }
     ensures { λ r. ⌜ Gives (translation (now (src .entry)) (length (now (out .entry)))) (now (out .entry)) (now (out .exit)) r ⌝ }
 {
@@ -175,12 +184,37 @@ fn sized(src: &[u8], out: &mut [u8]) -> Answer
     sized(&src[..TEXT_LIMIT], out)
 }
 
-// The object text of a source, laid at the front of a buffer: number, place and length, and the buffer, are the definition's.
+// ── the last step ──
+
+// Document 02, 2/13: "Success and refusals 1 and 14 to 19 report line and column 0".
+fn reports_none(number: usize) -> bool
+    ensures { λ r. ⌜ r ≡ reportsNone number ⌝ }
+{
+    (number <= 1) | ((14 <= number) & (number <= 19))
+}
+
+// "every other with a place below the text's length reports its own, and one at the end where the next byte would stand"
+fn stand(src: &[u8], answer: made::Answer) -> Answer
+    ensures { λ r. ⌜ r ≡ stood (now (src .entry)) answer ⌝ }
+{
+    match answer {
+        made::Answer::Accepted(written) => Answer::Accepted(written),
+        made::Answer::Refused(number, place) => {
+            if reports_none(number) {
+                return Answer::Refused(number, unplaced(place));
+            }
+            Answer::Refused(number, spot_at(src, place))
+        }
+    }
+}
+
+// The object text of a source, laid at the front of a buffer: number, place, line, column and length, and the buffer, are the definition's.
 pub fn translate(src: &[u8], out: &mut [u8]) -> Answer
-    ensures { λ r. ⌜ outcome r (now (out .exit)) ≡ defined (translation (now (src .entry)) (length (now (out .entry)))) (now (out .entry)) ⌝ }
+    ensures { λ r. ⌜ outcome r (now (out .exit)) ≡ defined (now (src .entry)) (now (out .entry)) ⌝ }
 {
     if src.len() <= TEXT_LIMIT {
-        return sized(src, out);
+        let answer = sized(src, out);
+        return stand(src, answer);
     }
-    Answer::Refused(1, TEXT_LIMIT)
+    stand(src, made::Answer::Refused(1, TEXT_LIMIT))
 }

@@ -1,4 +1,4 @@
-// Every stored text through the proved translator: number, place, every byte of the object text, and every other byte of the buffer as it was.
+// Every stored text through the proved translator: number, place, line, column, every byte of the object text, and every other byte of the buffer as it was.
 ghost use mathlib.Core.Path.{_≡_};
 ghost use Prim.Native.Nat.{_+_, _≤_};
 ghost use lib.ListN.{length};
@@ -10,8 +10,10 @@ use lines::window;
 // No vector is longer.
 const VECTOR: usize = 49152;
 
-// Text length, room, number, place and length of the object text.
-const FIELDS: usize = 5;
+// Text length, room, number, place, line, column and length of the object text.
+const FIELDS: usize = 7;
+
+const LENGTH: usize = 6;
 
 // Every byte of the buffer before a translation.
 const BEFORE: u8 = 165;
@@ -41,25 +43,31 @@ fn room_in(buffer: &[u8], room: u64) -> usize
     room as usize
 }
 
+// Whether number, place, line, column and length are the stored ones.
+fn is_stored(said: u64, answer: [usize; 4], fields: &[u64; FIELDS]) -> bool {
+    (said == fields[2])
+        & (answer[0] as u64 == fields[3])
+        & (answer[1] as u64 == fields[4])
+        & (answer[2] as u64 == fields[5])
+        & (answer[3] as u64 == fields[LENGTH])
+}
+
 // Whether a text in so much of the buffer has this answer; the buffer is compared whole with what has to stand in it.
 fn translates(
     text: &[u8],
     buffer: &mut [u8],
     expected: &mut [u8],
-    room: u64,
-    number: u64,
-    place: u64,
+    fields: &[u64; FIELDS],
     object: &[u8],
 ) -> bool {
     checksum::fill(buffer, BEFORE);
     checksum::fill(expected, BEFORE);
     output::put_all(expected, 0, object);
-    let end = room_in(buffer, room);
-    let mut at: usize = 0;
-    let mut written: usize = 0;
-    let said = c_translate::tautgaff_translate(text, &mut buffer[..end], &mut at, &mut written);
+    let end = room_in(buffer, fields[1]);
+    let mut answer = [0usize; 4];
+    let said = c_translate::tautgaff_translate(text, &mut buffer[..end], &mut answer);
     let is_same = check::same(buffer, expected);
-    (said == number) & (at as u64 == place) & (written == object.len()) & is_same
+    is_stored(said, answer, fields) & is_same
 }
 
 fn compare(input: &[u8], buffer: &mut [u8], expected: &mut [u8]) -> Compared
@@ -76,18 +84,16 @@ fn compare(input: &[u8], buffer: &mut [u8], expected: &mut [u8]) -> Compared
     if (rest as u64) < 2 {
         return nothing();
     }
-    if (rest as u64) - 2 < fields[4] {
+    if (rest as u64) - 2 < fields[LENGTH] {
         return nothing();
     }
     let first = to + 1;
-    let end = first + fields[4] as usize;
+    let end = first + fields[LENGTH] as usize;
     let is_equal = translates(
         &input[from..to],
         buffer,
         expected,
-        fields[1],
-        fields[2],
-        fields[3],
+        &fields,
         &input[first..end],
     );
     Compared {

@@ -1,15 +1,16 @@
 -- Each row of the table against the definition, group by group: a source that a group lets pass is answered by the groups after it. Assumes nothing.
 use mathlib.Core.Path.{_≡_, refl, sym, ap, subst, _∙_}
 use mathlib.Core.Logic.{_⊎_, inl, inr, _↔_}
-use mathlib.Core.Bool.{_&&_}
+use mathlib.Core.Bool.{false, _&&_}
 use mathlib.Core.List.{List, [], _∷_, _++_}
 use Prim.Native.Nat.{ℕ, zero, suc, _<_, _≤_}
 use native.Mathlib.Omega.{arith}
 use lib.Dec.{T, eqb, ltb, leb, leb→le}
 use lib.ListN.{length, length-append}
-use borrow.Author.Tests.{eqb-true, ne-eqb, ltb-true, ltb-false, lt-ltb, le-ltb, le-leb}
+use borrow.Author.Tests.{eqb-true, eqb-false, ne-eqb, ltb-true, ltb-false, lt-ltb, le-ltb, le-leb}
 use Rattle.base.specs.Choose.{choose}
 use Rattle.base.proofs.Tests.{cases, and-left}
+use Rattle.spots.specs.declared.Spot.{Spot}
 use Rattle.token.specs.declared.Token.{Token}
 use Rattle.token.specs.Text.{Reading, TEXT-LIMIT, tokensOf}
 use Rattle.token.specs.Refusals.{TwoAt, ThreeAt}
@@ -29,6 +30,7 @@ use Rattle.translation.specs.Broken.{Breaks, NotAfter}
 use Rattle.translation.specs.Rows.{Tokens, Program, Keeps, Fits, objectOf, TokenAt, BrokenAt, ProgramLong, LiteralsLong, BufferShort, Accepts, Row, Given}
 use Rattle.translation.proofs.Answers.{read-grammar}
 use Rattle.translation.proofs.Numbers.{make-ruled}
+use Rattle.translation.proofs.Tokens.{place-inside}
 use Rattle.translation.proofs.Breaking.{after-same, make-least}
 
 -- ── what is broken is the least of the rules that are ──
@@ -47,7 +49,7 @@ least-broken ts x n t b l = (let h = make-least ts x .least n t b in after-same 
 module _ (source : List ℕ) (room : ℕ) where
   -- ── what the groups after those that are passed answer ──
 
-  text-refused : (n : ℕ) → tokensOf source .number ≡ suc n → translate source room ≡ refused (suc n) (tokensOf source .place)
+  text-refused : (n : ℕ) → tokensOf source .number ≡ suc n → translate source room ≡ refused (suc n) (tokensOf source .spot .place)
   unfolding translate translated inRoom
   text-refused n e = rw e
 
@@ -103,19 +105,19 @@ module _ (source : List ℕ) (room : ℕ) where
       (λ a.
       let g : (TEXT-LIMIT < length source) × (p ≡ TEXT-LIMIT) = rw a at h in
       let e = refusal-1 source .1 (g .0) in
-      rw (eqb-true n 1 a, g .1) (text-refused 0 (ap (λ (r : Reading). r .number) e) ∙ ap (λ (r : Reading). refused 1 (r .place)) e))
+      rw (eqb-true n 1 a, g .1) (text-refused 0 (ap (λ (r : Reading). r .number) e) ∙ ap (λ (r : Reading). refused 1 (r .spot .place)) e))
       (λ a.
       cases (eqb n 2)
       (λ b.
       let g : TwoAt source p = rw (a, b) at h in
       let e = refusal-2 source p .1 g in
-      rw (eqb-true n 2 b) (text-refused 1 (e .0) ∙ ap (refused 2) (e .1)))
+      rw (eqb-true n 2 b) (text-refused 1 (e .0) ∙ ap (λ (q : Spot). refused 2 (q .place)) (e .1)))
       (λ b.
       cases (eqb n 3)
       (λ c.
       let g : ThreeAt source p = rw (a, b, c) at h in
       let e = refusal-3 source p .1 g in
-      rw (eqb-true n 3 c) (text-refused 2 (e .0) ∙ ap (refused 3) (e .1)))
+      rw (eqb-true n 3 c) (text-refused 2 (e .0) ∙ ap (λ (q : Spot). refused 3 (q .place)) (e .1)))
       (λ c.
       cases (eqb n 4)
       (λ d.
@@ -236,9 +238,38 @@ module _ (source : List ℕ) (room : ℕ) where
     where
       go : Refusal source (tokensOf source) → Given source room (translate source room)
       go (all-read h z) = tokens-given (inFront ++ tokensOf source .tokens) (record { read = z; are = refl })
-      go (one h z w) = answered-by (refused 1 TEXT-LIMIT) (text-refused 0 z ∙ ap (refused 1) w) (h, refl)
-      go (two h z) = answered-by (refused 2 (tokensOf source .place)) (text-refused 1 z) h
-      go (three h z) = answered-by (refused 3 (tokensOf source .place)) (text-refused 2 z) h
+      go (one h z w) = answered-by (refused 1 TEXT-LIMIT) (text-refused 0 z ∙ ap (λ (q : Spot). refused 1 (q .place)) w) (h, refl)
+      go (two p h z w) = answered-by (refused 2 p) (text-refused 1 z ∙ ap (λ (q : Spot). refused 2 (q .place)) w) h
+      go (three p h z w) = answered-by (refused 3 p) (text-refused 2 z ∙ ap (λ (q : Spot). refused 3 (q .place)) w) h
+
+-- ── a place that is reported with its line is in the text ──
+
+pub place-in-text : (source : List ℕ) (room n p : ℕ) → translate source room ≡ refused n p → 2 ≤ n → n ≤ 13 → p ≤ length source
+place-in-text source room n p e l h =
+    cases (eqb n 2)
+    (λ b. let g : TwoAt source p = rw (one, b) at r in omega (arith, g .inside))
+    (λ b.
+    cases (eqb n 3)
+    (λ c. let g : ThreeAt source p = rw (one, b, c) at r in omega (arith, g .inside))
+    (λ c.
+    cases (eqb n 4)
+    (λ d. let g : TokenAt source FourAt p = rw (one, b, c, d) at r in there (g .ts) (g .tokens) (g .token) (g .place))
+    (λ d.
+    cases (eqb n 5)
+    (λ f. let g : TokenAt source FiveAt p = rw (one, b, c, d, f) at r in there (g .ts) (g .tokens) (g .token) (g .place))
+    (λ f.
+    let six : 6 ≤ n = omega (arith, eqb-false n 2 b, eqb-false n 3 c, eqb-false n 4 d, eqb-false n 5 f) in
+    let g = group-row source room n p six h .0 r in
+    there (g .ts) (g .program .tokens) (g .token) (g .place)))))
+  where
+    r : Row source room n p
+    r = subst (Given source room) e (row-given source room)
+
+    one : eqb n 1 ≡ false
+    one = ne-eqb n 1 (λ e. omega arith)
+
+    there : (ts : List Token) → Tokens source ts → (t : ℕ) → placeAt ts t ≡ p → p ≤ length source
+    there ts k t q = rw (← q, k .are) (place-inside source (k .read) t)
 
 -- ── no second answer ──
 

@@ -1,10 +1,15 @@
 -- What a reader of document 01's "Numbers answered" may rely on, over `translate source room`: the page to read first. Each is proved by citation. Assumes nothing.
-use mathlib.Core.Path.{_≡_, refl, subst}
-use mathlib.Core.Logic.{_↔_}
-use mathlib.Core.List.{List, _++_}
-use Prim.Native.Nat.{ℕ, _<_, _≤_}
+use mathlib.Core.Path.{_≡_, refl, ap, subst, _∙_}
+use mathlib.Core.Logic.{_↔_, _⊎_, inl, inr}
+use mathlib.Core.List.{List, _∷_, _++_}
+use Prim.Native.Nat.{ℕ, _+_, _<_, _≤_}
 use native.Mathlib.Omega.{arith}
-use lib.ListN.{length}
+use lib.ListN.{length, take}
+use lib.Seq.{length-take-le}
+use borrow.Author.Tests.{le-leb, lt-leb}
+use Rattle.spots.specs.declared.Spot.{Spot}
+use Rattle.spots.specs.Spots.{spotAt, unplaced, newlines, NoNewline}
+use Rattle.spots.proofs.Theorems.{line-is, column-is, first-column-is}
 use Rattle.token.specs.declared.Token.{Token}
 use Rattle.token.specs.Text.{tokensOf}
 use Rattle.grammar.specs.Tree.{Statement}
@@ -14,14 +19,14 @@ use Rattle.scopes.specs.Search.{inFront, firstToken}
 use Rattle.scopes.proofs.Least.{LeastOf, join-least}
 use Rattle.objtext.specs.Object.{Segment, Object, objectText}
 use Rattle.translation.specs.Image.{segments}
-use Rattle.translation.specs.Translate.{Answer, accepted, refused, numberOf, lengthOf, placeAt, make, translate}
+use Rattle.translation.specs.Translate.{Answer, accepted, refused, numberOf, spotOf, lengthOf, placeAt, make, translate}
 use Rattle.translation.specs.Broken.{Breaks}
 use Rattle.translation.specs.Rows.{BrokenAt, Given}
 use Rattle.translation.proofs.Answers.{acceptance, fits-room, room-only}
 use Rattle.translation.proofs.Objects.{accepted-object}
 use Rattle.translation.proofs.Numbers.{breaks-ruled}
 use Rattle.translation.proofs.Tokens.{later-token}
-use Rattle.translation.proofs.Rows.{group-row, row-answered, row-given, number-some, text-some}
+use Rattle.translation.proofs.Rows.{group-row, row-answered, row-given, place-in-text, number-some, text-some}
 
 -- of broken rules that are joined the least is answered, as it is of those of one event
 pub least : (a b : Broken) → LeastOf a b (a ⊕ b)
@@ -49,6 +54,34 @@ module _ (source : List ℕ) (room : ℕ) where
   pub places-rise : tokensOf source .number ≡ 0 → (i j : ℕ) → firstToken ≤ i → i < j → j < length (inFront ++ tokensOf source .tokens)
       → placeAt (inFront ++ tokensOf source .tokens) i < placeAt (inFront ++ tokensOf source .tokens) j
   places-rise z i j f h l = later-token source z i j f h l
+
+  -- document 02, 2/13: "Success and refusals 1 and 14 to 19 report line and column 0"
+  pub success-has-none : (t : List ℕ) → translate source room ≡ accepted t → spotOf source (translate source room) ≡ unplaced 0
+  success-has-none t e = ap (spotOf source) e
+
+  pub refusal-has-none : (n p : ℕ) → translate source room ≡ refused n p → (n ≡ 1) ⊎ ((14 ≤ n) × (n ≤ 19)) → spotOf source (translate source room) ≡ unplaced p
+  refusal-has-none n p e (inl h) = ap (spotOf source) e ∙ rw h
+  refusal-has-none n p e (inr h) =
+      let l = h .0 in
+      ap (spotOf source) e ∙ rw (lt-leb n 1 (omega arith), le-leb 14 n l, le-leb n 19 (h .1))
+
+  -- "every other with a place below the text's length reports its own, and one at the end where the next byte would stand": the line is one more than the bytes 10 before
+  -- the place, the column one more than the bytes since the last of them, or since the text's begin
+  pub refusal-stands : (n p : ℕ) → translate source room ≡ refused n p → 2 ≤ n → n ≤ 13 → (p ≤ length source) × (spotOf source (translate source room) ≡ spotAt source p)
+  refusal-stands n p e l h = (place-in-text source room n p e l h, ap (spotOf source) e ∙ rw (lt-leb n 1 (omega arith), lt-leb 14 n (omega arith)))
+
+  pub refusal-line : (n p : ℕ) → translate source room ≡ refused n p → 2 ≤ n → n ≤ 13 → spotOf source (translate source room) .line ≡ 1 + newlines (take p source)
+  refusal-line n p e l h = ap (λ (q : Spot). q .line) (refusal-stands n p e l h .1) ∙ line-is source p
+
+  pub refusal-column : (n p : ℕ) → translate source room ≡ refused n p → 2 ≤ n → n ≤ 13 → (front since : List ℕ) → take p source ≡ front ++ 10 ∷ since → NoNewline since
+      → spotOf source (translate source room) .column ≡ 1 + length since
+  refusal-column n p e l h front since q m = ap (λ (q : Spot). q .column) (refusal-stands n p e l h .1) ∙ column-is source p front since q m
+
+  pub refusal-first-column : (n p : ℕ) → translate source room ≡ refused n p → 2 ≤ n → n ≤ 13 → NoNewline (take p source)
+      → spotOf source (translate source room) .column ≡ 1 + p
+  refusal-first-column n p e l h m =
+      let s = refusal-stands n p e l h in
+      ap (λ (q : Spot). q .column) (s .1) ∙ first-column-is source p m ∙ ap (λ (k : ℕ). 1 + k) (length-take-le p source (s .0))
 
   -- no refusal has the number of an acceptance, and no object text is empty: so number, place and length tell the answer
   pub refusal-number : (n p : ℕ) → translate source room ≡ refused n p → 0 < n

@@ -1,5 +1,5 @@
--- The tokens that a text is translated by, with the names in front of it: how many there are, that its numbers have 32 bits, and that a later token stands at a
--- greater place.
+-- The tokens that a text is translated by, with the names in front of it: how many there are, that its numbers have 32 bits, that a later token stands at a
+-- greater place, and each in the text.
 use mathlib.Core.Path.{_≡_, ap}
 use mathlib.Core.List.{List, [], _∷_, _++_, map}
 use Prim.Native.Nat.{ℕ, zero, suc, _+_, _-_, _≤_, _<_}
@@ -47,6 +47,31 @@ places-rise (last t p q r) i j h l = absurd (omega arith)
 places-rise (more t p q r m) i zero h l = absurd (omega arith)
 places-rise (more t p q r m) zero (suc j) h l = (let k = places-from m j (omega arith) in omega arith)
 places-rise (more t p q r m) (suc i) (suc j) h l = places-rise m i j (omega arith) (omega arith)
+
+-- ── and stay in the text ──
+
+module _ (n : ℕ) where
+  abbrev Inside : Token → Type 0
+  Inside t = t .spot .place ≤ n
+
+  at-inside : (ts : List Token) → All Inside ts → (i : ℕ) → placeAt ts i ≤ n
+  at-inside [] h i = omega arith
+  at-inside (t ∷ ts) h zero = h .0
+  at-inside (t ∷ ts) h (suc i) = at-inside ts (h .1) i
+
+  tokened-inside : {from : ℕ} {ts : List Token} → Tokened from n ts → All Inside ts
+  tokened-inside (last t p q r) = (q, tt)
+  tokened-inside (more t p q r m) = (omega arith, tokened-inside m)
+
+  names-inside : (cs : List (List ℕ)) → All Inside (map standardName cs)
+  names-inside [] = tt
+  names-inside (c ∷ cs) = (omega arith, names-inside cs)
+
+pub place-inside : (source : List ℕ) → tokensOf source .number ≡ 0 → (i : ℕ) → placeAt (inFront ++ tokensOf source .tokens) i ≤ length source
+place-inside source z i =
+    let n = length source in
+    at-inside n (inFront ++ tokensOf source .tokens)
+    (all-both (Inside n) inFront (tokensOf source .tokens) (omega arith, names-inside n namesInFront) (tokened-inside n (tokens-whole source z))) i
 
 -- the tokens after those in front
 past : (fs ts : List Token) (i k : ℕ) → k ≡ length fs + i → placeAt (fs ++ ts) k ≡ placeAt ts i

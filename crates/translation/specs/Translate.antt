@@ -1,9 +1,13 @@
 -- Document 01, "Numbers answered": the whole translation, a function of the source and the buffer's room. "Groups in order: 1; 2, 3; 4, 5; 6 to 13; 14; 15; 16."
+use mathlib.Core.Bool.{Bool, _||_}
 use mathlib.Core.List.{List, _++_, map}
 use Prim.Native.Nat.{ℕ, zero, suc, _-_}
-use lib.Dec.{ltb}
+use lib.Dec.{ltb, leb}
 use lib.ListN.{length, drop, getD, replicate}
 use Rattle.base.specs.Choose.{if_then_else_}
+use Rattle.base.specs.Text.{within}
+use Rattle.spots.specs.declared.Spot.{Spot}
+use Rattle.spots.specs.Spots.{spotAt, unplaced}
 use Rattle.token.specs.declared.Token.{Token}
 use Rattle.token.specs.Text.{Reading, tokensOf}
 use Rattle.grammar.specs.Tree.{Statement}
@@ -44,6 +48,17 @@ abbrev pub lengthOf : Answer → ℕ
 lengthOf (accepted t) = length t
 lengthOf (refused n p) = 0
 
+-- Document 02, 2/13: "Success and refusals 1 and 14 to 19 report line and column 0; every other with a place below the text's length reports its own, and one at the
+-- end where the next byte would stand."
+abbrev pub reportsNone : ℕ → Bool
+reportsNone number = leb number 1 || within 14 19 number
+
+abbrev pub spotFor : List ℕ → (number place : ℕ) → Spot
+spotFor source number place = if reportsNone number then unplaced place else spotAt source place
+
+abbrev pub spotOf : List ℕ → Answer → Spot
+spotOf source a = spotFor source (numberOf a) (placeOf a)
+
 -- the buffer at the end: "later bytes of the buffer stay"
 abbrev pub leaves : Answer → List ℕ → List ℕ
 leaves (accepted t) buffer = t ++ drop (length t) buffer
@@ -60,7 +75,7 @@ valuesOf ts = map (λ (t : Token). t .value) ts
 
 -- "A place is the offset of the first byte of what is named."
 abbrev pub placeAt : List Token → ℕ → ℕ
-placeAt ts i = getD (map (λ (t : Token). t .place) ts) i 0
+placeAt ts i = getD (map (λ (t : Token). t .spot .place) ts) i 0
 
 -- ── refusals 6 to 13, and what they are judged by ──
 
@@ -121,7 +136,7 @@ onGrammar ts (five t h) = refused 5 (placeAt ts t)
 -- "1 … 2 … 3". Tokens are a program of the grammar, or refused with 4 or with 5: `grammatical` tells which
 abbrev pub afterText : Reading → ℕ → Answer
 afterText r zero = let ts = inFront ++ r .tokens in onGrammar ts (grammatical (kindsOf ts) firstToken)
-afterText r (suc n) = refused (suc n) (r .place)
+afterText r (suc n) = refused (suc n) (r .spot .place)
 
 -- all but 16: the object text, whatever the room
 unfoldable pub translated : List ℕ → Answer

@@ -10,7 +10,9 @@ use Rattle.base.specs.Choose.{if_then_else_}
 use Rattle.base.specs.Text.{bytes, sameBytes}
 use Rattle.base.specs.Runs.{runLen}
 use Rattle.base.specs.Numbers.{numberFrom, bytesOf}
-use Rattle.base.specs.Walk.{walk}
+use Rattle.base.specs.Walk.{walk, fold}
+use Rattle.spots.specs.declared.Spot.{Spot}
+use Rattle.spots.specs.Spots.{spot}
 use Rattle.token.specs.Text as X
 use Rattle.token.specs.Text.{digitOf}
 use Rattle.grammar.specs.Reader as R
@@ -36,7 +38,7 @@ use Rattle.translation.specs.Layout as Y
 use Rattle.translation.specs.Bytes as E
 use Rattle.translation.specs.Image as H
 use Rattle.translation.specs.Translate as T
-use Rattle.translation.specs.Translate.{Answer, accepted, refused, translate}
+use Rattle.translation.specs.Translate.{Answer, accepted, refused, numberOf, spotOf, translate}
 
 -- ── how a table is written ──
 
@@ -157,10 +159,52 @@ functions =
     ∷ refuses (bytes "BEGIN BYTE B; PROCEDURE P(R5); IC(R7)(B); PROCEDURE S(R7); P; END @") 10 59
     ∷ []
 
+-- ── Document 02, 2/13, lines and columns: behind newlines between tokens and in a comment; byte 13 ends no line; at the end of the text, behind its last newline;
+-- at place 0; of the first of several; 0 and 0 of an acceptance and of 1, 15 and 16 ──
+
+-- a text, the buffer's room, the number that is answered, and where
+pub record Lined : Type 0 where
+  pub text : List ℕ
+  pub room : ℕ
+  pub number : ℕ
+  pub spot : Spot
+
+abbrev pub stands : String → ℕ → Spot → Lined
+stands t number spot = record { text = bytes t; room = 32768; number = number; spot = spot }
+
+abbrev pub numbered : List Lined → List (ℕ × Spot)
+numbered cs = map (λ (c : Lined). (c .number, c .spot)) cs
+
+-- the answer, and where it stands
+abbrev pub told : (text : List ℕ) (room : ℕ) → Answer × Spot
+told text room = (translate text room, spotOf text (translate text room))
+
+abbrev pub answered : List Lined → List (ℕ × Spot)
+answered cs = map (λ (c : Lined). (numberOf (told (c .text) (c .room) .0), told (c .text) (c .room) .1)) cs
+
+abbrev pub lines : List Lined
+lines =
+    stands "BEGIN\nRE := R1; END @" 10 (spot 6 2 1)
+    ∷ stands "BEGIN\n  R1 := R2;\n  R1 := X; END @" 6 (spot 26 3 9)
+    ∷ stands "BEGIN COMMENT A\nB\n Ã© ; X; END @" 6 (spot 24 3 7)
+    ∷ stands "BEGIN\r\nEND @" 2 (spot 5 1 6)
+    ∷ stands "" 4 (spot 0 1 1)
+    ∷ stands "BEGIN END" 4 (spot 9 1 10)
+    ∷ stands "BEGIN END\n" 4 (spot 10 2 1)
+    ∷ stands "BEGIN END\n  " 4 (spot 12 2 3)
+    ∷ stands "BEGIN COMMENT X;\n\n" 4 (spot 18 3 1)
+    ∷ stands "?" 2 (spot 0 1 1)
+    ∷ stands "\n\nX;\nBEGIN END 99999999999 @" 3 (spot 15 4 11)
+    ∷ stands "\nBEGIN END\n@" 0 (spot 0 0 0)
+    ∷ record { text = replicate 32769 32; room = 32768; number = 1; spot = spot 32768 0 0 }
+    ∷ stands "\nBEGIN ARRAY (1020) INTEGER A; R1 := 5; END @" 15 (spot 0 0 0)
+    ∷ record { text = bytes "\nBEGIN END @"; room = 86; number = 16; spot = spot 87 0 0 }
+    ∷ []
+
 -- ── computed ──
 
-worked : Hold cases × Hold limits × Hold slips × Hold traps × Hold functions
-unfolding sameBytes runLen numberFrom bytesOf walk X.wordKind X.comment X.nameOrWord X.number X.begins X.sign X.lexeme X.nextStep X.nextToken X.readFrom
+worked : Hold cases × Hold limits × Hold slips × Hold traps × Hold functions × (answered lines ≡ numbered lines)
+unfolding sameBytes runLen numberFrom bytesOf walk fold X.wordKind X.comment X.nameOrWord X.number X.begins X.sign X.lexeme X.nextStep X.nextToken X.readFrom
     X.tokensOf R.andThen R.look R.next R.want R.wantOne G.designatorOf G.operand G.condition G.terms G.signOf G.assignedTo G.assignmentOf G.numbers G.cellItem G.registerItem
     G.listOf G.typeOf G.cellsOf G.afterType G.declaration G.arguments G.targetOf G.assignOr G.afterName G.statementOf G.itemsOf G.bodyOf G.ifOf G.constructOf G.statement G.program grammatical
     Ev.each Ev.eventsItem Ev.eventsDeclaration Ev.eventsSign Ev.eventsChain Ev.eventsArguments Ev.eventsStatement Pl.along B.rule B._⊕_ S.inBlock S.find N.noteFound N.useName
@@ -170,7 +214,7 @@ unfolding sameBytes runLen numberFrom bytesOf walk X.wordKind X.comment X.nameOr
     K.ruleEvent I.opcode I.shiftCode I.falseMask C.useOf C.shiftBy C.termOf C.chainOf C.toRegister C.assignmentOf C.compareWith C.testOf C.functionCode C.coreStatement D.sizeOf
     D.own D.markAt D.code D.instructions Y.valueBytes Y.placeCell Y.placeCells Y.offsetOf Y.literalsFrom Y.layout E.encode E.encodeAll H.fill H.words H.firstData
     H.dataOf H.segments T.named T.labelled T.meant T.make T.finish T.onRules T.translated T.inRoom translate O.hexDigit objectText
-worked = (refl, refl, refl, refl, refl)
+worked = (refl, refl, refl, refl, refl, refl)
 
 pub cases-hold : Hold cases
 cases-hold = worked .0
@@ -186,3 +230,6 @@ traps-hold = worked .3
 
 pub functions-hold : Hold functions
 functions-hold = worked .4
+
+pub lines-hold : answered lines ≡ numbered lines
+lines-hold = worked .5

@@ -1,17 +1,28 @@
 //! What the tests of the translator share.
 #![allow(dead_code)]
 
+use reference::spot::Spot;
 use reference::translate::{translate, Answer};
 
 pub fn answer(text: &[u8]) -> Answer {
     translate(text, None)
 }
 
-/// The number and place of the answer.
+/// The number and place of the answer; its line and column are those that the place and the text give.
 pub fn verdict(text: &[u8]) -> (u32, usize) {
-    let answer = answer(text);
-    assert!(answer.number == 0 || answer.object.is_empty(), "a refusal has length 0");
-    (answer.number, answer.place)
+    let Answer { number, spot, object } = answer(text);
+    assert!(number == 0 || object.is_empty(), "a refusal has length 0");
+    assert_eq!(spot, reported(number, spot.place, text), "{}", show(text));
+    (number, spot.place)
+}
+
+/// A second opinion on the line and column that a number at a place reports: what stands before the place, parted at byte 10.
+pub fn reported(number: u32, place: usize, text: &[u8]) -> Spot {
+    if !(2..=13).contains(&number) {
+        return Spot { place, line: 0, column: 0 };
+    }
+    let lines: Vec<&[u8]> = text[..place].split(|&byte| byte == 10).collect();
+    Spot { place, line: lines.len(), column: 1 + lines[lines.len() - 1].len() }
 }
 
 pub fn show(text: &[u8]) -> String {
@@ -50,7 +61,7 @@ pub fn bytes(hexadecimal: &str) -> Vec<u8> {
 /// The text is accepted and its program is `code` (hexadecimal with blanks) without the last `0A00`.
 pub fn assert_code(text: &str, code: &str) {
     let answer = answer(text.as_bytes());
-    assert_eq!((answer.number, answer.place), (0, 0), "{text}");
+    assert_eq!((answer.number, answer.spot), (0, Spot::NONE), "{text}");
     let wanted = bytes(&format!("{code} 0A00"));
     assert_eq!(segment(&answer.object, 0), wanted, "{text}");
 }

@@ -4,6 +4,7 @@
 use reference::assemble::{data, four, text, two};
 use reference::objread::DataSegment;
 use reference::runner::{run, RunAnswer, STORAGE_NEEDED};
+use reference::spot::Spot;
 
 pub const MAX: u32 = 0x7FFF_FFFF;
 pub const MIN: u32 = 0x8000_0000;
@@ -39,7 +40,7 @@ pub fn cells(bytes: &[u8]) -> DataSegment {
 pub fn go(program: &[u8], segments: &[DataSegment], regs: [u32; 16], cc: u64, budget: u32) -> (RunAnswer, Vec<u8>) {
     let mut storage = vec![165; STORAGE_NEEDED];
     let answer = run(&text(program, segments), regs, cc, budget, &mut storage);
-    assert_eq!((answer.number, answer.place), (0, 0));
+    assert_eq!((answer.number, answer.spot), (0, Spot::NONE));
     (answer, storage)
 }
 

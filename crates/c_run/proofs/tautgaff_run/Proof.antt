@@ -11,11 +11,11 @@ run-object-requires c κs = search needs
 stop-of-requires : tie.Need-stop-of-requires
 stop-of-requires c κs = search needs
 
-cast-t15 : tie.Need-cast-t15
-cast-t15 c = search needs
+cast-t19 : tie.Need-cast-t19
+cast-t19 c = search needs
 
-cast-t16 : tie.Need-cast-t16
-cast-t16 c = search needs
+cast-t20 : tie.Need-cast-t20
+cast-t20 c = search needs
 
 number-of-requires : tie.Need-number-of-requires
 number-of-requires c κs = search needs
@@ -25,7 +25,7 @@ same-length c = search needs
 
 returns : tie.Need-returns
 returns c =
-    let ran = c .before .before .before .before .before .before .before .before .run-object in
+    let ran = c .before .before .before .before .before .before .before .before .before .run-object in
     rw (c .number-of .ensures, c .before .before .before .before .stop-of .ensures) (told (ran .result) _ ∙ ran .ensures)
 
 pub tautgaff-run-spec : {M : Type 1} → statement M
@@ -34,8 +34,8 @@ tautgaff-run-spec =
     (tie.spec
     run-object-requires
     stop-of-requires
-    cast-t15
-    cast-t16
+    cast-t19
+    cast-t20
     number-of-requires
     same-length
     returns)

@@ -1,15 +1,9 @@
 -- The place, and why the run stopped. Assumes nothing.
-use Rattle.figures.proofs.Writing.{two, called}
+use Rattle.figures.proofs.Writing.{two}
 use Rattle.halts.specs.Halts.{headText}
 use borrow.Author.Needs.{needs}
 use Rattle.halts.proofs.put_head.Statement.{statement}
 use Rattle.halts.proofs.put_head.Tie as tie
-
-line-of-requires : tie.Need-line-of-requires
-line-of-requires c κs = search needs
-
-column-of-requires : tie.Need-column-of-requires
-column-of-requires c κs = search needs
 
 put-place-requires : tie.Need-put-place-requires
 put-place-requires c κs = search needs
@@ -32,17 +26,12 @@ returns c =
     let at-put-stop = c .before .before in
     let at-put-all = at-put-stop .before .before .before .before in
     let at-put-place = at-put-all .before .before .before .before .before in
-    let at-column-of = at-put-place .before .before in
-    let at-line-of = at-column-of .before in
-    called (rw (at-line-of .line-of .ensures, at-column-of .column-of .ensures)) (two (two (at-put-place .put-place .ensures) (at-put-all .put-all .ensures))
-    (at-put-stop .put-stop .ensures))
+    two (two (at-put-place .put-place .ensures) (at-put-all .put-all .ensures)) (at-put-stop .put-stop .ensures)
 
 pub put-head-spec : {M : Type 1} → statement M
 put-head-spec =
     tie.close
     (tie.spec
-    line-of-requires
-    column-of-requires
     put-place-requires
     slice-aggregate-put-all
     put-all-requires

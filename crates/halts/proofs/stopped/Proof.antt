@@ -1,15 +1,12 @@
 -- Where, the line and why. Assumes nothing.
 use Rattle.figures.proofs.Writing.{two, into, called}
-use Rattle.halts.specs.Halts.{linesText, haltText}
+use Rattle.halts.specs.Halts.{linesText}
 use borrow.Author.Needs.{needs}
 use Rattle.halts.proofs.stopped.Statement.{statement}
 use Rattle.halts.proofs.stopped.Tie as tie
 
-least-requires : tie.Need-least-requires
-least-requires c κs = search needs
-
-least-requires-2 : tie.Need-least-requires-2
-least-requires-2 c κs = search needs
+spot-at-requires : tie.Need-spot-at-requires
+spot-at-requires c κs = search needs
 
 reason-requires : tie.Need-reason-requires
 reason-requires c κs = search needs
@@ -33,7 +30,7 @@ same-length : tie.Need-same-length
 same-length c = search needs
 
 returns : tie.Need-returns
-unfolding haltText linesText
+unfolding linesText
 returns c =
     let at-put-lines = c .before .before in
     let at-shown-line = at-put-lines .before .before in
@@ -41,23 +38,20 @@ returns c =
     let at-shown-before = at-wide .before in
     let at-put-head = at-shown-before .before .before .before in
     let at-reason = at-put-head .before .before in
-    let at-least2 = at-reason .before in
-    let at-least = at-least2 .before in
+    let at-spot-at = at-reason .before in
     into (called (rw (
       at-shown-before .shown-before .ensures,
       at-wide .wide .ensures,
       at-shown-line .shown-line .ensures,
       at-reason .reason .ensures,
-      at-least2 .least2 .ensures,
-      at-least .least .ensures,
+      at-spot-at .spot-at .ensures,
     )) (two (at-put-head .put-head .ensures) (at-put-lines .put-lines .ensures)))
 
 pub stopped-spec : {M : Type 1} → statement M
 stopped-spec =
     tie.close
     (tie.spec
-    least-requires
-    least-requires-2
+    spot-at-requires
     reason-requires
     put-head-requires
     shown-before-requires

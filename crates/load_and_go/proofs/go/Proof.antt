@@ -18,10 +18,10 @@ same-length c = search needs
 
 returns : tie.Need-returns
 returns c =
-    let given = c .before .before .before .before .before .before .before .before .before .before .before .args in
+    let given = c .before .before .before .before .before .before .before .before .before .before .before .before .args in
     rw (c .refused .ensures)
-    (refused-is _ (given .object .now) _ _ _ _ _ (given .budget) _ (c .before .before .before .told .ensures) (c .before .before .before .before .before .before .translate .ensures)
-    (c .before .if1 .taken))
+    (refused-is _ (given .object .now) _ _ _ _ _ (given .budget) _ (c .before .before .before .before .told .ensures) (c .before .before .before .before .before .before .before .translate .ensures)
+    (c .before .before .if1 .taken))
 
 slice-reshare-prefix-run : tie.Need-slice-reshare-prefix-run
 slice-reshare-prefix-run c =

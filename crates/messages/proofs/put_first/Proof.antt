@@ -6,12 +6,6 @@ use borrow.Author.Needs.{needs}
 use Rattle.messages.proofs.put_first.Statement.{statement}
 use Rattle.messages.proofs.put_first.Tie as tie
 
-line-of-requires : tie.Need-line-of-requires
-line-of-requires c κs = search needs
-
-column-of-requires : tie.Need-column-of-requires
-column-of-requires c κs = search needs
-
 headline-at-requires : tie.Need-headline-at-requires
 headline-at-requires c κs = search needs
 
@@ -34,17 +28,13 @@ returns c =
     let at-put-place = at-put-head .before .before .before .before in
     let at-figure-at = at-put-place .before .before in
     let at-headline-at = at-figure-at .before in
-    let at-column-of = at-headline-at .before in
-    let at-line-of = at-column-of .before in
     renamed (two (at-put-place .put-place .ensures) (at-put-head .put-head .ensures))
-    (rw (at-line-of .line-of .ensures, at-column-of .column-of .ensures, at-headline-at .headline-at .ensures, at-figure-at .figure-at .ensures))
+    (rw (at-headline-at .headline-at .ensures, at-figure-at .figure-at .ensures))
 
 pub put-first-spec : {M : Type 1} → statement M
 put-first-spec =
     tie.close
     (tie.spec
-    line-of-requires
-    column-of-requires
     headline-at-requires
     figure-at-requires
     put-place-requires

@@ -29,12 +29,19 @@ same-length c = search needs
 
 returns : tie.Need-returns
 unfolding otherLines
-returns c = renamed (two (c .before .before .before .before .before .before .put-line .ensures) (c .before .before .put-carets .ensures))
+returns c =
+    let at-put-carets = c .before .before in
+    let at-put-line = at-put-carets .before .before .before .before in
+    let at-shown-line = at-put-line .before .before in
+    let at-note-at = at-shown-line .before in
+    let at-wide-at = at-note-at .before in
+    let at-shown-before = at-wide-at .before in
+    renamed (two (at-put-line .put-line .ensures) (at-put-carets .put-carets .ensures))
     (rw (
-      c .before .before .before .before .before .before .before .shown-line .ensures,
-      c .before .before .before .before .before .before .before .before .before .before .before .shown-before .ensures,
-      c .before .before .before .before .before .before .before .before .before .before .wide-at .ensures,
-      c .before .before .before .before .before .before .before .before .before .note-at .ensures,
+      at-shown-line .shown-line .ensures,
+      at-shown-before .shown-before .ensures,
+      at-wide-at .wide-at .ensures,
+      at-note-at .note-at .ensures,
     ))
 
 pub put-others-spec : {M : Type 1} → statement M

@@ -29,20 +29,23 @@ run-requires c κs =
     let w = object-walk (a .args .count) (a .args .t .now) (a .pre .0) (a .pre .1) in
     (omega (arith, c .before .before .two-at .ensures .0, program-short 0 (a .args .t .now) (w .program)), search needs)
 
+unplaced-requires : tie.Need-unplaced-requires
+unplaced-requires c κs = search needs
+
 stop-of-requires : tie.Need-stop-of-requires
-stop-of-requires c κs = subst (λ (n : ℕ). n < 5) (sym (ap (λ (r : Result). r .stop) (c .before .before .before .run .ensures))) (run-stops _ _ _ _)
+stop-of-requires c κs = subst (λ (n : ℕ). n < 5) (sym (ap (λ (r : Result). r .stop) (c .before .before .before .before .run .ensures))) (run-stops _ _ _ _)
 
 same-length : tie.Need-same-length
 same-length c = search needs
 
 returns : tie.Need-returns
 returns c =
-    let d = c .before .before .before .before .before .before .before .before in
+    let d = c .before .before .before .before .before .before .before .before .before in
     let a = d .before .before .before .before in
     let w = object-walk (a .args .count) (a .args .t .now) (a .pre .0) (a .pre .1) in
-    rw (c .stop-of .ensures)
-    (ap accepted (c .before .before .before .before .run .ensures)
-    ∙ rw (d .chart .ensures, c .before .before .before .before .before .before .before .two-at .ensures .0, space-is (a .args .count) (a .args .t .now) (a .pre .0) (w .few)))
+    rw (c .stop-of .ensures, c .before .unplaced .ensures)
+    (ap accepted (c .before .before .before .before .before .run .ensures)
+    ∙ rw (d .chart .ensures, c .before .before .before .before .before .before .before .before .two-at .ensures .0, space-is (a .args .count) (a .args .t .now) (a .pre .0) (w .few)))
 
 pub started-spec : {M : Type 1} → statement M
 started-spec =
@@ -53,6 +56,7 @@ started-spec =
     array-write-regs-2
     two-at-requires
     run-requires
+    unplaced-requires
     stop-of-requires
     same-length
     returns)

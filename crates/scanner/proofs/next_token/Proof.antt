@@ -70,43 +70,74 @@ loop-again c = let s = now (c .before .before .before .before .before .before .b
 enum-known-l-2 : tie.Need-enum-known-l-2 Inv-loop μ-loop
 enum-known-l-2 c = search needs
 
-add-t14 : tie.Need-add-t14 Inv-loop μ-loop
-add-t14 c = omega (
-  arith,
-  fits (now (c .before .before .before .before .before .before .before .before .args .s))
-      (c .before .before .before .before .before .before .loop .at) (c .before .before .before .front .result)
-      (c .before .before .before .before .before .loop-test .taken) (c .before .before .before .front .ensures),
-  ap sizeOf (c .before .l2 .given .1),
-)
+spot-at-requires : tie.Need-spot-at-requires Inv-loop μ-loop
+spot-at-requires c κs = search needs
+
+add-t16 : tie.Need-add-t16 Inv-loop μ-loop
+add-t16 c =
+    let at-l2 = c .before .before in
+    let at-front = at-l2 .before .before in
+    let at-loop-test = at-front .before .before in
+    let at-loop = at-loop-test .before in
+    let start = at-loop .before .before in
+    omega (
+      arith,
+      fits (now (start .args .s)) (at-loop .loop .at) (at-front .front .result) (at-loop-test .loop-test .taken) (at-front .front .ensures),
+      ap sizeOf (at-l2 .l2 .given .1),
+    )
 
 returns : tie.Need-returns Inv-loop μ-loop
-returns c = sym (c .before .before .before .before .before .before .loop .inv .1
-    ∙ found (now (c .before .before .before .before .before .before .before .before .args .s)) (c .before .before .before .before .before .before .loop .at)
-    (c .before .before .before .front .result) (c .before .before .before .before .before .loop-test .taken) (c .before .before .before .front .ensures) _ _ _
-    (c .before .l2 .given .1))
+returns c =
+    let at-l2 = c .before .before in
+    let at-front = at-l2 .before .before in
+    let at-loop-test = at-front .before .before in
+    let at-loop = at-loop-test .before in
+    let start = at-loop .before .before in
+    rw (c .spot-at .ensures)
+    (sym (at-loop .loop .inv .1 ∙ found (now (start .args .s)) (at-loop .loop .at) (at-front .front .result) (at-loop-test .loop-test .taken)
+    (at-front .front .ensures) _ _ _ (at-l2 .l2 .given .1)))
 
 enum-told : tie.Need-enum-told Inv-loop μ-loop
 enum-told c = search needs
 
+spot-at-requires-2 : tie.Need-spot-at-requires-2 Inv-loop μ-loop
+spot-at-requires-2 c κs = search needs
+
 returns-2 : tie.Need-returns-2 Inv-loop μ-loop
-returns-2 c = sym (c .before .before .before .before .before .loop .inv .1
-    ∙ no-token (now (c .before .before .before .before .before .before .before .args .s)) (c .before .before .before .before .before .loop .at)
-    (c .before .before .front .result) (c .before .before .before .before .loop-test .taken) (c .before .before .front .ensures) (c .enum-told .given .1))
+returns-2 c =
+    let at-told = c .before in
+    let at-front = at-told .before .before in
+    let at-loop-test = at-front .before .before in
+    let at-loop = at-loop-test .before in
+    let start = at-loop .before .before in
+    rw (c .spot-at2 .ensures)
+    (sym (at-loop .loop .inv .1 ∙ no-token (now (start .args .s)) (at-loop .loop .at) (at-front .front .result) (at-loop-test .loop-test .taken)
+    (at-front .front .ensures) (at-told .enum-told .given .1)))
 
 enum-told-2 : tie.Need-enum-told-2 Inv-loop μ-loop
 enum-told-2 c = search needs
 
+spot-at-requires-3 : tie.Need-spot-at-requires-3 Inv-loop μ-loop
+spot-at-requires-3 c κs = search needs
+
 returns-3 : tie.Need-returns-3 Inv-loop μ-loop
 returns-3 c =
-    let at-front = c .before .before in
+    let at-told = c .before in
+    let at-front = at-told .before .before in
     let at-loop-test = at-front .before .before in
     let at-loop = at-loop-test .before in
     let start = at-loop .before .before in
-    sym (at-loop .loop .inv .1 ∙ out-of-range (now (start .args .s)) (at-loop .loop .at) (at-front .front .result) (at-loop-test .loop-test .taken)
-    (at-front .front .ensures) (c .enum-told2 .given .1))
+    rw (c .spot-at3 .ensures)
+    (sym (at-loop .loop .inv .1 ∙ out-of-range (now (start .args .s)) (at-loop .loop .at) (at-front .front .result) (at-loop-test .loop-test .taken)
+    (at-front .front .ensures) (at-told .enum-told2 .given .1)))
+
+spot-at-requires-4 : tie.Need-spot-at-requires-4 Inv-loop μ-loop
+spot-at-requires-4 c κs = search needs
 
 returns-4 : tie.Need-returns-4 Inv-loop μ-loop
-returns-4 c = sym (c .before .loop .inv .1 ∙ at-end _ _ (search needs))
+returns-4 c =
+    let at-loop = c .before .before in
+    rw (c .spot-at4 .ensures) (sym (at-loop .loop .inv .1 ∙ at-end _ _ (c .before .loop-test .left)))
 
 pub next-token-spec : {M : Type 1} → statement M
 next-token-spec =
@@ -124,10 +155,14 @@ next-token-spec =
     loop-less
     loop-again
     enum-known-l-2
-    add-t14
+    spot-at-requires
+    add-t16
     returns
     enum-told
+    spot-at-requires-2
     returns-2
     enum-told-2
+    spot-at-requires-3
     returns-3
+    spot-at-requires-4
     returns-4)

@@ -50,8 +50,7 @@ slice-write-kinds c =
     let start = at-loop .before .before .before .before in
     omega (
       arith,
-      has-room (answered (at-loop .loop .inv .0) (at-next-token .next-token .ensures)) (at-next .next .given .1) _ (few-tokens 0 0 (start .args .src
-          .now)),
+      has-room (answered (at-loop .loop .inv .0) (at-next-token .next-token .ensures)) (at-next .next .given .1) _ (few-tokens (start .args .src .now) 0 0 (start .args .src .now)),
       at-loop .loop .inv .1,
       start .pre .1,
     )
@@ -130,9 +129,9 @@ loop-again c =
 enum-known-next-2 : tie.Need-enum-known-next-2 Inv-loop μ-loop
 enum-known-next-2 c = search needs
 
-add-t22 : tie.Need-add-t22 Inv-loop μ-loop
-add-t22 c =
-    let at-next2 = c .before in
+add-spot-at : tie.Need-add-spot-at Inv-loop μ-loop
+add-spot-at c =
+    let at-next2 = c .before .before in
     let at-next-token = at-next2 .before .before in
     let at-loop = at-next-token .before .before in
     omega (
@@ -141,27 +140,30 @@ add-t22 c =
           .next2 .given .1)),
     )
 
+spot-at-requires : tie.Need-spot-at-requires Inv-loop μ-loop
+spot-at-requires c κs = search needs
+
 same-length-3 : tie.Need-same-length-3 Inv-loop μ-loop
-same-length-3 c = c .before .before .before .before .before .loop .inv .1
+same-length-3 c = c .before .before .before .before .before .before .before .loop .inv .1
 
 same-length-4 : tie.Need-same-length-4 Inv-loop μ-loop
-same-length-4 c = c .before .before .before .before .before .loop .inv .2
+same-length-4 c = c .before .before .before .before .before .before .before .loop .inv .2
 
 returns-2 : tie.Need-returns-2 Inv-loop μ-loop
 returns-2 c =
-    let at-next2 = c .before in
+    let at-next2 = c .before .before .before in
     let at-next-token = at-next2 .before .before in
     let at-loop = at-next-token .before .before in
     let start = at-loop .before .before .before .before in
     underway-no (at-next-token .next-token .result) (at-loop .loop .inv .0) (at-next-token .next-token .ensures) (ap outcomeOf (at-next2 .next2 .given .1)) refl
-    (start .pre .0) _ refl
+    (start .pre .0) _ (rw (c .spot-at .ensures))
 
 enum-known-next-3 : tie.Need-enum-known-next-3 Inv-loop μ-loop
 enum-known-next-3 c = search needs
 
-add-t23 : tie.Need-add-t23 Inv-loop μ-loop
-add-t23 c =
-    let at-next3 = c .before in
+add-spot-at-2 : tie.Need-add-spot-at-2 Inv-loop μ-loop
+add-spot-at-2 c =
+    let at-next3 = c .before .before in
     let at-next-token = at-next3 .before .before in
     let at-loop = at-next-token .before .before in
     omega (
@@ -170,20 +172,23 @@ add-t23 c =
           .next3 .given .1)),
     )
 
+spot-at-requires-2 : tie.Need-spot-at-requires-2 Inv-loop μ-loop
+spot-at-requires-2 c κs = search needs
+
 same-length-5 : tie.Need-same-length-5 Inv-loop μ-loop
-same-length-5 c = c .before .before .before .before .before .loop .inv .1
+same-length-5 c = c .before .before .before .before .before .before .before .loop .inv .1
 
 same-length-6 : tie.Need-same-length-6 Inv-loop μ-loop
-same-length-6 c = c .before .before .before .before .before .loop .inv .2
+same-length-6 c = c .before .before .before .before .before .before .before .loop .inv .2
 
 returns-3 : tie.Need-returns-3 Inv-loop μ-loop
 returns-3 c =
-    let at-next3 = c .before in
+    let at-next3 = c .before .before .before in
     let at-next-token = at-next3 .before .before in
     let at-loop = at-next-token .before .before in
     let start = at-loop .before .before .before .before in
     underway-no (at-next-token .next-token .result) (at-loop .loop .inv .0) (at-next-token .next-token .ensures) (ap outcomeOf (at-next3 .next3 .given .1)) refl
-    (start .pre .0) _ refl
+    (start .pre .0) _ (rw (c .spot-at2 .ensures))
 
 pub lay-tokens-spec : {M : Type 1} → statement M
 lay-tokens-spec =
@@ -210,12 +215,14 @@ lay-tokens-spec =
     loop-less
     loop-again
     enum-known-next-2
-    add-t22
+    add-spot-at
+    spot-at-requires
     same-length-3
     same-length-4
     returns-2
     enum-known-next-3
-    add-t23
+    add-spot-at-2
+    spot-at-requires-2
     same-length-5
     same-length-6
     returns-3)

@@ -19,8 +19,8 @@ Inv-loop src at₀ n₀ at n = Reads src at n
 abbrev μ-loop : tie.MeasureT-loop
 μ-loop src at₀ n₀ at n = length src - at
 
-answered : (c : tie.After-next-token Inv-loop μ-loop) → Answered (now (c .before .before .before .before .before .args .src)) (c .before .before .loop .at)
-    (c .before .before .loop .n) (c .next-token .result)
+answered : (c : tie.After-next-token Inv-loop μ-loop)
+    → Answered (now (c .before .before .before .before .before .args .src)) (c .before .before .loop .at) (c .before .before .loop .n) (c .next-token .result)
 answered c = record { reads = c .before .before .loop .inv; next = c .next-token .ensures }
 
 returns : tie.Need-returns Inv-loop μ-loop
@@ -53,49 +53,56 @@ is-last-requires c κs = search needs
 
 returns-2 : tie.Need-returns-2 Inv-loop μ-loop
 unfolding tokensOf
-returns-2 c = rw (le-ltb _ _ (c .before .before .before .before .before .before .before .before .if1 .left))
-    (reads-last (answered (c .before .before .before .before .before)) (c .before .before .before .next .given .1) (sym (c .before .is-last .ensures)
-    ∙ c .if2 .taken))
+returns-2 c =
+    let at-next-token = c .before .before .before .before .before in
+    let l = sym (c .before .is-last .ensures) ∙ c .if2 .taken in
+    rw (le-ltb _ _ (at-next-token .before .before .before .if1 .left)) (reads-last (answered at-next-token) (c .before .before .before .next .given .1) l)
 
 add-at : tie.Need-add-at Inv-loop μ-loop
 add-at c = omega (arith, ends-inside (answered (c .before .before .before .before .before)) (c .before .before .before .next .given .1))
 
 loop-less : tie.Need-loop-less Inv-loop μ-loop
-loop-less c = omega (
-  arith,
-  ends-inside (answered (c .before .before .before .before .before)) (c .before .before .before .next .given .1),
-  some-bytes (answered (c .before .before .before .before .before)) (c .before .before .before .next .given .1) (sym (c .before .is-last .ensures)
-      ∙ c .if2 .left),
-)
+loop-less c =
+    let a = answered (c .before .before .before .before .before) in
+    let q = c .before .before .before .next .given .1 in
+    omega (arith, ends-inside a q, some-bytes a q (sym (c .before .is-last .ensures) ∙ c .if2 .left))
 
 loop-again : tie.Need-loop-again Inv-loop μ-loop
 loop-again c =
-    let at-next = c .before .before .before in
-    reads-on (answered (c .before .before .before .before .before)) (at-next .next .given .1) (sym (c .before .is-last .ensures) ∙ c .if2 .left)
+    let at-next-token = c .before .before .before .before .before in
+    reads-on (answered at-next-token) (c .before .before .before .next .given .1) (sym (c .before .is-last .ensures) ∙ c .if2 .left)
 
 enum-known-next-2 : tie.Need-enum-known-next-2 Inv-loop μ-loop
 enum-known-next-2 c = search needs
 
-add-t16 : tie.Need-add-t16 Inv-loop μ-loop
-add-t16 c = omega (arith, refused-inside (answered (c .before .before .before)) (ap outcomeOf (c .before .next2 .given .1)))
+add-spot-at : tie.Need-add-spot-at Inv-loop μ-loop
+add-spot-at c = omega (arith, refused-inside (answered (c .before .before .before .before)) (ap outcomeOf (c .before .before .next2 .given .1)))
+
+spot-at-requires : tie.Need-spot-at-requires Inv-loop μ-loop
+spot-at-requires c κs = search needs
 
 returns-3 : tie.Need-returns-3 Inv-loop μ-loop
 unfolding tokensOf
 returns-3 c =
-    let at-if1 = c .before .before .before .before .before .before in
-    rw (le-ltb _ _ (at-if1 .if1 .left)) (reads-no (answered (c .before .before .before)) (ap outcomeOf (c .before .next2 .given .1)) refl)
+    let at-next-token = c .before .before .before .before .before in
+    let q = ap outcomeOf (c .before .before .before .next2 .given .1) in
+    rw (le-ltb _ _ (at-next-token .before .before .before .if1 .left), c .spot-at .ensures) (reads-no (answered at-next-token) q refl)
 
 enum-known-next-3 : tie.Need-enum-known-next-3 Inv-loop μ-loop
 enum-known-next-3 c = search needs
 
-add-t17 : tie.Need-add-t17 Inv-loop μ-loop
-add-t17 c = omega (arith, refused-inside (answered (c .before .before .before)) (ap outcomeOf (c .before .next3 .given .1)))
+add-spot-at-2 : tie.Need-add-spot-at-2 Inv-loop μ-loop
+add-spot-at-2 c = omega (arith, refused-inside (answered (c .before .before .before .before)) (ap outcomeOf (c .before .before .next3 .given .1)))
+
+spot-at-requires-2 : tie.Need-spot-at-requires-2 Inv-loop μ-loop
+spot-at-requires-2 c κs = search needs
 
 returns-4 : tie.Need-returns-4 Inv-loop μ-loop
 unfolding tokensOf
 returns-4 c =
-    let at-if1 = c .before .before .before .before .before .before in
-    rw (le-ltb _ _ (at-if1 .if1 .left)) (reads-no (answered (c .before .before .before)) (ap outcomeOf (c .before .next3 .given .1)) refl)
+    let at-next-token = c .before .before .before .before .before in
+    let q = ap outcomeOf (c .before .before .before .next3 .given .1) in
+    rw (le-ltb _ _ (at-next-token .before .before .before .if1 .left), c .spot-at2 .ensures) (reads-no (answered at-next-token) q refl)
 
 pub check-text-spec : {M : Type 1} → statement M
 check-text-spec =
@@ -117,8 +124,10 @@ check-text-spec =
     loop-less
     loop-again
     enum-known-next-2
-    add-t16
+    add-spot-at
+    spot-at-requires
     returns-3
     enum-known-next-3
-    add-t17
+    add-spot-at-2
+    spot-at-requires-2
     returns-4)

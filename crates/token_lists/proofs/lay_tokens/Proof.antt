@@ -1,30 +1,66 @@
--- `lay_tokens` lays a text's tokens over three lists as it reads them, to the last or to a refusal. The invariant: what is read from here on, laid over the
--- lists as they are, is the whole reading laid over the lists as they were. Assumes nothing.
-use Prim.Native.Nat.{_-_}
+-- `lay_tokens` lays a text's tokens over five lists as it reads them, to the last or to a refusal, and counts its place along. The invariant: the place is
+-- one of the text; what is read from there on, laid over the lists as they are, is the whole reading laid over the lists as they were. Assumes nothing.
+use Prim.Native.Nat.{ℕ, _-_, _+_, _≤_}
 use mathlib.Core.Path.{_≡_, refl, sym, ap, _∙_}
+use mathlib.Core.List.{List}
 use native.Mathlib.Omega.{arith}
 use denote.Ref.{now}
 use lib.ListN.{length}
 use borrow.Author.Needs.{needs}
-use Rattle.token.specs.Answers.{outcomeOf, kindOf, valueOf, placeOf}
-use Rattle.token.proofs.Readings.{Reads, reads-start, LaidOn, Answered, ends-inside, place-inside, some-bytes, has-room, reads-on, reads-last, laid-on, laid-last, refused-inside, reads-no, laid-no}
+use Rattle.base.specs.Walk.{fold}
+use Rattle.spots.specs.Spots.{spotAt}
+use Rattle.spots.specs.Going.{Near}
+use Rattle.spots.specs.declared.Spot.{Spot}
+use Rattle.spots.proofs.Going.{near}
+use Rattle.token.specs.Answers.{outcomeOf, lists}
+use Rattle.token.proofs.Readings.{Reads, reads-start, ListsOn, Answered, ends-inside, place-inside, some-bytes, token-there, token-near, place-before, token-behind, has-room, reads-on, reads-last, lists-on, lists-last, refused-there, refused-near, reads-no, lists-no}
 use Rattle.token_lists.proofs.lay_tokens.Statement.{statement}
 use Rattle.token_lists.proofs.lay_tokens.Tie as tie
 
 abbrev Inv-loop : tie.InvT-loop
-Inv-loop src kinds₀ values₀ places₀ at₀ n₀ kinds values places at n =
-    Reads src at n × LaidOn kindOf src kinds₀ kinds at n × LaidOn valueOf src values₀ values at n × LaidOn placeOf src places₀ places at n
-    × (length kinds ≡ length kinds₀) × (length values ≡ length values₀) × (length places ≡ length places₀)
+Inv-loop src kinds₀ values₀ places₀ lines₀ columns₀ at₀ n₀ kinds values places lines columns at n =
+    (at ≡ spotAt src (at .place)) × Reads src (at .place) n
+    × ListsOn src (lists kinds₀ values₀ places₀ lines₀ columns₀) (lists kinds values places lines columns) (at .place) n
+    × (length kinds ≡ length kinds₀) × (length values ≡ length values₀) × (length places ≡ length places₀) × (length lines ≡ length lines₀)
+    × (length columns ≡ length columns₀)
 
 abbrev μ-loop : tie.MeasureT-loop
-μ-loop src kinds₀ values₀ places₀ at₀ n₀ kinds values places at n = length src - at
+μ-loop src kinds₀ values₀ places₀ lines₀ columns₀ at₀ n₀ kinds values places lines columns at n = length src - at .place
 
-answered : (c : tie.After-next-token Inv-loop μ-loop) → Answered (now (c .before .before .before .before .before .before .before .args .src))
-    (c .before .before .loop .at) (c .before .before .loop .n) (c .next-token .result)
-answered c = record { reads = c .before .before .loop .inv .0; next = c .next-token .ensures }
+-- the text, from the loop on
+abbrev text : tie.At-loop Inv-loop μ-loop → List ℕ
+text c = now (c .before .before .before .before .before .before .before .before .args .src)
+
+limit : (c : tie.At-loop Inv-loop μ-loop) → length (text c) ≤ 4294967296
+limit c = omega (arith, c .before .before .before .before .before .before .before .before .pre .0)
+
+-- the place is near
+here-near : (c : tie.At-loop Inv-loop μ-loop) → Near (c .loop .at)
+here-near c = rw (c .loop .inv .0) (near (text c) (c .loop .at .place) (c .loop .inv .1 .inside) (limit c))
+
+answered : (c : tie.After-next-token Inv-loop μ-loop)
+    → Answered (text (c .before .before)) (c .before .before .loop .at .place) (c .before .before .loop .n) (c .next-token .result)
+answered c = record { reads = c .before .before .loop .inv .1; next = c .next-token .ensures }
+
+-- where the token stands in the text
+there : (c : tie.After-onward Inv-loop μ-loop)
+    → (let at-loop = c .before .before .before .before .before .before .before in
+    c .onward .result ≡ spotAt (text at-loop) (at-loop .loop .at .place + c .before .before .before .next .given .0 .0 .spot .place))
+there c =
+    let at-loop = c .before .before .before .before .before .before .before in
+    c .onward .ensures ∙ token-there (answered (c .before .before .before .before .before)) (c .before .before .before .next .given .1) (at-loop .loop .inv .0)
+
+there-near : (c : tie.After-onward Inv-loop μ-loop) → Near (c .onward .result)
+there-near c =
+    let f = place-inside (answered (c .before .before .before .before .before)) (c .before .before .before .next .given .1) in
+    rw (there c) (near _ _ f (limit (c .before .before .before .before .before .before .before)))
+
+first-requires : tie.Need-first-requires Inv-loop μ-loop
+first-requires c κs = search needs
 
 loop-holds : tie.Need-loop-holds Inv-loop μ-loop
-loop-holds c = (reads-start _, refl, refl, refl, refl, refl, refl)
+unfolding fold
+loop-holds c = rw (c .first .ensures) (refl, reads-start _, record { whole = refl }, refl, refl, refl, refl, refl)
 
 sub-next-token : tie.Need-sub-next-token Inv-loop μ-loop
 sub-next-token c = search needs
@@ -41,48 +77,29 @@ next-token-requires c κs = search needs
 enum-known-next : tie.Need-enum-known-next Inv-loop μ-loop
 enum-known-next c = search needs
 
-slice-write-kinds : tie.Need-slice-write-kinds Inv-loop μ-loop
-slice-write-kinds c = omega (
-  arith,
-  has-room (answered (c .before .before .before)) (c .before .next .given .1) _
-      (c .before .before .before .before .before .before .before .before .before .before .pre .1),
-  c .before .before .before .before .before .loop .inv .4,
-)
+onward-requires : tie.Need-onward-requires Inv-loop μ-loop
+onward-requires c κs =
+    let at-loop = c .before .before .before .before .before .before in
+    (here-near at-loop, token-near (answered (c .before .before .before .before)) (c .before .before .next .given .1) (limit at-loop))
 
-mul-values : tie.Need-mul-values Inv-loop μ-loop
-mul-values c = search needs
-
-slice-write-values : tie.Need-slice-write-values Inv-loop μ-loop
-slice-write-values c = omega (
-  arith,
-  has-room (answered (c .before .before .before)) (c .before .next .given .1) _
-      (c .before .before .before .before .before .before .before .before .before .before .pre .1),
-  c .before .before .before .before .before .loop .inv .5,
-)
-
-add-places : tie.Need-add-places Inv-loop μ-loop
-add-places c = omega (arith, place-inside (answered (c .before .before .before)) (c .before .next .given .1))
-
-cast-places : tie.Need-cast-places Inv-loop μ-loop
-cast-places c = omega (
-  arith,
-  place-inside (answered (c .before .before .before)) (c .before .next .given .1),
-  c .before .before .before .before .before .before .before .before .before .before .pre .0,
-)
-
-mul-places : tie.Need-mul-places Inv-loop μ-loop
-mul-places c = search needs
-
-slice-write-places : tie.Need-slice-write-places Inv-loop μ-loop
-slice-write-places c = omega (
-  arith,
-  has-room (answered (c .before .before .before)) (c .before .next .given .1) _
-      (c .before .before .before .before .before .before .before .before .before .before .pre .1),
-  c .before .before .before .before .before .loop .inv .6,
-)
+lay-token-requires : tie.Need-lay-token-requires Inv-loop μ-loop
+lay-token-requires c κs =
+    let at-onward = c .before .before .before .before .before in
+    let at-loop = at-onward .before .before .before .before .before .before .before in
+    let v = at-loop .loop .inv in
+    let a = answered (at-onward .before .before .before .before .before) in
+    let q = at-onward .before .before .before .next .given .1 in
+    let start = at-loop .before .before .before .before .before .before .before .before in (
+      rw (v .3, v .4, v .5, v .6, v .7) (has-room a q _ (start .pre .1)),
+      there-near at-onward,
+      rw (there at-onward) (omega (arith, place-inside a q, start .pre .0)),
+    )
 
 add-n : tie.Need-add-n Inv-loop μ-loop
-add-n c = search needs
+add-n c =
+    let at-lay-token = c .before .before .before .before .before .before .before .before .before .before in
+    let at-loop = at-lay-token .before .before .before .before .before .before .before .before .before .before .before .before .before in
+    omega (arith, at-loop .loop .inv .1 .few, at-loop .loop .inv .1 .inside, at-loop .before .before .before .before .before .before .before .before .pre .0)
 
 is-last-requires : tie.Need-is-last-requires Inv-loop μ-loop
 is-last-requires c κs = search needs
@@ -96,77 +113,74 @@ same-length-2 c = search needs
 same-length-3 : tie.Need-same-length-3 Inv-loop μ-loop
 same-length-3 c = search needs
 
-returns : tie.Need-returns Inv-loop μ-loop
-returns c =
-    let a = answered (c .before .before .before .before .before) in
-    let q = c .before .before .before .next .given .1 in
-    let l = sym (c .before .is-last .ensures) ∙ c .if1 .taken in
-    let v = c .before .before .before .before .before .before .before .loop .inv in
-    record {
-      is = reads-last a q l;
-      kinds-laid = laid-last a q kindOf _ _ (v .1) l;
-      values-laid = laid-last a q valueOf _ _ (v .2) l;
-      places-laid = laid-last a q placeOf _ _ (v .3) l;
-    }
-
-add-at : tie.Need-add-at Inv-loop μ-loop
-add-at c = omega (arith, ends-inside (answered (c .before .before .before .before .before)) (c .before .before .before .next .given .1))
-
-loop-less : tie.Need-loop-less Inv-loop μ-loop
-loop-less c = omega (
-  arith,
-  ends-inside (answered (c .before .before .before .before .before)) (c .before .before .before .next .given .1),
-  some-bytes (answered (c .before .before .before .before .before)) (c .before .before .before .next .given .1) (sym (c .before .is-last .ensures)
-      ∙ c .if1 .left),
-)
-
-loop-again : tie.Need-loop-again Inv-loop μ-loop
-loop-again c =
-    let at-next = c .before .before .before in
-    let at-loop = at-next .before .before .before .before in
-    let a = answered (c .before .before .before .before .before) in let q = at-next .next .given .1 in let l = sym (c .before .is-last .ensures)
-    ∙ c .if1 .left in let v = at-loop .loop .inv in (
-      reads-on a q l,
-      laid-on a q kindOf _ _ (v .1) l,
-      laid-on a q valueOf _ _ (v .2) l,
-      laid-on a q placeOf _ _ (v .3) l,
-      search needs,
-      search needs,
-      search needs,
-    )
-
-enum-known-next-2 : tie.Need-enum-known-next-2 Inv-loop μ-loop
-enum-known-next-2 c = search needs
-
-add-t26 : tie.Need-add-t26 Inv-loop μ-loop
-add-t26 c = omega (arith, refused-inside (answered (c .before .before .before)) (ap outcomeOf (c .before .next2 .given .1)))
-
 same-length-4 : tie.Need-same-length-4 Inv-loop μ-loop
 same-length-4 c = search needs
 
 same-length-5 : tie.Need-same-length-5 Inv-loop μ-loop
 same-length-5 c = search needs
 
+returns : tie.Need-returns Inv-loop μ-loop
+returns c =
+    let at-lay-token = c .before .before .before .before .before .before .before .before .before .before .before .before in
+    let at-onward = at-lay-token .before .before .before .before .before .before in
+    let a = answered (at-onward .before .before .before .before .before) in
+    let q = at-onward .before .before .before .next .given .1 in
+    let l = sym (c .before .is-last .ensures) ∙ c .if1 .taken in
+    let w = at-onward .before .before .before .before .before .before .before .loop .inv .2 in
+    record { is = reads-last a q l; are-laid = lists-last a q w (there at-onward) (at-lay-token .lay-token .ensures) l }
+
+sub-along : tie.Need-sub-along Inv-loop μ-loop
+sub-along c =
+    let at-lay-token = c .before .before .before .before .before .before .before .before .before .before .before .before .before in
+    let at-onward = at-lay-token .before .before .before .before .before .before in
+    place-before (answered (at-onward .before .before .before .before .before)) (at-onward .before .before .before .next .given .1)
+
+along-requires : tie.Need-along-requires Inv-loop μ-loop
+along-requires c κs =
+    let at-lay-token = c .before .before .before .before .before .before .before .before .before .before .before .before .before in
+    let at-onward = at-lay-token .before .before .before .before .before .before in
+    let f = ends-inside (answered (at-onward .before .before .before .before .before)) (at-onward .before .before .before .next .given .1) in
+    (there-near at-onward, omega (arith, limit (at-onward .before .before .before .before .before .before .before)))
+
+loop-less : tie.Need-loop-less Inv-loop μ-loop
+loop-less c =
+    let at-lay-token = c .before .before .before .before .before .before .before .before .before .before .before .before .before .before in
+    let at-onward = at-lay-token .before .before .before .before .before .before in
+    let a = answered (at-onward .before .before .before .before .before) in
+    let q = at-onward .before .before .before .next .given .1 in
+    let l = sym (c .before .before .before .is-last .ensures) ∙ c .before .before .if1 .left in
+    let b = ap (λ (x : Spot). x .place) (c .along .ensures ∙ token-behind a q (there at-onward)) in
+    omega (arith, ends-inside a q, some-bytes a q l)
+
+loop-again : tie.Need-loop-again Inv-loop μ-loop
+loop-again c =
+    let at-lay-token = c .before .before .before .before .before .before .before .before .before .before .before .before .before .before in
+    let at-onward = at-lay-token .before .before .before .before .before .before in
+    let a = answered (at-onward .before .before .before .before .before) in
+    let q = at-onward .before .before .before .next .given .1 in
+    let l = sym (c .before .before .before .is-last .ensures) ∙ c .before .before .if1 .left in
+    let v = at-onward .before .before .before .before .before .before .before .loop .inv in
+    rw (c .along .ensures ∙ token-behind a q (there at-onward)) (
+      refl,
+      reads-on a q l,
+      lists-on a q (v .2) (there at-onward) (at-lay-token .lay-token .ensures) l,
+      omega (arith, v .3),
+      omega (arith, v .4),
+      omega (arith, v .5),
+      omega (arith, v .6),
+      omega (arith, v .7),
+    )
+
+enum-known-next-2 : tie.Need-enum-known-next-2 Inv-loop μ-loop
+enum-known-next-2 c = search needs
+
+onward-requires-2 : tie.Need-onward-requires-2 Inv-loop μ-loop
+onward-requires-2 c κs =
+    let at-loop = c .before .before .before .before .before in
+    (here-near at-loop, refused-near (answered (c .before .before .before)) (ap outcomeOf (c .before .next2 .given .1)) (limit at-loop))
+
 same-length-6 : tie.Need-same-length-6 Inv-loop μ-loop
 same-length-6 c = search needs
-
-returns-2 : tie.Need-returns-2 Inv-loop μ-loop
-returns-2 c =
-    let a = answered (c .before .before .before) in
-    let q = ap outcomeOf (c .before .next2 .given .1) in
-    let v = c .before .before .before .before .before .loop .inv in
-    record {
-      is = reads-no a q refl;
-      kinds-laid = laid-no a q kindOf _ _ (v .1);
-      values-laid = laid-no a q valueOf _ _ (v .2);
-      places-laid = laid-no a q placeOf _ _ (v .3);
-    }
-
-enum-known-next-3 : tie.Need-enum-known-next-3 Inv-loop μ-loop
-enum-known-next-3 c = search needs
-
-add-t27 : tie.Need-add-t27 Inv-loop μ-loop
-add-t27 c = omega (arith, refused-inside (answered (c .before .before .before)) (ap outcomeOf (c .before .next3 .given .1)))
 
 same-length-7 : tie.Need-same-length-7 Inv-loop μ-loop
 same-length-7 c = search needs
@@ -177,17 +191,45 @@ same-length-8 c = search needs
 same-length-9 : tie.Need-same-length-9 Inv-loop μ-loop
 same-length-9 c = search needs
 
+same-length-10 : tie.Need-same-length-10 Inv-loop μ-loop
+same-length-10 c = search needs
+
+returns-2 : tie.Need-returns-2 Inv-loop μ-loop
+returns-2 c =
+    let a = answered (c .before .before .before .before) in
+    let q = ap outcomeOf (c .before .before .next2 .given .1) in
+    let v = c .before .before .before .before .before .before .loop .inv in
+    record { is = rw (c .onward2 .ensures ∙ refused-there a q (v .0)) (reads-no a q refl); are-laid = lists-no a q (v .2) }
+
+enum-known-next-3 : tie.Need-enum-known-next-3 Inv-loop μ-loop
+enum-known-next-3 c = search needs
+
+onward-requires-3 : tie.Need-onward-requires-3 Inv-loop μ-loop
+onward-requires-3 c κs =
+    let at-loop = c .before .before .before .before .before in
+    (here-near at-loop, refused-near (answered (c .before .before .before)) (ap outcomeOf (c .before .next3 .given .1)) (limit at-loop))
+
+same-length-11 : tie.Need-same-length-11 Inv-loop μ-loop
+same-length-11 c = search needs
+
+same-length-12 : tie.Need-same-length-12 Inv-loop μ-loop
+same-length-12 c = search needs
+
+same-length-13 : tie.Need-same-length-13 Inv-loop μ-loop
+same-length-13 c = search needs
+
+same-length-14 : tie.Need-same-length-14 Inv-loop μ-loop
+same-length-14 c = search needs
+
+same-length-15 : tie.Need-same-length-15 Inv-loop μ-loop
+same-length-15 c = search needs
+
 returns-3 : tie.Need-returns-3 Inv-loop μ-loop
 returns-3 c =
-    let a = answered (c .before .before .before) in
-    let q = ap outcomeOf (c .before .next3 .given .1) in
-    let v = c .before .before .before .before .before .loop .inv in
-    record {
-      is = reads-no a q refl;
-      kinds-laid = laid-no a q kindOf _ _ (v .1);
-      values-laid = laid-no a q valueOf _ _ (v .2);
-      places-laid = laid-no a q placeOf _ _ (v .3);
-    }
+    let a = answered (c .before .before .before .before) in
+    let q = ap outcomeOf (c .before .before .next3 .given .1) in
+    let v = c .before .before .before .before .before .before .loop .inv in
+    record { is = rw (c .onward3 .ensures ∙ refused-there a q (v .0)) (reads-no a q refl); are-laid = lists-no a q (v .2) }
 
 pub lay-tokens-spec : {M : Type 1} → statement M
 lay-tokens-spec =
@@ -195,37 +237,40 @@ lay-tokens-spec =
     (tie.spec
     Inv-loop
     μ-loop
+    first-requires
     loop-holds
     sub-next-token
     part-next-token-start
     part-next-token-end
     next-token-requires
     enum-known-next
-    slice-write-kinds
-    mul-values
-    slice-write-values
-    add-places
-    cast-places
-    mul-places
-    slice-write-places
+    onward-requires
+    lay-token-requires
     add-n
     is-last-requires
     same-length
     same-length-2
     same-length-3
+    same-length-4
+    same-length-5
     returns
-    add-at
+    sub-along
+    along-requires
     loop-less
     loop-again
     enum-known-next-2
-    add-t26
-    same-length-4
-    same-length-5
+    onward-requires-2
     same-length-6
-    returns-2
-    enum-known-next-3
-    add-t27
     same-length-7
     same-length-8
     same-length-9
+    same-length-10
+    returns-2
+    enum-known-next-3
+    onward-requires-3
+    same-length-11
+    same-length-12
+    same-length-13
+    same-length-14
+    same-length-15
     returns-3)

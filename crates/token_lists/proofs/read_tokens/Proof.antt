@@ -12,8 +12,8 @@ returns c = too-long _ _ (c .if1 .taken)
 room-in-requires : tie.Need-room-in-requires
 room-in-requires c κs = search needs
 
-add-t15 : tie.Need-add-t15
-add-t15 c = search needs
+add-t21 : tie.Need-add-t21
+add-t21 c = search needs
 
 same-length : tie.Need-same-length
 same-length c = search needs
@@ -24,34 +24,45 @@ same-length-2 c = search needs
 same-length-3 : tie.Need-same-length-3
 same-length-3 c = search needs
 
-returns-2 : tie.Need-returns-2
-returns-2 c = no-room _ (c .before .room-in .ensures) (c .before .before .before .before .before .if1 .left) (c .if2 .taken)
-
-lay-tokens-requires : tie.Need-lay-tokens-requires
-lay-tokens-requires c κs = (
-  c .before .before .before .before .before .before .before .before .if1 .left,
-  omega (
-    arith,
-    few-tokens 0 0 (now (c .before .before .before .before .before .before .before .before .before .before .before .before .before .args .src)),
-    c .before .before .before .before .room-in .ensures,
-    c .before .before .before .if2 .left,
-  ),
-)
-
 same-length-4 : tie.Need-same-length-4
 same-length-4 c = search needs
 
 same-length-5 : tie.Need-same-length-5
 same-length-5 c = search needs
 
+returns-2 : tie.Need-returns-2
+returns-2 c =
+    let at-if1 = c .before .before .before .before .before .before .before in
+    no-room _ (c .before .room-in .ensures) (at-if1 .if1 .left) (c .if2 .taken)
+
+lay-tokens-requires : tie.Need-lay-tokens-requires
+lay-tokens-requires c κs =
+    let at-if1 = c .before .before .before .before .before .before .before .before .before .before .before .before in
+    let s = now (at-if1 .before .before .before .before .before .before .before .args .src) in
+    let at-if2 = c .before .before .before .before .before in
+    (at-if1 .if1 .left, omega (arith, few-tokens s 0 0 s, at-if2 .before .room-in .ensures, at-if2 .if2 .left))
+
 same-length-6 : tie.Need-same-length-6
 same-length-6 c = search needs
 
+same-length-7 : tie.Need-same-length-7
+same-length-7 c = search needs
+
+same-length-8 : tie.Need-same-length-8
+same-length-8 c = search needs
+
+same-length-9 : tie.Need-same-length-9
+same-length-9 c = search needs
+
+same-length-10 : tie.Need-same-length-10
+same-length-10 c = search needs
+
 returns-3 : tie.Need-returns-3
-returns-3 c = in-room _ (c .before .before .before .before .before .before .before .before .before .before .before .room-in .ensures)
-    (c .before .before .before .before .before .before .before .before .before .before .before .before .before .before .before .if1 .left)
-    (c .before .before .before .before .before .before .before .before .before .before .if2 .left)
-    (c .before .before .before .before .before .before .lay-tokens .ensures)
+returns-3 c =
+    let at-lay-tokens = c .before .before .before .before .before .before .before .before .before .before in
+    let at-if2 = at-lay-tokens .before .before .before .before .before .before in
+    let at-if1 = at-if2 .before .before .before .before .before .before .before in
+    in-room _ (at-if2 .before .room-in .ensures) (at-if1 .if1 .left) (at-if2 .if2 .left) (at-lay-tokens .lay-tokens .ensures)
 
 pub read-tokens-spec : {M : Type 1} → statement M
 read-tokens-spec =
@@ -59,13 +70,17 @@ read-tokens-spec =
     (tie.spec
     returns
     room-in-requires
-    add-t15
+    add-t21
     same-length
     same-length-2
     same-length-3
-    returns-2
-    lay-tokens-requires
     same-length-4
     same-length-5
+    returns-2
+    lay-tokens-requires
     same-length-6
+    same-length-7
+    same-length-8
+    same-length-9
+    same-length-10
     returns-3)

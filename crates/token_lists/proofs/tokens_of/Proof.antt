@@ -26,20 +26,28 @@ same-length-2 c = search needs
 same-length-3 : tie.Need-same-length-3
 same-length-3 c = search needs
 
+same-length-4 : tie.Need-same-length-4
+same-length-4 c = search needs
+
+same-length-5 : tie.Need-same-length-5
+same-length-5 c = search needs
+
 returns : tie.Need-returns
-returns c = too-many (now (c .before .before .before .before .before .before .before .before .before .before .before .before .before .args .src)) _
-    (sym (ap summaryOf (c .before .before .before .before .before .before .checked .given .1))
-    ∙ c .before .before .before .before .before .before .before .before .check-text .ensures) _ (omega (arith, c .before .room-in .ensures, c .if1 .taken))
+returns c =
+    let at-checked = c .before .before .before .before .before .before .before .before in
+    let at-check-text = at-checked .before .before in
+    let s = now (at-check-text .before .before .before .before .before .before .before .args .src) in
+    too-many s _ (sym (ap summaryOf (at-checked .checked .given .1)) ∙ at-check-text .check-text .ensures) _
+    (omega (arith, c .before .room-in .ensures, c .if1 .taken))
 
 lay-tokens-requires : tie.Need-lay-tokens-requires
 lay-tokens-requires c κs =
-    let at-if1 = c .before .before .before in
-    let at-room-in = at-if1 .before in
-    let at-checked = at-room-in .before .before .before .before .before in
+    let at-if1 = c .before .before .before .before .before in
+    let at-checked = at-if1 .before .before .before .before .before .before .before .before in
     let at-check-text = at-checked .before .before in
-    let start = at-check-text .before .before .before .before .before in
-    let s = now (start .args .src) in let e = sym (ap summaryOf (at-checked .checked .given .1))
-    ∙ at-check-text .check-text .ensures in (checked-limit s _ e, omega (arith, checked-count s _ e, at-room-in .room-in .ensures, at-if1 .if1 .left))
+    let s = now (at-check-text .before .before .before .before .before .before .before .args .src) in
+    let e = sym (ap summaryOf (at-checked .checked .given .1)) ∙ at-check-text .check-text .ensures in
+    (checked-limit s _ e, omega (arith, checked-count s _ e, at-if1 .before .room-in .ensures, at-if1 .if1 .left))
 
 enum-told : tie.Need-enum-told
 enum-told c = search needs
@@ -53,25 +61,30 @@ enum-known-checked-3 c = search needs
 enum-known-checked-4 : tie.Need-enum-known-checked-4
 enum-known-checked-4 c = search needs
 
-same-length-4 : tie.Need-same-length-4
-same-length-4 c = search needs
-
-same-length-5 : tie.Need-same-length-5
-same-length-5 c = search needs
-
 same-length-6 : tie.Need-same-length-6
 same-length-6 c = search needs
 
+same-length-7 : tie.Need-same-length-7
+same-length-7 c = search needs
+
+same-length-8 : tie.Need-same-length-8
+same-length-8 c = search needs
+
+same-length-9 : tie.Need-same-length-9
+same-length-9 c = search needs
+
+same-length-10 : tie.Need-same-length-10
+same-length-10 c = search needs
+
 returns-2 : tie.Need-returns-2
 returns-2 c =
-    let at-lay-tokens = c .before .before .before .before .before .before in
-    let at-if1 = at-lay-tokens .before .before .before .before in
-    let at-room-in = at-if1 .before in
-    let at-checked = at-room-in .before .before .before .before .before in
+    let at-lay-tokens = c .before .before .before .before .before .before .before .before .before .before in
+    let at-if1 = at-lay-tokens .before .before .before .before .before .before in
+    let at-checked = at-if1 .before .before .before .before .before .before .before .before in
     let at-check-text = at-checked .before .before in
-    let start = at-check-text .before .before .before .before .before in
-    all-read (now (start .args .src)) _ (sym (ap summaryOf (at-checked .checked .given .1)) ∙ at-check-text .check-text .ensures) _
-    (omega (arith, at-room-in .room-in .ensures, at-if1 .if1 .left)) (at-lay-tokens .lay-tokens .ensures)
+    let s = now (at-check-text .before .before .before .before .before .before .before .args .src) in
+    all-read s _ (sym (ap summaryOf (at-checked .checked .given .1)) ∙ at-check-text .check-text .ensures) _
+    (omega (arith, at-if1 .before .room-in .ensures, at-if1 .if1 .left)) (at-lay-tokens .lay-tokens .ensures)
 
 returns-3 : tie.Need-returns-3
 returns-3 c = stays _ _ _ (sym (ap summaryOf (c .enum-told .given .1)) ∙ c .before .before .check-text .ensures) refl
@@ -95,15 +108,19 @@ tokens-of-spec =
     same-length
     same-length-2
     same-length-3
+    same-length-4
+    same-length-5
     returns
     lay-tokens-requires
     enum-told
     enum-known-checked-2
     enum-known-checked-3
     enum-known-checked-4
-    same-length-4
-    same-length-5
     same-length-6
+    same-length-7
+    same-length-8
+    same-length-9
+    same-length-10
     returns-2
     returns-3
     returns-4

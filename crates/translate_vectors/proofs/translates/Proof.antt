@@ -14,6 +14,9 @@ fill-requires-2 c κs = search needs
 put-all-requires : tie.Need-put-all-requires
 put-all-requires c κs = search needs
 
+element-copy-out-room-in : tie.Need-element-copy-out-room-in
+element-copy-out-room-in c = search needs
+
 room-in-requires : tie.Need-room-in-requires
 room-in-requires c κs = search needs
 
@@ -28,6 +31,9 @@ tautgaff-translate-requires c κs = search needs
 
 same-requires : tie.Need-same-requires
 same-requires c κs = search needs
+
+is-stored-requires : tie.Need-is-stored-requires
+is-stored-requires c κs = search needs
 
 same-length : tie.Need-same-length
 same-length c = search needs
@@ -45,11 +51,13 @@ translates-spec =
     fill-requires
     fill-requires-2
     put-all-requires
+    element-copy-out-room-in
     room-in-requires
     slice-relend-prefix-tautgaff-translate
     slice-aggregate-tautgaff-translate
     tautgaff-translate-requires
     same-requires
+    is-stored-requires
     same-length
     same-length-2
     returns)

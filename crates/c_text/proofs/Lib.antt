@@ -1,0 +1,2 @@
+-- The files of this crate's proofs.
+pub mod Told

@@ -1,0 +1,3 @@
+-- Laws of lines and columns.
+pub mod Going
+pub mod Theorems

@@ -1,0 +1,17 @@
+-- `next_column` follows the definition's test. Assumes nothing.
+use borrow.Author.Needs.{needs}
+use Rattle.base.proofs.Tests.{picks}
+use Rattle.spots.proofs.next_column.Statement.{statement}
+use Rattle.spots.proofs.next_column.Tie as tie
+
+add-result : tie.Need-add-result
+add-result c = search needs
+
+returns : tie.Need-returns
+returns c = (search (picks, needs) depth 9, search needs, search needs)
+
+returns-2 : tie.Need-returns-2
+returns-2 c = (search (picks, needs) depth 9, search needs, search needs)
+
+pub next-column-spec : {M : Type 1} → statement M
+next-column-spec = tie.close (tie.spec add-result returns returns-2)

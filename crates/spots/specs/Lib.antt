@@ -1,0 +1,3 @@
+-- Lines and columns of a text.
+pub mod Spots
+pub mod Going
