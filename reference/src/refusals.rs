@@ -3,6 +3,7 @@
 
 use crate::runcase::Case;
 use crate::runner::STORAGE_NEEDED;
+use crate::spot::Spot;
 use crate::translate::translate;
 use std::fmt::Write;
 
@@ -12,7 +13,7 @@ pub enum Answer {
     /// 0 for a text that is accepted.
     Number {
         number: u32,
-        place: usize,
+        spot: Spot,
     },
     Stop(u32),
 }
@@ -77,10 +78,10 @@ impl Example {
     pub fn answer(&self) -> Answer {
         match self.case().map(|case| case.run().0) {
             Some(told) if told.number == 0 => Answer::Stop(told.stop),
-            Some(told) => Answer::Number { number: told.number, place: told.spot.place },
+            Some(told) => Answer::Number { number: told.number, spot: told.spot },
             None => {
                 let told = translate(&self.text(), self.with("room").map(|room| room as usize));
-                Answer::Number { number: told.number, place: told.spot.place }
+                Answer::Number { number: told.number, spot: told.spot }
             }
         }
     }
@@ -169,9 +170,8 @@ fn part(example: &mut Example, word: &str, rest: &str) -> Option<()> {
             let words: Vec<&str> = rest.split(' ').collect();
             example.gives = Some(match words.as_slice() {
                 ["stop", stop] => Answer::Stop(stop.parse().ok()?),
-                [number] => Answer::Number { number: number.parse().ok()?, place: 0 },
-                [number, "at", place] => Answer::Number { number: number.parse().ok()?, place: place.parse().ok()? },
-                _ => return None,
+                [number, spot @ ..] => Answer::Number { number: number.parse().ok()?, spot: spot_of(spot)? },
+                [] => return None,
             });
         }
         "because" => example.because = rest.to_string(),
@@ -180,10 +180,23 @@ fn part(example: &mut Example, word: &str, rest: &str) -> Option<()> {
     Some(())
 }
 
+/// Where an answer stands, as it is told; of 0 nothing is.
+fn spot_of(words: &[&str]) -> Option<Spot> {
+    let number = |word: &str| word.parse().ok();
+    match words {
+        [] => Some(Spot::NONE),
+        ["at", place] => Some(Spot::without_line(number(place)?)),
+        ["at", place, "line", line, "column", column] => {
+            Some(Spot { place: number(place.strip_suffix(',')?)?, line: number(line)?, column: number(column)? })
+        }
+        _ => None,
+    }
+}
+
 fn told(answer: Option<Answer>) -> String {
     match answer {
         Some(Answer::Number { number: 0, .. }) => "is accepted".to_string(),
-        Some(Answer::Number { number, place }) => format!("gets refusal {number} at {place}"),
+        Some(Answer::Number { number, spot }) => format!("gets refusal {number} at {spot}"),
         Some(Answer::Stop(stop)) => format!("runs and gets stop {stop}"),
         None => String::new(),
     }

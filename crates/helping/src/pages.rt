@@ -1,5 +1,5 @@
 // The pages of `tautgaff help`, each ended by `~`. Made of examples/refusals.data and command/usage by examples/make.
-pub const BELOW10: [u8; 7233] = *b"Stop 0: the budget is used up
+pub const BELOW10: [u8; 7395] = *b"Stop 0: the budget is used up
 
 As many instructions as were allowed have been completed, and the program is not at its end.
 
@@ -42,7 +42,7 @@ Capitals, digits, the signs of the language, `_` before a digit, `#` before a he
 Small letters, TAB, CR and a byte-order mark are in no token. A comment runs from COMMENT to the next `;`.
 Place: that byte, or the first byte of the word COMMENT.
 
-This gets refusal 2 at 12: the small `r` is in no token.
+This gets refusal 2 at 12, line 1 column 13: the small `r` is in no token.
 
     BEGIN R1 := r2; END @
 
@@ -68,7 +68,7 @@ Decimal numbers run from 0 to 2147483647, with `_` in front, which is the minus 
 stand.
 Place: the number's first byte.
 
-This gets refusal 3 at 12: it is one more than a register can hold as a positive number.
+This gets refusal 3 at 12, line 1 column 13: it is one more than a register can hold as a positive number.
 
     BEGIN R1 := 2147483648; END @
 
@@ -93,7 +93,7 @@ This runs and gets stop 1: elements of a short array have 2 bytes.
 The tokens up to this one, with it, begin no program. All before it could have been the beginning of one.
 Place: that token, or the text's length where the text ends too early.
 
-This gets refusal 4 at 15: a statement is ended by `;`, the last one before END too.
+This gets refusal 4 at 15, line 1 column 16: a statement is ended by `;`, the last one before END too.
 
     BEGIN R1 := R2 END @
 
@@ -126,7 +126,7 @@ This object text runs and gets stop 1: `0A 00` ends a program.
 BEGIN, IF, WHILE, FOR and PROCEDURE open a construct; one stands inside 64 others.
 Place: that word.
 
-This gets refusal 5 at 384: the 65th BEGIN stands inside 64 blocks.
+This gets refusal 5 at 384, line 65 column 1: the 65th BEGIN stands inside 64 blocks.
 
     BEGIN   ... 65 times
     END;   ... 64 times
@@ -143,7 +143,7 @@ No declaration before this place, in this block or one around it, has the name; 
 further than the edge of the procedure body it stands in.
 Place: the name.
 
-This gets refusal 6 at 34: L is outside the body of P.
+This gets refusal 6 at 34, line 1 column 35: L is outside the body of P.
 
     BEGIN PROCEDURE P(R5); BEGIN GOTO L; END; P; L: END @
 
@@ -156,7 +156,7 @@ The block has declared this name already, or set this label. Only the first 10 c
 other.
 Place: the second one.
 
-This gets refusal 7 at 40: both begin with CENTIMETRE.
+This gets refusal 7 at 40, line 1 column 41: both begin with CENTIMETRE.
 
     BEGIN INTEGER CENTIMETRE; SHORT INTEGER CENTIMETRES; END @
 
@@ -172,7 +172,7 @@ name that is no function's. Which function takes what: IC, STC and LA a register
 RESET and TEST a cell.
 Place: the first name or token that does not fit; the function's name where the number of arguments is wrong.
 
-This gets refusal 8 at 22: only a register can be stored in a cell.
+This gets refusal 8 at 22, line 1 column 23: only a register can be stored in a cell.
 
     BEGIN INTEGER A; A := 5; END @
 
@@ -180,7 +180,7 @@ This is accepted: the number goes through a register.
 
     BEGIN INTEGER A; R1 := 5; A := R1; END @
 
-This gets refusal 8 at 30: the instruction of SET has no room for an index.
+This gets refusal 8 at 30, line 1 column 31: the instruction of SET has no room for an index.
 
     BEGIN ARRAY (4) BYTE B; SET(B(R1)); END @
 
@@ -193,7 +193,7 @@ Register numbers are 0 to 15. Register 0 cannot be a base, a return register, an
 register. A product by a number, a register or an integer cell needs an odd target.
 Place: the number, the register's name or the `*`.
 
-This gets refusal 9 at 15: a product has 64 bits: the target must be the odd register of a pair.
+This gets refusal 9 at 15, line 1 column 16: a product has 64 bits: the target must be the odd register of a pair.
 
     BEGIN R2 := R1 * 10; END @
 
@@ -202,14 +202,14 @@ This is accepted: R3 takes the lower half; the upper half goes to R2.
     BEGIN R3 := R1 * 10; END @
 ~";
 
-pub const FROM10: [u8; 4816] = *b"Refusal 10: a protected register is written
+pub const FROM10: [u8; 4906] = *b"Refusal 10: a protected register is written
 
 Protected are register 15, by which the program finds its own instructions; 14, the data base, by which it finds its cells; the bases of the enclosing
 blocks; and the return registers of the procedures around this place. A call writes the procedure's return register and all that its body writes,
 through calls too. IC, LA and LTR write their first register.
 Place: the target, the function's register, the call or the base's name; the `*` where it is the register below the target.
 
-This gets refusal 10 at 6: RE is register 14, the data base: cells without SEGMENT BASE belong to it.
+This gets refusal 10 at 6, line 1 column 7: RE is register 14, the data base: cells without SEGMENT BASE belong to it.
 
     BEGIN RE := R1; END @
 
@@ -222,7 +222,7 @@ An initial value that a short cell cannot hold (-32768 to 65535), or a BYTE or C
 not 1 to 2,048; a subscript that is not the byte offset of an element; a shift by more than 63; a number of MVI or CLI that is not 0 to 255.
 Place: the number.
 
-This gets refusal 11 at 35: a subscript is a byte offset, and elements of 4 bytes are at 0, 4, 8 and 12.
+This gets refusal 11 at 35, line 1 column 36: a subscript is a byte offset, and elements of 4 bytes are at 0, 4, 8 and 12.
 
     BEGIN ARRAY (4) INTEGER A; R1 := A(3); END @
 
@@ -230,7 +230,7 @@ This is accepted: 12 is the last element.
 
     BEGIN ARRAY (4) INTEGER A; R1 := A(12); END @
 
-This gets refusal 11 at 18: a byte has no sign.
+This gets refusal 11 at 18, line 1 column 19: a byte has no sign.
 
     BEGIN BYTE B; CLI(_1)(B); END @
 
@@ -242,7 +242,7 @@ This is accepted: 255 is the greatest.
 A data segment has 4,096 bytes; the first 16 of the one of base 14 are a table. Two SEGMENT BASE declarations are all that a program has room for.
 Place: the cell's name, or the base's.
 
-This gets refusal 12 at 27: 16 + 4 * 1021 is 4,100.
+This gets refusal 12 at 27, line 1 column 28: 16 + 4 * 1021 is 4,100.
 
     BEGIN ARRAY (1021) INTEGER A; END @
 
@@ -254,7 +254,7 @@ This is accepted: 16 + 4 * 1020 is 4,096.
 A program may declare 256 names and set 256 labels, in all its blocks together.
 Place: the 257th.
 
-This gets refusal 13 at 3596: each block sets a label of its own.
+This gets refusal 13 at 3596, line 258 column 7: each block sets a label of its own.
 
     BEGIN
     BEGIN L: END;   ... 257 times
