@@ -1,5 +1,5 @@
--- A loop that counts a run: `run-on`, `run-stop` and `run-end` in the form of its invariant; `run-le`, `run-pos`, `run-all` say what a run is like,
--- `run-take` and `run-past` how it goes over a cut. Assumes nothing.
+-- A loop that counts a run: `run-on`, `run-stop` and `run-end` in the form of its invariant; `run-le`, `run-pos`, `run-first`, `run-all` say what a run is like,
+-- `run-take` and `run-past` how it goes over a cut, `run-within` that a narrower test's is no longer. Assumes nothing.
 use Prim.Native.Nat.{ℕ, zero, suc, _+_, _≤_, _<_, min}
 use mathlib.Core.Path.{_≡_, refl}
 use mathlib.Core.Bool.{Bool, true, false}
@@ -48,6 +48,15 @@ module _ (p : ℕ → Bool) where
   run-pos [] h e = absurd (omega arith)
   run-pos (x ∷ xs) h e = rw (e, runLen) (omega arith)
 
+  pub run-first : (s : List ℕ) → 0 < runLen p s → p (getD s 0 0) ≡ true
+  unfolding runLen
+  run-first [] h = absurd (omega arith)
+  run-first (x ∷ xs) h = go (p x) refl
+    where
+      go : (t : Bool) → p x ≡ t → p x ≡ true
+      go true e = e
+      go false e = let l : 0 < 0 = rw (e, runLen) at h in absurd (omega arith)
+
   -- each element of the run passes the test
   pub run-all : (s : List ℕ) → All (λ x. p x ≡ true) (take (runLen p s) s)
   unfolding runLen
@@ -80,3 +89,13 @@ module _ (p : ℕ → Bool) where
           let l : suc n ≤ suc (runLen p xs) = rw (e, runLen) at h in
           rw (e, runLen) (omega (arith, f (omega arith)))
       go f false e = let l : suc n ≤ 0 = rw (e, runLen) at h in absurd (omega arith)
+
+-- of a narrower test
+pub run-within : (p q : ℕ → Bool) → ((x : ℕ) → p x ≡ true → q x ≡ true) → (s : List ℕ) → runLen p s ≤ runLen q s
+unfolding runLen
+run-within p q f [] = omega arith
+run-within p q f (x ∷ xs) = go (run-within p q f xs) (p x) refl
+  where
+    go : runLen p xs ≤ runLen q xs → (t : Bool) → p x ≡ t → runLen p (x ∷ xs) ≤ runLen q (x ∷ xs)
+    go h true e = rw (e, f x e, runLen) (omega arith)
+    go h false e = rw (e, runLen) (omega arith)

@@ -17,10 +17,11 @@ use Rattle.scanner.specs.declared.Spelled.{Spelled}
 use Rattle.token.specs.declared.Lexeme.{Lexeme}
 use Rattle.token.specs.declared.Lexeme.the-variants.{Token}
 use Rattle.scanner.specs.declared.Class.{Class}
-use Rattle.scanner.specs.declared.Class.the-variants.{Separator, InComment}
+use Rattle.scanner.specs.declared.Class.the-variants.{Blank, Separator, InComment}
 
 -- the bytes that a run of each class is made of
 abbrev pub inClass : Class → ℕ → Bool
+inClass Blank b = eqb b 32
 inClass Separator b = separates b
 inClass InComment b = not (eqb b (code ";"))
 

@@ -4,13 +4,15 @@ mod entries;
 ghost use mathlib.Core.Path.{_≡_};
 ghost use mathlib.Core.Bool.{true};
 ghost use Prim.Native.Nat.{_+_, _≤_, _<_, _^_, min};
-ghost use lib.ListN.{length, getD};
+ghost use lib.ListN.{length, take, getD};
+ghost use Rattle.spots.specs.Spots.{spotAt, NoNewline};
 ghost use Rattle.token.specs.Kinds as K;
 ghost use Rattle.token.specs.Text as T;
 ghost use Rattle.token.specs.Answers.{outcomeOf};
 ghost use Rattle.scanner.specs.Inner.{inClass, Ran, Digited, Named, keyKind, inBase, bitsOf, twoOr, longerBy};
 use crate::entries::entry;
 use crate::entries::place;
+use spots::Spot;
 use spots::spot_at;
 use token::Lexeme;
 use token::Next;
@@ -19,6 +21,7 @@ use token::kinds;
 
 // The classes of bytes that runs are made of.
 enum Class {
+    Blank,
     Separator,
     InComment,
 }
@@ -27,6 +30,7 @@ fn in_class(c: Class, b: u8) -> bool
     ensures { λ r. ⌜ r ≡ inClass c b ⌝ }
 {
     match c {
+        Class::Blank => b == b' ',
         Class::Separator => (b == b' ') | (b == b'\n'),
         Class::InComment => b != b';',
     }
@@ -263,11 +267,27 @@ fn front(s: &[u8]) -> Lexeme
     sign(s)
 }
 
+// Where a place of a text stands: blanks in front of it end no line.
+fn stands(s: &[u8], blanks: usize, at: usize) -> Spot
+    requires { ⌜ (blanks ≤ length (now s)) × NoNewline (take blanks (now s)) ⌝ }
+    ensures { λ r. ⌜ r ≡ spotAt (now (s .entry)) at ⌝ }
+{
+    if at == blanks {
+        return Spot {
+            place: at,
+            line: 1,
+            column: at + 1,
+        };
+    }
+    spot_at(s, at)
+}
+
 // The next token of what remains of a text.
 pub fn next_token(s: &[u8]) -> Next
     ensures { λ r. ⌜ outcomeOf r ≡ T.nextToken (now (s .entry)) ⌝ }
 {
-    let mut at = 0;
+    let blanks = run(Class::Blank, s);
+    let mut at = blanks;
     while at < s.len() {
         let l = front(&s[at..]);
         match l {
@@ -275,14 +295,14 @@ pub fn next_token(s: &[u8]) -> Next
                 at += n;
             }
             Lexeme::Token(kind, value, size) => {
-                let spot = spot_at(s, at);
+                let spot = stands(s, blanks, at);
                 return Next::Token(Token { kind, value, spot }, at + size);
             }
-            Lexeme::NoToken => return Next::NoToken(spot_at(s, at)),
-            Lexeme::OutOfRange => return Next::OutOfRange(spot_at(s, at)),
+            Lexeme::NoToken => return Next::NoToken(stands(s, blanks, at)),
+            Lexeme::OutOfRange => return Next::OutOfRange(stands(s, blanks, at)),
         }
     }
-    let spot = spot_at(s, at);
+    let spot = stands(s, blanks, at);
     Next::Token(
         Token {
             kind: kinds::END_OF_TEXT,

@@ -1,13 +1,13 @@
 -- From one place of a text to another: `onward-is` for a place that is counted from another, `along-is` past bytes that end no line; `near` bounds both numbers.
 -- Assumes nothing.
-use Prim.Native.Nat.{ℕ, suc, _+_, _-_, _≤_}
+use Prim.Native.Nat.{ℕ, suc, _+_, _-_, _≤_, _<_}
 use mathlib.Core.Path.{_≡_, refl, sym, ap, _∙_}
 use mathlib.Core.Bool.{Bool, true, false}
 use mathlib.Core.List.{List, [], _∷_, _++_}
 use native.Mathlib.Omega.{arith}
 use lib.Dec.{eqb}
-use lib.ListN.{length, take, drop, length-take}
-use lib.Seq.{take-add}
+use lib.ListN.{length, getD, take, drop, length-take, length-drop, take-append-drop}
+use lib.Seq.{drop-cons, take-add}
 use borrow.Author.Tests.{eq-eqb, ne-eqb, eqb-true, eqb-false}
 use Rattle.base.specs.Choose.{choose}
 use Rattle.base.specs.Walk.{fold}
@@ -72,6 +72,21 @@ unfolding fold
 plain-column n [] f = omega arith
 plain-column n (x ∷ l) f = rw (f .0) (omega (arith, plain-column (n + 1) l (f .1)))
 
+-- behind the last byte 10
+pub since-last : (n : ℕ) (front since : List ℕ) → NoNewline since → columnFrom n (front ++ 10 ∷ since) ≡ 1 + length since
+unfolding fold
+since-last n front since h = rw (fold-append nextColumn n front (10 ∷ since)) (plain-column 1 since h)
+
+-- where no line has ended
+pub one-line : (k n : ℕ) (l : List ℕ) → lineFrom k l ≡ k → columnFrom n l ≡ n + length l
+unfolding fold
+one-line k n [] e = omega arith
+one-line k n (x ∷ l) e = go (line-most (k + 1) l) (one-line k (n + 1) l)
+  where
+    go : (k + 1 ≤ lineFrom (k + 1) l) × (lineFrom (k + 1) l ≤ k + 1 + length l) → (lineFrom k l ≡ k → columnFrom (n + 1) l ≡ n + 1 + length l)
+        → columnFrom (nextColumn n x) l ≡ n + suc (length l)
+    go m h = cases (eqb x 10) (λ t. let f = (rw t at e) in absurd (omega arith)) (λ t. let f = (rw t at e) in rw t (omega (arith, h f)))
+
 -- ── of a text ──
 
 module _ (s : List ℕ) where
@@ -105,6 +120,19 @@ module _ (s : List ℕ) where
               let u′ : lineFrom l t ≡ l + lineFrom 1 t - 1 = omega arith in
               let v′ : columnFrom c t ≡ columnFrom 1 t = rw e at v in
               rw (e, u′, v′))
+
+  -- one byte nearer to the front
+  module _ (i : ℕ) (h : 0 < i) (k : i ≤ length s) (f : NoNewline (drop i s)) where
+    split : drop (i - 1) s ≡ getD s (i - 1) 0 ∷ drop i s
+    split = let e : suc (i - 1) ≡ i = omega arith in drop-cons s (i - 1) 0 (omega arith) ∙ rw e
+
+    pub none-nearer : (getD s (i - 1) 0 ≡ 10 → ⊥) → NoNewline (drop (i - 1) s)
+    none-nearer e = rw split (ne-eqb (getD s (i - 1) 0) 10 e, f)
+
+    pub last-nearer : (n : ℕ) → getD s (i - 1) 0 ≡ 10 → columnFrom n s ≡ length s - (i - 1)
+    last-nearer n e =
+        let p : s ≡ take (i - 1) s ++ 10 ∷ drop i s = sym (take-append-drop (i - 1) s) ∙ rw (split, e) in
+        ap (columnFrom n) p ∙ since-last n (take (i - 1) s) (drop i s) f ∙ omega (arith, length-drop i s)
 
   -- past n bytes that end no line
   pub along-is : (a n : ℕ) → a + n ≤ length s → NoNewline (take n (drop a s)) → along (spotAt s a) n ≡ spotAt s (a + n)

@@ -8,9 +8,8 @@ use lib.Dec.{eqb}
 use lib.ListN.{length, take}
 use Rattle.base.specs.Walk.{fold}
 use Rattle.base.proofs.Tests.{cases}
-use Rattle.base.proofs.Walk.{fold-append}
 use Rattle.spots.specs.Spots.{nextLine, nextColumn, lineFrom, columnFrom, spotAt, newlines, NoNewline}
-use Rattle.spots.proofs.Going.{plain-column}
+use Rattle.spots.proofs.Going.{plain-column, since-last}
 
 line-counted : (n : ℕ) (l : List ℕ) → lineFrom n l ≡ n + newlines l
 unfolding fold newlines
@@ -29,5 +28,4 @@ module _ (s : List ℕ) (p : ℕ) where
   first-column-is h = plain-column 1 (take p s) h
 
   pub column-is : (front since : List ℕ) → take p s ≡ front ++ 10 ∷ since → NoNewline since → spotAt s p .column ≡ 1 + length since
-  unfolding fold
-  column-is front since e h = rw (e, fold-append nextColumn 1 front (10 ∷ since)) (plain-column 1 since h)
+  column-is front since e h = rw e (since-last 1 front since h)

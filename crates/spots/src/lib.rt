@@ -2,7 +2,7 @@
 ghost use mathlib.Core.Path.{_≡_};
 ghost use Prim.Native.Nat.{_+_, _-_, _≤_, _<_};
 ghost use lib.ListN.{length};
-ghost use Rattle.spots.specs.Spots.{spot, spotAt, nextLine, nextColumn, lineFrom, columnFrom, unplaced as unplacedAt, first as firstOf};
+ghost use Rattle.spots.specs.Spots.{spot, spotAt, nextLine, lineFrom, columnFrom, unplaced as unplacedAt, first as firstOf};
 ghost use Rattle.spots.specs.Going.{Near, onward as onwardBy, along as alongBy};
 
 // "A place is the offset of the first byte of what is named"; "line and column, both from 1".
@@ -45,30 +45,50 @@ fn next_line(line: usize, b: u8) -> usize
     if b == NEWLINE { line + 1 } else { line }
 }
 
-fn next_column(column: usize, b: u8) -> usize
-    requires { ⌜ (0 < column) × (column < 9223372036854775808) ⌝ }
-    ensures { λ r. ⌜ (r ≡ nextColumn column b) × (r ≤ column + 1) × (0 < r) ⌝ }
+// The line behind these bytes.
+fn line_behind(s: &[u8]) -> usize
+    ensures { λ r. ⌜ r ≡ lineFrom 1 (now (s .entry)) ⌝ }
 {
-    if b == NEWLINE { 1 } else { column + 1 }
+    let mut line: usize = 1;
+    let mut i: usize = 0;
+    while i < s.len() {
+        line = next_line(line, s[i]);
+        i += 1;
+    }
+    line
+}
+
+// The column behind these bytes, looked for from their end.
+fn column_behind(s: &[u8]) -> usize
+    ensures { λ r. ⌜ r ≡ columnFrom 1 (now (s .entry)) ⌝ }
+{
+    let mut i = s.len();
+    while 0 < i {
+        let last = i - 1;
+        if s[last] == NEWLINE {
+            return s.len() - last;
+        }
+        i = last;
+    }
+    s.len() + 1
 }
 
 // The place behind these bytes.
 fn behind(s: &[u8], place: usize) -> Spot
     ensures { λ r. ⌜ r ≡ spot place (lineFrom 1 (now (s .entry))) (columnFrom 1 (now (s .entry))) ⌝ }
 {
-    let mut line: usize = 1;
-    let mut column: usize = 1;
-    let mut i: usize = 0;
-    while i < s.len() {
-        let b = s[i];
-        line = next_line(line, b);
-        column = next_column(column, b);
-        i += 1;
+    let line = line_behind(s);
+    if line == 1 {
+        return Spot {
+            place,
+            line,
+            column: s.len() + 1,
+        };
     }
     Spot {
         place,
         line,
-        column,
+        column: column_behind(s),
     }
 }
 

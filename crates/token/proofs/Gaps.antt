@@ -6,14 +6,16 @@ use mathlib.Core.List.{List}
 use native.Mathlib.Omega.{arith}
 use native.Mathlib.Decide.{decLe}
 use lib.ListN.{length, take, drop, length-drop}
+use Rattle.base.specs.Runs.{runLen}
 use Rattle.base.specs.Walk.{walk}
 use Rattle.base.proofs.Parts.{to-end}
+use Rattle.base.proofs.Runs.{run-le, run-first, run-past}
 use Rattle.base.proofs.Tests.{never-true}
 use Rattle.base.proofs.Walk.{walk-end, walk-stop, walk-pass}
 use Rattle.spots.specs.declared.Spot.{Spot}
 use Rattle.spots.specs.Spots.{spotAt, NoNewline}
 use Rattle.token.specs.Kinds as K
-use Rattle.token.specs.Text.{lexeme, token, Outcome, read, refused, nextStep, nextToken, isLast}
+use Rattle.token.specs.Text.{separates, lexeme, token, Outcome, read, refused, nextStep, nextToken, isLast}
 use Rattle.token.specs.declared.Lexeme.{Lexeme}
 use Rattle.token.specs.declared.Lexeme.the-variants.{Gap, Token, NoToken, OutOfRange}
 use Rattle.token.proofs.Sizes.{sizeOf, spelling, Sized, lexeme-sized}
@@ -65,6 +67,29 @@ module _ (s : List ℕ) (at : ℕ) (l : Lexeme) (h : at < length s) (e : l ≡ l
   pub out-of-range : l ≡ OutOfRange → from at s ≡ refused 3 (spotAt s at)
   unfolding nextStep
   out-of-range q = walk-stop (nextStep s) (ending s) s at (refused 3 (spotAt s at)) h (rw (stands, q))
+
+-- the next token may be looked for from anywhere in the separators at the front
+module _ (s : List ℕ) where
+  separators : (t : List ℕ) → 0 < runLen separates t → Gap (runLen separates t) ≡ lexeme t
+  unfolding lexeme
+  separators t h = rw (run-first separates t h)
+
+  to-their-end : (k : ℕ) → k ≤ runLen separates s → from k s ≡ from (runLen separates s) s
+  to-their-end k h = go (decLe (runLen separates s) k)
+    where
+      left : runLen separates s ≡ k + runLen separates (drop k s)
+      left = run-past separates k s h
+
+      go : Dec (runLen separates s ≤ k) → from k s ≡ from (runLen separates s) s
+      go (yes l) = let e : runLen separates s ≡ k = omega arith in rw e
+      go (no l) =
+          let b : k < length s = omega (arith, run-le separates s) in
+          let n = runLen separates (drop k s) in
+          let e : Gap n ≡ lexeme (take (length s - k) (drop k s)) = separators (drop k s) (omega (arith, left)) ∙ ap lexeme (sym (to-end s k)) in
+          past s k (Gap n) b e n refl ∙ ap (λ (i : ℕ). from i s) (sym left)
+
+  pub from-separators : (k : ℕ) → k ≤ runLen separates s → nextToken s ≡ from k s
+  from-separators k h = start s ∙ to-their-end 0 (omega arith) ∙ sym (to-their-end k h)
 
 -- where an outcome stands and ends, and whether reading goes on after it
 abbrev pub placed : Outcome → ℕ

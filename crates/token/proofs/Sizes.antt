@@ -46,7 +46,7 @@ pub record Sized (s : List ℕ) (l : Lexeme) : Type 0 where
 not-ten : (p : ℕ → Bool) → p 10 ≡ false → (b : ℕ) → p b ≡ true → eqb b 10 ≡ false
 not-ten p n b h = cases (eqb b 10) (λ e. never-true (sym n ∙ ap p (sym (eqb-true b 10 e)) ∙ h)) (λ e. e)
 
-run-one-line : (p : ℕ → Bool) → p 10 ≡ false → (s : List ℕ) → NoNewline (take (runLen p s) s)
+pub run-one-line : (p : ℕ → Bool) → p 10 ≡ false → (s : List ℕ) → NoNewline (take (runLen p s) s)
 run-one-line p n s = all-map (λ (b : ℕ). p b ≡ true) (λ (b : ℕ). eqb b 10 ≡ false) (take (runLen p s) s) (not-ten p n) (run-all p s)
 
 module _ (s : List ℕ) (some : 0 < length s) where
