@@ -77,15 +77,14 @@ pub since-last : (n : ℕ) (front since : List ℕ) → NoNewline since → colu
 unfolding fold
 since-last n front since h = rw (fold-append nextColumn n front (10 ∷ since)) (plain-column 1 since h)
 
--- where no line has ended
-pub one-line : (k n : ℕ) (l : List ℕ) → lineFrom k l ≡ k → columnFrom n l ≡ n + length l
+-- where the line has not moved
+pub same-line : (n : ℕ) (l : List ℕ) → lineFrom n l ≡ n → NoNewline l
 unfolding fold
-one-line k n [] e = omega arith
-one-line k n (x ∷ l) e = go (line-most (k + 1) l) (one-line k (n + 1) l)
+same-line n [] e = tt
+same-line n (x ∷ l) e = go (line-most (n + 1) l) (same-line n l)
   where
-    go : (k + 1 ≤ lineFrom (k + 1) l) × (lineFrom (k + 1) l ≤ k + 1 + length l) → (lineFrom k l ≡ k → columnFrom (n + 1) l ≡ n + 1 + length l)
-        → columnFrom (nextColumn n x) l ≡ n + suc (length l)
-    go m h = cases (eqb x 10) (λ t. let f = (rw t at e) in absurd (omega arith)) (λ t. let f = (rw t at e) in rw t (omega (arith, h f)))
+    go : (n + 1 ≤ lineFrom (n + 1) l) × (lineFrom (n + 1) l ≤ n + 1 + length l) → (lineFrom n l ≡ n → NoNewline l) → (eqb x 10 ≡ false) × NoNewline l
+    go m h = cases (eqb x 10) (λ t. let f = (rw t at e) in absurd (omega arith)) (λ t. (t, h (rw t at e)))
 
 -- ── of a text ──
 

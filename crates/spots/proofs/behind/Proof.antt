@@ -5,7 +5,7 @@ use native.Mathlib.Omega.{arith}
 use lib.ListN.{length}
 use borrow.Author.Needs.{needs}
 use Rattle.spots.specs.Spots.{columnFrom}
-use Rattle.spots.proofs.Going.{one-line}
+use Rattle.spots.proofs.Going.{plain-column, same-line}
 use Rattle.spots.proofs.behind.Statement.{statement}
 use Rattle.spots.proofs.behind.Tie as tie
 
@@ -19,7 +19,7 @@ returns : tie.Need-returns
 returns c =
     let s = c .before .before .before .args .s .now in
     let e = c .before .line-behind .ensures in
-    let k : columnFrom 1 s ≡ length s + 1 = one-line 1 1 s (sym e ∙ c .if1 .taken) ∙ omega arith in
+    let k : columnFrom 1 s ≡ length s + 1 = plain-column 1 s (same-line 1 s (sym e ∙ c .if1 .taken)) ∙ omega arith in
     rw (e, k)
 
 column-behind-requires : tie.Need-column-behind-requires
