@@ -1,7 +1,7 @@
-// Small numbers; cells of n bytes in lent storage, the most significant byte first, for every n up to 4.
+// Small numbers; bytes, and cells of n bytes in lent storage, the most significant byte first, for every n up to 4.
 ghost use mathlib.Core.Path.{_≡_};
 ghost use Prim.Native.Nat.{_+_, _-_, _≤_, _<_, _^_, min};
-ghost use lib.ListN.{length};
+ghost use lib.ListN.{length, set};
 ghost use Rattle.base.specs.Numbers.{valueAt, stored};
 
 pub fn least(a: usize, b: usize) -> usize
@@ -21,6 +21,15 @@ fn wide(x: u8) -> u64
     ensures { λ r. ⌜ (r ≡ x) × (r < 256) ⌝ }
 {
     x as u64
+}
+
+// One byte, where there is room for it.
+pub fn put_byte(s: &mut [u8], i: usize, v: u8)
+    ensures { λ _. ⌜ now (s .exit) ≡ set (now (s .entry)) i v ⌝ }
+{
+    if i < s.len() {
+        s[i] = v;
+    }
 }
 
 // The number in the n bytes from `at`.

@@ -2,13 +2,14 @@
 // along the tape.
 ghost use mathlib.Core.Path.{_≡_};
 ghost use Prim.Native.Nat.{_+_, _/_, _≤_, _<_};
-ghost use lib.ListN.{length, set};
+ghost use lib.ListN.{length};
 ghost use Rattle.base.specs.Numbers.{stored};
 ghost use Rattle.scopes.specs.Broken.{unbroken};
 ghost use Rattle.tape.specs.Pass.{pass};
 ghost use Rattle.ledger.specs.Book.{wideOf, thinLimit};
 ghost use Rattle.translation.specs.Layout.{roundUp};
 ghost use Rattle.layout.specs.Along.{segmentAt, capped, bookIn, placeIn, eventIn, layoutIn, imagingOf, nowhere, startIn, layValue, imageIn};
+use base::put_byte;
 use ledger::clear_written;
 use ledger::mean;
 use ledger::offset;
@@ -111,14 +112,6 @@ fn start_cell(k: usize, wide: &[u64], t: usize) -> Filling
         };
     }
     Filling { at: 0, size: 0 }
-}
-
-fn put_byte(s: &mut [u8], i: usize, v: u8)
-    ensures { λ _. ⌜ now (s .exit) ≡ set (now (s .entry)) i v ⌝ }
-{
-    if i < s.len() {
-        s[i] = v;
-    }
 }
 
 // Lays the n low bytes of v from `at`, as far as there is room.

@@ -8,6 +8,7 @@ ghost use Rattle.spots.specs.Going.{Near};
 ghost use Rattle.token.specs.Text as T;
 ghost use Rattle.token.specs.Answers.{summaryOf, summed, spotOf, lists, room, laidFrom, Laid, Kinds, readInto, tokensInto};
 use base::least;
+use base::put_byte;
 use scanner::next_token;
 use spots::Spot;
 use spots::along;
@@ -138,31 +139,6 @@ pub fn read_tokens(
     lay_tokens(src, kinds, values, places, lines, columns)
 }
 
-// How many tokens a text has, or its refusal.
-pub fn check_text(src: &[u8]) -> Tokens
-    ensures { λ r. ⌜ summaryOf r ≡ summed (T.tokensOf (now (src .entry))) ⌝ }
-{
-    if TEXT_LIMIT < src.len() {
-        return Tokens::TooLong;
-    }
-    let mut at: usize = 0;
-    let mut n: usize = 0;
-    loop {
-        let next = next_token(&src[at..]);
-        match next {
-            Next::Token(t, end) => {
-                n += 1;
-                if is_last(t.kind) {
-                    return Tokens::Read(n);
-                }
-                at += end;
-            }
-            Next::NoToken(there) => return Tokens::NoToken(spot_at(src, at + there.place)),
-            Next::OutOfRange(there) => return Tokens::OutOfRange(spot_at(src, at + there.place)),
-        }
-    }
-}
-
 // The tokens of a text into lent lists, which a refusal leaves as they are.
 pub fn tokens_of(
     src: &[u8],
@@ -193,8 +169,9 @@ pub fn tokens_of(
 
 // ── kinds alone, and where one token stands ──
 
+// The kinds of a text's tokens, laid over a list as far as there is room, one after the other as far as a refusal.
 fn lay_kinds(src: &[u8], kinds: &mut [u8]) -> Tokens
-    requires { ⌜ (length (now src) ≤ T.TEXT-LIMIT) × (length (T.readFrom (now src) 0 0 (now src) .tokens) ≤ length (now kinds)) ⌝ }
+    requires { ⌜ length (now src) ≤ T.TEXT-LIMIT ⌝ }
     ensures { λ r. ⌜ Kinds (T.readFrom (now (src .entry)) 0 0 (now (src .entry))) (now (kinds .entry)) (now (kinds .exit)) r ⌝ }
 {
     let mut at: usize = 0;
@@ -203,10 +180,9 @@ fn lay_kinds(src: &[u8], kinds: &mut [u8]) -> Tokens
         let next = next_token(&src[at..]);
         match next {
             Next::Token(t, end) => {
-                let kind = t.kind;
-                kinds[n] = kind;
+                put_byte(kinds, n, t.kind);
                 n += 1;
-                if is_last(kind) {
+                if is_last(t.kind) {
                     return Tokens::Read(n);
                 }
                 at += end;
@@ -215,6 +191,17 @@ fn lay_kinds(src: &[u8], kinds: &mut [u8]) -> Tokens
             Next::OutOfRange(there) => return Tokens::OutOfRange(spot_at(src, at + there.place)),
         }
     }
+}
+
+// How many tokens a text has, or its refusal.
+pub fn check_text(src: &[u8]) -> Tokens
+    ensures { λ r. ⌜ summaryOf r ≡ summed (T.tokensOf (now (src .entry))) ⌝ }
+{
+    if TEXT_LIMIT < src.len() {
+        return Tokens::TooLong;
+    }
+    let mut unread = [0u8; 1];
+    lay_kinds(src, &mut unread)
 }
 
 // The kinds of a text's tokens into a lent list, in one pass: those before a refusal are laid.

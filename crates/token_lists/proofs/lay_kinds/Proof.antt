@@ -1,15 +1,19 @@
--- `lay_kinds` lays the kinds of a text's tokens over a list as it reads them, to the last or to a refusal. The invariant: what is read from here on, laid
+-- `lay_kinds` lays the kinds of a text's tokens over a list, as far as there is room, as it reads them, to the last or to a refusal. The invariant: what is read from here on, laid
 -- over the list as it is, is the whole reading laid over the list as it was. Assumes nothing.
-use Prim.Native.Nat.{_-_}
+use Prim.Native.Nat.{ℕ, _-_}
 use mathlib.Core.Path.{_≡_, refl, sym, ap, _∙_}
+use mathlib.Core.List.{List}
 use native.Mathlib.Omega.{arith}
 use denote.Ref.{now}
-use lib.ListN.{length}
+use lib.ListN.{length, set, length-set}
 use borrow.Author.Needs.{needs}
 use Rattle.token.specs.Answers.{outcomeOf, kindOf}
-use Rattle.token.proofs.Readings.{Reads, reads-start, LaidOn, Answered, ends-inside, some-bytes, has-room, reads-on, reads-last, laid-on, laid-last, refused-inside, reads-no, laid-no}
+use Rattle.token.proofs.Readings.{Reads, reads-start, LaidOn, Answered, ends-inside, some-bytes, reads-on, reads-last, laid-on, laid-last, refused-inside, reads-no, laid-no}
 use Rattle.token_lists.proofs.lay_kinds.Statement.{statement}
 use Rattle.token_lists.proofs.lay_kinds.Tie as tie
+
+kept : (l m : List ℕ) (i v : ℕ) → m ≡ set l i v → length m ≡ length l
+kept l m i v e = ap length e ∙ length-set l i v
 
 abbrev Inv-loop : tie.InvT-loop
 Inv-loop src kinds₀ at₀ n₀ kinds at n = Reads src at n × LaidOn kindOf src kinds₀ kinds at n × (length kinds ≡ length kinds₀)
@@ -39,10 +43,8 @@ next-token-requires c κs = search needs
 enum-known-next : tie.Need-enum-known-next Inv-loop μ-loop
 enum-known-next c = search needs
 
-slice-write-kinds : tie.Need-slice-write-kinds Inv-loop μ-loop
-slice-write-kinds c =
-    let at-loop = c .before .before .before .before .before in
-    omega (arith, has-room (answered (c .before .before .before)) (c .before .next .given .1) _ (at-loop .before .before .before .pre .1), at-loop .loop .inv .2)
+put-byte-requires : tie.Need-put-byte-requires Inv-loop μ-loop
+put-byte-requires c κs = search needs
 
 add-n : tie.Need-add-n Inv-loop μ-loop
 add-n c = search needs
@@ -51,30 +53,44 @@ is-last-requires : tie.Need-is-last-requires Inv-loop μ-loop
 is-last-requires c κs = search needs
 
 same-length : tie.Need-same-length Inv-loop μ-loop
-same-length c = search needs
+same-length c =
+    let at-put-byte = c .before .before .before .before in
+    let at-loop = at-put-byte .before .before .before .before .before .before .before in
+    kept (at-loop .loop .kinds) _ _ _ (at-put-byte .put-byte .ensures) ∙ at-loop .loop .inv .2
 
 returns : tie.Need-returns Inv-loop μ-loop
 returns c =
-    let a = answered (c .before .before .before .before .before) in
-    let q = c .before .before .before .next .given .1 in
+    let at-put-byte = c .before .before .before .before in
+    let at-next = at-put-byte .before .before .before in
+    let at-next-token = at-next .before .before in
+    let a = answered at-next-token in
+    let q = at-next .next .given .1 in
     let l = sym (c .before .is-last .ensures) ∙ c .if1 .taken in
-    record { is = reads-last a q l; are-laid = laid-last a q kindOf _ _ (c .before .before .before .before .before .before .before .loop .inv .1) l }
+    record { is = reads-last a q l; are-laid = at-put-byte .put-byte .ensures ∙ laid-last a q kindOf _ _ (at-next-token .before .before .loop .inv .1) l }
 
 add-at : tie.Need-add-at Inv-loop μ-loop
-add-at c = omega (arith, ends-inside (answered (c .before .before .before .before .before)) (c .before .before .before .next .given .1))
+add-at c =
+    let at-next = c .before .before .before .before .before .before .before in
+    omega (arith, ends-inside (answered (at-next .before .before)) (at-next .next .given .1))
 
 loop-less : tie.Need-loop-less Inv-loop μ-loop
 loop-less c =
-    let a = answered (c .before .before .before .before .before) in
-    let q = c .before .before .before .next .given .1 in
+    let at-next = c .before .before .before .before .before .before .before in
+    let a = answered (at-next .before .before) in
+    let q = at-next .next .given .1 in
     omega (arith, ends-inside a q, some-bytes a q (sym (c .before .is-last .ensures) ∙ c .if1 .left))
 
 loop-again : tie.Need-loop-again Inv-loop μ-loop
 loop-again c =
-    let a = answered (c .before .before .before .before .before) in
-    let q = c .before .before .before .next .given .1 in
+    let at-put-byte = c .before .before .before .before in
+    let at-next = at-put-byte .before .before .before in
+    let at-next-token = at-next .before .before in
+    let a = answered at-next-token in
+    let q = at-next .next .given .1 in
     let l = sym (c .before .is-last .ensures) ∙ c .if1 .left in
-    (reads-on a q l, laid-on a q kindOf _ _ (c .before .before .before .before .before .before .before .loop .inv .1) l, search needs)
+    let at-loop = at-next-token .before .before in
+    let e = at-put-byte .put-byte .ensures in
+    (reads-on a q l, rw e (laid-on a q kindOf _ _ (at-loop .loop .inv .1) l), kept (at-loop .loop .kinds) _ _ _ e ∙ at-loop .loop .inv .2)
 
 enum-known-next-2 : tie.Need-enum-known-next-2 Inv-loop μ-loop
 enum-known-next-2 c = search needs
@@ -126,7 +142,7 @@ lay-kinds-spec =
     part-next-token-end
     next-token-requires
     enum-known-next
-    slice-write-kinds
+    put-byte-requires
     add-n
     is-last-requires
     same-length

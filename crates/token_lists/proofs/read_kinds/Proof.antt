@@ -1,9 +1,8 @@
 -- `read_kinds` answers for texts that are too long or have no room, and reads all others. Assumes nothing.
 use mathlib.Core.Path.{refl}
 use native.Mathlib.Omega.{arith}
-use denote.Ref.{now}
 use borrow.Author.Needs.{needs}
-use Rattle.token.proofs.Readings.{too-long, no-room, in-room, few-tokens}
+use Rattle.token.proofs.Readings.{too-long, no-room, in-room}
 use Rattle.token_lists.proofs.read_kinds.Statement.{statement}
 use Rattle.token_lists.proofs.read_kinds.Tie as tie
 
@@ -17,9 +16,7 @@ returns-2 : tie.Need-returns-2
 returns-2 c = no-room _ refl (c .before .if1 .left) (omega arith)
 
 lay-kinds-requires : tie.Need-lay-kinds-requires
-lay-kinds-requires c κs =
-    let s = now (c .before .before .before .before .before .args .src) in
-    (c .before .before .if1 .left, omega (arith, few-tokens s 0 0 s))
+lay-kinds-requires c κs = c .before .before .if1 .left
 
 same-length : tie.Need-same-length
 same-length c = search needs

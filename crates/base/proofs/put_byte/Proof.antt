@@ -2,8 +2,8 @@
 use mathlib.Core.Path.{sym}
 use lib.Seq.{set-out}
 use borrow.Author.Needs.{needs}
-use Rattle.layout.proofs.put_byte.Statement.{statement}
-use Rattle.layout.proofs.put_byte.Tie as tie
+use Rattle.base.proofs.put_byte.Statement.{statement}
+use Rattle.base.proofs.put_byte.Tie as tie
 
 slice-write-s : tie.Need-slice-write-s
 slice-write-s c = search needs
