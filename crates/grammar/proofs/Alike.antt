@@ -15,14 +15,14 @@ use Rattle.base.specs.Choose.{if_then_else_}
 use Rattle.base.specs.Lists.{member}
 use Rattle.base.proofs.Tests.{cases}
 use Rattle.token.specs.Kinds as K
-use Rattle.grammar.specs.Tree.{Designator, Width, full, short, byte, Condition, Statement, Body, procedure, Items}
+use Rattle.grammar.specs.Tree.{Designator, Width, full, short, byte, Condition, Statement, Body, procedure, Items, Choices}
 use Rattle.grammar.specs.Reader.{Result, ok, bad, Reader, andThen, look, next, want, wantOne}
-use Rattle.grammar.specs.Grammar.{compounds, inParens, designatorOf, operand, condition, operators, terms, signOf, assignedTo, assignmentOf, numbers, cellItem, registerItem, listOf, typeOf, cellsOf, afterType, declaration, arguments, targetOf, assignOr, useOf, afterName, openers, statementOf, itemsOf, Procedure, declarators, bodyOf, ifOf, constructOf, statement, procedureOf}
-use Rattle.grammar.specs.Derives.{SameBefore, Inside, InsideBody, InsideItems}
+use Rattle.grammar.specs.Grammar.{compounds, inParens, designatorOf, operand, condition, operators, terms, signOf, assignedTo, assignmentOf, numbers, cellItem, registerItem, listOf, typeOf, cellsOf, afterType, declaration, arguments, targetOf, assignOr, useOf, afterName, openers, statementOf, itemsOf, choicesOf, Procedure, declarators, bodyOf, ifOf, constructOf, statement, procedureOf}
+use Rattle.grammar.specs.Derives.{SameBefore, Inside, InsideBody, InsideItems, InsideChoices}
 use Rattle.grammar.proofs.Tests.{no-token}
 use Rattle.grammar.proofs.Sequences.{reach}
 use Rattle.grammar.proofs.Complete.{programIn}
-use Rattle.grammar.proofs.Rules.{onward-terms, onward-numbers, onward-arguments, onward-cells, onward-registers, onward-items, onward-body}
+use Rattle.grammar.proofs.Rules.{onward-terms, onward-numbers, onward-arguments, onward-cells, onward-registers, onward-items, onward-choices, onward-body}
 
 -- ── whatever a reader gives ──
 
@@ -324,6 +324,9 @@ module _ (kinds others : List ℕ) (k : ℕ) (same : SameBefore (k + 1) kinds ot
   abbrev ItemsAt : (room t : ℕ) → Items → Type 0
   ItemsAt room t xs = InsideItems xs room t
 
+  abbrev ChoicesAt : (room t : ℕ) → Choices → Type 0
+  ChoicesAt room t xs = InsideChoices xs room t
+
   abbrev BodyAt : (room t : ℕ) → Body → Type 0
   BodyAt room t b = InsideBody b room t
 
@@ -358,6 +361,11 @@ module _ (kinds others : List ℕ) (k : ℕ) (same : SameBefore (k + 1) kinds ot
   items-stop room ks zero i z = refl
   items-stop room ks (suc f) i z = rw (z, statement-stop room ks i z)
 
+  choices-stop : (room : ℕ) (ks : List ℕ) (f i : ℕ) → getD ks i 0 ≡ 0 → choicesOf (statement room) f ks i ≡ bad 4 i
+  unfolding choicesOf andThen look
+  choices-stop room ks zero i z = refl
+  choices-stop room ks (suc f) i z = rw (z, statement-stop room ks i z)
+
   body-stop : (room : ℕ) (ks : List ℕ) (f i : ℕ) → getD ks i 0 ≡ 0 → bodyOf (statement room) (procedureOf room) f ks i ≡ bad 4 i
   unfolding bodyOf andThen look
   body-stop room ks zero i z = refl
@@ -385,6 +393,15 @@ module _ (kinds others : List ℕ) (k : ℕ) (same : SameBefore (k + 1) kinds ot
         (λ c. after _ _ (name-alike i (i + 1)) (λ s m le. wants K.SEMICOLON m _ _ (λ c. after-in _ _ (again (m + 1) (omega arith)) (λ xs j le. gives) (λ t xs j h. record { given = inr h }))))))
         (λ n. after-in _ _ (inner-alike i) (λ s m le. wants K.SEMICOLON m _ _ (λ c. after-in _ _ (again (m + 1) (omega arith)) (λ xs j le. gives) (λ t xs j h. record { given = inr h })))
         (λ t s m h. anything (want K.SEMICOLON others m) _ (λ c p. anything (itemsOf (statement room′) f′ others p) _ (λ xs j. record { given = inl h }))))))
+        (suc (length kinds)) (suc (length others)) i (omega arith) (omega arith)
+
+    choices-alike : (i : ℕ) → Alike (ChoicesAt room) i (choicesOf (statement room) (suc (length kinds)) kinds i) (choicesOf (statement room′) (suc (length others)) others i)
+    unfolding choicesOf andThen look next Inside
+    choices-alike i = list-alike (ChoicesAt room) (choicesOf (statement room)) (choicesOf (statement room′)) (λ i. bad 4 i) (choices-stop room kinds)
+        (choices-stop room′ others) (λ f i n. onward-choices kinds room f i)
+        (λ f f′ i again. here (λ z. eqb z K.END) i _ _ _ _ (λ e. nexts gives)
+        (λ e. after-in _ _ (inner-alike i) (λ s m le. wants K.SEMICOLON m _ _ (λ c. after-in _ _ (again (m + 1) (omega arith)) (λ xs j le. gives) (λ t xs j h. record { given = inr h })))
+        (λ t s m h. anything (want K.SEMICOLON others m) _ (λ c p. anything (choicesOf (statement room′) f′ others p) _ (λ xs j. record { given = inl h })))))
         (suc (length kinds)) (suc (length others)) i (omega arith) (omega arith)
 
     if-alike : (t : ℕ) (c : Condition) (i : ℕ) → Alike (StatementAt (suc room)) i (ifOf (statement room) t c kinds i) (ifOf (statement room′) t c others i)
@@ -420,8 +437,11 @@ module _ (kinds others : List ℕ) (k : ℕ) (same : SameBefore (k + 1) kinds ot
           (λ f. either (λ z. eqb z K.WHILE) i (i + 1) _ _ _ _ (omega arith) (λ w.
           after _ _ (condition-alike (i + 1)) (λ c m le. wants K.DO m _ _ (λ d.
           after-in _ _ (inner-alike (m + 1)) (λ s j le. gives) (λ t s j h. record { given = h }))))
-          (λ w. wants K.NAME (i + 1) _ _ (λ n. after _ _ (assignment-alike (i + 1) (i + 1 + 1)) (λ a m le. wants K.STEP m _ _ (λ x. wants K.NUMBER (m + 1) _ _ (λ v. wants K.UNTIL (m + 1 + 1) _ _ (λ y.
-          after _ _ (operand-alike (m + 1 + 1 + 1)) (λ l q le. wants K.DO q _ _ (λ z. after-in _ _ (inner-alike (q + 1)) (λ s j le. gives) (λ t s j h. record { given = h }))))))))))))
+          (λ w. either (λ z. eqb z K.CASE) i (i + 1) _ _ _ _ (omega arith) (λ x.
+          wants K.NAME (i + 1) _ _ (λ n. wants K.OF (i + 1 + 1) _ _ (λ o. wants K.BEGIN (i + 1 + 1 + 1) _ _ (λ b.
+          after-in _ _ (choices-alike (i + 1 + 1 + 1 + 1)) (λ xs j le. gives) (λ t xs j h. record { given = h })))))
+          (λ x. wants K.NAME (i + 1) _ _ (λ n. after _ _ (assignment-alike (i + 1) (i + 1 + 1)) (λ a m le. wants K.STEP m _ _ (λ x. wants K.NUMBER (m + 1) _ _ (λ v. wants K.UNTIL (m + 1 + 1) _ _ (λ y.
+          after _ _ (operand-alike (m + 1 + 1 + 1)) (λ l q le. wants K.DO q _ _ (λ z. after-in _ _ (inner-alike (q + 1)) (λ s j le. gives) (λ t s j h. record { given = h })))))))))))))
 
   -- whatever a construct's reader gives, it is opened by the token where it began
   opened : (inner : Reader Statement) (proc : Reader Procedure) (i : ℕ) → Gives (λ x. Inside x 0 i) (constructOf inner proc others i)
@@ -435,10 +455,13 @@ module _ (kinds others : List ℕ) (k : ℕ) (same : SameBefore (k + 1) kinds ot
       (record { given = refl })))))
       (either-gives (eqb (getD others i 0) K.WHILE) _ _ others (i + 1)
       (anything (condition others (i + 1)) _ (λ c m. anything (want K.DO others m) _ (λ t p. anything (inner others p) _ (λ s j. record { given = refl }))))
+      (either-gives (eqb (getD others i 0) K.CASE) _ _ others (i + 1)
+      (anything (want K.NAME others (i + 1)) _ (λ n p. anything (want K.OF others p) _ (λ o q. anything (want K.BEGIN others q) _ (λ b r.
+      anything (choicesOf inner (suc (length others)) others r) _ (λ xs j. record { given = refl })))))
       (anything (want K.NAME others (i + 1)) _ (λ n p. anything (assignmentOf n others p) _ (λ a m.
       anything (want K.STEP others m) _ (λ x q. anything (want K.NUMBER others q) _ (λ v r.
       anything (want K.UNTIL others r) _ (λ y u. anything (operand others u) _ (λ l w.
-      anything (want K.DO others w) _ (λ z o. anything (inner others o) _ (λ s j. record { given = refl })))))))))))
+      anything (want K.DO others w) _ (λ z o. anything (inner others o) _ (λ s j. record { given = refl }))))))))))))
 
   named : (room i : ℕ) → Gives (λ p. i + 1 ≡ p .name) (procedureOf (suc room) others i)
   unfolding statement andThen next

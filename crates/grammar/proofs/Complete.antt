@@ -13,10 +13,10 @@ use Rattle.base.specs.Choose.{if_then_else_}
 use Rattle.base.specs.Lists.{member}
 use Rattle.base.proofs.Tests.{never-true}
 use Rattle.token.specs.Kinds as K
-use Rattle.grammar.specs.Tree.{Designator, Operand, number, place, Sign, plain, abs, neg, negAbs, Term, Assignment, Condition, compared, bare, Width, full, short, byte, Register, Item, Declaration, registers, cells, base, Statement, assign, call, apply, block, goto, null, ifThen, ifElse, while, for, Body, declare, procedure, items, Items, ended, label, item}
+use Rattle.grammar.specs.Tree.{Designator, Operand, number, place, Sign, plain, abs, neg, negAbs, Term, Assignment, Condition, compared, bare, Width, full, short, byte, Register, Item, Declaration, registers, cells, base, Statement, assign, call, apply, block, goto, null, ifThen, ifElse, while, for, choose, Body, declare, procedure, items, Items, ended, label, item, Choices, over, choice}
 use Rattle.grammar.specs.Reader.{Result, ok, Reader, andThen, look, next, want, wantOne, give, refuse, _>>=_, _>>_}
-use Rattle.grammar.specs.Grammar.{compounds, designatorOf, operand, relations, condition, operators, terms, signOf, assignedTo, assignmentOf, numbers, cellItem, registerItem, listOf, typeWords, typeOf, cellsOf, afterType, declaration, arguments, targetOf, assignOr, useOf, afterName, statementOf, itemsOf, Procedure, declarators, bodyOf, ifOf, constructOf, statement, procedureOf}
-use Rattle.grammar.specs.Derives.{Part, _⟫_, _▸_, isShape, isDesignator, isOperand, isCondition, isSign, areTerms, isAssignment, areNumbers, isItem, isRegister, areMore, areSome, integerOrLogical, isType, isDeclaration, simple, areArguments, isStatement, isBody, isItems, isBlock, isProgram, nestingOf, bodyNesting, itemsNesting}
+use Rattle.grammar.specs.Grammar.{compounds, designatorOf, operand, relations, condition, operators, terms, signOf, assignedTo, assignmentOf, numbers, cellItem, registerItem, listOf, typeWords, typeOf, cellsOf, afterType, declaration, arguments, targetOf, assignOr, useOf, afterName, statementOf, itemsOf, choicesOf, Procedure, declarators, bodyOf, ifOf, constructOf, statement, procedureOf}
+use Rattle.grammar.specs.Derives.{Part, _⟫_, _▸_, isShape, isDesignator, isOperand, isCondition, isSign, areTerms, isAssignment, areNumbers, isItem, isRegister, areMore, areSome, integerOrLogical, isType, isDeclaration, simple, areArguments, isStatement, isBody, isItems, areChoices, isBlock, isProgram, nestingOf, bodyNesting, itemsNesting, choicesNesting}
 use Rattle.grammar.proofs.Tests.{has, real, oneAt, one-real, isnt-one, fails, inside, isnt}
 use Rattle.grammar.proofs.Pinned.{pinned-designator}
 use Rattle.grammar.proofs.Kept.{keep-operand, keep-item, keep-register, keep-declaration, keep-statement}
@@ -218,7 +218,7 @@ module _ (kinds : List ℕ) where
   stops = K.SEMICOLON ∷ K.AT ∷ K.ELSE ∷ []
 
   abbrev notNamed : List ℕ
-  notNamed = K.BEGIN ∷ K.IF ∷ K.WHILE ∷ K.FOR ∷ K.GOTO ∷ K.NULL ∷ []
+  notNamed = K.BEGIN ∷ K.IF ∷ K.WHILE ∷ K.CASE ∷ K.FOR ∷ K.GOTO ∷ K.NULL ∷ []
 
   assignment-name : (a : Assignment) (i j : ℕ) → isAssignment kinds a i j → getD kinds i 0 ≡ K.NAME
   unfolding isAssignment
@@ -303,6 +303,7 @@ module _ (kinds : List ℕ) where
   statement-first (ifElse t c s e u) i j h f = inr (rw (h .1))
   statement-first (while t c s) i j h f = inr (rw (h .1))
   statement-first (for t a v l s) i j h f = inr (rw (h .1))
+  statement-first (choose t n xs) i j h f = inr (rw (h .1))
 
   simple-first : (s : Statement) (i j : ℕ) → isStatement kinds s i j → simple s ≡ true → member (getD kinds i 0) compounds ≡ false
   unfolding isStatement
@@ -316,6 +317,7 @@ module _ (kinds : List ℕ) where
   simple-first (ifElse t c s d u) i j h e = never-true e
   simple-first (while t c s) i j h e = never-true e
   simple-first (for t a v l s) i j h e = never-true e
+  simple-first (choose t n xs) i j h e = rw (h .1)
 
   -- ── each way of a reader, by what it meets ──
 
@@ -364,6 +366,21 @@ module _ (kinds : List ℕ) where
         → statementOf (constructOf inner proc) kinds i ≡ ok (for i a (m + 1) l s) j
     unfolding statementOf constructOf look next andThen want
     for-step i m n j a l s h e p q r t u v w = rw (h, h, e, p, q, r, t, u, v, w)
+
+    case-step : (i j : ℕ) (xs : Choices) → getD kinds i 0 ≡ K.CASE → getD kinds (i + 1) 0 ≡ K.NAME → getD kinds (i + 1 + 1) 0 ≡ K.OF
+        → getD kinds (i + 1 + 1 + 1) 0 ≡ K.BEGIN → choicesOf inner (suc (length kinds)) kinds (i + 1 + 1 + 1 + 1) ≡ ok xs j
+        → statementOf (constructOf inner proc) kinds i ≡ ok (choose i (i + 1) xs) j
+    unfolding statementOf constructOf look next andThen want
+    case-step i j xs h n o b e = rw (h, h, n, o, b, e)
+
+    over-step : (fuel i : ℕ) → getD kinds i 0 ≡ K.END → choicesOf inner (suc fuel) kinds i ≡ ok over (i + 1)
+    unfolding choicesOf look next andThen
+    over-step fuel i h = rw h
+
+    choice-step : (fuel i m j : ℕ) (s : Statement) (xs : Choices) → has kinds i K.END ≡ false → inner kinds i ≡ ok s m → getD kinds m 0 ≡ K.SEMICOLON
+        → choicesOf inner fuel kinds (m + 1) ≡ ok xs j → choicesOf inner (suc fuel) kinds i ≡ ok (choice s xs) j
+    unfolding choicesOf look next andThen want
+    choice-step fuel i m j s xs h k p r = rw (h, k, p, r)
 
     ended-step : (fuel i : ℕ) → getD kinds i 0 ≡ K.END → itemsOf inner (suc fuel) kinds i ≡ ok ended (i + 1)
     unfolding itemsOf look next andThen
@@ -422,15 +439,20 @@ module _ (kinds : List ℕ) where
   not-false-else true f = sym (f refl)
   not-false-else false f = refl
 
+  -- the word or name with which a statement begins
+  statement-begin : (s : Statement) (i j : ℕ) → isStatement kinds s i j → oneAt kinds j stops → oneAt kinds i (K.NAME ∷ notNamed)
+  unfolding Named
+  statement-begin s i j h f = go (statement-first s i j h f)
+    where
+      go : Named s i j ⊎ oneAt kinds i notNamed → oneAt kinds i (K.NAME ∷ notNamed)
+      go (inl (n, c, e)) = rw n
+      go (inr n) = inside kinds i notNamed (K.NAME ∷ notNamed) n refl
+
   items-first : (xs : Items) (i j : ℕ) → isItems kinds xs i j → oneAt kinds i (K.END ∷ K.NAME ∷ notNamed)
   unfolding isStatement Named
   items-first ended i j (h, r) = rw h
   items-first (label n xs) i j (e, h, r) = rw h
-  items-first (item s xs) i j (m, h, (c, r)) = go (statement-first s i m h (stop-semicolon m c))
-    where
-      go : Named s i m ⊎ oneAt kinds i notNamed → oneAt kinds i (K.END ∷ K.NAME ∷ notNamed)
-      go (inl (n, c, e)) = rw n
-      go (inr n) = inside kinds i notNamed (K.END ∷ K.NAME ∷ notNamed) n refl
+  items-first (item s xs) i j (m, h, (c, r)) = inside kinds i (K.NAME ∷ notNamed) (K.END ∷ K.NAME ∷ notNamed) (statement-begin s i m h (stop-semicolon m c)) refl
 
   body-real : (b : Body) (i j : ℕ) → isBody kinds b i j → i < length kinds
   unfolding isStatement
@@ -440,6 +462,11 @@ module _ (kinds : List ℕ) where
 
   items-real : (xs : Items) (i j : ℕ) → isItems kinds xs i j → i < length kinds
   items-real xs i j h = one-real kinds i (K.END ∷ K.NAME ∷ notNamed) refl (items-first xs i j h)
+
+  choices-real : (xs : Choices) (i j : ℕ) → areChoices kinds xs i j → i < length kinds
+  unfolding isStatement
+  choices-real over i j (h, r) = real kinds i K.END (omega arith) h
+  choices-real (choice s xs) i j (m, h, (c, r)) = one-real kinds i (K.NAME ∷ notNamed) refl (statement-begin s i m h (stop-semicolon m c))
 
   mutual
     unfolding statement isStatement nestingOf
@@ -470,6 +497,9 @@ module _ (kinds : List ℕ) where
         rw (e, y) (for-step _ _ i m p j a l s h (assignment-name a (i + 1) m k)
         (complete-assignment a (i + 1) m k (isnt kinds m K.OPEN x refl) (rw x refl)) x z u (complete-operand l _ p o (isnt kinds p K.OPEN d refl)) d
         (complete-statement s room (p + 1) j r (omega arith) f (λ z. never-true (g z))))
+    complete-statement (choose t a xs) zero i j h n f g = absurd (omega arith)
+    complete-statement (choose t a xs) (suc room) i j (e, h, (y, z, (o, (b, r)))) n f g =
+        rw (e, y) (case-step _ (procedureOf room) i j xs h z o b (complete-choices xs room (suc (length kinds)) (i + 1 + 1 + 1 + 1) j r (omega arith) (omega arith)))
 
     complete-body : (b : Body) (room fuel i j : ℕ) → isBody kinds b i j → bodyNesting b ≤ room → length kinds < fuel + i → bodyOf (statement room) (procedureOf room) fuel kinds i ≡ ok b j
     complete-body (declare d b) room zero i j h n l = absurd (let r = body-real (declare d b) i j h in omega arith)
@@ -497,6 +527,16 @@ module _ (kinds : List ℕ) where
         item-step _ (procedureOf room) fuel i m j s xs (statement-first s i m h (stop-semicolon m c))
         (complete-statement s room i m h (omega arith) (stop-semicolon m c) (no-else m s c refl)) c
         (complete-items xs room fuel (m + 1) j r (omega arith) (omega arith))
+
+    complete-choices : (xs : Choices) (room fuel i j : ℕ) → areChoices kinds xs i j → choicesNesting xs ≤ room → length kinds < fuel + i → choicesOf (statement room) fuel kinds i ≡ ok xs j
+    complete-choices over room zero i j h n l = absurd (let r = choices-real over i j h in omega arith)
+    complete-choices over room (suc fuel) i j (h, q) n l = rw (← q) (over-step _ (procedureOf room) fuel i h)
+    complete-choices (choice s xs) room zero i j h n l = absurd (let r = choices-real (choice s xs) i j h in omega arith)
+    complete-choices (choice s xs) room (suc fuel) i j (m, h, (c, r)) n l =
+        let le = keep-statement {kinds = kinds} {others = kinds} s .rises h in
+        choice-step _ (procedureOf room) fuel i m j s xs (isnt-one kinds i (K.NAME ∷ notNamed) K.END (statement-begin s i m h (stop-semicolon m c)) refl)
+        (complete-statement s room i m h (omega arith) (stop-semicolon m c) (no-else m s c refl)) c
+        (complete-choices xs room fuel (m + 1) j r (omega arith) (omega arith))
 
   -- ── "program = block @.", with any room ──
 

@@ -9,9 +9,9 @@ use native.Mathlib.Omega.{arith}
 use lib.ListN.{getD}
 use Rattle.base.specs.Lists.{member}
 use Rattle.token.specs.Kinds as K
-use Rattle.grammar.specs.Tree.{Designator, Operand, number, place, Sign, plain, abs, neg, negAbs, Term, Assignment, Condition, compared, bare, Width, full, short, byte, Register, Item, Declaration, registers, cells, base, Statement, assign, call, apply, block, goto, null, ifThen, ifElse, while, for, Body, declare, procedure, items, Items, ended, label, item}
+use Rattle.grammar.specs.Tree.{Designator, Operand, number, place, Sign, plain, abs, neg, negAbs, Term, Assignment, Condition, compared, bare, Width, full, short, byte, Register, Item, Declaration, registers, cells, base, Statement, assign, call, apply, block, goto, null, ifThen, ifElse, while, for, choose, Body, declare, procedure, items, Items, ended, label, item, Choices, over, choice}
 use Rattle.grammar.specs.Grammar.{relations, operators}
-use Rattle.grammar.specs.Derives.{integerOrLogical, Part, end, never, _⟫_, only, _▸_, _#_▸_, _∋▸_, _∋_▸_, isShape, isDesignator, isOperand, isCondition, isSign, areTerms, isAssignment, areNumbers, isItem, isRegister, areMore, areSome, isType, isDeclaration, simple, isProcedure, areArguments, isStatement, isBody, isItems, isBlock, isProgram, within, SameBefore}
+use Rattle.grammar.specs.Derives.{integerOrLogical, Part, end, never, _⟫_, only, _▸_, _#_▸_, _∋▸_, _∋_▸_, isShape, isDesignator, isOperand, isCondition, isSign, areTerms, isAssignment, areNumbers, isItem, isRegister, areMore, areSome, isType, isDeclaration, simple, isProcedure, areArguments, isStatement, isBody, isItems, areChoices, isBlock, isProgram, within, SameBefore}
 
 -- what p says of a list of kinds begins no later than it ends, and q says it of another where the tokens before the end are the same
 pub record Kept (kinds others : List ℕ) (p q : Part) : Type 0 where
@@ -165,6 +165,7 @@ module _ {kinds others : List ℕ} where
     keep-statement (ifElse t c s e u) = keep-number _ t (keep-then (keep-condition c) (keep-token _ (keep-then (keep-only (simple s) (keep-statement s)) (keep-number _ e (keep-statement u)))))
     keep-statement (while t c s) = keep-number _ t (keep-then (keep-condition c) (keep-token _ (keep-statement s)))
     keep-statement (for t a v l s) = keep-number _ t (keep-then (keep-assignment a) (keep-token _ (keep-number _ v (keep-token _ (keep-then (keep-operand l) (keep-token _ (keep-statement s)))))))
+    keep-statement (choose t n xs) = keep-number _ t (keep-number _ n (keep-token _ (keep-token _ (keep-choices xs))))
 
     pub keep-body : (b : Body) → Kept kinds others (isBody kinds b) (isBody others b)
     keep-body (declare d b) = keep-then (keep-declaration d) (keep-token _ (keep-body b))
@@ -175,6 +176,10 @@ module _ {kinds others : List ℕ} where
     keep-items ended = keep-token _ keep-end
     keep-items (label n xs) = keep-number _ n (keep-token _ (keep-items xs))
     keep-items (item s xs) = keep-then (keep-statement s) (keep-token _ (keep-items xs))
+
+    pub keep-choices : (xs : Choices) → Kept kinds others (areChoices kinds xs) (areChoices others xs)
+    keep-choices over = keep-token _ keep-end
+    keep-choices (choice s xs) = keep-then (keep-statement s) (keep-token _ (keep-choices xs))
 
   pub keep-block : (x : Statement) → Kept kinds others (isBlock kinds x) (isBlock others x)
   keep-block x = record { rises = λ (e, r). keep-statement x .rises r; stays = λ s (e, r). (e, keep-statement x .stays s r) }

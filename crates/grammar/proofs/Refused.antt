@@ -9,10 +9,10 @@ use native.Mathlib.Omega.{arith}
 use native.Mathlib.Nat.{le-antisymm}
 use lib.ListN.{getD}
 use Rattle.base.specs.Lists.{member}
-use Rattle.grammar.specs.Tree.{Statement, assign, call, apply, block, goto, null, ifThen, ifElse, while, for, Body, declare, procedure, items, Items, ended, label, item}
+use Rattle.grammar.specs.Tree.{Statement, assign, call, apply, block, goto, null, ifThen, ifElse, while, for, choose, Body, declare, procedure, items, Items, ended, label, item, Choices, over, choice}
 use Rattle.grammar.specs.Reader.{Result, ok, bad}
 use Rattle.grammar.specs.Grammar.{nesting, program}
-use Rattle.grammar.specs.Derives.{isProgram, nestingOf, bodyNesting, itemsNesting, Inside, InsideBody, InsideItems, isProgramWithin, Begins, constructs}
+use Rattle.grammar.specs.Derives.{isProgram, nestingOf, bodyNesting, itemsNesting, choicesNesting, Inside, InsideBody, InsideItems, InsideChoices, isProgramWithin, Begins, constructs}
 use Rattle.grammar.specs.Refusals.{EachProgram, FourAt, FiveAt}
 use Rattle.grammar.proofs.Kept.{fewer}
 use Rattle.grammar.proofs.Sequences.{reach, Four, Five, read-right, refused-right, four-or-five, four, five}
@@ -69,6 +69,8 @@ mutual
   inside-nesting (while a c s) (suc n) t h = (let l = inside-nesting s n t h in omega arith)
   inside-nesting (for a f v l s) zero t h = omega arith
   inside-nesting (for a f v l s) (suc n) t h = (let l = inside-nesting s n t h in omega arith)
+  inside-nesting (choose a r xs) zero t h = omega arith
+  inside-nesting (choose a r xs) (suc n) t h = (let l = inside-choices xs n t h in omega arith)
 
   inside-body : (b : Body) (n t : ℕ) → InsideBody b n t → n < bodyNesting b
   inside-body (declare d b) n t h = inside-body b n t h
@@ -83,6 +85,11 @@ mutual
   inside-items (label a xs) n t h = inside-items xs n t h
   inside-items (item s xs) n t (inl h) = (let l = inside-nesting s n t h in omega arith)
   inside-items (item s xs) n t (inr h) = (let l = inside-items xs n t h in omega arith)
+
+  inside-choices : (xs : Choices) (n t : ℕ) → InsideChoices xs n t → n < choicesNesting xs
+  inside-choices over n t h = absurd h
+  inside-choices (choice s xs) n t (inl h) = (let l = inside-nesting s n t h in omega arith)
+  inside-choices (choice s xs) n t (inr h) = (let l = inside-choices xs n t h in omega arith)
 
 -- ── each refusal where its reasons hold, and there alone ──
 

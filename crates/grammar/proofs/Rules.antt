@@ -14,12 +14,12 @@ use Rattle.base.specs.Lists.{member}
 use Rattle.base.proofs.Tests.{cases, never-true, not-true, both}
 use Rattle.base.proofs.Lists.{each}
 use Rattle.token.specs.Kinds as K
-use Rattle.grammar.specs.Tree.{Designator, Operand, number, place, Sign, plain, abs, neg, negAbs, Term, Assignment, Condition, compared, bare, Width, full, short, byte, Register, Item, Declaration, registers, cells, base, Statement, assign, call, apply, block, goto, null, ifThen, ifElse, while, for, Body, declare, procedure, items, Items, ended, label, item}
+use Rattle.grammar.specs.Tree.{Designator, Operand, number, place, Sign, plain, abs, neg, negAbs, Term, Assignment, Condition, compared, bare, Width, full, short, byte, Register, Item, Declaration, registers, cells, base, Statement, assign, call, apply, block, goto, null, ifThen, ifElse, while, for, choose, Body, declare, procedure, items, Items, ended, label, item, Choices, over, choice}
 use Rattle.grammar.specs.Reader.{Result, ok, bad, Reader, andThen, look, next, want}
-use Rattle.grammar.specs.Grammar.{compounds, designatorOf, operand, relations, condition, operators, terms, signOf, assignedTo, assignmentOf, numbers, cellItem, registerItem, listOf, typeWords, typeOf, cellsOf, afterType, declaration, arguments, indexed, targetOf, assignOr, useOf, afterName, openers, statementOf, itemsOf, Procedure, declarators, bodyOf, ifOf, constructOf, statement, procedureOf, nesting, program}
-use Rattle.grammar.specs.Derives.{Part, Begins, only, within, constructs, nestingOf, bodyNesting, itemsNesting, isShape, isDesignator, isOperand, isCondition, isSign, areTerms, isAssignment, areNumbers, isItem, isRegister, areMore, areSome, integerOrLogical, isType, isDeclaration, simple, isProcedure, areArguments, isStatement, isBody, isItems, isBlock, isProgram, isProgramWithin}
+use Rattle.grammar.specs.Grammar.{compounds, designatorOf, operand, relations, condition, operators, terms, signOf, assignedTo, assignmentOf, numbers, cellItem, registerItem, listOf, typeWords, typeOf, cellsOf, afterType, declaration, arguments, indexed, targetOf, assignOr, useOf, afterName, openers, statementOf, itemsOf, choicesOf, Procedure, declarators, bodyOf, ifOf, constructOf, statement, procedureOf, nesting, program}
+use Rattle.grammar.specs.Derives.{Part, Begins, only, within, constructs, nestingOf, bodyNesting, itemsNesting, choicesNesting, isShape, isDesignator, isOperand, isCondition, isSign, areTerms, isAssignment, areNumbers, isItem, isRegister, areMore, areSome, integerOrLogical, isType, isDeclaration, simple, isProcedure, areArguments, isStatement, isBody, isItems, areChoices, isBlock, isProgram, isProgramWithin}
 use Rattle.grammar.proofs.Tests.{has, real, later, the-one, second, first}
-use Rattle.grammar.proofs.Kept.{keep-designator, keep-operand, keep-condition, keep-sign, keep-terms, keep-assignment, keep-numbers, keep-item, keep-register, keep-some, keep-type, keep-declaration, keep-arguments, keep-procedure, keep-statement, keep-body, keep-items, keep-only, keep-within, keep-block}
+use Rattle.grammar.proofs.Kept.{keep-designator, keep-operand, keep-condition, keep-sign, keep-terms, keep-assignment, keep-numbers, keep-item, keep-register, keep-some, keep-type, keep-declaration, keep-arguments, keep-procedure, keep-statement, keep-body, keep-items, keep-choices, keep-only, keep-within, keep-block}
 use Rattle.grammar.proofs.Sequences.{Rule, Plain, always, plainly, Sequence, reach, right-onward, made, token, oneOf, part, parens, Each, Leads, Right, leads-token, leads-one, leads-part, leads-begins, part-begins, starts, gives, refuses, needs, wants, wants-one, wants-parens, reads, either}
 
 -- ── "designator = name, name(number), name(name), name(number)(name). operand = number or designator." ──
@@ -397,6 +397,9 @@ statementIn room d kinds x = within (nestingOf x) (room + d) (isStatement kinds 
 abbrev itemsIn : (room d : ℕ) → List ℕ → Items → Part
 itemsIn room d kinds xs = within (itemsNesting xs) (room + d) (isItems kinds xs)
 
+abbrev choicesIn : (room d : ℕ) → List ℕ → Choices → Part
+choicesIn room d kinds xs = within (choicesNesting xs) (room + d) (areChoices kinds xs)
+
 abbrev bodyIn : (room d : ℕ) → List ℕ → Body → Part
 bodyIn room d kinds b = within (bodyNesting b) (room + d) (isBody kinds b)
 
@@ -412,6 +415,10 @@ module _ {kinds : List ℕ} (room i : ℕ) where
   as-ended : Leads (itemsIn room) kinds i (token K.END (λ t. made ended)) i
   unfolding Each isStatement nestingOf
   as-ended = starts (λ d o t. (omega arith, (t, refl)))
+
+  as-over : Leads (choicesIn room) kinds i (token K.END (λ t. made over)) i
+  unfolding Each isStatement nestingOf
+  as-over = starts (λ d o t. (omega arith, (t, refl)))
 
   as-no-declaration : Leads (bodyIn room) kinds i (token K.END (λ t. made (items ended))) i
   unfolding Each isStatement nestingOf
@@ -431,6 +438,14 @@ itemLists room = record {
   kept = λ xs. keep-within _ _ (keep-items xs);
   more = λ d kinds xs i j (n, h). (omega arith, h);
   some = λ d kinds i. leads-begins d (as-ended room i);
+}
+
+abbrev choiceLists : ℕ → Rule Choices
+choiceLists room = record {
+  is = choicesIn room;
+  kept = λ xs. keep-within _ _ (keep-choices xs);
+  more = λ d kinds xs i j (n, h). (omega arith, h);
+  some = λ d kinds i. leads-begins d (as-over room i);
 }
 
 abbrev bodies : ℕ → Rule Body
@@ -493,6 +508,15 @@ module _ {kinds : List ℕ} (room i : ℕ) where
   unfolding Each isStatement nestingOf
   as-for = starts (λ d o t a m h x v y l n hl z s j (r, hs). (omega arith, (refl, t, (m, h, (x, (refl, v, (y, (n, hl, (z, hs)))))))))
 
+  as-case : Leads (statementIn (suc room)) kinds i (token K.CASE (λ t.
+      token K.NAME (λ n. token K.OF (λ o. token K.BEGIN (λ b. part (choiceLists room) (λ xs. made (choose t n xs))))))) i
+  unfolding Each isStatement nestingOf
+  as-case = starts (λ d o t n f b xs j (r, h). (omega arith, (refl, t, (refl, n, (f, (b, h))))))
+
+  as-choice : Leads (choicesIn room) kinds i (part (statements room) (λ s. token K.SEMICOLON (λ c. part (choiceLists room) (λ xs. made (choice s xs))))) i
+  unfolding Each isStatement nestingOf
+  as-choice = starts (λ d o s m (n, h) c xs j (r, hs). (omega arith, (m, h, (c, hs))))
+
   as-label : Leads (itemsIn room) kinds i (token K.NAME (λ n. token K.COLON (λ c. part (itemLists room) (λ xs. made (label n xs))))) i
   unfolding Each isStatement nestingOf
   as-label = starts (λ d o n c xs j (r, h). (r, (refl, n, (c, h))))
@@ -554,6 +578,7 @@ simple-begin kinds (ifThen t c s) i j h n = sym n ∙ rw (h .1)
 simple-begin kinds (ifElse t c s e u) i j h n = sym n ∙ rw (h .1)
 simple-begin kinds (while t c s) i j h n = sym n ∙ rw (h .1)
 simple-begin kinds (for t a v l s) i j h n = sym n ∙ rw (h .1)
+simple-begin kinds (choose t n xs) i j h m = refl
 
 module _ (kinds : List ℕ) where
   right-assign-or : (room n j : ℕ) (d : Option Designator) (s : Statement) → Targets kinds n j d → Leads (statementIn room) kinds n (made s) j
@@ -596,6 +621,13 @@ module _ (kinds : List ℕ) where
         (λ c. reads _ (as-statement room i) (right-after-name room i (eqb-true _ _ n)) (λ s m h. right-rest i m s (itemsOf inner fuel) (right-items fuel))))
         (λ n. reads _ (as-statement room i) (right-inner i) (λ s m h. right-rest i m s (itemsOf inner fuel) (right-items fuel))))
 
+    right-choices : (fuel i : ℕ) → Right (choicesIn room) kinds i (choicesOf inner fuel kinds i)
+    unfolding choicesOf andThen look next
+    right-choices zero i = refuses (as-over room i)
+    right-choices (suc fuel) i = either (has kinds i K.END) _ _ _
+        (λ e. gives (leads-token (as-over room i) (eqb-true _ _ e)))
+        (λ e. reads _ (as-choice room i) (right-inner i) (λ s m h l. wants _ l (λ c l. reads _ l (right-choices fuel (m + 1)) (λ xs j hs. gives))))
+
     right-if : (i m : ℕ) (c : Condition) → getD kinds i 0 ≡ K.IF → isCondition kinds c (i + 1) m → getD kinds m 0 ≡ K.THEN → Right (statementIn (suc room)) kinds i (ifOf inner i c kinds (m + 1))
     unfolding ifOf andThen look next
     right-if i m c f h t =
@@ -628,11 +660,14 @@ module _ (kinds : List ℕ) where
           (λ f. reads _ (leads-token (as-if-then room i) (eqb-true _ _ f)) (right-condition kinds (i + 1)) (λ c m h l. wants _ l (λ t l. right-if i m c (eqb-true _ _ f) h t)))
           (λ f. either (has kinds i K.WHILE) _ _ _
           (λ w. reads _ (leads-token (as-while room i) (eqb-true _ _ w)) (right-condition kinds (i + 1)) (λ c m h l. wants _ l (λ d l. reads _ l (right-inner (m + 1)) (λ s j hs. gives))))
-          (λ w. let l = leads-token (as-for room i)
-          (the-one _ _ (later (getD kinds i 0) K.WHILE (K.FOR ∷ [])
-          (later (getD kinds i 0) K.IF (K.WHILE ∷ K.FOR ∷ []) (later (getD kinds i 0) K.BEGIN (K.IF ∷ K.WHILE ∷ K.FOR ∷ []) o b) f) w)) in
+          (λ w. either (has kinds i K.CASE) _ _ _
+          (λ x. wants _ (leads-token (as-case room i) (eqb-true _ _ x)) (λ n l. wants _ l (λ y l. wants _ l (λ z l.
+          reads _ l (right-choices (suc (length kinds)) (i + 1 + 1 + 1 + 1)) (λ xs j h. gives)))))
+          (λ x. let l = leads-token (as-for room i)
+          (the-one _ _ (later (getD kinds i 0) K.CASE (K.FOR ∷ []) (later (getD kinds i 0) K.WHILE (K.CASE ∷ K.FOR ∷ [])
+          (later (getD kinds i 0) K.IF (K.WHILE ∷ K.CASE ∷ K.FOR ∷ []) (later (getD kinds i 0) K.BEGIN (K.IF ∷ K.WHILE ∷ K.CASE ∷ K.FOR ∷ []) o b) f) w) x)) in
           needs _ _ l (λ n. reads _ l (right-assignment kinds (i + 1) n) (λ a m h l. wants _ l (λ x l. wants _ l (λ v l. wants _ l (λ y l.
-          reads _ l (right-operand kinds (m + 1 + 1 + 1)) (λ t q ht l. wants _ l (λ z l. reads _ l (right-inner (q + 1)) (λ s j hs. gives)))))))))))
+          reads _ l (right-operand kinds (m + 1 + 1 + 1)) (λ t q ht l. wants _ l (λ z l. reads _ l (right-inner (q + 1)) (λ s j hs. gives))))))))))))
 
   -- refusal 5: without the word something could stand there, and with it one construct more
   module _ (i : ℕ) where
@@ -641,7 +676,10 @@ module _ (kinds : List ℕ) where
       (λ e. leads-begins 0 (leads-token (as-block 0 i) e)),
       (
         (λ e. leads-begins 0 (leads-token (as-if-then 0 i) e)),
-        ((λ e. leads-begins 0 (leads-token (as-while 0 i) e)), ((λ e. leads-begins 0 (leads-token (as-for 0 i) e)), tt)),
+        (
+          (λ e. leads-begins 0 (leads-token (as-while 0 i) e)),
+          ((λ e. leads-begins 0 (leads-token (as-case 0 i) e)), ((λ e. leads-begins 0 (leads-token (as-for 0 i) e)), tt)),
+        ),
       ),
     )
         (getD kinds i 0) o refl
@@ -655,7 +693,7 @@ module _ (kinds : List ℕ) where
           record {
             before = leads-begins 0 (as-null 0 i);
             there = opens o;
-            word = each (λ k. member k constructs ≡ true) openers (refl, (refl, (refl, (refl, tt)))) (getD kinds i 0) o;
+            word = each (λ k. member k constructs ≡ true) openers (refl, (refl, (refl, (refl, (refl, tt))))) (getD kinds i 0) o;
           },
         );
       };
@@ -752,6 +790,9 @@ module _ (kinds : List ℕ) where
 
   pub onward-items : (room fuel i : ℕ) → i ≤ reach (itemsOf (statement room) fuel kinds i)
   onward-items room fuel i = right-onward (itemLists room .kept) (right-items kinds room (statement room) (right-statement kinds room) fuel i)
+
+  pub onward-choices : (room fuel i : ℕ) → i ≤ reach (choicesOf (statement room) fuel kinds i)
+  onward-choices room fuel i = right-onward (choiceLists room .kept) (right-choices kinds room (statement room) (right-statement kinds room) fuel i)
 
   pub onward-body : (room fuel i : ℕ) → i ≤ reach (bodyOf (statement room) (procedureOf room) fuel kinds i)
   onward-body room fuel i = right-onward (bodies room .kept) (right-body kinds room (statement room) (right-statement kinds room) (procedureOf room) (right-procedure kinds room) fuel i)

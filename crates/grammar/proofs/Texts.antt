@@ -7,9 +7,9 @@ use Prim.Native.Nat.{ℕ, _+_, _≤_, _<_}
 use native.Mathlib.Omega.{arith}
 use lib.ListN.{length, getD}
 use Rattle.token.specs.Kinds as K
-use Rattle.grammar.specs.Tree.{Designator, Operand, number, place, Sign, plain, abs, neg, negAbs, Term, Assignment, Condition, compared, bare, Width, Register, Item, Declaration, registers, cells, base, Statement, assign, call, apply, block, goto, null, ifThen, ifElse, while, for, Body, declare, procedure, items, Items, ended, label, item}
-use Rattle.grammar.specs.Derives.{Part, isDesignator, isOperand, isCondition, isSign, areTerms, isAssignment, areNumbers, isItem, isRegister, areMore, areSome, isType, isDeclaration, areArguments, isStatement, isBody, isItems, isProgram}
-use Rattle.grammar.specs.Events.{Edge, opened, closed, entered, left, Route, labelled, sent, Entry, named, celled, itemed, valued, based, Phrase, aimed, driven, signed, given, joined, tested, limited, called, applied, argued, counted, Mark, Event, edge, route, entry, phrase, mark, each, eventsValue, eventsItem, eventsRegister, eventsDeclaration, eventsSign, eventsTerm, eventsChain, eventsArguments, labelsOnto, labelsOf, eventsStatement, eventsBody, eventsItems, eventsOf}
+use Rattle.grammar.specs.Tree.{Designator, Operand, number, place, Sign, plain, abs, neg, negAbs, Term, Assignment, Condition, compared, bare, Width, Register, Item, Declaration, registers, cells, base, Statement, assign, call, apply, block, goto, null, ifThen, ifElse, while, for, choose, Body, declare, procedure, items, Items, ended, label, item, Choices, over, choice}
+use Rattle.grammar.specs.Derives.{Part, isDesignator, isOperand, isCondition, isSign, areTerms, isAssignment, areNumbers, isItem, isRegister, areMore, areSome, isType, isDeclaration, areArguments, isStatement, isBody, isItems, areChoices, isProgram}
+use Rattle.grammar.specs.Events.{Edge, opened, closed, entered, left, Route, labelled, sent, Entry, named, celled, itemed, valued, based, Phrase, aimed, driven, signed, given, joined, tested, limited, called, applied, argued, counted, chosen, Mark, listed, endedChoice, endedCase, Event, edge, route, entry, phrase, mark, each, eventsValue, eventsItem, eventsRegister, eventsDeclaration, eventsSign, eventsTerm, eventsChain, eventsArguments, labelsOnto, labelsOf, choicesCount, eventsStatement, eventsBody, eventsItems, eventsChoices, eventsOf}
 use Rattle.grammar.specs.Places.{Block, Frame, within, body, Place, after, afterAll, along, Along}
 use Rattle.grammar.specs.Texts.{InBlock, Fits, isEntry, isEvent, Stands, Text}
 use Rattle.grammar.proofs.Places.{Appends}
@@ -150,6 +150,8 @@ module _ (kinds : List ℕ) (j : ℕ) where
         sooner _ _ _ _ (omega arith)
         (assignment (driven (a .target)) a p _ (i + 1) v (λ u v q. q) h
         (put (phrase (limited (a .target) s l)) p _ v w tt (z, (q, r, (o, hl))) (omega arith) (sooner _ _ _ _ (omega arith) (statement x p _ (w + 1) m hs (marked _ p k m t)))))
+    statement (choose n r xs) p k i m (e, y, (u, v, (o, (b, h)))) t =
+        marked (listed (choicesCount xs)) p _ i (put (phrase (chosen r)) p _ i (i + 1 + 1 + 1 + 1) tt (y, (u, v, (o, (b, refl)))) (omega arith) (choosing n xs p _ _ m h (marked _ p k m t)))
 
     bodied : (x : Body) (b : Block) (p : Place) (k : List Event) (i m : ℕ) → labelsOf x (b .set) ≡ b .labels → isBody kinds x i m → Ended k b p m → Text kinds (eventsBody x k) (within b ∷ p) i j
     bodied (declare d x) b p k i m e (n, h, (z, hs)) f =
@@ -164,6 +166,10 @@ module _ (kinds : List ℕ) (j : ℕ) where
     listing ended b p k i m e (y, h) f = sooner k _ _ _ (omega arith) (f b refl e)
     listing (label l is) b p k i m e (q, y, (c, h)) f = put (route (labelled l)) _ _ i (i + 1 + 1) tt (q, y, (c, refl)) (omega arith) (listing is _ p k _ m e h f)
     listing (item x is) b p k i m e (n, h, (s, hs)) f = statement x _ _ i n h (sooner _ _ _ _ (omega arith) (listing is b p k (n + 1) m e hs f))
+
+    choosing : (n : ℕ) (xs : Choices) (p : Place) (k : List Event) (i m : ℕ) → areChoices kinds xs i m → Text kinds k p m j → Text kinds (eventsChoices n xs k) p i j
+    choosing n over p k i m (y, h) t = sooner k _ _ _ (omega arith) t
+    choosing n (choice x xs) p k i m (v, h, (s, hs)) t = statement x p _ i v h (marked (endedChoice n) p _ v (sooner _ _ _ _ (omega arith) (choosing n xs p k (v + 1) m hs t)))
 
 -- ── programs ──
 

@@ -6,7 +6,7 @@ use Prim.Native.Nat.{ℕ, _+_, _≤_}
 use native.Mathlib.Omega.{arith}
 use Rattle.grammar.specs.Tree.{Designator, Operand, number, place, Sign, Condition, compared, bare}
 use Rattle.grammar.specs.Derives.{isShape, isDesignator, isOperand, isCondition, isProcedure}
-use Rattle.grammar.specs.Events.{Edge, opened, closed, entered, left, Entry, named, celled, itemed, valued, based, Phrase, aimed, driven, signed, given, joined, tested, limited, called, applied, argued, counted, Event, edge, route, entry, phrase, mark, indexNames, designatorNames, operandNames, conditionNames, phraseUses, edgeUses, entryUses, uses}
+use Rattle.grammar.specs.Events.{Edge, opened, closed, entered, left, Entry, named, celled, itemed, valued, based, Phrase, aimed, driven, signed, given, joined, tested, limited, called, applied, argued, counted, chosen, Event, edge, route, entry, phrase, mark, indexNames, designatorNames, operandNames, conditionNames, phraseUses, edgeUses, entryUses, uses}
 use Rattle.grammar.specs.Texts.{isEvent}
 
 -- from token i on and before j
@@ -58,6 +58,7 @@ module _ (kinds : List ℕ) where
   phrase-rises (applied n) i j l (e, y, q) = (omega arith, omega arith)
   phrase-rises (argued n p a) i j l (o, (m, h, (c, q))) = sooner (operandNames a) _ _ j (omega arith) (further (operandNames a) _ m j (omega arith) (operand-rises a _ m h))
   phrase-rises (counted n c) i j l h = l
+  phrase-rises (chosen n) i j l (c, (e, y, (o, (b, q)))) = (omega arith, omega arith)
 
   pub uses-rise : (e : Event) (i j : ℕ) → i ≤ j → isEvent kinds e i j → Rise (uses e) i j
   uses-rise (edge (opened t ls)) i j l h = l

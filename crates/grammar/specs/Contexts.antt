@@ -5,7 +5,7 @@ use mathlib.Core.List.{List, [], _∷_}
 use mathlib.Core.Option.{Option}
 use Prim.Native.Nat.{ℕ, _+_}
 use Rattle.grammar.specs.Tree.{Designator, Sign, plain, abs, neg, negAbs, Width}
-use Rattle.grammar.specs.Events.{Entry, named, celled, itemed, valued, based, Phrase, aimed, driven, signed, given, joined, tested, limited, called, applied, argued, counted, Event, edge, route, entry, phrase, mark}
+use Rattle.grammar.specs.Events.{Entry, named, celled, itemed, valued, based, Phrase, aimed, driven, signed, given, joined, tested, limited, called, applied, argued, counted, chosen, Event, edge, route, entry, phrase, mark}
 
 pub data Context : Type 0 where
   nowhere : Context
@@ -40,6 +40,7 @@ phraseContext (called n) c = nowhere
 phraseContext (applied n) c = applying n 0
 phraseContext (argued n p a) c = applying n (p + 1)
 phraseContext (counted n k) c = nowhere
+phraseContext (chosen n) c = nowhere
 
 abbrev pub contextAfter : Event → Context → Context
 contextAfter (edge x) c = nowhere
@@ -107,6 +108,7 @@ phraseSuits (called n) c = Complete c
 phraseSuits (applied n) c = Complete c
 phraseSuits (argued n p a) c = Applies n p c
 phraseSuits (counted n k) c = Applies n k c
+phraseSuits (chosen n) c = Complete c
 
 abbrev pub Suits : Event → Context → Type 0
 Suits (edge x) c = Complete c

@@ -9,7 +9,7 @@ use Prim.Native.Nat.{ℕ, zero, suc, _+_, _≤_, _<_, max}
 use lib.ListN.{getD}
 use Rattle.base.specs.Lists.{member}
 use Rattle.token.specs.Kinds as K
-use Rattle.grammar.specs.Tree.{Designator, Operand, number, place, Sign, plain, abs, neg, negAbs, Term, Assignment, Condition, compared, bare, Width, full, short, byte, Register, Item, Declaration, registers, cells, base, Statement, assign, call, apply, block, goto, null, ifThen, ifElse, while, for, Body, declare, procedure, items, Items, ended, label, item}
+use Rattle.grammar.specs.Tree.{Designator, Operand, number, place, Sign, plain, abs, neg, negAbs, Term, Assignment, Condition, compared, bare, Width, full, short, byte, Register, Item, Declaration, registers, cells, base, Statement, assign, call, apply, block, goto, null, ifThen, ifElse, while, for, choose, Body, declare, procedure, items, Items, ended, label, item, Choices, over, choice}
 use Rattle.grammar.specs.Grammar.{relations, operators}
 
 -- what stands from one token up to, but not including, another
@@ -33,7 +33,7 @@ _⟫_ p q i j = (m : ℕ) × p i m × q m j
 abbrev pub only : Bool → Part → Part
 only holds p i j = (holds ≡ true) × p i j
 
--- "simple = assignment, name (a call), block, GOTO name, NULL." Document 02, 1/13: "A use is a simple statement".
+-- "simple = assignment, name (a call), block, GOTO name, NULL." Document 02, 1/13: "A use is a simple statement"; 3/13: "CASE … as a simple statement".
 abbrev pub simple : Statement → Bool
 simple (assign a) = true
 simple (call n) = true
@@ -45,6 +45,7 @@ simple (ifThen t c s) = false
 simple (ifElse t c s e u) = false
 simple (while t c s) = false
 simple (for t a v l s) = false
+simple (choose t n xs) = true
 
 abbrev pub integerOrLogical : List ℕ
 integerOrLogical = K.INTEGER ∷ K.LOGICAL ∷ []
@@ -146,7 +147,7 @@ module _ (kinds : List ℕ) where
   isDeclaration (base n) = K.SEGMENT ▸ K.BASE ▸ K.NAME # n ▸ end
 
   -- ── "simple = assignment, name (a call), block, GOTO name, NULL. statement = simple; IF condition THEN statement; IF condition THEN simple ELSE
-  -- statement; WHILE condition DO statement; FOR assignment STEP number UNTIL operand DO statement." ──
+  -- statement; WHILE condition DO statement; FOR assignment STEP number UNTIL operand DO statement." Document 02, 3/13: "CASE register OF BEGIN {statement ;} END". ──
 
   -- "PROCEDURE name(name) ; statement"
   abbrev pub isProcedure : (name return : ℕ) (isIts : Part) → Part
@@ -169,6 +170,7 @@ module _ (kinds : List ℕ) where
     isStatement (ifElse t c s e u) = K.IF # t ▸ isCondition c ⟫ K.THEN ▸ only (simple s) (isStatement s) ⟫ K.ELSE # e ▸ isStatement u
     isStatement (while t c s) = K.WHILE # t ▸ isCondition c ⟫ K.DO ▸ isStatement s
     isStatement (for t a v l s) = K.FOR # t ▸ isAssignment a ⟫ K.STEP ▸ K.NUMBER # v ▸ K.UNTIL ▸ isOperand l ⟫ K.DO ▸ isStatement s
+    isStatement (choose t n xs) = K.CASE # t ▸ K.NAME # n ▸ K.OF ▸ K.BEGIN ▸ areChoices xs
 
     -- ── "block = BEGIN {declaration ;} {statement ; or name :} END", what follows BEGIN ──
 
@@ -182,6 +184,11 @@ module _ (kinds : List ℕ) where
     isItems (label n xs) = K.NAME # n ▸ K.COLON ▸ isItems xs
     isItems (item s xs) = isStatement s ⟫ K.SEMICOLON ▸ isItems xs
 
+    -- "{statement ;} END"
+    pub areChoices : Choices → Part
+    areChoices over = K.END ▸ end
+    areChoices (choice s xs) = isStatement s ⟫ K.SEMICOLON ▸ areChoices xs
+
   -- ── "program = block @." ──
 
   -- a statement that is a block
@@ -191,7 +198,7 @@ module _ (kinds : List ℕ) where
   unfoldable pub isProgram : Statement → Part
   isProgram x = isBlock x ⟫ K.AT ▸ end
 
--- ── "BEGIN, IF, WHILE, FOR or PROCEDURE inside … such constructs": how many constructs stand, one inside the other ──
+-- ── "BEGIN, IF, WHILE, FOR or PROCEDURE inside … such constructs": how many constructs stand, one inside the other. Document 02, 3/13: CASE is "one nesting level" ──
 
 unfoldable mutual
   pub nestingOf : Statement → ℕ
@@ -205,6 +212,7 @@ unfoldable mutual
   nestingOf (ifElse t c s e u) = suc (max (nestingOf s) (nestingOf u))
   nestingOf (while t c s) = suc (nestingOf s)
   nestingOf (for t a v l s) = suc (nestingOf s)
+  nestingOf (choose t n xs) = suc (choicesNesting xs)
 
   pub bodyNesting : Body → ℕ
   bodyNesting (declare d b) = bodyNesting b
@@ -215,6 +223,10 @@ unfoldable mutual
   itemsNesting ended = 0
   itemsNesting (label n xs) = itemsNesting xs
   itemsNesting (item s xs) = max (nestingOf s) (itemsNesting xs)
+
+  pub choicesNesting : Choices → ℕ
+  choicesNesting over = 0
+  choicesNesting (choice s xs) = max (nestingOf s) (choicesNesting xs)
 
 unfoldable mutual
   -- the construct of a statement that token t opens stands inside n constructs of it; a PROCEDURE stands directly before its name
@@ -234,6 +246,8 @@ unfoldable mutual
   Inside (while a c s) (suc n) t = Inside s n t
   Inside (for a f v l s) zero t = t ≡ a
   Inside (for a f v l s) (suc n) t = Inside s n t
+  Inside (choose a r xs) zero t = t ≡ a
+  Inside (choose a r xs) (suc n) t = InsideChoices xs n t
 
   pub InsideBody : Body → (n t : ℕ) → Type 0
   InsideBody (declare d b) n t = InsideBody b n t
@@ -245,6 +259,10 @@ unfoldable mutual
   InsideItems ended n t = ⊥
   InsideItems (label a xs) n t = InsideItems xs n t
   InsideItems (item s xs) n t = Inside s n t ⊎ InsideItems xs n t
+
+  pub InsideChoices : Choices → (n t : ℕ) → Type 0
+  InsideChoices over n t = ⊥
+  InsideChoices (choice s xs) n t = Inside s n t ⊎ InsideChoices xs n t
 
 -- what is derived, with at most so many constructs one inside the other
 abbrev pub within : (its most : ℕ) → Part → Part
@@ -268,6 +286,6 @@ pub record Begins {A : Type 0} (is : List ℕ → A → Part) (kinds : List ℕ)
   pub reach : n ≤ to
   pub derived : is others tree i to
 
--- "BEGIN, IF, WHILE, FOR or PROCEDURE"
+-- "BEGIN, IF, WHILE, FOR or PROCEDURE", and CASE
 abbrev pub constructs : List ℕ
-constructs = K.BEGIN ∷ K.IF ∷ K.WHILE ∷ K.FOR ∷ K.PROCEDURE ∷ []
+constructs = K.BEGIN ∷ K.IF ∷ K.WHILE ∷ K.FOR ∷ K.PROCEDURE ∷ K.CASE ∷ []

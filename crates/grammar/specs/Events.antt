@@ -3,7 +3,7 @@
 use mathlib.Core.List.{List, [], _∷_}
 use mathlib.Core.Option.{Option, none, some}
 use Prim.Native.Nat.{ℕ, _+_}
-use Rattle.grammar.specs.Tree.{Designator, Operand, number, place, Sign, plain, abs, neg, negAbs, Term, Assignment, Condition, compared, bare, Width, Register, Item, Declaration, registers, cells, base, Statement, assign, call, apply, block, goto, null, ifThen, ifElse, while, for, Body, declare, procedure, items, Items, ended, label, item}
+use Rattle.grammar.specs.Tree.{Designator, Operand, number, place, Sign, plain, abs, neg, negAbs, Term, Assignment, Condition, compared, bare, Width, Register, Item, Declaration, registers, cells, base, Statement, assign, call, apply, block, goto, null, ifThen, ifElse, while, for, choose, Body, declare, procedure, items, Items, ended, label, item, Choices, over, choice}
 
 -- ── what stands in a text ──
 
@@ -27,7 +27,8 @@ pub data Entry : Type 0 where
   valued : (number : ℕ) → Entry
   based : (name : ℕ) → Entry
 
--- what statements are made of. What follows a target has it; an argument has the name of its use and its position from 0 on, and the end of a use how many there were.
+-- what statements are made of. What follows a target has it; an argument has the name of its use and its position from 0 on, and the end of a use how many there were; a CASE
+-- has its register.
 pub data Phrase : Type 0 where
   aimed driven : Designator → Phrase
   signed : (target : Designator) → Sign → Phrase
@@ -38,11 +39,15 @@ pub data Phrase : Type 0 where
   called applied : (name : ℕ) → Phrase
   argued : (name position : ℕ) → Operand → Phrase
   counted : (name count : ℕ) → Phrase
+  chosen : (name : ℕ) → Phrase
 
--- where statements begin, part and end that hold others: only the code heeds them
+-- where statements begin, part and end that hold others: only the code heeds them. Before the register of a CASE stands how many statements it chooses from; each of them ends, and
+-- then the CASE.
 pub data Mark : Type 0 where
   looped otherwise endedIf endedElse endedWhile : (at : ℕ) → Mark
   endedFor : (step : ℕ) → Mark
+  listed : (count : ℕ) → Mark
+  endedChoice endedCase : (at : ℕ) → Mark
 
 pub data Event : Type 0 where
   edge : Edge → Event
@@ -88,6 +93,7 @@ phraseUses (called n) = n ∷ []
 phraseUses (applied n) = n ∷ []
 phraseUses (argued n p a) = operandNames a
 phraseUses (counted n c) = []
+phraseUses (chosen n) = n ∷ []
 
 abbrev pub edgeUses : Edge → List ℕ
 edgeUses (opened t ls) = []
@@ -175,6 +181,11 @@ labelsOf (declare d b) earlier = labelsOf b earlier
 labelsOf (procedure n r x b) earlier = labelsOf b earlier
 labelsOf (items is) earlier = labelsOnto is earlier
 
+-- how many statements a CASE chooses from
+abbrev pub choicesCount : Choices → ℕ
+choicesCount over = 0
+choicesCount (choice x xs) = choicesCount xs + 1
+
 unfoldable mutual
   pub eventsStatement : Statement → List Event → List Event
   eventsStatement (assign a) k = phrase (aimed (a .target)) ∷ eventsChain a k
@@ -187,6 +198,7 @@ unfoldable mutual
   eventsStatement (ifElse t c x e y) k = phrase (tested t c) ∷ eventsStatement x (mark (otherwise t) ∷ eventsStatement y (mark (endedElse t) ∷ k))
   eventsStatement (while t c x) k = mark (looped t) ∷ phrase (tested t c) ∷ eventsStatement x (mark (endedWhile t) ∷ k)
   eventsStatement (for t a v l x) k = phrase (driven (a .target)) ∷ eventsChain a (phrase (limited (a .target) v l) ∷ eventsStatement x (mark (endedFor v) ∷ k))
+  eventsStatement (choose t n xs) k = mark (listed (choicesCount xs)) ∷ phrase (chosen n) ∷ eventsChoices t xs (mark (endedCase t) ∷ k)
 
   pub eventsBody : Body → List Event → List Event
   eventsBody (declare d b) k = eventsDeclaration d (eventsBody b k)
@@ -197,6 +209,11 @@ unfoldable mutual
   eventsItems ended k = k
   eventsItems (label l is) k = route (labelled l) ∷ eventsItems is k
   eventsItems (item x is) k = eventsStatement x (eventsItems is k)
+
+  -- of the CASE at token t
+  pub eventsChoices : (at : ℕ) → Choices → List Event → List Event
+  eventsChoices t over k = k
+  eventsChoices t (choice x xs) k = eventsStatement x (mark (endedChoice t) ∷ eventsChoices t xs k)
 
 -- all that stands in a program
 abbrev pub eventsOf : Statement → List Event

@@ -9,7 +9,7 @@ use lib.ListN.{length}
 use Rattle.base.specs.Choose.{if_then_else_}
 use Rattle.base.specs.Lists.{member}
 use Rattle.token.specs.Kinds as K
-use Rattle.grammar.specs.Tree.{Designator, Operand, number, place, Sign, plain, abs, neg, negAbs, Term, Assignment, Condition, compared, bare, Width, full, short, byte, Register, Item, Declaration, registers, cells, base, Statement, assign, call, apply, block, goto, null, ifThen, ifElse, while, for, Body, declare, procedure, items, Items, ended, label, item}
+use Rattle.grammar.specs.Tree.{Designator, Operand, number, place, Sign, plain, abs, neg, negAbs, Term, Assignment, Condition, compared, bare, Width, full, short, byte, Register, Item, Declaration, registers, cells, base, Statement, assign, call, apply, block, goto, null, ifThen, ifElse, while, for, choose, Body, declare, procedure, items, Items, ended, label, item, Choices, over, choice}
 use Rattle.grammar.specs.Reader.{Reader, _>>=_, _>>_, give, refuse, look, next, want, wantOne}
 
 -- a reader that is handed, as fuel for a list "{…}", the number of all tokens and one more, which no list uses up
@@ -259,9 +259,9 @@ afterName n = do
   if eqb k K.BECOMES then assignOr (targetOf n xs) (useOf n xs) else give (useOf n xs)
 
 abbrev pub openers : List ℕ
-openers = K.BEGIN ∷ K.IF ∷ K.WHILE ∷ K.FOR ∷ []
+openers = K.BEGIN ∷ K.IF ∷ K.WHILE ∷ K.CASE ∷ K.FOR ∷ []
 
--- a statement, of which `construct` reads those that begin with BEGIN, IF, WHILE or FOR
+-- a statement, of which `construct` reads those that begin with BEGIN, IF, WHILE, CASE or FOR
 unfoldable pub statementOf : Reader Statement → Reader Statement
 statementOf construct = do
   k ← look
@@ -287,6 +287,15 @@ itemsOf inner (suc fuel) = do
             then (do next; is ← itemsOf inner fuel; give (label n is))
             else (do s ← afterName n; want K.SEMICOLON; is ← itemsOf inner fuel; give (item s is)))
       else (do s ← inner; want K.SEMICOLON; is ← itemsOf inner fuel; give (item s is))
+
+-- ── document 02, 3/13: "CASE register OF BEGIN {statement ;} END" ──
+
+-- what follows BEGIN; `inner` reads a statement in the list
+unfoldable pub choicesOf : Reader Statement → ℕ → Reader Choices
+choicesOf inner zero = refuse 4
+choicesOf inner (suc fuel) = do
+  k ← look
+  if eqb k K.END then (do next; give over) else (do s ← inner; want K.SEMICOLON; xs ← choicesOf inner fuel; give (choice s xs))
 
 -- a procedure's name, its return register's and its body
 pub record Procedure : Type 0 where
@@ -330,6 +339,7 @@ constructOf inner proc = do
   if eqb k K.BEGIN then (do b ← fuelled (bodyOf inner proc); give (block t b)) else
       if eqb k K.IF then (do c ← condition; want K.THEN; ifOf inner t c) else
       if eqb k K.WHILE then (do c ← condition; want K.DO; s ← inner; give (while t c s)) else
+      if eqb k K.CASE then (do n ← want K.NAME; want K.OF; want K.BEGIN; xs ← fuelled (choicesOf inner); give (choose t n xs)) else
       (do
         n ← want K.NAME
         a ← assignmentOf n

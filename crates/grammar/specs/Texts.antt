@@ -7,7 +7,7 @@ use Prim.Native.Nat.{ℕ, _+_, _≤_}
 use Rattle.token.specs.Kinds as K
 use Rattle.grammar.specs.Grammar.{operators}
 use Rattle.grammar.specs.Derives.{Part, end, _⟫_, _▸_, _#_▸_, _∋_▸_, isDesignator, isOperand, isCondition, isSign, isRegister, isType, isProcedure}
-use Rattle.grammar.specs.Events.{Edge, opened, closed, entered, left, Route, labelled, sent, Entry, named, celled, itemed, valued, based, Phrase, aimed, driven, signed, given, joined, tested, limited, called, applied, argued, counted, Event, edge, route, entry, phrase, mark}
+use Rattle.grammar.specs.Events.{Edge, opened, closed, entered, left, Route, labelled, sent, Entry, named, celled, itemed, valued, based, Phrase, aimed, driven, signed, given, joined, tested, limited, called, applied, argued, counted, chosen, Event, edge, route, entry, phrase, mark}
 use Rattle.grammar.specs.Places.{within, body, Place, after}
 
 -- ── the place that an event asks for ──
@@ -78,6 +78,7 @@ module _ (kinds : List ℕ) where
   isPhrase (applied n) = _#_▸_ kinds K.NAME n end
   isPhrase (argued n p a) = _▸_ kinds K.OPEN (isOperand kinds a ⟫ _▸_ kinds K.CLOSE end)
   isPhrase (counted n c) = end
+  isPhrase (chosen n) = _▸_ kinds K.CASE (_#_▸_ kinds K.NAME n (_▸_ kinds K.OF (_▸_ kinds K.BEGIN end)))
 
   abbrev pub isEvent : Event → Part
   isEvent (edge x) = isEdge x

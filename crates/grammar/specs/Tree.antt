@@ -62,7 +62,8 @@ pub data Declaration : Type 0 where
 
 mutual
   -- "simple = assignment, name (a call), block, GOTO name, NULL"; "statement = simple; IF …; WHILE …; FOR …". A construct has the token that
-  -- opens it, and an ELSE its own. Document 02, 1/13: "A use is a simple statement: the name, then each argument in its own parentheses"; with no argument it is a call.
+  -- opens it, and an ELSE its own. Document 02, 1/13: "A use is a simple statement: the name, then each argument in its own parentheses"; with no argument it is a call. 3/13:
+  -- "CASE register OF BEGIN {statement ;} END as a simple statement".
   pub data Statement : Type 0 where
     assign : Assignment → Statement
     call : (name : ℕ) → Statement
@@ -74,6 +75,7 @@ mutual
     ifElse : (at : ℕ) → Condition → Statement → (else : ℕ) → Statement → Statement
     while : (at : ℕ) → Condition → Statement → Statement
     for : (at : ℕ) → Assignment → (step : ℕ) → (limit : Operand) → Statement → Statement
+    choose : (at name : ℕ) → Choices → Statement
 
   -- "block = BEGIN {declaration ;} {statement ; or name :} END": the declarations come first, "PROCEDURE name(name) ; statement" among them
   pub data Body : Type 0 where
@@ -85,3 +87,8 @@ mutual
     ended : Items
     label : (name : ℕ) → Items → Items
     item : Statement → Items → Items
+
+  -- "{statement ;}", what a CASE chooses from
+  pub data Choices : Type 0 where
+    over : Choices
+    choice : Statement → Choices → Choices

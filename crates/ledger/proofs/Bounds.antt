@@ -13,9 +13,9 @@ use Rattle.base.specs.Lists.{All}
 use Rattle.base.proofs.Lists.{all-getD}
 use Rattle.base.proofs.Tests.{never-true}
 use Rattle.base.proofs.Numbers.{one-less}
-use Rattle.grammar.specs.Tree.{Designator, Operand, Sign, plain, abs, neg, negAbs, Term, Assignment, Width, Register, Item, Declaration, registers, cells, base, Statement, assign, call, apply, block, goto, null, ifThen, ifElse, while, for, Body, declare, procedure, items, Items, ended, label, item}
-use Rattle.grammar.specs.Derives.{isProgram, isRegister, nestingOf, bodyNesting, itemsNesting}
-use Rattle.grammar.specs.Events.{Edge, opened, closed, entered, left, Route, labelled, sent, Entry, named, celled, itemed, valued, based, Event, edge, route, entry, phrase, mark, aimed, driven, signed, given, joined, tested, limited, called, applied, argued, counted, looped, endedIf, otherwise, endedElse, endedWhile, endedFor, each, eventsValue, eventsItem, eventsRegister, eventsDeclaration, eventsSign, eventsTerm, eventsChain, eventsArguments, eventsStatement, eventsBody, eventsItems, eventsOf}
+use Rattle.grammar.specs.Tree.{Designator, Operand, Sign, plain, abs, neg, negAbs, Term, Assignment, Width, Register, Item, Declaration, registers, cells, base, Statement, assign, call, apply, block, goto, null, ifThen, ifElse, while, for, choose, Body, declare, procedure, items, Items, ended, label, item, Choices, over, choice}
+use Rattle.grammar.specs.Derives.{isProgram, isRegister, nestingOf, bodyNesting, itemsNesting, choicesNesting}
+use Rattle.grammar.specs.Events.{Edge, opened, closed, entered, left, Route, labelled, sent, Entry, named, celled, itemed, valued, based, Event, edge, route, entry, phrase, mark, aimed, driven, signed, given, joined, tested, limited, called, applied, argued, counted, chosen, looped, endedIf, otherwise, endedElse, endedWhile, endedFor, listed, endedChoice, endedCase, each, eventsValue, eventsItem, eventsRegister, eventsDeclaration, eventsSign, eventsTerm, eventsChain, eventsArguments, choicesCount, eventsStatement, eventsBody, eventsItems, eventsChoices, eventsOf}
 use Rattle.grammar.specs.Places.{Place, after}
 use Rattle.grammar.specs.Texts.{Stands, Text}
 use Rattle.grammar.proofs.Texts.{program-text, text-rises}
@@ -147,6 +147,9 @@ module _ (most : ℕ) where
     deep-statement (for t a v l x) b p k h n =
         quiet b p (phrase (driven (a .target))) refl _
         (quiet-chain b p a _ (quiet b p (phrase (limited (a .target) v l)) refl _ (deep-statement x b p _ (omega arith) (quiet b p (mark (endedFor v)) refl k n))))
+    deep-statement (choose t r xs) b p k h n =
+        quiet b p (mark (listed (choicesCount xs))) refl _
+        (quiet b p (phrase (chosen r)) refl _ (deep-choices t xs b p _ (omega arith) (quiet b p (mark (endedCase t)) refl k n)))
 
     deep-body : (s : Body) → Goes (bodyNesting s) (eventsBody s)
     deep-body (declare d s) b p k h n = quiet-declaration b p d _ (deep-body s b p k h n)
@@ -165,6 +168,10 @@ module _ (most : ℕ) where
     deep-items ended b p k h n = n
     deep-items (label l is) b p k h n = quiet b p (route (labelled l)) refl _ (deep-items is b p k h n)
     deep-items (item x is) b p k h n = deep-statement x b p _ (omega arith) (deep-items is b p k (omega arith) n)
+
+    deep-choices : (t : ℕ) (xs : Choices) → Goes (choicesNesting xs) (eventsChoices t xs)
+    deep-choices t over b p k h n = n
+    deep-choices t (choice x xs) b p k h n = deep-statement x b p _ (omega arith) (quiet b p (mark (endedChoice t)) refl _ (deep-choices t xs b p k (omega arith) n))
 
 pub program-nested : (most : ℕ) (x : Statement) → nestingOf x ≤ most → Nested most 0 0 (tapeStatement x [])
 unfolding Nested

@@ -34,7 +34,8 @@ pub fn is_operator(k: u8) -> bool
 pub fn opens(k: u8) -> bool
     ensures { λ r. ⌜ r ≡ member k G.openers ⌝ }
 {
-    (k == kinds::BEGIN) | ((k == kinds::IF) | ((k == kinds::WHILE) | (k == kinds::FOR)))
+    (k == kinds::BEGIN)
+        | ((k == kinds::IF) | ((k == kinds::WHILE) | ((k == kinds::CASE) | (k == kinds::FOR))))
 }
 
 pub fn declares(k: u8) -> bool

@@ -8,7 +8,7 @@ use lib.Dec.{eqb}
 use lib.ListN.{getD}
 use Rattle.base.specs.Choose.{if_then_else_}
 use Rattle.base.specs.Lists.{_∈_}
-use Rattle.grammar.specs.Events.{Route, labelled, sent, Phrase, aimed, driven, signed, given, joined, tested, limited, called, applied, argued, counted, Event, edge, route, entry, phrase, mark}
+use Rattle.grammar.specs.Events.{Route, labelled, sent, Phrase, aimed, driven, signed, given, joined, tested, limited, called, applied, argued, counted, chosen, Event, edge, route, entry, phrase, mark}
 use Rattle.grammar.specs.Places.{Place, Along}
 use Rattle.grammar.proofs.Places.{along-with}
 use Rattle.scopes.specs.Search.{inBlock, find}
@@ -38,6 +38,7 @@ module _ (found goes : List ℕ) where
   GoesPhrase (applied n) p = Unit {0}
   GoesPhrase (argued n q a) p = Unit {0}
   GoesPhrase (counted n k) p = Unit {0}
+  GoesPhrase (chosen n) p = Unit {0}
 
   abbrev pub GoesRoute : Route → Place → Type 0
   GoesRoute (labelled l) p = Unit {0}
@@ -94,6 +95,7 @@ module _ (keys : List ℕ) where
     goes-phrase (applied n) p h = tt
     goes-phrase (argued n q a) p h = tt
     goes-phrase (counted n k) p h = tt
+    goes-phrase (chosen n) p h = tt
 
     goes-route : (r : Route) (p : Place) → LedRoute keys goes r p → GoesRoute found goes r p
     goes-route (labelled l) p h = tt

@@ -15,7 +15,7 @@ use Rattle.grammar.proofs.Texts.{text-rises}
 use Rattle.scopes.proofs.Joins.{quiet-right, rule-holds}
 use Rattle.static_rules.specs.Meanings.{Meant, write, openBase, addCell, meanEvent}
 use Rattle.static_rules.specs.Tables.{Tables}
-use Rattle.static_rules.specs.Rules.{registerRule, zeroRule, baseRules, lastSegment}
+use Rattle.static_rules.specs.Rules.{takenRules, baseRules, lastSegment}
 use Rattle.static_rules.proofs.Heeds.{Alike, Heeds, enters, names, adds, opens, other, heeds}
 use Rattle.static_rules.proofs.Lengths.{event-long}
 use Rattle.static_rules.proofs.Stays.{stays-text}
@@ -26,7 +26,7 @@ module _ (f : Tables) where
   pub base-segment : (kept : List ℕ) (n : ℕ) → baseRules f kept n .number ≡ 0 → getD (f .opens) n 0 ≤ lastSegment
   unfolding baseRules
   base-segment kept n q =
-      leb-true _ _ (rule-holds (leb (getD (f .opens) n 0) lastSegment) 12 n (omega arith) (quiet-right _ _ (quiet-right (zeroRule f n) _ (quiet-right (registerRule f n) _ q))))
+      leb-true _ _ (rule-holds (leb (getD (f .opens) n 0) lastSegment) 12 n (omega arith) (quiet-right (takenRules f kept n) _ q))
 
   -- the segments that are opened are those of the whole text
   heeds-few : {p : Place} {s t : Meant} {e : Event} → Heeds (f .kinds) (f .values) (f .found) p s e t → (i : ℕ) (x : Stands (f .kinds) e p i) → Unbroken f e p → x .to ≤ length (s .opens)

@@ -8,7 +8,7 @@ use Prim.Native.Nat.{ℕ}
 use lib.ListN.{length, length-set, getD}
 use Rattle.base.specs.Choose.{if_then_else_}
 use Rattle.grammar.specs.Tree.{Register, Item, Width}
-use Rattle.grammar.specs.Events.{Edge, opened, closed, entered, left, Entry, named, celled, itemed, valued, based, Phrase, aimed, driven, signed, given, joined, tested, limited, called, applied, argued, counted, Event, edge, route, entry, phrase, mark}
+use Rattle.grammar.specs.Events.{Edge, opened, closed, entered, left, Entry, named, celled, itemed, valued, based, Phrase, aimed, driven, signed, given, joined, tested, limited, called, applied, argued, counted, chosen, Event, edge, route, entry, phrase, mark}
 use Rattle.grammar.specs.Places.{Place, outward}
 use Rattle.static_rules.specs.Registers.{Registers, noRegisters, addRegister, union}
 use Rattle.static_rules.specs.Functions.{isWritten}
@@ -79,6 +79,7 @@ module _ (kinds values found : List ℕ) where
   phrase-alike (applied n) p s = alike s
   phrase-alike (argued n q a) p s = writes-alike (isWritten (argumentOf (meaningIn found s n) q)) (operandMeaning found (s .means) a) _ (ownIn p) s
   phrase-alike (counted n k) p s = alike s
+  phrase-alike (chosen n) p s = target-alike (meaningIn found s n) _ (ownIn p) s
 
   -- what an event at a place makes of the tables s
   pub data Heeds (p : Place) (s : Meant) : Event → Meant → Type 0 where

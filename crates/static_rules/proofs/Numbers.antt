@@ -8,7 +8,7 @@ use Rattle.base.specs.Choose.{choose}
 use Rattle.base.specs.Lists.{member}
 use Rattle.token.specs.Kinds as K
 use Rattle.grammar.specs.Tree.{Designator, Operand, number, place, Sign, plain, abs, neg, negAbs, Term, Condition, compared, bare, Width, Statement}
-use Rattle.grammar.specs.Events.{Edge, opened, closed, entered, left, Entry, named, celled, itemed, valued, based, Phrase, aimed, driven, signed, given, joined, tested, limited, called, applied, argued, counted, Event, edge, route, entry, phrase, mark, eventsOf}
+use Rattle.grammar.specs.Events.{Edge, opened, closed, entered, left, Entry, named, celled, itemed, valued, based, Phrase, aimed, driven, signed, given, joined, tested, limited, called, applied, argued, counted, chosen, Event, edge, route, entry, phrase, mark, eventsOf}
 use Rattle.grammar.specs.Places.{Place, along}
 use Rattle.grammar.proofs.Places.{along-keeps}
 use Rattle.scopes.specs.declared.Broken.{Broken}
@@ -18,7 +18,7 @@ use Rattle.static_rules.specs.Functions.{Argument, writtenRegister, read
 use Rattle.static_rules.specs.Meaning.{Meaning, nothing, register, cell, routine, function, Cell, argumentOf, longOperand}
 use Rattle.static_rules.specs.Meanings.{countOf}
 use Rattle.static_rules.specs.Tables.{Tables, kindAt, meaningAt}
-use Rattle.static_rules.specs.Rules.{writeRule, noSign, signBy, registerRule, zeroRule, indexRules, subscriptRules, placeBy, placeRules, noByte, operandRules, onlyRegister, shiftRules, noShort, productRules, termRules, shifts, fullOnly, targetBy, targetRules, controlRules, firstBy, termBy, conditionRules, callBy, callRules, writtenRules, byteRules, cellRules, noIndex, plainRules, argumentRules, countBy, valueRules, countRule, baseRules}
+use Rattle.static_rules.specs.Rules.{writeRule, noSign, signBy, registerRule, zeroRule, indexRules, subscriptRules, placeBy, placeRules, noByte, operandRules, onlyRegister, shiftRules, noShort, productRules, termRules, shifts, fullOnly, targetBy, targetRules, controlRules, firstBy, termBy, conditionRules, callBy, callRules, writtenRules, byteRules, cellRules, noIndex, plainRules, argumentRules, countBy, takenRules, valueRules, countRule, baseRules}
 use Rattle.static_rules.specs.Kinds.{keptIn, edgeRules, entryRules, phraseRules, rulesAt, ruleEvent, rulesOf}
 
 write-ruled : (kept : List ℕ) (r t : ℕ) → Ruled (writeRule kept r t)
@@ -203,9 +203,13 @@ module _ (f : Tables) where
   count-ruled none = ruled-none
   count-ruled (some t) = ruled-rule _ 11 t tt
 
+  taken-ruled : (kept : List ℕ) (n : ℕ) → Ruled (takenRules f kept n)
+  unfolding takenRules
+  taken-ruled kept n = ruled-join _ _ (register-ruled n) (ruled-join _ _ (zero-ruled n) (write-ruled kept _ n))
+
   base-ruled : (kept : List ℕ) (n : ℕ) → Ruled (baseRules f kept n)
   unfolding baseRules
-  base-ruled kept n = ruled-join _ _ (register-ruled n) (ruled-join _ _ (zero-ruled n) (ruled-join _ _ (write-ruled kept _ n) (ruled-rule _ 12 n tt)))
+  base-ruled kept n = ruled-join _ _ (taken-ruled kept n) (ruled-rule _ 12 n tt)
 
   -- ── events ──
 
@@ -234,6 +238,7 @@ module _ (f : Tables) where
   phrase-ruled (applied n) p = ruled-none
   phrase-ruled (argued n q a) p = argument-ruled (keptIn f p) (argumentOf (meaningAt f n) q) a
   phrase-ruled (counted n k) p = counted-ruled (meaningAt f n) n k
+  phrase-ruled (chosen n) p = taken-ruled (keptIn f p) n
 
   pub event-ruled : (e : Event) (p : Place) → Ruled (rulesAt f e p)
   event-ruled (edge x) p = edge-ruled x

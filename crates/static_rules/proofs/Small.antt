@@ -9,7 +9,7 @@ use lib.ListN.{getD, replicate}
 use Rattle.base.specs.Lists.{All}
 use Rattle.base.proofs.Lists.{all-set, all-getD, all-replicate, all-both}
 use Rattle.grammar.specs.Tree.{Statement}
-use Rattle.grammar.specs.Events.{Entry, named, celled, itemed, valued, based, Phrase, aimed, driven, signed, given, joined, tested, limited, called, applied, argued, counted, Event, edge, route, entry, phrase, mark, eventsOf}
+use Rattle.grammar.specs.Events.{Entry, named, celled, itemed, valued, based, Phrase, aimed, driven, signed, given, joined, tested, limited, called, applied, argued, counted, chosen, Event, edge, route, entry, phrase, mark, eventsOf}
 use Rattle.grammar.specs.Places.{within, body, Place, Along}
 use Rattle.grammar.specs.Contexts.{Context, nowhere, aiming, applying, declaring, contextAfter, phraseContext, Suits}
 use Rattle.grammar.proofs.Contexts.{program-coherent, along-keeps-in}
@@ -98,6 +98,7 @@ module _ (f : Tables) where
   counted-phrase (applied n) c h = tt
   counted-phrase (argued n q a) c h = tt
   counted-phrase (counted n k) c h = tt
+  counted-phrase (chosen n) c h = tt
 
   counted-event : (e : Event) (p : Place) (c : Context) → Unbroken f e p → Suits e c → Counted c → Counted (contextAfter e c)
   counted-event (edge x) p c q u h = tt

@@ -14,7 +14,7 @@ use Rattle.base.specs.Lists.{All}
 use Rattle.base.proofs.Tests.{never-true}
 use Rattle.grammar.specs.Tree.{Designator, Operand, number, place, Term}
 use Rattle.grammar.specs.Derives.{isRegister}
-use Rattle.grammar.specs.Events.{Edge, opened, closed, entered, left, labelled, sent, Entry, named, celled, itemed, valued, based, Phrase, aimed, driven, signed, given, joined, tested, limited, called, applied, argued, counted, Event, edge, route, entry, phrase, mark, uses, operandNames}
+use Rattle.grammar.specs.Events.{Edge, opened, closed, entered, left, labelled, sent, Entry, named, celled, itemed, valued, based, Phrase, aimed, driven, signed, given, joined, tested, limited, called, applied, argued, counted, chosen, Event, edge, route, entry, phrase, mark, uses, operandNames}
 use Rattle.grammar.specs.Places.{within, body, Place, outward, enterName, enterEntry, enterLabel, after, along, Along}
 use Rattle.grammar.specs.Texts.{Stands, Text}
 use Rattle.grammar.specs.Contexts.{Context, nowhere, aiming, applying, declaring, laterValues, Aims, Applies, Suits, contextAfter, Coherent}
@@ -180,6 +180,7 @@ module _ (kinds values found : List ℕ) where
     ToldPhrase (argued n q a) p =
         (r : ℕ) → r < 16 → operandMeaning found (z .means) a ≡ register r → isWritten (argumentOf (meaningIn found z n) q) ≡ true → WrittenBy z (ownIn p) r
     ToldPhrase (counted n k) p = Unit {0}
+    ToldPhrase (chosen n) p = (r : ℕ) → r < 16 → meaningIn found z n ≡ register r → WrittenBy z (ownIn p) r
 
     abbrev pub Told : Event → Place → Type 0
     Told (edge x) p = ToldEdge x
@@ -202,6 +203,7 @@ module _ (kinds values found : List ℕ) where
   phrase-grows (applied n) p s = λ u x h k. k
   phrase-grows (argued n q a) p s = writes-grows (isWritten (argumentOf (meaningIn found s n) q)) (operandMeaning found (s .means) a) _ (ownIn p) s
   phrase-grows (counted n k) p s = λ u x h l. l
+  phrase-grows (chosen n) p s = target-grows (meaningIn found s n) _ (ownIn p) s
 
   event-grows : (e : Event) (p : Place) (s : Meant) → Grows s (step e p s)
   unfolding meanEvent openBase addCell
@@ -264,6 +266,7 @@ module _ (kinds values found : List ℕ) where
   phrase-same (applied m) p s u n = refl
   phrase-same (argued m q a) p s u n = writes-same (isWritten (argumentOf (meaningIn found s m) q)) (operandMeaning found (s .means) a) _ (ownIn p) u s n
   phrase-same (counted m k) p s u n = refl
+  phrase-same (chosen m) p s u n = target-same (meaningIn found s m) _ (ownIn p) u s n
 
   event-same : (e : Event) (p : Place) (s : Meant) (u : ℕ) → 0 < u → NotAround u p → Same s (step e p s) u
   unfolding meanEvent openBase addCell writeText write
@@ -391,6 +394,7 @@ module _ (kinds values found : List ℕ) where
   aimed-after (phrase (applied n)) p i x c g a = uses-before (phrase (applied n)) p i x .0
   aimed-after (phrase (argued n q b)) p i x c g a = let h = use-before n q i c g a in omega arith
   aimed-after (phrase (counted n k)) p i x c g a = tt
+  aimed-after (phrase (chosen n)) p i x c g a = tt
   aimed-after (mark m) p i x c g a = tt
 
   -- ── by names that are found no later than they stand ──
@@ -493,6 +497,8 @@ module _ (kinds values found : List ℕ) where
         e .grows (ownIn p) r h
         (writes-has _ _ (λ k. k) (ownIn p) r s (ap (λ (k : Meaning). isWritten (argumentOf k q)) (known n (omega arith)) ∙ w) (same ∙ m) l h)
     phrase-told (counted n k) p i y c s z g a l e f = tt
+    phrase-told (chosen n) p i y c s z g a l e f = λ r h m.
+        e .grows (ownIn p) r h (target-has _ (λ k. k) (ownIn p) r s (meaning-then (chosen n) p i y s z l e n (uses-before (phrase (chosen n)) p i y .0) ∙ m) l h)
 
     -- ── declarations and bodies ──
 

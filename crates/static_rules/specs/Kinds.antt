@@ -3,14 +3,14 @@
 use mathlib.Core.List.{List, [], _∷_, _++_, map}
 use Prim.Native.Nat.{ℕ}
 use Rattle.grammar.specs.Tree.{Statement}
-use Rattle.grammar.specs.Events.{Edge, opened, closed, entered, left, Entry, named, celled, itemed, valued, based, Phrase, aimed, driven, signed, given, joined, tested, limited, called, applied, argued, counted, Event, edge, route, entry, phrase, mark, eventsOf}
+use Rattle.grammar.specs.Events.{Edge, opened, closed, entered, left, Entry, named, celled, itemed, valued, based, Phrase, aimed, driven, signed, given, joined, tested, limited, called, applied, argued, counted, chosen, Event, edge, route, entry, phrase, mark, eventsOf}
 use Rattle.grammar.specs.Places.{within, body, Place, along}
 use Rattle.scopes.specs.declared.Broken.{Broken}
 use Rattle.scopes.specs.Broken.{unbroken, rule, _⊕_}
 use Rattle.static_rules.specs.Meaning.{registerOf, argumentOf}
 use Rattle.static_rules.specs.Meanings.{countOf}
 use Rattle.static_rules.specs.Tables.{Tables, valueAt, meaningAt}
-use Rattle.static_rules.specs.Rules.{protected, inRange, registerRule, zeroRule, operandRules, targetRules, controlRules, signBy, firstBy, termBy, conditionRules, callRules, argumentRules, countBy, countRule, valueRules, baseRules}
+use Rattle.static_rules.specs.Rules.{protected, inRange, registerRule, zeroRule, operandRules, targetRules, controlRules, signBy, firstBy, termBy, conditionRules, callRules, argumentRules, countBy, takenRules, countRule, valueRules, baseRules}
 
 module _ (f : Tables) where
   -- "Protected at a point: 15, 14, the bases of enclosing blocks declared so far, the return registers of enclosing procedures."
@@ -46,6 +46,7 @@ module _ (f : Tables) where
   phraseRules (applied n) p = unbroken
   phraseRules (argued n q a) p = argumentRules f (keptIn p) (argumentOf (meaningAt f n) q) a
   phraseRules (counted n k) p = countBy (meaningAt f n) n k
+  phraseRules (chosen n) p = takenRules f (keptIn p) n
 
   -- the rules of an event at its place
   abbrev pub rulesAt : Event → Place → Broken

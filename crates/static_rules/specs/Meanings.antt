@@ -8,7 +8,7 @@ use lib.ListN.{getD, set, replicate}
 use Rattle.base.specs.Choose.{if_then_else_}
 use Rattle.scopes.specs.Search.{firstToken}
 use Rattle.grammar.specs.Tree.{Item, Width, Statement}
-use Rattle.grammar.specs.Events.{Edge, opened, closed, entered, left, Entry, named, celled, itemed, valued, based, Phrase, aimed, driven, signed, given, joined, tested, limited, called, applied, argued, counted, Event, edge, route, entry, phrase, mark, eventsOf}
+use Rattle.grammar.specs.Events.{Edge, opened, closed, entered, left, Entry, named, celled, itemed, valued, based, Phrase, aimed, driven, signed, given, joined, tested, limited, called, applied, argued, counted, chosen, Event, edge, route, entry, phrase, mark, eventsOf}
 use Rattle.grammar.specs.Places.{within, body, Place, outward, along}
 use Rattle.static_rules.specs.Registers.{Registers, sixteen, noRegisters, addRegister, union}
 use Rattle.static_rules.specs.Functions.{isWritten, nine}
@@ -117,7 +117,7 @@ module _ (kinds values found : List ℕ) where
   meanEntry (valued t) p s = s
   meanEntry (based n) p s = openBase (ownIn p) (registerOf (meaningIn found s n)) n s
 
-  -- a product "also writes the register below"; of a function's arguments "IC, LA and LTR write the first"
+  -- a product "also writes the register below"; of a function's arguments "IC, LA and LTR write the first"; document 02, 3/13: "The case register counts as written"
   abbrev pub meanPhrase : Phrase → Place → Meant → Meant
   meanPhrase (aimed d) p s = targetWrites (meaningIn found s (d .name)) (λ r. r) (ownIn p) s
   meanPhrase (driven d) p s = targetWrites (meaningIn found s (d .name)) (λ r. r) (ownIn p) s
@@ -130,6 +130,7 @@ module _ (kinds values found : List ℕ) where
   meanPhrase (applied n) p s = s
   meanPhrase (argued n q a) p s = if isWritten (argumentOf (meaningIn found s n) q) then targetWrites (operandMeaning found (s .means) a) (λ r. r) (ownIn p) s else s
   meanPhrase (counted n k) p s = s
+  meanPhrase (chosen n) p s = targetWrites (meaningIn found s n) (λ r. r) (ownIn p) s
 
   unfoldable pub meanEvent : Event → Place → Meant → Meant
   meanEvent (edge x) p s = meanEdge x p s

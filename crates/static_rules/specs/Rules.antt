@@ -245,6 +245,12 @@ module _ (f : Tables) where
   argumentRules kept plainCell a = plainRules a
   argumentRules kept surplus a = unbroken
 
+  -- ── registers that the text takes for itself: of a base, of a CASE ──
+
+  -- "0 as base"; document 02, 3/13: "Register 0 is refusal 9. The case register counts as written, refusal 10 at its name."
+  unfoldable pub takenRules : List ℕ → ℕ → Broken
+  takenRules kept n = registerRule n ⊕ zeroRule n ⊕ writeRule kept (registerOf (meaningAt f n)) n
+
   -- ── declarations ──
 
   -- "11: bad initial value or one too many", of the values for which there is room; each that is too many is judged, and the first stands before the others
@@ -258,4 +264,4 @@ module _ (f : Tables) where
   countRule (some t) = rule (inRange 1 mostElements (valueAt f t)) 11 t
 
   unfoldable pub baseRules : List ℕ → ℕ → Broken
-  baseRules kept n = registerRule n ⊕ zeroRule n ⊕ writeRule kept (registerOf (meaningAt f n)) n ⊕ rule (leb (getD (f .opens) n 0) lastSegment) 12 n
+  baseRules kept n = takenRules kept n ⊕ rule (leb (getD (f .opens) n 0) lastSegment) 12 n

@@ -12,7 +12,7 @@ use Rattle.grammar.specs.Tree.{Designator, Operand, number, place, Sign, plain,
 use Rattle.grammar.specs.Derives.{isDesignator, isOperand, isCondition}
 use Rattle.grammar.specs.Pinned.{headOf, shapePinned, designatorPinned}
 use Rattle.grammar.proofs.Pinned.{pinned-designator, pinned-operand}
-use Rattle.grammar.specs.Events.{Edge, opened, closed, entered, left, Route, labelled, sent, Entry, named, celled, itemed, valued, based, Phrase, aimed, driven, signed, given, joined, tested, limited, called, applied, argued, counted, Mark, looped, otherwise, endedIf, endedElse, endedWhile, endedFor, Event, edge, route, entry, phrase, mark, indexNames, operandNames, conditionNames, phraseUses, uses, declares}
+use Rattle.grammar.specs.Events.{Edge, opened, closed, entered, left, Route, labelled, sent, Entry, named, celled, itemed, valued, based, Phrase, aimed, driven, signed, given, joined, tested, limited, called, applied, argued, counted, chosen, Mark, looped, otherwise, endedIf, endedElse, endedWhile, endedFor, listed, endedChoice, endedCase, Event, edge, route, entry, phrase, mark, indexNames, operandNames, conditionNames, phraseUses, uses, declares}
 use Rattle.grammar.specs.Texts.{isEvent}
 use Rattle.tape.specs.Events as E
 use Rattle.tape.specs.Tape.{shapeBy, shape, widthOf}
@@ -101,6 +101,7 @@ module _ (kinds : List ℕ) where
   used-phrase (applied n) i j h = refl
   used-phrase (argued n p a) i j h = used-operand E.ARGUED nothing (λ t. (refl, refl, refl, refl)) (λ t. refl) kinds a _ _ (h .1 .1)
   used-phrase (counted n c) i j h = refl
+  used-phrase (chosen n) i j h = refl
 
   pub uses-at : (e : Event) (i j : ℕ) → isEvent kinds e i j → usesAt (opOf e) (tokenOf e) ≡ uses e
   unfolding shapeAt formAt
@@ -123,3 +124,6 @@ module _ (kinds : List ℕ) where
   uses-at (mark (endedElse t)) i j h = refl
   uses-at (mark (endedWhile t)) i j h = refl
   uses-at (mark (endedFor v)) i j h = refl
+  uses-at (mark (listed c)) i j h = refl
+  uses-at (mark (endedChoice t)) i j h = refl
+  uses-at (mark (endedCase t)) i j h = refl

@@ -9,7 +9,7 @@ use lib.Dec.{T, eqb, ltb}
 use borrow.Author.Tests.{eqb-true, ltb-true, eq-eqb}
 use Rattle.base.proofs.Tests.{cases, is-true, and-left, and-right, never-true}
 use Rattle.grammar.specs.Tree.{Operand, number, place, Sign, plain, abs, neg, negAbs, Condition, compared, bare, Width, full, short, byte}
-use Rattle.grammar.specs.Events.{Edge, opened, closed, entered, left, Route, labelled, sent, Entry, named, celled, itemed, valued, based, Phrase, aimed, driven, signed, given, joined, tested, limited, called, applied, argued, counted, Mark, looped, otherwise, endedIf, endedElse, endedWhile, endedFor, Event, edge, route, entry, phrase, mark}
+use Rattle.grammar.specs.Events.{Edge, opened, closed, entered, left, Route, labelled, sent, Entry, named, celled, itemed, valued, based, Phrase, aimed, driven, signed, given, joined, tested, limited, called, applied, argued, counted, chosen, Mark, looped, otherwise, endedIf, endedElse, endedWhile, endedFor, listed, endedChoice, endedCase, Event, edge, route, entry, phrase, mark}
 use Rattle.tape.specs.Events as E
 use Rattle.tape.specs.Numbers.{EDGE, ROUTE, ENTRY, PHRASE, MARK, layerAt, formAt, familyAt}
 use Rattle.tape.specs.Tape.{shapeBy, widthOf}
@@ -98,6 +98,7 @@ told-phrase (called n) = tt
 told-phrase (applied n) = tt
 told-phrase (argued n p a) = told-operand E.ARGUED tt tt tt tt tt a
 told-phrase (counted n c) = tt
+told-phrase (chosen n) = tt
 
 told-mark : (m : Mark) → Told MARK (markCode m)
 unfolding layerAt formAt
@@ -107,6 +108,9 @@ told-mark (endedIf t) = tt
 told-mark (endedElse t) = tt
 told-mark (endedWhile t) = tt
 told-mark (endedFor v) = tt
+told-mark (listed c) = tt
+told-mark (endedChoice t) = tt
+told-mark (endedCase t) = tt
 
 told : (e : Event) → Told (layerOf e) (codeOf e)
 told (edge x) = told-edge x

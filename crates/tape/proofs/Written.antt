@@ -4,13 +4,13 @@ use mathlib.Core.List.{List, [], _∷_}
 use mathlib.Core.Option.{Option, none, some}
 use Prim.Native.Nat.{ℕ, _+_, _%_}
 use native.Mathlib.Omega.{arith}
-use Rattle.grammar.specs.Tree.{Designator, Operand, number, place, Sign, plain, abs, neg, negAbs, Term, Assignment, Condition, compared, bare, Register, Item, Width, Declaration, registers, cells, base, Statement, assign, call, apply, block, goto, null, ifThen, ifElse, while, for, Body, declare, procedure, items, Items, ended, label, item}
+use Rattle.grammar.specs.Tree.{Designator, Operand, number, place, Sign, plain, abs, neg, negAbs, Term, Assignment, Condition, compared, bare, Register, Item, Width, Declaration, registers, cells, base, Statement, assign, call, apply, block, goto, null, ifThen, ifElse, while, for, choose, Body, declare, procedure, items, Items, ended, label, item, Choices, over, choice}
 use Rattle.grammar.specs.Pinned.{headOf}
-use Rattle.grammar.specs.Events.{Phrase, tested, Event, phrase, mark, endedIf, otherwise, endedElse, endedWhile, each, eventsValue, eventsItem, eventsRegister, eventsDeclaration, eventsSign, eventsTerm, eventsChain, eventsArguments, eventsStatement, eventsBody, eventsItems, eventsOf}
+use Rattle.grammar.specs.Events.{Phrase, tested, Event, phrase, mark, endedIf, otherwise, endedElse, endedWhile, each, eventsValue, eventsItem, eventsRegister, eventsDeclaration, eventsSign, eventsTerm, eventsChain, eventsArguments, eventsStatement, eventsBody, eventsItems, eventsChoices, eventsOf}
 use Rattle.grammar.specs.Places.{Place, after, afterAll, along, Along}
 use Rattle.grammar.specs.Contexts.{Context, contextAfter, Complete, Suits, Coherent}
 use Rattle.tape.specs.Events as E
-use Rattle.tape.specs.Tape.{event, shape, tapeDesignator, tapeOperand, tapeCondition, tapeSign, tapeEach, tapeTerm, tapeAssignment, tapeValue, tapeItem, tapeRegister, cellsEvent, tapeDeclaration, tapeArgument, tapeStatement, tapeBody, tapeItems}
+use Rattle.tape.specs.Tape.{event, shape, tapeDesignator, tapeOperand, tapeCondition, tapeSign, tapeEach, tapeTerm, tapeAssignment, tapeValue, tapeItem, tapeRegister, cellsEvent, tapeDeclaration, tapeArgument, tapeStatement, tapeBody, tapeItems, tapeChoices}
 use Rattle.tape.specs.Pass.{pass}
 use Rattle.tape.specs.Written.{operandShape, opOf, tokenOf, tapeOf}
 use Rattle.tape.proofs.Pass.{pass-none, pass-event}
@@ -94,6 +94,7 @@ mutual
   same-statement (for t a v l x) k =
       cons _ (same-chain a _ ∙ ap (λ (o : List ℕ). tapeSign (a .sign) (tapeOperand E.FIRST (a .first) (tapeEach tapeTerm (a .rest) o)))
       (same-operand E.LIMIT l _ ∙ ap (tapeOperand E.LIMIT l) (same-statement x _)))
+  same-statement (choose t n xs) k = cons _ (cons _ (same-choices t xs _))
 
   same-body : (b : Body) → Same (eventsBody b) (tapeBody b)
   same-body (declare d b) k = same-declaration d _ ∙ ap (tapeDeclaration d) (same-body b k)
@@ -104,6 +105,10 @@ mutual
   same-items ended k = refl
   same-items (label l is) k = cons _ (same-items is k)
   same-items (item x is) k = same-statement x _ ∙ ap (tapeStatement x) (same-items is k)
+
+  same-choices : (t : ℕ) (xs : Choices) → Same (eventsChoices t xs) (tapeChoices t xs)
+  same-choices t over k = refl
+  same-choices t (choice x xs) k = same-statement x _ ∙ ap (tapeStatement x) (cons _ (same-choices t xs k))
 
 pub tree-tape : (x : Statement) → tapeStatement x [] ≡ tapeOf (eventsOf x)
 tree-tape x = sym (same-statement x [])

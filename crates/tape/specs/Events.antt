@@ -1,5 +1,5 @@
 -- The events of a tape, as numbers below EVENTS. To those of designators (TARGET, CONTROL) and operands (FIRST, TERM, COMPARED, LIMIT, ARGUED) their shape is added, to those of
--- cells (SINGLE-FULL, ARRAY-FULL) their width.
+-- cells (SINGLE-FULL, ARRAY-FULL) their width. In place of a token LISTED has how many statements its CASE chooses from.
 use Prim.Native.Nat.{ℕ}
 
 abbrev pub EVENTS : ℕ
@@ -122,6 +122,18 @@ ARRAY-BYTE = 66
 
 abbrev pub ARRAY-CHARACTER : ℕ
 ARRAY-CHARACTER = 67
+
+abbrev pub LISTED : ℕ
+LISTED = 68
+
+abbrev pub CHOSEN : ℕ
+CHOSEN = 69
+
+abbrev pub END-CHOICE : ℕ
+END-CHOICE = 70
+
+abbrev pub END-CASE : ℕ
+END-CASE = 71
 
 -- ── the width of cells ──
 

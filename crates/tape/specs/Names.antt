@@ -20,6 +20,7 @@ shapeAt op =
     if eqb op E.BASE then E.ALONE else
     if eqb op E.CALL then E.ALONE else
     if eqb op E.APPLIED then E.ALONE else
+    if eqb op E.CHOSEN then E.ALONE else
     if ltb op E.TARGET then E.NUMBER else
     if ltb op E.ABS then (op - E.TARGET) % 4 else
     if ltb op E.FIRST then E.NUMBER else

@@ -34,6 +34,7 @@ layerAt op =
     if ltb op E.APPLIED then MARK else
     if ltb op E.SINGLE-FULL then PHRASE else
     if leb op E.ARRAY-CHARACTER then ENTRY else
+    if eqb op E.CHOSEN then PHRASE else
     MARK
 
 -- ── families: numbers that differ in their form alone ──

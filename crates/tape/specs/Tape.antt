@@ -4,7 +4,8 @@ use mathlib.Core.List.{List, [], _∷_}
 use mathlib.Core.Bool.{true, false}
 use mathlib.Core.Option.{Option, none, some}
 use Prim.Native.Nat.{ℕ, _+_, _*_, _%_}
-use Rattle.grammar.specs.Tree.{Designator, Operand, number, place, Sign, plain, abs, neg, negAbs, Term, Assignment, Condition, compared, bare, Width, full, short, byte, Register, Item, Declaration, registers, cells, base, Statement, assign, call, apply, block, goto, null, ifThen, ifElse, while, for, Body, declare, procedure, items, Items, ended, label, item}
+use Rattle.grammar.specs.Tree.{Designator, Operand, number, place, Sign, plain, abs, neg, negAbs, Term, Assignment, Condition, compared, bare, Width, full, short, byte, Register, Item, Declaration, registers, cells, base, Statement, assign, call, apply, block, goto, null, ifThen, ifElse, while, for, choose, Body, declare, procedure, items, Items, ended, label, item, Choices, over, choice}
+use Rattle.grammar.specs.Events.{choicesCount}
 use Rattle.tape.specs.Events as E
 
 unfoldable pub event : ℕ → ℕ → ℕ
@@ -96,6 +97,7 @@ unfoldable mutual
   tapeStatement (ifElse t c x e y) k = tapeCondition c (tapeStatement x (event E.ELSE t ∷ tapeStatement y (event E.END-ELSE t ∷ k)))
   tapeStatement (while t c x) k = event E.WHILE t ∷ tapeCondition c (tapeStatement x (event E.END-WHILE t ∷ k))
   tapeStatement (for t a v l x) k = tapeAssignment E.CONTROL a (tapeOperand E.LIMIT l (tapeStatement x (event E.END-FOR v ∷ k)))
+  tapeStatement (choose t n xs) k = event E.LISTED (choicesCount xs) ∷ event E.CHOSEN n ∷ tapeChoices t xs (event E.END-CASE t ∷ k)
 
   pub tapeBody : Body → List ℕ → List ℕ
   tapeBody (declare d b) k = tapeDeclaration d (tapeBody b k)
@@ -106,3 +108,8 @@ unfoldable mutual
   tapeItems ended k = k
   tapeItems (label n is) k = event E.LABEL n ∷ tapeItems is k
   tapeItems (item x is) k = tapeStatement x (tapeItems is k)
+
+  -- of the CASE at token t
+  pub tapeChoices : (at : ℕ) → Choices → List ℕ → List ℕ
+  tapeChoices t over k = k
+  tapeChoices t (choice x xs) k = tapeStatement x (event E.END-CHOICE t ∷ tapeChoices t xs k)

@@ -4,7 +4,7 @@ use mathlib.Core.Option.{none, some}
 use Prim.Native.Nat.{ℕ, _+_}
 use Rattle.grammar.specs.Tree.{Designator, Operand, number, place, Sign, plain, abs, neg, negAbs, Condition, compared, bare}
 use Rattle.grammar.specs.Pinned.{headOf}
-use Rattle.grammar.specs.Events.{Edge, opened, closed, entered, left, Route, labelled, sent, Entry, named, celled, itemed, valued, based, Phrase, aimed, driven, signed, given, joined, tested, limited, called, applied, argued, counted, Mark, looped, otherwise, endedIf, endedElse, endedWhile, endedFor, Event, edge, route, entry, phrase, mark}
+use Rattle.grammar.specs.Events.{Edge, opened, closed, entered, left, Route, labelled, sent, Entry, named, celled, itemed, valued, based, Phrase, aimed, driven, signed, given, joined, tested, limited, called, applied, argued, counted, chosen, Mark, looped, otherwise, endedIf, endedElse, endedWhile, endedFor, listed, endedChoice, endedCase, Event, edge, route, entry, phrase, mark}
 use Rattle.tape.specs.Events as E
 use Rattle.tape.specs.Numbers.{EDGE, ROUTE, ENTRY, PHRASE, MARK}
 use Rattle.tape.specs.Tape.{event, shape, widthOf}
@@ -73,6 +73,7 @@ phraseCode (called n) = alone E.CALL n
 phraseCode (applied n) = alone E.APPLIED n
 phraseCode (argued n p a) = operandCode E.ARGUED a
 phraseCode (counted n c) = alone E.COUNTED n
+phraseCode (chosen n) = alone E.CHOSEN n
 
 abbrev pub markCode : Mark → Code
 markCode (looped t) = alone E.WHILE t
@@ -81,6 +82,9 @@ markCode (endedIf t) = alone E.END-IF t
 markCode (endedElse t) = alone E.END-ELSE t
 markCode (endedWhile t) = alone E.END-WHILE t
 markCode (endedFor v) = alone E.END-FOR v
+markCode (listed c) = alone E.LISTED c
+markCode (endedChoice t) = alone E.END-CHOICE t
+markCode (endedCase t) = alone E.END-CASE t
 
 abbrev pub codeOf : Event → Code
 codeOf (edge x) = edgeCode x

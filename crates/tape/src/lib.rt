@@ -81,6 +81,14 @@ pub const ARRAY_BYTE: u32 = 66;
 
 pub const ARRAY_CHARACTER: u32 = 67;
 
+pub const LISTED: u32 = 68;
+
+pub const CHOSEN: u32 = 69;
+
+pub const END_CHOICE: u32 = 70;
+
+pub const END_CASE: u32 = 71;
+
 // The width of cells.
 pub const FULL: u32 = 0;
 
@@ -163,6 +171,9 @@ pub fn layer(op: u32) -> u32
     if op <= ARRAY_CHARACTER {
         return ENTRY;
     }
+    if op == CHOSEN {
+        return PHRASE;
+    }
     MARK
 }
 
@@ -219,6 +230,9 @@ pub fn shape(op: u32) -> u32
         return ALONE;
     }
     if op == APPLIED {
+        return ALONE;
+    }
+    if op == CHOSEN {
         return ALONE;
     }
     if op < TARGET {

@@ -38,11 +38,12 @@ abbrev first : ℕ → ℕ → ℕ → Token
 first kind value place = token kind value (spot place 1 (place + 1))
 
 read :
-    map tokens ("R1:=_1+#FFOR ABCDEFGHIJK<=5THEN COMMENT @;@ 7" ∷ "COMMENTX : = " ∷ "BYTE BYTES CHARACTER" ∷ [])
+    map tokens ("R1:=_1+#FFOR ABCDEFGHIJK<=5THEN COMMENT @;@ 7" ∷ "COMMENTX : = " ∷ "BYTE BYTES CHARACTER" ∷ "CASE OFF OF" ∷ [])
     ≡ (first K.NAME 973 0 ∷ first K.BECOMES 0 2 ∷ first K.NUMBER 4294967295 4 ∷ first K.PLUS 0 6 ∷ first K.NUMBER 255 7 ∷ first K.OR 0 10
     ∷ first K.NAME (keyOf (bytes "ABCDEFGHIJL")) 13 ∷ first K.AT-MOST 0 24 ∷ first K.NUMBER 5 26 ∷ first K.THEN 0 27 ∷ first K.AT 0 42 ∷ [])
     ∷ (first K.NAME (keyOf (bytes "COMMENTX")) 0 ∷ first K.COLON 0 9 ∷ first K.EQUAL 0 11 ∷ first K.END-OF-TEXT 0 13 ∷ [])
-    ∷ (first K.BYTE 0 0 ∷ first K.NAME (keyOf (bytes "BYTES")) 5 ∷ first K.CHARACTER 0 11 ∷ first K.END-OF-TEXT 0 20 ∷ []) ∷ []
+    ∷ (first K.BYTE 0 0 ∷ first K.NAME (keyOf (bytes "BYTES")) 5 ∷ first K.CHARACTER 0 11 ∷ first K.END-OF-TEXT 0 20 ∷ [])
+    ∷ (first K.CASE 0 0 ∷ first K.NAME (keyOf (bytes "OFF")) 5 ∷ first K.OF 0 9 ∷ first K.END-OF-TEXT 0 11 ∷ []) ∷ []
 unfolding sameBytes runLen numberFrom walk fold wordKind comment nameOrWord number begins sign lexeme nextStep nextToken readFrom tokensOf
 read = refl
 

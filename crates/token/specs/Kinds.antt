@@ -112,6 +112,12 @@ BYTE = 34
 abbrev pub CHARACTER : ℕ
 CHARACTER = 35
 
+abbrev pub CASE : ℕ
+CASE = 36
+
+abbrev pub OF : ℕ
+OF = 37
+
 abbrev pub BECOMES : ℕ
 BECOMES = 64
 
@@ -167,14 +173,15 @@ abbrev pub AT : ℕ
 AT = 81
 
 -- "Reserved, compared whole: BEGIN END IF THEN ELSE WHILE DO FOR STEP UNTIL GOTO NULL COMMENT INTEGER LOGICAL SHORT ARRAY REGISTER SEGMENT BASE
--- PROCEDURE AND OR XOR ABS NEG SHLL SHRL SHLA SHRA OVERFLOW." Document 02, 1/13: "Add BYTE and CHARACTER cells".
+-- PROCEDURE AND OR XOR ABS NEG SHLL SHRL SHLA SHRA OVERFLOW." Document 02, 1/13: "Add BYTE and CHARACTER cells"; 3/13: "Add CASE register OF BEGIN".
 abbrev pub words : List (ℕ × String)
 words =
     (BEGIN, "BEGIN") ∷ (END, "END") ∷ (IF, "IF") ∷ (THEN, "THEN") ∷ (ELSE, "ELSE") ∷ (WHILE, "WHILE") ∷ (DO, "DO") ∷ (FOR, "FOR") ∷
     (STEP, "STEP") ∷ (UNTIL, "UNTIL") ∷ (GOTO, "GOTO") ∷ (NULL, "NULL") ∷ (COMMENT, "COMMENT") ∷ (INTEGER, "INTEGER") ∷
     (LOGICAL, "LOGICAL") ∷ (SHORT, "SHORT") ∷ (ARRAY, "ARRAY") ∷ (REGISTER, "REGISTER") ∷ (SEGMENT, "SEGMENT") ∷ (BASE, "BASE") ∷
     (PROCEDURE, "PROCEDURE") ∷ (AND, "AND") ∷ (OR, "OR") ∷ (XOR, "XOR") ∷ (ABS, "ABS") ∷ (NEG, "NEG") ∷ (SHLL, "SHLL") ∷ (SHRL, "SHRL") ∷
-    (SHLA, "SHLA") ∷ (SHRA, "SHRA") ∷ (OVERFLOW, "OVERFLOW") ∷ (BYTE, "BYTE") ∷ (CHARACTER, "CHARACTER") ∷ []
+    (SHLA, "SHLA") ∷ (SHRA, "SHRA") ∷ (OVERFLOW, "OVERFLOW") ∷ (BYTE, "BYTE") ∷ (CHARACTER, "CHARACTER") ∷
+    (CASE, "CASE") ∷ (OF, "OF") ∷ []
 
 -- "Signs, longest first: `:=` `<=` `>=` `^=` `++` `--` `+ - * = < > , ; : ( ) @`."
 abbrev pub signs : List (ℕ × String)

@@ -71,6 +71,10 @@ pub const BYTE: u8 = 34;
 
 pub const CHARACTER: u8 = 35;
 
+pub const CASE: u8 = 36;
+
+pub const OF: u8 = 37;
+
 pub const BECOMES: u8 = 64;
 
 pub const AT_MOST: u8 = 65;

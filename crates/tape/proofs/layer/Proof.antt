@@ -48,7 +48,11 @@ returns-11 : tie.Need-returns-11
 unfolding layerAt
 returns-11 c = search tests
 
+returns-12 : tie.Need-returns-12
+unfolding layerAt
+returns-12 c = search tests
+
 pub layer-spec : {M : Type 1} → statement M
 layer-spec =
     tie.close
-    (tie.spec returns returns-2 returns-3 returns-4 returns-5 returns-6 returns-7 returns-8 returns-9 returns-10 returns-11)
+    (tie.spec returns returns-2 returns-3 returns-4 returns-5 returns-6 returns-7 returns-8 returns-9 returns-10 returns-11 returns-12)

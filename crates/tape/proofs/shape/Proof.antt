@@ -44,7 +44,11 @@ returns-10 : tie.Need-returns-10
 unfolding shapeAt
 returns-10 c = search tests
 
+returns-11 : tie.Need-returns-11
+unfolding shapeAt
+returns-11 c = search tests
+
 pub shape-spec : {M : Type 1} → statement M
 shape-spec =
     tie.close
-    (tie.spec returns returns-2 returns-3 returns-4 returns-5 returns-6 returns-7 returns-8 returns-9 returns-10)
+    (tie.spec returns returns-2 returns-3 returns-4 returns-5 returns-6 returns-7 returns-8 returns-9 returns-10 returns-11)

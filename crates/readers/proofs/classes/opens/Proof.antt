@@ -10,7 +10,7 @@ use Rattle.readers.proofs.classes.opens.Statement.{statement}
 use Rattle.readers.proofs.classes.opens.Tie as tie
 
 returns : tie.Need-returns
-returns c = same-test (λ k. eqb k K.BEGIN || (eqb k K.IF || (eqb k K.WHILE || eqb k K.FOR))) (λ k. member k openers) tt (c .args .k) (search needs)
+returns c = same-test (λ k. eqb k K.BEGIN || (eqb k K.IF || (eqb k K.WHILE || (eqb k K.CASE || eqb k K.FOR)))) (λ k. member k openers) tt (c .args .k) (search needs)
 
 pub opens-spec : {M : Type 1} → statement M
 opens-spec = tie.close (tie.spec returns)

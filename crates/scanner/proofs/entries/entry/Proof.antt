@@ -138,8 +138,16 @@ unfolding entries entryAt
 returns-33 c = rw (c .match .keys33)
 
 returns-34 : tie.Need-returns-34
+unfolding entries entryAt
+returns-34 c = rw (c .match .keys34)
+
+returns-35 : tie.Need-returns-35
+unfolding entries entryAt
+returns-35 c = rw (c .match .keys35)
+
+returns-36 : tie.Need-returns-36
 unfolding entries
-returns-34 c = none-at _ entries _ (c .match .rest)
+returns-36 c = none-at _ entries _ (c .match .rest)
 
 pub entry-spec : {M : Type 1} → statement M
 entry-spec =
@@ -178,4 +186,6 @@ entry-spec =
     returns-31
     returns-32
     returns-33
-    returns-34)
+    returns-34
+    returns-35
+    returns-36)
