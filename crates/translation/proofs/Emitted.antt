@@ -14,8 +14,8 @@ use Rattle.base.proofs.Lists.{all-both}
 use Rattle.base.proofs.Tests.{both}
 use Rattle.token.specs.Kinds as K
 use Rattle.grammar.specs.Tree as T
-use Rattle.grammar.specs.Tree.{Designator, Operand, number, place, Sign, plain, abs, neg, negAbs, Term, Assignment, Condition, compared, bare, Width, full, short, byte, Statement, Body, Items}
-use Rattle.grammar.specs.Events.{Event, edge, phrase, mark, closed, left, given, limited, endedIf, otherwise, endedElse, endedWhile, endedFor, each, eventsValue, eventsItem, eventsRegister, eventsDeclaration, eventsSign, eventsTerm, eventsChain, eventsArguments, eventsStatement, eventsBody, eventsItems, eventsOf}
+use Rattle.grammar.specs.Tree.{Designator, Operand, number, place, Sign, plain, abs, neg, negAbs, Term, Assignment, Condition, compared, bare, Width, full, short, byte, Statement, Body, Items, Choices}
+use Rattle.grammar.specs.Events.{Event, edge, phrase, mark, closed, left, given, limited, endedIf, otherwise, endedElse, endedWhile, endedFor, endedChoice, endedCase, each, eventsValue, eventsItem, eventsRegister, eventsDeclaration, eventsSign, eventsTerm, eventsChain, eventsArguments, eventsStatement, eventsBody, eventsItems, eventsChoices, eventsOf}
 use Rattle.grammar.specs.Places.{Place, Along}
 use Rattle.scopes.specs.Broken.{_⊕_, rule}
 use Rattle.scopes.proofs.Joins.{quiet-left, quiet-right, rule-holds}
@@ -32,9 +32,9 @@ use Rattle.static_rules.proofs.Unbroken.{Unbroken}
 use Rattle.static_rules.proofs.Uses.{by-meaning}
 use Rattle.static_rules.proofs.Bases.{base-segment}
 use Rattle.translation.specs.Instructions.{Datum, Instruction, rowOf, loadRow, compareRow, timesRow, storeRow, column, shiftCode}
-use Rattle.translation.specs.Core.{Use, held, stored, absent, apply, signed, load, functionWith, functionOn, isToken, exitMask, returnOf, subscriptOf, indexOf, useBy, useOf, shiftBy, productTarget, termOf, chainOf, toRegister, sourceOf, numberOf, assignBy, assignmentOf, compareWith, testOf, maskOf, controlOf, functionCode, coreStatement, coreBody, coreItems}
+use Rattle.translation.specs.Core.{Use, held, stored, absent, apply, signed, load, functionWith, functionOn, isToken, exitMask, returnOf, subscriptOf, indexOf, useBy, useOf, shiftBy, productTarget, termOf, chainOf, toRegister, sourceOf, numberOf, assignBy, assignmentOf, compareWith, testOf, maskOf, controlOf, functionCode, coreStatement, coreBody, coreItems, coreChoices}
 use Rattle.translation.specs.Layout.{Layout, segmentLimit, offsetOf}
-use Rattle.translation.proofs.Ready.{Ready, ReadyDatum, ReadyCore, opcode-small, shift-small, mask-small}
+use Rattle.translation.proofs.Ready.{Ready, ReadyDatum, ReadyCore, ReadyArms, opcode-small, shift-small, mask-small}
 
 module _ (f : Tables) (l : Layout) (n : ℕ) (small : All Small (f .means))
     (within : (t : ℕ) (c : Cell) → meaningAt f t ≡ cell c → (v : ℕ) → v + elementSize (c .width) ≤ elementSize (c .width) * c .elements → offsetOf (l .placed) (c .name) + v < segmentLimit) where
@@ -398,6 +398,7 @@ module _ (f : Tables) (l : Layout) (n : ℕ) (small : All Small (f .means))
           ),
           (_, gs),
         )
+    core-made (T.choose t m xs) k p (c, (h, hs)) = let (s, (o, (g, gs))) = core-made-choices t xs (mark (endedCase t) ∷ k) p hs in ((register-at m, s), (_, gs))
 
     core-made-body : (x : Body) (k : List Event) (p : Place) → Quiet (eventsBody x k) p → ReadyCore l n (coreBody f x) × Later k
     core-made-body (T.declare (T.registers rs) x) k p h = let (o, g) = each-passes eventsRegister (λ r k p (q, s). (_, s)) rs (eventsBody x k) p h in core-made-body x k o g
@@ -416,6 +417,13 @@ module _ (f : Tables) (l : Layout) (n : ℕ) (small : All Small (f .means))
         let (r, (o, g)) = core-made x (eventsItems is k) p h in
         let (s, t) = core-made-items is k o g in
         ((r, s), t)
+
+    core-made-choices : (t : ℕ) (xs : Choices) (k : List Event) (p : Place) → Quiet (eventsChoices t xs k) p → ReadyArms l n (coreChoices f xs) × Later k
+    core-made-choices t T.over k p h = (tt, (p, h))
+    core-made-choices t (T.choice x xs) k p h =
+        let (r, (o, (g, gs))) = core-made x (mark (endedChoice t) ∷ eventsChoices t xs k) p h in
+        let (s, u) = core-made-choices t xs k o gs in
+        ((r, s), u)
 
   pub core-ready : (x : Statement) → Along (Unbroken f) (eventsOf x) [] → ReadyCore l n (coreStatement f x)
   core-ready x h = core-made x [] [] h .0

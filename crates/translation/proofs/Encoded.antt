@@ -9,7 +9,7 @@ use Rattle.base.specs.Lists.{_∈_, All}
 use Rattle.base.specs.Runs.{indexOf}
 use Rattle.base.proofs.Lists.{all-both}
 use Rattle.static_rules.specs.Meaning.{Cell, Based}
-use Rattle.translation.specs.Instructions.{Datum, element, literal, entry, Instruction, rr, rx, address, immediate, shift, branch, link, stop, addressOp}
+use Rattle.translation.specs.Instructions.{Datum, element, literal, entry, Instruction, rr, rx, address, immediate, shift, branch, link, indexed, stop, addressOp}
 use Rattle.translation.specs.Layout.{Layout, segmentLimit, offsetOf, literalsEnd}
 use Rattle.translation.specs.Bytes.{baseRegister, displacement, indexRegister, fourBytes, twoBytes, encode, encodeAll}
 use Rattle.translation.proofs.Literals.{IsNumber, Takes, index-lt}
@@ -48,6 +48,7 @@ module _ (l : Layout) (n : ℕ) (near : n < segmentLimit) (room : literalsEnd l 
   bytes-encode (shift op r s d) h t = let e = h .3 in four op r 0 s d (h .0) (h .1) (omega arith) (h .2) (omega arith)
   bytes-encode (branch m to) h t = let e = h .1 in four 0x47 m 0 15 to (omega arith) (h .0) (omega arith) (omega arith) (omega arith)
   bytes-encode (link r to) h t = let e = h .1 in four 0x45 r 0 15 to (omega arith) (h .0) (omega arith) (omega arith) (omega arith)
+  bytes-encode (indexed r to) h t = let e = h .1 in four 0x47 15 r 15 to (omega arith) (omega arith) (h .0) (omega arith) (omega arith)
   bytes-encode stop h t = omega arith
 
   pub bytes-encodeAll : (is : List Instruction) → All (Ready l n) is → ((i : Instruction) → i ∈ is → Literal i) → Bytes (encodeAll l is)

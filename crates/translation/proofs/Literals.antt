@@ -13,7 +13,7 @@ use Rattle.base.specs.Lists.{_∈_, member}
 use Rattle.base.specs.Runs.{runLen, indexOf}
 use Rattle.base.proofs.Tests.{cases, never-true}
 use Rattle.base.proofs.Lists.{in-left, in-right, in-either, member-in, in-member}
-use Rattle.translation.specs.Instructions.{Datum, element, literal, entry, Instruction, rr, rx, address, immediate, shift, branch, link, stop}
+use Rattle.translation.specs.Instructions.{Datum, element, literal, entry, Instruction, rr, rx, address, immediate, shift, branch, link, indexed, stop}
 use Rattle.translation.specs.Layout.{needs, literalsFrom}
 
 -- ── the place of a number that is in a list ──
@@ -61,6 +61,7 @@ Takes (immediate op n a) v = IsNumber a v
 Takes (shift op r s n) v = ⊥
 Takes (branch m t) v = ⊥
 Takes (link r t) v = ⊥
+Takes (indexed r t) v = ⊥
 Takes stop v = ⊥
 
 needs-keeps : (a : Datum) (seen : List ℕ) (v : ℕ) → v ∈ seen → v ∈ needs a seen
@@ -94,6 +95,7 @@ literals-keep (immediate op n a ∷ is) seen v h = literals-keep is (needs a see
 literals-keep (shift op r s n ∷ is) seen v h = literals-keep is seen v h
 literals-keep (branch m t ∷ is) seen v h = literals-keep is seen v h
 literals-keep (link r t ∷ is) seen v h = literals-keep is seen v h
+literals-keep (indexed r t ∷ is) seen v h = literals-keep is seen v h
 literals-keep (stop ∷ is) seen v h = literals-keep is seen v h
 
 pub literals-have : (is : List Instruction) (seen : List ℕ) (i : Instruction) (v : ℕ) → i ∈ is → Takes i v → v ∈ literalsFrom seen is
@@ -109,6 +111,7 @@ literals-have (j ∷ is) seen i v (inr h) t = onward j (literals-have is)
     onward (shift op r s n) f = f seen i v h t
     onward (branch m x) f = f seen i v h t
     onward (link r x) f = f seen i v h t
+    onward (indexed r x) f = f seen i v h t
     onward stop f = f seen i v h t
 literals-have (j ∷ is) seen i v (inl h) t = here j (subst (λ (k : Instruction). Takes k v) h t)
   where
@@ -120,6 +123,7 @@ literals-have (j ∷ is) seen i v (inl h) t = here j (subst (λ (k : Instruction
     here (shift op r s n) k = absurd k
     here (branch m x) k = absurd k
     here (link r x) k = absurd k
+    here (indexed r x) k = absurd k
     here stop k = absurd k
 
 -- ── they only grow at the end, so that a number's place among those so far is its place among all ──
@@ -164,6 +168,7 @@ literals-grow (immediate op n a ∷ is) seen = grows-on (needs-grow a seen) (lit
 literals-grow (shift op r s n ∷ is) seen = literals-grow is seen
 literals-grow (branch m t ∷ is) seen = literals-grow is seen
 literals-grow (link r t ∷ is) seen = literals-grow is seen
+literals-grow (indexed r t ∷ is) seen = literals-grow is seen
 literals-grow (stop ∷ is) seen = literals-grow is seen
 
 -- the place of a number that was needed is its place among all that are needed later

@@ -4,7 +4,7 @@ use mathlib.Core.List.{List, [], _∷_, _++_}
 use Prim.Native.Nat.{ℕ, _+_, _*_, _/_, _%_}
 use Rattle.base.specs.Runs.{indexOf}
 use Rattle.static_rules.specs.Meanings.{dataBase}
-use Rattle.translation.specs.Instructions.{Datum, element, literal, entry, Instruction, rr, rx, address, immediate, shift, branch, link, stop, addressOp, branchOp, linkOp, stopOp}
+use Rattle.translation.specs.Instructions.{Datum, element, literal, entry, Instruction, rr, rx, address, immediate, shift, branch, link, indexed, stop, addressOp, branchOp, linkOp, stopOp, always}
 use Rattle.translation.specs.Layout.{Layout, offsetOf}
 
 -- "Program base is register 15."
@@ -32,7 +32,7 @@ twoBytes op r s = op ∷ (r * 16 + s) ∷ []
 abbrev pub fourBytes : ℕ → ℕ → ℕ → ℕ → ℕ → List ℕ
 fourBytes op r x b d = op ∷ (r * 16 + x) ∷ (b * 16 + d / 256) ∷ d % 256 ∷ []
 
--- of MVI and CLI opcode, the number, then base and displacement: the number is v / 16 · 16 + v % 16; "`89 r0 00 n`, or by register `89 r0 s0 00`"; "Branch `47 m0` to a displacement from 15"; "Call: `45 r0`"; "The last instruction is `0A 00`."
+-- of MVI and CLI opcode, the number, then base and displacement: the number is v / 16 · 16 + v % 16; "`89 r0 00 n`, or by register `89 r0 s0 00`"; "Branch `47 m0` to a displacement from 15"; "Call: `45 r0`"; "`47 Fr` indexed by r"; "The last instruction is `0A 00`."
 unfoldable pub encode : Layout → Instruction → List ℕ
 encode l (rr op r s) = twoBytes op r s
 encode l (rx op r a) = fourBytes op r (indexRegister a) (baseRegister a) (displacement l a)
@@ -41,6 +41,7 @@ encode l (immediate op v a) = fourBytes op (v / 16) (v % 16) (baseRegister a) (d
 encode l (shift op r s n) = fourBytes op r 0 s n
 encode l (branch m t) = fourBytes branchOp m 0 programBase t
 encode l (link r t) = fourBytes linkOp r 0 programBase t
+encode l (indexed r t) = fourBytes branchOp always r programBase t
 encode l stop = twoBytes stopOp 0 0
 
 unfoldable pub encodeAll : Layout → List Instruction → List ℕ

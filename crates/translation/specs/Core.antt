@@ -9,7 +9,7 @@ use Rattle.base.specs.Choose.{if_then_else_}
 use Rattle.base.specs.Lists.{member}
 use Rattle.token.specs.Kinds as K
 use Rattle.grammar.specs.Tree as T
-use Rattle.grammar.specs.Tree.{Designator, Operand, number, place, Sign, plain, abs, neg, negAbs, Term, Assignment, Condition, compared, bare, Width, full, Statement, Body, Items}
+use Rattle.grammar.specs.Tree.{Designator, Operand, number, place, Sign, plain, abs, neg, negAbs, Term, Assignment, Condition, compared, bare, Width, full, Statement, Body, Items, Choices}
 use Rattle.static_rules.specs.Functions as F
 use Rattle.static_rules.specs.Functions.{Form, Function, arity}
 use Rattle.static_rules.specs.Meaning.{Meaning, nothing, register, cell, routine, function, byTarget, registerOf, functionOf, longOperand}
@@ -17,25 +17,32 @@ use Rattle.static_rules.specs.Tables.{Tables, kindAt, valueAt, meaningAt}
 use Rattle.static_rules.specs.Rules.{negative, bareName, shifts}
 use Rattle.translation.specs.Instructions.{Datum, element, literal, Instruction, rr, rx, address, immediate, shift, opcode, rowOf, loadRow, compareRow, timesRow, storeRow, column, absOp, negOp, negAbsOp, shiftCode, falseMask}
 
--- a label or a procedure is known by the token of its name
-pub data Core : Type 0 where
-  skip : Core
-  run : List Instruction → Core
-  seq : Core → Core → Core
-  mark : (label : ℕ) → Core → Core
-  -- the statements of a block, in which its labels are known
-  scope : Core → Core
-  jump : (label : ℕ) → Core
-  call : (name return : ℕ) → Core
-  -- a procedure's body, and the rest of its block
-  procedure : (name return : ℕ) → Core → Core → Core
-  -- a base declaration for segment k, and the rest of its block
-  base : (r k : ℕ) → Core → Core
-  -- a condition's instructions and its mask when false
-  when loop : List Instruction → (mask : ℕ) → Core → Core
-  either : List Instruction → (mask : ℕ) → Core → Core → Core
-  -- FOR: assignment, compare, exit mask, register and step
-  count : List Instruction → List Instruction → (mask r step : ℕ) → Core → Core
+mutual
+  -- a label or a procedure is known by the token of its name
+  pub data Core : Type 0 where
+    skip : Core
+    run : List Instruction → Core
+    seq : Core → Core → Core
+    mark : (label : ℕ) → Core → Core
+    -- the statements of a block, in which its labels are known
+    scope : Core → Core
+    jump : (label : ℕ) → Core
+    call : (name return : ℕ) → Core
+    -- a procedure's body, and the rest of its block
+    procedure : (name return : ℕ) → Core → Core → Core
+    -- a base declaration for segment k, and the rest of its block
+    base : (r k : ℕ) → Core → Core
+    -- a condition's instructions and its mask when false
+    when loop : List Instruction → (mask : ℕ) → Core → Core
+    either : List Instruction → (mask : ℕ) → Core → Core → Core
+    -- FOR: assignment, compare, exit mask, register and step
+    count : List Instruction → List Instruction → (mask r step : ℕ) → Core → Core
+    -- CASE: the register, and the statements from which it chooses
+    select : (r : ℕ) → Arms → Core
+
+  pub data Arms : Type 0 where
+    last : Arms
+    arm : Core → Arms → Arms
 
 -- ── operands ──
 
@@ -187,6 +194,7 @@ module _ (f : Tables) where
     coreStatement (T.while t c x) = loop (testOf c) (maskOf c) (coreStatement x)
     coreStatement (T.for t a v l x) =
         count (toRegister (controlOf a) a) (compareWith (controlOf a) l) (exitMask (valueAt f v)) (controlOf a) (valueAt f v) (coreStatement x)
+    coreStatement (T.choose t n xs) = select (registerOf (meaningAt f n)) (coreChoices xs)
 
     pub coreBody : Body → Core
     coreBody (T.declare (T.registers rs) x) = coreBody x
@@ -199,3 +207,7 @@ module _ (f : Tables) where
     coreItems T.ended = skip
     coreItems (T.label l is) = mark l (coreItems is)
     coreItems (T.item x is) = seq (coreStatement x) (coreItems is)
+
+    pub coreChoices : Choices → Arms
+    coreChoices T.over = last
+    coreChoices (T.choice x xs) = arm (coreStatement x) (coreChoices xs)

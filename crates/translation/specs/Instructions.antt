@@ -16,7 +16,7 @@ pub data Datum : Type 0 where
   entry : (k : ℕ) → Datum
 
 -- opcode, r and s; opcode, r and an operand in storage; r and the address of an operand, which is not touched; opcode, a number and an operand of one byte; a shift of r
--- by the register s, or by n with s 0; a branch, and a branch that links, to an address in the program; the end
+-- by the register s, or by n with s 0; a branch, and a branch that links, to an address in the program; an always-branch to an address that is indexed by r; the end
 pub data Instruction : Type 0 where
   rr : (op r s : ℕ) → Instruction
   rx : (op r : ℕ) → Datum → Instruction
@@ -25,6 +25,7 @@ pub data Instruction : Type 0 where
   shift : (op r s n : ℕ) → Instruction
   branch : (mask to : ℕ) → Instruction
   link : (r to : ℕ) → Instruction
+  indexed : (r to : ℕ) → Instruction
   stop : Instruction
 
 abbrev pub size : Instruction → ℕ
@@ -35,6 +36,7 @@ size (immediate op v a) = 4
 size (shift op r s n) = 4
 size (branch mask to) = 4
 size (link r to) = 4
+size (indexed r to) = 4
 size stop = 2
 
 abbrev pub sizes : List Instruction → ℕ
@@ -99,6 +101,10 @@ negOp = 0x13
 
 abbrev pub negAbsOp : ℕ
 negAbsOp = 0x11
+
+-- "LTR 12"
+abbrev pub testOp : ℕ
+testOp = 0x12
 
 -- "LA 41"
 abbrev pub addressOp : ℕ

@@ -11,7 +11,7 @@ use Rattle.scopes.specs.Broken.{unbroken, rule, _⊕_}
 use Rattle.grammar.specs.Tree.{Width}
 use Rattle.static_rules.specs.Meaning.{Cell, elementSize}
 use Rattle.static_rules.specs.Meanings.{Filled}
-use Rattle.translation.specs.Instructions.{Datum, element, literal, entry, Instruction, rr, rx, address, immediate, shift, branch, link, stop}
+use Rattle.translation.specs.Instructions.{Datum, element, literal, entry, Instruction, rr, rx, address, immediate, shift, branch, link, indexed, stop}
 
 -- "A segment is at most 4,096 bytes, every cell included."
 abbrev pub segmentLimit : ℕ
@@ -100,6 +100,7 @@ literalsFrom seen (immediate op v a ∷ is) = literalsFrom (needs a seen) is
 literalsFrom seen (shift op r s n ∷ is) = literalsFrom seen is
 literalsFrom seen (branch m t ∷ is) = literalsFrom seen is
 literalsFrom seen (link r t ∷ is) = literalsFrom seen is
+literalsFrom seen (indexed r t ∷ is) = literalsFrom seen is
 literalsFrom seen (stop ∷ is) = literalsFrom seen is
 
 -- ── both ──

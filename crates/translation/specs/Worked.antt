@@ -159,6 +159,31 @@ functions =
     ∷ refuses (bytes "BEGIN BYTE B; PROCEDURE P(R5); IC(R7)(B); PROCEDURE S(R7); P; END @") 10 59
     ∷ []
 
+-- ── Document 02, 3/13, CASE: its code; an empty list; the literal of the count before those of the statements; inside a CASE of the same register; as a true part; no label in the list; register
+-- 0; a protected register, and one that is written through a call; one nesting level, at CASE ──
+
+abbrev pub deepCase : ℕ → List ℕ
+deepCase n = times n (bytes "BEGIN ") ++ (bytes "CASE R1 OF BEGIN END; " ++ (times n (bytes "END; ") ++ bytes "@"))
+
+abbrev pub choices : List Case
+choices =
+    makes (bytes "BEGIN CASE R3 OF BEGIN R1 := R2; NULL; END; END @")
+    (program (hex "5930E010 4720F028 1233 47C0F028 89300002 47F3F012 47F0F01E 47F0F024 1812 47F0F028 47F0F028 0A00") ∷ literals "00000002" ∷ [])
+    ∷ makes (bytes "BEGIN CASE R1 OF BEGIN END; END @") (program (hex "5910E010 4720F016 1211 47C0F016 89100002 47F1F012 0A00") ∷ literals "00000000" ∷ [])
+    ∷ makes (bytes "BEGIN CASE R1 OF BEGIN R2 := 7; R3 := 2; END; END @")
+    (program (hex "5910E010 4720F02E 1211 47C0F02E 89100002 47F1F012 47F0F01E 47F0F026 5820E014 47F0F02E 5830E010 47F0F02E 0A00") ∷ literals "00000002 00000007" ∷ [])
+    ∷ makes (bytes "BEGIN CASE R1 OF BEGIN CASE R1 OF BEGIN NULL; NULL; END; END; END @")
+    (program (hex "5910E010 4720F044 1211 47C0F044 89100002 47F1F012 47F0F01A 5910E014 4720F040 1211 47C0F040 89100002 47F1F02C 47F0F038 47F0F03C 47F0F040 47F0F040 47F0F044 0A00")
+    ∷ literals "00000001 00000002" ∷ [])
+    ∷ makes (bytes "BEGIN IF = THEN CASE R1 OF BEGIN NULL; END ELSE R2 := R3; END @")
+    (program (hex "4770F026 5910E010 4720F022 1211 47C0F022 89100002 47F1F016 47F0F01E 47F0F022 47F0F028 1823 0A00") ∷ literals "00000001" ∷ [])
+    ∷ refuses (bytes "BEGIN CASE R1 OF BEGIN L: NULL; END; END @") 4 24
+    ∷ refuses (bytes "BEGIN INTEGER REGISTER Z(0); CASE Z OF BEGIN END; END @") 9 34
+    ∷ refuses (bytes "BEGIN CASE RE OF BEGIN END; END @") 10 11
+    ∷ refuses (bytes "BEGIN PROCEDURE P(R5); CASE R7 OF BEGIN END; PROCEDURE S(R7); P; END @") 10 62
+    ∷ refuses (deepCase 64) 5 384
+    ∷ []
+
 -- ── Document 02, 2/13, lines and columns: behind newlines between tokens and in a comment; byte 13 ends no line; at the end of the text, behind its last newline;
 -- at place 0; of the first of several; 0 and 0 of an acceptance and of 1, 15 and 16 ──
 
@@ -203,18 +228,18 @@ lines =
 
 -- ── computed ──
 
-worked : Hold cases × Hold limits × Hold slips × Hold traps × Hold functions × (answered lines ≡ numbered lines)
+worked : Hold cases × Hold limits × Hold slips × Hold traps × Hold functions × (answered lines ≡ numbered lines) × Hold choices
 unfolding sameBytes runLen numberFrom bytesOf walk fold X.wordKind X.comment X.nameOrWord X.number X.begins X.sign X.lexeme X.nextStep X.nextToken X.readFrom
     X.tokensOf R.andThen R.look R.next R.want R.wantOne G.designatorOf G.operand G.condition G.terms G.signOf G.assignedTo G.assignmentOf G.numbers G.cellItem G.registerItem
-    G.listOf G.typeOf G.cellsOf G.afterType G.declaration G.arguments G.targetOf G.assignOr G.afterName G.statementOf G.itemsOf G.bodyOf G.ifOf G.constructOf G.statement G.program grammatical
+    G.listOf G.typeOf G.cellsOf G.afterType G.declaration G.arguments G.targetOf G.assignOr G.afterName G.statementOf G.itemsOf G.choicesOf G.bodyOf G.ifOf G.constructOf G.statement G.program grammatical
     Ev.each Ev.eventsItem Ev.eventsDeclaration Ev.eventsSign Ev.eventsChain Ev.eventsArguments Ev.eventsStatement Pl.along B.rule B._⊕_ S.inBlock S.find N.noteFound N.useName
     N.declareName N.declareNames N.useNames N.nameEvent L.noteLabel L.setLabel L.labelEvent Q.flags Q.has Q.addRegister Q.union Q.spares F.functionAt M.write M.writeText
     M.callWrites M.targetWrites M.openBase M.addCell M.meanEvent J.registerRule J.zeroRule J.writeRule J.indexRules J.subscriptRules J.placeRules J.noByte J.operandRules
-    J.onlyRegister J.shiftRules J.noShort J.productRules J.termRules J.targetRules J.controlRules J.conditionRules J.callRules J.writtenRules J.byteRules J.cellRules J.plainRules J.argumentRules J.valueRules J.baseRules
-    K.ruleEvent I.opcode I.shiftCode I.falseMask C.useOf C.shiftBy C.termOf C.chainOf C.toRegister C.assignmentOf C.compareWith C.testOf C.functionCode C.coreStatement D.sizeOf
-    D.own D.markAt D.code D.instructions Y.valueBytes Y.placeCell Y.placeCells Y.offsetOf Y.literalsFrom Y.layout E.encode E.encodeAll H.fill H.words H.firstData
+    J.onlyRegister J.shiftRules J.noShort J.productRules J.termRules J.targetRules J.controlRules J.conditionRules J.callRules J.writtenRules J.byteRules J.cellRules J.plainRules J.argumentRules J.takenRules J.valueRules
+    J.baseRules K.ruleEvent I.opcode I.shiftCode I.falseMask C.useOf C.shiftBy C.termOf C.chainOf C.toRegister C.assignmentOf C.compareWith C.testOf C.functionCode C.coreStatement D.sizeOf
+    D.own D.markAt D.table D.code D.instructions Y.valueBytes Y.placeCell Y.placeCells Y.offsetOf Y.literalsFrom Y.layout E.encode E.encodeAll H.fill H.words H.firstData
     H.dataOf H.segments T.named T.labelled T.meant T.make T.finish T.onRules T.translated T.inRoom translate O.hexDigit objectText
-worked = (refl, refl, refl, refl, refl, refl)
+worked = (refl, refl, refl, refl, refl, refl, refl)
 
 pub cases-hold : Hold cases
 cases-hold = worked .0
@@ -233,3 +258,6 @@ functions-hold = worked .4
 
 pub lines-hold : answered lines ≡ numbered lines
 lines-hold = worked .5
+
+pub choices-hold : Hold choices
+choices-hold = worked .6
