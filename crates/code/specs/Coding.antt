@@ -1,7 +1,7 @@
 -- The program's bytes and the literals along a tape. A byte keeps eight bits, and what lies past the image is not laid: positions stay exact.
-use mathlib.Core.List.{List, [], map}
+use mathlib.Core.List.{List, [], _∷_, map}
 use mathlib.Core.Path.{_≡_}
-use Prim.Native.Nat.{ℕ, _+_, _*_, _%_, _<_, _≤_}
+use Prim.Native.Nat.{ℕ, _+_, _*_, _/_, _%_, _<_, _≤_}
 use lib.ListN.{length, take}
 use lib.Seq.{sets}
 use Rattle.base.specs.Runs.{indexOf}
@@ -10,13 +10,14 @@ use Rattle.static_rules.specs.Meanings.{dataBase}
 use Rattle.translation.specs.Instructions.{literal}
 use Rattle.translation.specs.Layout.{needs}
 use Rattle.translation.specs.Bytes.{twoBytes, fourBytes}
-use Rattle.tape.specs.Pass.{pass}
+use Rattle.tape.specs.Events as E
 use Rattle.ledger.specs.Book.{Wide, Thin}
 use Rattle.emit.specs.declared.Code.{Code}
 use Rattle.emit.specs.declared.Code.the-variants.{Two, Four, Literal}
 use Rattle.emit.specs.declared.Writing.{Writing}
 use Rattle.emit.specs.Codes.{listOf, codeSize, stopCode}
 use Rattle.emit.specs.Events.{writingAfter, codesBy}
+use Rattle.emit.specs.Along.{starts, tableAlong}
 use Rattle.code.specs.Places.{noWriting}
 
 abbrev pub bytesIn : List ℕ → List ℕ
@@ -65,20 +66,40 @@ pub record Coding : Type 0 where
 abbrev pub codingOf : Laid → Writing → Coding
 codingOf l w = record { laid = l; writing = w }
 
-unfoldable pub codeEvent : (start : ℕ) (kinds values found goes means under opens offsets marks : List ℕ) (op t : ℕ) → Coding → Coding
-codeEvent start kinds values found goes means under opens offsets marks op t s = record {
-  laid = layAll start (listOf (codesBy kinds values found goes means under opens offsets marks op t (s .writing))) (s .laid);
-  writing = writingAfter values found means under offsets op t (s .writing);
-}
+module _ (start : ℕ) (kinds values found goes means under opens offsets marks : List ℕ) where
+  -- an event before others: its instructions, and the table of a CASE, which hangs on what follows
+  unfoldable pub codeEvent : (op t : ℕ) → (later : List ℕ) → Coding → Coding
+  codeEvent op t later s =
+      let v = writingAfter values found means under offsets op t (s .writing) in
+      record {
+        laid =
+            layAll start (tableAlong kinds values found goes means under opens offsets marks op t v later)
+                (layAll start (listOf (codesBy kinds values found goes means under opens offsets marks op t (s .writing))) (s .laid));
+        writing = v;
+      }
+
+  unfoldable pub codeFrom : Coding → (tape : List ℕ) → Coding
+  codeFrom s [] = s
+  codeFrom s (e ∷ es) = codeFrom (codeEvent (e % E.EVENTS) (e / E.EVENTS) es s) es
 
 -- along a whole tape, over the image as it was lent; "The last instruction is `0A 00`."
 unfoldable pub codeAlong : (start : ℕ) (kinds values found goes means under opens offsets marks : List ℕ) (image tape : List ℕ) → Laid
 codeAlong start kinds values found goes means under opens offsets marks image tape =
-    layCode start stopCode (pass (codeEvent start kinds values found goes means under opens offsets marks) (codingOf (laidOf 0 image []) noWriting) tape .laid)
+    layCode start stopCode (codeFrom start kinds values found goes means under opens offsets marks (codingOf (laidOf 0 image []) noWriting) tape .laid)
 
 -- by the ledger
-abbrev pub codeStep : (start : ℕ) (kinds : List ℕ) → Wide → Thin → (op t : ℕ) → Coding → Coding
-codeStep start kinds w b = codeEvent start kinds (w .values) (b .found) (b .goes) (w .means) (w .under) (b .opens) (w .offsets) (b .written)
+abbrev pub codeRest : (start : ℕ) (kinds : List ℕ) → Wide → Thin → Coding → (tape : List ℕ) → Coding
+codeRest start kinds w b = codeFrom start kinds (w .values) (b .found) (b .goes) (w .means) (w .under) (b .opens) (w .offsets) (b .written)
+
+abbrev pub startsIn : (kinds : List ℕ) → Wide → Thin → (depth from p : ℕ) → Writing → (tape : List ℕ) → List ℕ
+startsIn kinds w b = starts kinds (w .values) (b .found) (b .goes) (w .means) (w .under) (b .opens) (w .offsets) (b .written)
+
+abbrev pub tableIn : (kinds : List ℕ) → Wide → Thin → (op t : ℕ) → Writing → (later : List ℕ) → List Code
+tableIn kinds w b = tableAlong kinds (w .values) (b .found) (b .goes) (w .means) (w .under) (b .opens) (w .offsets) (b .written)
+
+-- the addresses of a program's code stay below this, whatever tape there is
+abbrev pub codeLimit : ℕ
+codeLimit = 1152921504606846976
 
 abbrev pub codeIn : (start : ℕ) (kinds : List ℕ) → Wide → Thin → (image tape : List ℕ) → Laid
 codeIn start kinds w b image tape = codeAlong start kinds (w .values) (b .found) (b .goes) (w .means) (w .under) (b .opens) (w .offsets) (b .written) image tape

@@ -12,8 +12,9 @@ use Rattle.tape.specs.Pass.{pass}
 use Rattle.ledger.specs.Book.{Wide, Thin, onThin, thinLimit}
 use Rattle.emit.specs.declared.Use.{Use}
 use Rattle.emit.specs.declared.Writing.{Writing}
-use Rattle.emit.specs.Codes.{listOf, codeSizes, heldIn}
-use Rattle.emit.specs.Events.{writingAfter, codesBy}
+use Rattle.emit.specs.Codes.{heldIn}
+use Rattle.emit.specs.Events.{writingAfter}
+use Rattle.emit.specs.Along.{eventBytes}
 pub use Rattle.emit.specs.Events.{noWriting}
 
 -- all of an address, and what the ledger keeps of a number
@@ -31,7 +32,7 @@ unfoldable pub markClosing : (family t to : ℕ) → List ℕ → List ℕ
 markClosing family t to marks =
     if eqb family E.END-FOR then set marks (t - 1) to else
     if eqb family E.END-PROCEDURE || eqb family E.END-ELSE then set marks (t + 1) to else
-    if (eqb family E.PROCEDURE || eqb family E.ELSE) || (eqb family E.END-IF || eqb family E.END-WHILE) then set marks t to else
+    if (eqb family E.PROCEDURE || eqb family E.ELSE) || ((eqb family E.END-IF || eqb family E.END-WHILE) || (eqb family E.CHOSEN || eqb family E.END-CASE)) then set marks t to else
     marks
 
 unfoldable pub markAfter : (family t from to : ℕ) → Use → List ℕ → List ℕ
@@ -52,7 +53,7 @@ placingOf at w marks = record { at = at; writing = w; marks = marks }
 
 module _ (keep : ℕ → ℕ) (kinds values found goes means under opens offsets : List ℕ) where
   abbrev pub behind : (op t : ℕ) → Placing → ℕ
-  behind op t s = s .at + codeSizes (listOf (codesBy kinds values found goes means under opens offsets (s .marks) op t (s .writing)))
+  behind op t s = s .at + eventBytes kinds values found goes means under opens offsets (s .marks) op t (s .writing)
 
   unfoldable pub placeEvent : (op t : ℕ) → Placing → Placing
   placeEvent op t s = record {

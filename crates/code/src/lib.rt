@@ -1,8 +1,9 @@
 // Document 01, "Code": where branches go, then the program's bytes and the literals that it needs, each in one loop along the tape.
 ghost use mathlib.Core.Path.{_≡_};
-ghost use Prim.Native.Nat.{ℕ, _+_, _-_, _*_, _%_, _≤_, _<_};
-ghost use Rattle.tape.specs.Events.{TOKEN-LIMIT};
-ghost use lib.ListN.{length, take, set};
+ghost use Prim.Native.Nat.{ℕ, _+_, _-_, _*_, _/_, _%_, _≤_, _<_};
+ghost use mathlib.Core.List.{List};
+ghost use Rattle.tape.specs.Events.{EVENTS, TOKEN-LIMIT};
+ghost use lib.ListN.{length, getD, take, drop, set};
 ghost use lib.Seq.{sets};
 ghost use Rattle.base.specs.Runs.{indexOf};
 ghost use Rattle.translation.specs.Instructions.{literal};
@@ -11,12 +12,15 @@ ghost use Rattle.translation.specs.Bytes.{twoBytes, fourBytes};
 ghost use Rattle.emit.specs.Codes.{listOf, codeSize};
 ghost use Rattle.ledger.specs.Book.{wideOf, thinOf, putIn, thinLimit};
 ghost use Rattle.code.specs.Places.{markLimit, markClosing, markAfter, onMarks, placesIn};
-ghost use Rattle.code.specs.Coding.{bytesIn, Laid, laidBy, layCode, layAll, codeIn, Holds};
+ghost use Rattle.code.specs.Coding.{bytesIn, Laid, laidOf, laidBy, layCode, layAll, codeIn, tableIn, codeLimit, Holds};
 use arrays::put_wide;
 use base::less;
+use emit::ALWAYS;
+use emit::BRANCH;
 use emit::Code;
 use emit::Codes;
 use emit::DATA_BASE;
+use emit::PROGRAM_BASE;
 use emit::Use;
 use emit::Writing;
 use emit::code_size;
@@ -25,8 +29,10 @@ use emit::held;
 use emit::nth;
 use emit::size;
 use emit::stop;
+use emit::table_size;
 use ledger::THIN_LIMIT;
 use ledger::put_written;
+use ledger::written;
 
 // ── addresses ──
 
@@ -58,7 +64,8 @@ fn mark_closing(family: u32, t: usize, to: usize, thin: &mut [u16])
         return;
     }
     let opens = (family == tape::PROCEDURE) | (family == tape::ELSE);
-    if opens | ((family == tape::END_IF) | (family == tape::END_WHILE)) {
+    let ends = (family == tape::END_IF) | (family == tape::END_WHILE);
+    if opens | (ends | ((family == tape::CHOSEN) | (family == tape::END_CASE))) {
         put_mark(thin, t, to);
     }
 }
@@ -102,7 +109,7 @@ pub fn places(tape: &[u32], kinds: &[u8], wide: &[u64], thin: &mut [u16]) -> usi
         let t = tape::token(e);
         let made = emit::event(kinds, wide, thin, op, t, w);
         let codes = made.codes;
-        let q = p + size(codes);
+        let q = p + (size(codes) + table_size(op, w));
         let aim = w.aim;
         mark_after(
             tape::family(op),
@@ -132,7 +139,7 @@ fn put_byte(image: &mut [u8], i: usize, v: u64)
 
 // "Two bytes: opcode, r·16+s."
 fn lay_two(image: &mut [u8], at: usize, op: u64, r: u64, s: u64)
-    requires { ⌜ at < 4294967296 ⌝ }
+    requires { ⌜ at < codeLimit ⌝ }
     ensures { λ _. ⌜ now (image .exit) ≡ sets (now (image .entry)) at (bytesIn (twoBytes op r s)) ⌝ }
 {
     put_byte(image, at, op);
@@ -141,7 +148,7 @@ fn lay_two(image: &mut [u8], at: usize, op: u64, r: u64, s: u64)
 
 // "Four bytes: opcode, r·16+index, base·16 + displacement/256, displacement mod 256."
 fn lay_four(image: &mut [u8], at: usize, op: u64, r: u64, x: u64, b: u64, d: u64)
-    requires { ⌜ at < 4294967296 ⌝ }
+    requires { ⌜ at < codeLimit ⌝ }
     ensures { λ _. ⌜ now (image .exit) ≡ sets (now (image .entry)) at (bytesIn (fourBytes op r x b d)) ⌝ }
 {
     put_byte(image, at, op);
@@ -200,7 +207,7 @@ fn lay_code(
     n: usize,
     c: Code,
 ) -> usize
-    requires { ⌜ (n ≤ length (now literals)) × (length (now literals) ≤ 4294967296) × (start < 1099511627776) × (p < 4294967296) ⌝ }
+    requires { ⌜ (n ≤ length (now literals)) × (length (now literals) ≤ 4294967296) × (start < 1099511627776) × (p < codeLimit) ⌝ }
     ensures { λ r. ⌜ (n < length (now (literals .entry)) → laidBy (p + codeSize c) r (now (image .exit)) (now (literals .exit)) ≡ layCode start c
         (laidBy p n (now (image .entry)) (now (literals .entry)))) × (n ≡ length (now (literals .entry)) → r ≡ n) × (r ≤ n + 1) ⌝ }
 {
@@ -229,10 +236,10 @@ pub struct Reached {
 
 // Lays the instructions of an event, one behind the other.
 fn lay_codes(image: &mut [u8], literals: &mut [u64], start: u64, from: Reached, m: Codes) -> Reached
-    requires { ⌜ (from .literals ≤ length (now literals)) × (length (now literals) ≤ 4294967296) × (start < 1099511627776) × (from .length + 8 < 4294967296) ⌝ }
+    requires { ⌜ (from .literals ≤ length (now literals)) × (length (now literals) ≤ 4294967296) × (start < 1099511627776) × (from .length + 24 < codeLimit) ⌝ }
     ensures { λ r. ⌜ ((s : Laid) → Holds (length (now (literals .entry))) (from .length) (from .literals) (now (image .entry)) (now (literals .entry)) s
         → Holds (length (now (literals .entry))) (r .length) (r .literals) (now (image .exit)) (now (literals .exit)) (layAll start (listOf m) s))
-        × (r .literals ≤ from .literals + 2) × (r .literals ≤ length (now (literals .entry))) × (r .length ≤ from .length + 8) ⌝ }
+        × (r .literals ≤ from .literals + 6) × (r .literals ≤ length (now (literals .entry))) × (r .length ≤ from .length + 24) ⌝ }
 {
     let last = count(m);
     let mut p: usize = from.length;
@@ -250,6 +257,58 @@ fn lay_codes(image: &mut [u8], literals: &mut [u64], start: u64, from: Reached, 
     }
 }
 
+// Behind the head of a CASE, the event at i, its table: "one always-branch each", to where its statements start, which are passed for it. Where the table ends.
+fn lay_table(
+    tape: &[u32],
+    i: usize,
+    kinds: &[u8],
+    wide: &[u64],
+    thin: &[u16],
+    w: Writing,
+    image: &mut [u8],
+    at: usize,
+) -> usize
+    requires { ⌜ (i < length (now tape)) × (length (now tape) ≤ 2 * TOKEN-LIMIT) × (at + 4 * length (now tape) < codeLimit) ⌝ }
+    ensures { λ r. ⌜ ((start : ℕ) (literals : List ℕ) → laidOf r (now (image .exit)) literals ≡ layAll start
+        (tableIn (now (kinds .entry)) (wideOf (now (wide .entry))) (thinOf (now (thin .entry))) (getD (now (tape .entry)) i 0 % EVENTS) (getD (now (tape .entry)) i 0 / EVENTS) w
+        (drop (i + 1) (now (tape .entry)))) (laidOf at (now (image .entry)) literals)) × (r ≤ at + 4 * length (now (tape .entry))) ⌝ }
+{
+    let e = tape[i];
+    if tape::family(tape::op(e)) != tape::CHOSEN {
+        return at;
+    }
+    let mut from = written(thin, tape::token(e));
+    let mut p = from;
+    let mut depth: usize = 1;
+    let mut v = w;
+    let mut end = at;
+    let mut j = i + 1;
+    while (j < tape.len()) & (depth != 0) {
+        let e = tape[j];
+        let op = tape::op(e);
+        let family = tape::family(op);
+        let made = emit::event(kinds, wide, thin, op, tape::token(e), v);
+        p += size(made.codes) + table_size(op, v);
+        let next = made.writing;
+        v = next;
+        j += 1;
+        if family == tape::CHOSEN {
+            depth += 1;
+            continue;
+        }
+        if family == tape::END_CASE {
+            depth -= 1;
+            continue;
+        }
+        if (family == tape::END_CHOICE) & (depth == 1) {
+            lay_four(image, end, BRANCH, ALWAYS, 0, PROGRAM_BASE, from as u64);
+            end += 4;
+            from = p;
+        }
+    }
+    end
+}
+
 // The program's bytes in its image, and the literals that it needs.
 pub fn write_code(
     tape: &[u32],
@@ -263,7 +322,7 @@ pub fn write_code(
     requires { ⌜ (length (now tape) ≤ 2 * TOKEN-LIMIT) × (length (now literals) ≤ 4294967296) × (start < 1099511627776) ⌝ }
     ensures { λ r. ⌜ Holds (length (now (literals .entry))) (r .length) (r .literals) (now (image .exit)) (now (literals .exit))
         (codeIn start (now (kinds .entry)) (wideOf (now (wide .entry))) (thinOf (now (thin .entry))) (now (image .entry)) (now (tape .entry)))
-        × (r .literals ≤ 2 * length (now (tape .entry)) + 1) ⌝ }
+        × (r .literals ≤ 6 * length (now (tape .entry)) + 1) ⌝ }
 {
     let mut at = Reached {
         length: 0,
@@ -281,8 +340,13 @@ pub fn write_code(
         let t = tape::token(e);
         let made = emit::event(kinds, wide, thin, op, t, w);
         let codes = made.codes;
-        at = lay_codes(image, literals, start, at, codes);
+        let from = lay_codes(image, literals, start, at, codes);
         let next = made.writing;
+        let length = lay_table(tape, i, kinds, wide, thin, next, image, from.length);
+        at = Reached {
+            length,
+            literals: from.literals,
+        };
         w = next;
         i += 1;
     }

@@ -1,8 +1,9 @@
 -- What the events of declarations and statements make: the definition's instruction, or none. Branches go where `marks` says. Assumes nothing.
-use mathlib.Core.Path.{_≡_, refl, ap}
+use mathlib.Core.Path.{_≡_, refl, ap, _∙_}
 use mathlib.Core.Bool.{true}
 use mathlib.Core.List.{List, [], _∷_, _++_}
-use Prim.Native.Nat.{ℕ, _+_}
+use Prim.Native.Nat.{ℕ, _+_, _-_, _*_}
+use native.Mathlib.Omega.{arith}
 use lib.ListN.{getD}
 use Rattle.base.specs.Lists.{member}
 use Rattle.base.proofs.Lists.{all-both, each}
@@ -13,13 +14,16 @@ use Rattle.static_rules.specs.Tables.{Tables, valueAt, meaningAt}
 use Rattle.tables.specs.Packed.{meaningsOf}
 use Rattle.translation.specs.Instructions.{Instruction, rr, rx, branch, link, literal, entry, opcode, loadRow, addRow, returnOp, always}
 use Rattle.translation.specs.Core.{returnOf}
+use Rattle.translation.specs.Code.{headSize, caseHead}
+use Rattle.emit.specs.declared.Codes.the-variants.{Head}
+use Rattle.emit.specs.declared.Use.the-variants.{Absent}
 use Rattle.emit.specs.declared.Writing.{Writing}
 use Rattle.emit.specs.Codes.{listOf, applyCode, isAbsent, applyThen, returnCode, linkCode, baseCode}
-use Rattle.emit.specs.Events.{registerAt, goalAt, writtenAfter, stepCodes, otherCodes, codesOf, writingAfter, codesBy}
+use Rattle.emit.specs.Events.{registerAt, goalAt, noWriting, writtenAfter, stepCodes, chosenCodes, otherCodes, codesOf, writingAfter, codesBy}
 use Rattle.emit.specs.Along.{codeFor}
 use Rattle.emit.proofs.Operands.{register-at, return-at}
 use Rattle.emit.proofs.Written.{coded}
-use Rattle.emit.proofs.Walks.{Makes}
+use Rattle.emit.proofs.Walks.{Plain, Makes}
 
 -- the events of declarations but those of bases and procedures
 abbrev pub declaring : List ℕ
@@ -28,7 +32,7 @@ declaring =
     ∷ E.VALUE ∷ []
 
 abbrev others : List ℕ
-others = E.BLOCK ∷ E.END-BLOCK ∷ E.LABEL ∷ E.WHILE ∷ E.END-ELSE ∷ E.END-IF ∷ []
+others = E.BLOCK ∷ E.END-BLOCK ∷ E.LABEL ∷ E.WHILE ∷ E.END-ELSE ∷ E.END-IF ∷ E.END-CASE ∷ []
 
 -- the events of declarations and statements that make nothing
 abbrev pub idle : List ℕ
@@ -45,7 +49,17 @@ module _ (f : Tables) (means under offsets marks : List ℕ) where
       each (λ x. Adds x t w []) idle
       (all-both (λ x. Adds x t w []) declaring others
       ((refl, refl), ((refl, refl), ((refl, refl), ((refl, refl), ((refl, refl), ((refl, refl), ((refl, refl), ((refl, refl), ((refl, refl), ((refl, refl), ((refl, refl), tt)))))))))))
-      ((refl, refl), ((refl, refl), ((refl, refl), ((refl, refl), ((refl, refl), ((refl, refl), tt)))))))
+      ((refl, refl), ((refl, refl), ((refl, refl), ((refl, refl), ((refl, refl), ((refl, refl), ((refl, refl), tt))))))))
+      op h
+
+  -- none of them has a table
+  pub idle-plain : (op : ℕ) → member op idle ≡ true → Plain op
+  unfolding formAt
+  idle-plain op h =
+      each Plain idle
+      (all-both Plain declaring others
+      (refl, (refl, (refl, (refl, (refl, (refl, (refl, (refl, (refl, (refl, (refl, tt)))))))))))
+      (refl, (refl, (refl, (refl, (refl, (refl, (refl, tt))))))))
       op h
 
   -- around a procedure
@@ -66,6 +80,15 @@ module _ (f : Tables) (means under offsets marks : List ℕ) where
   unfolding listOf codeFor stepCodes applyThen isAbsent applyCode formAt registerAt goalAt otherCodes codesOf codesBy writtenAfter writingAfter
   end-for-adds v w = (refl, refl)
 
+  pub end-choice-adds : (t : ℕ) (w : Writing) → Adds E.END-CHOICE t w (branch always (getD marks t 0) ∷ [])
+  unfolding listOf codeFor formAt registerAt goalAt otherCodes codesOf codesBy writtenAfter writingAfter
+  end-choice-adds t w = (refl, refl)
+
+  -- before a CASE's register, how many statements there are
+  pub listed-makes : (c : ℕ) (w : Writing) → Makes f means under offsets marks E.LISTED c w [] (record { aim = Absent; sign = 0; arguments = c })
+  unfolding listOf formAt registerAt goalAt otherCodes codesOf codesBy writtenAfter writingAfter
+  listed-makes c w = (refl, refl)
+
   pub goto-adds : (n : ℕ) (w : Writing) → Adds E.GOTO n w (branch always (getD marks (getD (f .goes) n 0) 0) ∷ [])
   unfolding listOf codeFor formAt registerAt goalAt otherCodes codesOf codesBy writtenAfter writingAfter
   goto-adds n w = (refl, refl)
@@ -83,3 +106,11 @@ module _ (f : Tables) (means under offsets marks : List ℕ) where
     pub call-adds : (n : ℕ) (w : Writing) → Adds E.CALL n w (link (returnOf (meaningAt f n)) (getD marks (getD (f .found) n 0) 0) ∷ [])
     unfolding listOf codeFor formAt registerAt goalAt otherCodes codesOf codesBy writtenAfter writingAfter
     call-adds n w = (ap (λ (r : ℕ). linkCode r (getD marks (getD (f .found) n 0) 0) ∷ []) (return-at f means under table n), refl)
+
+    -- the register of a CASE: what it makes but its table, which starts at p
+    pub chosen-makes : (n p end : ℕ) (w : Writing) → getD marks n 0 ≡ p + headSize (w .arguments) → getD marks (n - 1) 0 ≡ end
+        → Makes f means under offsets marks E.CHOSEN n w (coded offsets (caseHead (registerOf (meaningAt f n)) (w .arguments) p end)) noWriting
+    unfolding listOf codeFor formAt registerAt goalAt chosenCodes codesOf codesBy writtenAfter writingAfter
+    chosen-makes n p end w e g =
+        let at : getD marks n 0 - (4 * w .arguments + 4) ≡ p + 18 = omega arith in
+        (ap (λ (r : ℕ). listOf (Head r (w .arguments) (getD marks n 0 - (4 * w .arguments + 4)) (getD marks (n - 1) 0))) (register-at f means under table n) ∙ rw (at, g), refl)

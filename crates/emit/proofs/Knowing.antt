@@ -19,6 +19,6 @@ module _
     unfolding codesBy
     codes-known eg em = rw (em, eg, er, eu, es, ef)
 
-    pub written-known : {v′ : Writing} → v′ ≡ writtenAfter family v u register → v′ ≡ writingIn w b op t v
+    pub written-known : {v′ : Writing} → v′ ≡ writtenAfter family t v u register → v′ ≡ writingIn w b op t v
     unfolding writingAfter
     written-known ew = rw (ew, er, eu, es, ef)

@@ -1,4 +1,4 @@
--- The instructions of an event one by one: the first, the second, none; their sizes as a loop sums them. Assumes nothing.
+-- The instructions of an event one by one: none behind the last; their sizes as a loop sums them. Assumes nothing.
 use mathlib.Core.Path.{_≡_, refl, ap}
 use mathlib.Core.List.{List, [], _∷_}
 use Prim.Native.Nat.{ℕ, zero, suc, _+_, _≤_, _<_}
@@ -8,14 +8,20 @@ use Rattle.base.proofs.Parts.{drop-turn}
 use Rattle.emit.specs.declared.Code.{Code}
 use Rattle.emit.specs.Codes.{blank, codeSize, codeSizes}
 
+past : (cs : List Code) (k : ℕ) → length cs ≤ k → blank ≡ getD cs k blank
+past [] k h = refl
+past (c ∷ cs) zero h = absurd (omega arith)
+past (c ∷ cs) (suc k) h = past cs k (omega arith)
+
 pub past-one : (c : Code) (k : ℕ) → (k ≡ 0 → ⊥) → blank ≡ getD (c ∷ []) k blank
-past-one c zero n = absurd (n refl)
-past-one c (suc k) n = refl
+past-one c k a = past (c ∷ []) k (omega arith)
 
 pub past-two : (c d : Code) (k : ℕ) → (k ≡ 0 → ⊥) → (k ≡ 1 → ⊥) → blank ≡ getD (c ∷ d ∷ []) k blank
-past-two c d zero n m = absurd (n refl)
-past-two c d (suc zero) n m = absurd (m refl)
-past-two c d (suc (suc k)) n m = refl
+past-two c d k a b = past (c ∷ d ∷ []) k (omega arith)
+
+pub past-six : (c d e f g h : Code) (k : ℕ) → (k ≡ 0 → ⊥) → (k ≡ 1 → ⊥) → (k ≡ 2 → ⊥) → (k ≡ 3 → ⊥) → (k ≡ 4 → ⊥) → (k ≡ 5 → ⊥)
+    → blank ≡ getD (c ∷ d ∷ e ∷ f ∷ g ∷ h ∷ []) k blank
+past-six c d e f g h k a b x y z w = past (c ∷ d ∷ e ∷ f ∷ g ∷ h ∷ []) k (omega arith)
 
 module _ (cs : List Code) (k size : ℕ) where
   pub sizes-turn : (z : ℕ) (c : Code) → k < length cs → c ≡ getD cs k blank → z ≡ codeSize c → size + codeSizes (drop k cs) ≡ codeSizes cs

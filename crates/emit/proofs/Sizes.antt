@@ -3,7 +3,7 @@ use mathlib.Core.Path.{_≡_, refl, ap, ap₂, _∙_}
 use mathlib.Core.List.{List, [], _∷_, _++_}
 use Prim.Native.Nat.{ℕ, _+_}
 use native.Mathlib.Omega.{arith}
-use Rattle.translation.specs.Instructions.{element, literal, entry, Datum, Instruction, rr, rx, address, immediate, shift, branch, link, stop, size, sizes}
+use Rattle.translation.specs.Instructions.{element, literal, entry, Datum, Instruction, rr, rx, address, immediate, shift, branch, link, indexed, stop, size, sizes}
 use Rattle.emit.specs.declared.Code.{Code}
 use Rattle.emit.specs.Codes.{codeSize, codeSizes}
 use Rattle.emit.specs.Along.{codeAt, codeFor}
@@ -29,6 +29,7 @@ size-is place (immediate op v a) = four-bytes place op _ _ a
 size-is place (shift op r s n) = refl
 size-is place (branch m t) = refl
 size-is place (link r t) = refl
+size-is place (indexed r t) = refl
 size-is place stop = refl
 
 pub coded-sizes : (offsets : List ℕ) (is : List Instruction) → codeSizes (coded offsets is) ≡ sizes is

@@ -1,12 +1,14 @@
 -- A walk along a tape that takes in the instructions of each event: over an assignment and over a condition it takes in the definition's instructions with
 -- the places of cells, and over a use. `along` is such a walk, and so is the pass of addresses, but where it sets an address. Assumes nothing.
 use mathlib.Core.Path.{_≡_, refl, sym, ap, ap₂, _∙_}
-use mathlib.Core.Bool.{Bool, true}
+use mathlib.Core.Bool.{Bool, true, false}
 use mathlib.Core.List.{List, [], _∷_, _++_}
 use Prim.Native.Nat.{ℕ, _+_, _-_, _%_}
 use native.Mathlib.Omega.{arith}
+use lib.Dec.{eqb}
 use lib.ListN.{getD}
 use Rattle.base.specs.Lists.{member}
+use Rattle.base.proofs.Lists.{each}
 use Rattle.grammar.specs.Tree.{Designator, Operand, Sign, plain, abs, neg, negAbs, Term, Assignment, Condition, compared, bare}
 use Rattle.grammar.specs.Derives.{isOperand, isCondition, areTerms, isAssignment, areArguments}
 use Rattle.grammar.specs.Pinned.{headOf}
@@ -37,6 +39,13 @@ unmarking = E.TARGET ∷ E.CONTROL ∷ E.ABS ∷ E.NEG ∷ E.NEG-ABS ∷ E.FIRST
 
 abbrev pub unmarked : ℕ → Bool
 unmarked op = member (familyAt op) unmarking
+
+-- the event of a CASE alone has a table
+abbrev pub Plain : (op : ℕ) → Type 0
+Plain op = eqb (familyAt (op % E.EVENTS)) E.CHOSEN ≡ false
+
+pub no-table : (family : ℕ) → member family unmarking ≡ true → eqb family E.CHOSEN ≡ false
+no-table family q = each (λ (x : ℕ). eqb x E.CHOSEN ≡ false) unmarking (refl, (refl, (refl, (refl, (refl, (refl, (refl, (refl, (refl, (refl, (refl, (refl, tt)))))))))))) family q
 
 -- an instruction of the code table, and another behind it
 then-list : (row r : ℕ) (u : Use) (c : Code) → listOf (applyThen row r u c) ≡ listOf (applyCodes row r u) ++ (c ∷ [])

@@ -1,26 +1,55 @@
 -- The instructions along a tape, and how the definition's instructions are laid: with the places of cells, but for a literal, whose place is found then.
-use mathlib.Core.List.{List, [], _∷_, _++_}
-use Prim.Native.Nat.{ℕ, _+_, _*_, _/_, _%_}
+use mathlib.Core.List.{List, [], _∷_, _++_, map}
+use mathlib.Core.Bool.{_&&_}
+use Prim.Native.Nat.{ℕ, suc, _+_, _-_, _*_, _/_, _%_}
+use lib.Dec.{eqb}
+use lib.ListN.{getD}
+use Rattle.base.specs.Choose.{if_then_else_}
 use Rattle.grammar.specs.Tree.{Sign, plain, abs, neg, negAbs, Assignment}
 use Rattle.tape.specs.Events as E
+use Rattle.tape.specs.Numbers.{familyAt}
 use Rattle.tape.specs.Tape.{shape}
 use Rattle.tables.specs.Packed.{registerIn, packedAt}
 use Rattle.static_rules.specs.Meanings.{dataBase}
 use Rattle.translation.specs.Bytes.{indexRegister}
-use Rattle.translation.specs.Instructions.{Datum, element, literal, entry, Instruction, rr, rx, address, immediate, shift, branch, link, stop, addressOp}
+use Rattle.translation.specs.Instructions.{Datum, element, literal, entry, Instruction, rr, rx, address, immediate, shift, branch, link, indexed, stop, addressOp, always}
 use Rattle.emit.specs.declared.Use.the-variants.{Held}
 use Rattle.emit.specs.declared.Code.{Code}
 use Rattle.emit.specs.declared.Code.the-variants.{Two, Four, Literal}
 use Rattle.emit.specs.declared.Writing.{Writing}
-use Rattle.emit.specs.Codes.{listOf, branchCode, linkCode, stopCode}
-use Rattle.emit.specs.Events.{placeIn, writingAfter, codesBy}
+use Rattle.emit.specs.Codes.{listOf, codeSizes, branchCode, indexedCode, linkCode, stopCode}
+use Rattle.emit.specs.Events.{placeIn, tableBytes, writingAfter, codesBy}
 
--- along a tape, with the assignment or use that is written
-unfoldable pub along : (kinds values found goes means under opens offsets marks : List ℕ) → Writing → List ℕ → List Code
-along kinds values found goes means under opens offsets marks w [] = []
-along kinds values found goes means under opens offsets marks w (e ∷ es) =
-    listOf (codesBy kinds values found goes means under opens offsets marks (e % E.EVENTS) (e / E.EVENTS) w)
-    ++ along kinds values found goes means under opens offsets marks (writingAfter values found means under offsets (e % E.EVENTS) (e / E.EVENTS) w) es
+module _ (kinds values found goes means under opens offsets marks : List ℕ) where
+  -- how many bytes an event makes, the table of a CASE among them
+  abbrev pub eventBytes : (op t : ℕ) → Writing → ℕ
+  eventBytes op t w = codeSizes (listOf (codesBy kinds values found goes means under opens offsets marks op t w)) + tableBytes (familyAt op) w
+
+  -- ── the table of a CASE: where each of its statements starts ──
+
+  -- along the tape behind its head, at address p, where the statement at hand starts at `from`; inside d CASEs, which is 1 in its own and 0 behind it
+  unfoldable pub starts : (depth from p : ℕ) → Writing → List ℕ → List ℕ
+  starts d from p w [] = []
+  starts d from p w (e ∷ es) =
+      let op = e % E.EVENTS in
+      let q = p + eventBytes op (e / E.EVENTS) w in
+      let v = writingAfter values found means under offsets op (e / E.EVENTS) w in
+      if eqb d 0 then [] else
+      if eqb (familyAt op) E.CHOSEN then starts (suc d) from q v es else
+      if eqb (familyAt op) E.END-CASE then starts (d - 1) from q v es else
+      if eqb (familyAt op) E.END-CHOICE && eqb d 1 then from ∷ starts d q q v es else
+      starts d from q v es
+
+  -- "the table, one always-branch each"; the first statement starts behind it
+  unfoldable pub tableAlong : (op t : ℕ) → Writing → List ℕ → List Code
+  tableAlong op t w es = if eqb (familyAt op) E.CHOSEN then map (branchCode always) (starts 1 (getD marks t 0) (getD marks t 0) w es) else []
+
+  -- along a tape, with the assignment or use that is written
+  unfoldable pub along : Writing → List ℕ → List Code
+  along w [] = []
+  along w (e ∷ es) =
+      let v = writingAfter values found means under offsets (e % E.EVENTS) (e / E.EVENTS) w in
+      listOf (codesBy kinds values found goes means under opens offsets marks (e % E.EVENTS) (e / E.EVENTS) w) ++ (tableAlong (e % E.EVENTS) (e / E.EVENTS) v es ++ along v es)
 
 -- ── the definition's instructions, with the places of cells ──
 
@@ -37,6 +66,7 @@ codeFor place (immediate op v a) = codeAt place op (v / 16) (v % 16) a
 codeFor place (shift op r s n) = Four op r 0 s n
 codeFor place (branch m t) = branchCode m t
 codeFor place (link r t) = linkCode r t
+codeFor place (indexed r t) = indexedCode r t
 codeFor place stop = stopCode
 
 -- ── the assignment that is written after its tape ──

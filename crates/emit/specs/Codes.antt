@@ -12,21 +12,34 @@ use Rattle.token.specs.Kinds as K
 use Rattle.tape.specs.Events as E
 use Rattle.static_rules.specs.Rules.{shifts}
 use Rattle.static_rules.specs.Meanings.{dataBase}
-use Rattle.translation.specs.Instructions.{opcode, rowOf, loadRow, timesRow, storeRow, absOp, negOp, negAbsOp, branchOp, linkOp, returnOp, stopOp, shiftCode, always}
+use Rattle.translation.specs.Instructions.{opcode, rowOf, loadRow, timesRow, compareRow, storeRow, absOp, negOp, negAbsOp, testOp, branchOp, linkOp, returnOp, stopOp, shiftCode, always}
 use Rattle.translation.specs.Bytes.{programBase}
 use Rattle.emit.specs.declared.Use.{Use}
 use Rattle.emit.specs.declared.Use.the-variants.{Absent, Held, Number, Stored}
 use Rattle.emit.specs.declared.Code.{Code}
 use Rattle.emit.specs.declared.Code.the-variants.{Two, Four, Literal}
 use Rattle.emit.specs.declared.Codes.{Codes}
-use Rattle.emit.specs.declared.Codes.the-variants.{None, One, Both}
+use Rattle.emit.specs.declared.Codes.the-variants.{None, One, Both, Head}
+
+-- ── branches ──
+
+-- "Branch `47 m0` to a displacement from 15"
+abbrev pub branchCode : (mask to : ℕ) → Code
+branchCode mask to = Four branchOp mask 0 programBase to
+
+-- "`47 Fr` indexed by r"
+abbrev pub indexedCode : (r to : ℕ) → Code
+indexedCode r to = Four branchOp always r programBase to
 
 -- ── lists ──
 
+-- of a CASE: "compare with the count as a literal, branch mask 2 to the end; LTR, branch mask 12 to the end; SHLL by 2; `47 Fr` indexed by r"
 unfoldable pub listOf : Codes → List Code
 listOf None = []
 listOf (One c) = c ∷ []
 listOf (Both c d) = c ∷ d ∷ []
+listOf (Head r n at end) =
+    Literal (opcode compareRow 1) r 0 n ∷ branchCode 2 end ∷ Two testOp r r ∷ branchCode 12 end ∷ Four (shiftCode K.SHLL) r 0 0 2 ∷ indexedCode r at ∷ []
 
 -- what stands for an instruction where there is none
 abbrev pub blank : Code
@@ -160,10 +173,6 @@ functionCodes op r v (Number n) = One (Literal op (halfOf op (v / 16) r) (halfOf
 functionCodes op r v (Stored w x b d) = One (Four op (halfOf op (v / 16) r) (halfOf op (v % 16) x) b d)
 
 -- ── the others ──
-
--- "Branch `47 m0` to a displacement from 15"
-abbrev pub branchCode : (mask to : ℕ) → Code
-branchCode mask to = Four branchOp mask 0 programBase to
 
 -- "Call: `45 r0` to the body."
 abbrev pub linkCode : (r to : ℕ) → Code

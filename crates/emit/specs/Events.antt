@@ -1,9 +1,9 @@
 -- The instructions of an event. Where branches go stands in `marks`, by token: a label's name, its statement; a procedure's name, its body, and behind it at the
 -- next token; IF and WHILE, where a false condition goes, and at the next token behind an ELSE part, or the condition of the loop; a STEP's number, the compare,
--- and at the token before it behind the loop, at the token after it the control register.
+-- and at the token before it behind the loop, at the token after it the control register; CASE, behind it, and at its register's name its first statement.
 use mathlib.Core.List.{List}
 use mathlib.Core.Bool.{_||_}
-use Prim.Native.Nat.{ℕ, _+_, _-_, _/_, _%_}
+use Prim.Native.Nat.{ℕ, _+_, _-_, _*_, _/_, _%_}
 use lib.Dec.{eqb, ltb}
 use lib.ListN.{getD}
 use Rattle.base.specs.Choose.{if_then_else_}
@@ -19,7 +19,7 @@ use Rattle.ledger.specs.Book.{Wide, Thin}
 use Rattle.emit.specs.declared.Use.{Use}
 use Rattle.emit.specs.declared.Use.the-variants.{Absent, Held, Number, Stored}
 use Rattle.emit.specs.declared.Codes.{Codes}
-use Rattle.emit.specs.declared.Codes.the-variants.{None, One}
+use Rattle.emit.specs.declared.Codes.the-variants.{None, One, Head}
 use Rattle.emit.specs.declared.Named.{Named}
 use Rattle.emit.specs.declared.Writing.{Writing}
 use Rattle.emit.specs.declared.Emitted.{Emitted}
@@ -89,13 +89,15 @@ more n = if ltb n 3 then n + 1 else n
 abbrev pub signing : ℕ → Writing → Writing
 signing sign w = record { aim = w .aim; sign = sign; arguments = w .arguments }
 
-unfoldable pub writtenAfter : (family : ℕ) → Writing → Use → (register : ℕ) → Writing
-writtenAfter family w u r =
+-- before the register of a CASE stands how many statements there are, in place of a token
+unfoldable pub writtenAfter : (family t : ℕ) → Writing → Use → (register : ℕ) → Writing
+writtenAfter family t w u r =
     if eqb family E.TARGET then record { aim = u; sign = 0; arguments = 0 } else
     if eqb family E.CONTROL then record { aim = Held r; sign = 0; arguments = 0 } else
     if eqb family E.ABS || (eqb family E.NEG || eqb family E.NEG-ABS) then signing family w else
     if eqb family E.ARGUED then record { aim = u; sign = 0; arguments = more (w .arguments) } else
-    if eqb family E.APPLIED || eqb family E.COUNTED then noWriting else
+    if eqb family E.APPLIED || (eqb family E.COUNTED || eqb family E.CHOSEN) then noWriting else
+    if eqb family E.LISTED then record { aim = Absent; sign = 0; arguments = t } else
     w
 
 -- ── the instructions ──
@@ -130,6 +132,18 @@ usedCodes kinds values found means t g w =
     (if eqb (w .arguments) 1 then functionCodes (g .op) 0 (g .number) (w .aim) else secondCodes kinds values found means t (g .op) (w .aim))
     else None
 
+-- ── a CASE ──
+
+-- its instructions but the table; "at four bytes before the branch table", which stands before the first statement
+unfoldable pub chosenCodes : (marks : List ℕ) (r t : ℕ) → Writing → Codes
+chosenCodes marks r t w = Head r (w .arguments) (getD marks t 0 - (4 * w .arguments + 4)) (getD marks (t - 1) 0)
+
+-- how many bytes its table has
+abbrev pub tableBytes : (family : ℕ) → Writing → ℕ
+tableBytes family w = if eqb family E.CHOSEN then 4 * w .arguments else 0
+
+-- ── the others ──
+
 -- declarations, ends of statements, calls and GOTOs
 unfoldable pub otherCodes : (marks : List ℕ) (family t : ℕ) → Named → Codes
 otherCodes marks family t n =
@@ -138,6 +152,7 @@ otherCodes marks family t n =
     if eqb family E.CALL then One (linkCode (n .register) (getD marks (n .goal) 0)) else
     if eqb family E.GOTO then One (branchCode always (getD marks (n .goal) 0)) else
     if eqb family E.PROCEDURE || (eqb family E.ELSE || eqb family E.END-WHILE) then One (branchCode always (getD marks (t + 1) 0)) else
+    if eqb family E.END-CHOICE then One (branchCode always (getD marks t 0)) else
     None
 
 unfoldable pub codesOf : (kinds values found means marks : List ℕ) (family t : ℕ) → Writing → Use → Named → Codes
@@ -149,13 +164,14 @@ codesOf kinds values found means marks family t w u n =
     if eqb family E.BARE then bareCodes kinds marks t else
     if eqb family E.END-FOR then stepCodes values marks t else
     if eqb family E.COUNTED then usedCodes kinds values found means t (functionIn (packedAt found means t)) w else
+    if eqb family E.CHOSEN then chosenCodes marks (n .register) t w else
     otherCodes marks family t n
 
 -- ── by the lists ──
 
 unfoldable pub writingAfter : (values found means under offsets : List ℕ) (op t : ℕ) → Writing → Writing
 writingAfter values found means under offsets op t w =
-    writtenAfter (familyAt op) w (useIn values found means under offsets (formAt op) t) (registerAt found means (familyAt op) t)
+    writtenAfter (familyAt op) t w (useIn values found means under offsets (formAt op) t) (registerAt found means (familyAt op) t)
 
 unfoldable pub codesBy : (kinds values found goes means under opens offsets marks : List ℕ) (op t : ℕ) → Writing → Codes
 codesBy kinds values found goes means under opens offsets marks op t w =

@@ -12,7 +12,9 @@ ghost use Rattle.static_rules.specs.Rules.{shifts};
 ghost use Rattle.translation.specs.Instructions.{rowOf, shiftCode, falseMask};
 ghost use Rattle.translation.specs.Core.{exitMask};
 ghost use Rattle.emit.specs.Codes.{opcodeIn, IsRow, listOf, blank as blankCode, codeSize, codeSizes, columnOf, applyCode, isAbsent, applyCodes, applyThen, signCode, signedCodes, loadCodes, heldIn, amountIn, isLongUse, productRegister, termCodes, firstCodes, nextCodes, isImmediate, halfOf, functionCodes, branchCode, linkCode, baseCode, stopCode};
-ghost use Rattle.emit.specs.Events.{subscriptIn, indexIn, elementIn, placeBy, placeIn, useIn, returnIn, registerAt, goalAt, more as moreOf, noWriting, signing as signingOf, writtenAfter, comparedCodes, bareCodes, limitCodes, stepCodes, secondCodes, usedCodes, otherCodes, codesOf, emittedIn};
+ghost use Rattle.tape.specs.Numbers.{familyAt};
+ghost use Rattle.emit.specs.declared.Codes.the-variants.{Head};
+ghost use Rattle.emit.specs.Events.{subscriptIn, indexIn, elementIn, placeBy, placeIn, useIn, returnIn, registerAt, goalAt, more as moreOf, noWriting, signing as signingOf, writtenAfter, comparedCodes, bareCodes, limitCodes, stepCodes, secondCodes, usedCodes, chosenCodes, tableBytes, otherCodes, codesOf, emittedIn};
 use arrays::kind;
 use base::less;
 use ledger::found;
@@ -46,10 +48,12 @@ pub enum Code {
 }
 
 // The instructions of an event, in order. Who reads them counts them and takes one after the other, so that only `count` and `nth` know how many there can be.
+// Those of a CASE are made of its register, how many statements it has, the address that is indexed and where it ends.
 pub enum Codes {
     None,
     One(Code),
     Both(Code, Code),
+    Head(u64, u64, u64, u64),
 }
 
 // What an event names: a register, and where it leads: the segment of a base, the procedure of a call, the label of a GOTO.
@@ -59,7 +63,7 @@ pub struct Named {
 }
 
 // The assignment or the use of a function that is written: the target or the last argument; an assignment's sign, by its event, 0 for none; how many arguments a use
-// has so far.
+// has so far. Before the register of a CASE: how many statements it has.
 pub struct Writing {
     pub aim: Use,
     pub sign: u32,
@@ -144,7 +148,7 @@ const NEG: u64 = 0x13;
 const NEG_ABS: u64 = 0x11;
 
 // "Branch `47 m0`"; "Call: `45 r0`"; "`07 Fr`"; "The last instruction is `0A 00`."
-const BRANCH: u64 = 0x47;
+pub const BRANCH: u64 = 0x47;
 
 const LINK: u64 = 0x45;
 
@@ -152,11 +156,18 @@ const RETURN: u64 = 0x07;
 
 const STOP: u64 = 0x0a;
 
+// Of a CASE: "compare with the count as a literal", LTR, SHLL.
+const COMPARE_NUMBER: u64 = 0x59;
+
+const TEST: u64 = 0x12;
+
+const SHIFT_LEFT: u64 = 0x89;
+
 // "always is mask 15"
-const ALWAYS: u64 = 15;
+pub const ALWAYS: u64 = 15;
 
 // "Program base is register 15. Data base is 14"
-const PROGRAM_BASE: u64 = 15;
+pub const PROGRAM_BASE: u64 = 15;
 
 pub const DATA_BASE: u64 = 14;
 
@@ -242,12 +253,13 @@ fn exit_mask(step: u64) -> u64
 // ── instructions ──
 
 pub fn count(m: Codes) -> usize
-    ensures { λ r. ⌜ (r ≡ length (listOf m)) × (r ≤ 2) ⌝ }
+    ensures { λ r. ⌜ (r ≡ length (listOf m)) × (r ≤ 6) ⌝ }
 {
     match m {
         Codes::None => 0,
         Codes::One(_) => 1,
         Codes::Both(_, _) => 2,
+        Codes::Head(_, _, _, _) => 6,
     }
 }
 
@@ -280,6 +292,21 @@ fn pick(k: usize, c: Code, d: Code) -> Code
     blank()
 }
 
+// "compare with the count as a literal, branch mask 2 to the end; LTR, branch mask 12 to the end; SHLL by 2; `47 Fr` indexed by r".
+fn head(k: usize, r: u64, n: u64, at: u64, end: u64) -> Code
+    ensures { λ c. ⌜ c ≡ getD (listOf (Head r n at end)) k blankCode ⌝ }
+{
+    match k {
+        0 => Code::Literal(COMPARE_NUMBER, r, 0, n),
+        1 => Code::Four(BRANCH, 2, 0, PROGRAM_BASE, end),
+        2 => Code::Two(TEST, r, r),
+        3 => Code::Four(BRANCH, 12, 0, PROGRAM_BASE, end),
+        4 => Code::Four(SHIFT_LEFT, r, 0, 0, 2),
+        5 => Code::Four(BRANCH, ALWAYS, r, PROGRAM_BASE, at),
+        _ => blank(),
+    }
+}
+
 pub fn nth(m: Codes, k: usize) -> Code
     ensures { λ c. ⌜ c ≡ getD (listOf m) k blankCode ⌝ }
 {
@@ -287,6 +314,7 @@ pub fn nth(m: Codes, k: usize) -> Code
         Codes::None => blank(),
         Codes::One(c) => only(k, c),
         Codes::Both(c, d) => pick(k, c, d),
+        Codes::Head(r, n, at, end) => head(k, r, n, at, end),
     }
 }
 
@@ -523,7 +551,7 @@ pub fn code_size(c: Code) -> usize
 
 // Of all instructions of an event.
 pub fn size(m: Codes) -> usize
-    ensures { λ r. ⌜ (r ≡ codeSizes (listOf m)) × (r ≤ 8) ⌝ }
+    ensures { λ r. ⌜ (r ≡ codeSizes (listOf m)) × (r ≤ 24) ⌝ }
 {
     let n = count(m);
     let mut k: usize = 0;
@@ -681,8 +709,9 @@ fn signing(sign: u32, w: Writing) -> Writing
 }
 
 // After an event with the operand u and the register r.
-pub fn written_after(family: u32, w: Writing, u: Use, r: u64) -> Writing
-    ensures { λ v. ⌜ v ≡ writtenAfter family w u r ⌝ }
+pub fn written_after(family: u32, t: usize, w: Writing, u: Use, r: u64) -> Writing
+    requires { ⌜ t < TOKEN-LIMIT ⌝ }
+    ensures { λ v. ⌜ v ≡ writtenAfter family t w u r ⌝ }
 {
     if family == tape::TARGET {
         return Writing {
@@ -708,8 +737,15 @@ pub fn written_after(family: u32, w: Writing, u: Use, r: u64) -> Writing
             arguments: more(w.arguments),
         };
     }
-    if (family == tape::APPLIED) | (family == tape::COUNTED) {
+    if (family == tape::APPLIED) | ((family == tape::COUNTED) | (family == tape::CHOSEN)) {
         return no_writing();
+    }
+    if family == tape::LISTED {
+        return Writing {
+            aim: Use::Absent,
+            sign: 0,
+            arguments: t as u32,
+        };
     }
     w
 }
@@ -817,6 +853,26 @@ fn used(kinds: &[u8], wide: &[u64], thin: &[u16], t: usize, k: u64, w: Writing) 
     second(kinds, wide, thin, t, op, last)
 }
 
+// The instructions of a CASE but its table, which stands before the first statement: "at four bytes before the branch table".
+fn chosen(thin: &[u16], r: u64, t: usize, w: Writing) -> Codes
+    ensures { λ m. ⌜ m ≡ chosenCodes (thinOf (now (thin .entry)) .written) r t w ⌝ }
+{
+    let n = w.arguments as usize;
+    let at = less(mark(thin, t), 4 * n + 4);
+    let end = mark(thin, less(t, 1));
+    Codes::Head(r, n as u64, at as u64, end as u64)
+}
+
+// How many bytes the table of a CASE has.
+pub fn table_size(op: u32, w: Writing) -> usize
+    ensures { λ r. ⌜ (r ≡ tableBytes (familyAt op) w) × (r ≤ 17179869180) ⌝ }
+{
+    if tape::family(op) == tape::CHOSEN {
+        return 4 * w.arguments as usize;
+    }
+    0
+}
+
 // Declarations, ends of statements, calls and GOTOs.
 fn others(thin: &[u16], family: u32, t: usize, n: Named) -> Codes
     requires { ⌜ (t < TOKEN-LIMIT) × (n .goal < thinLimit) ⌝ }
@@ -838,6 +894,9 @@ fn others(thin: &[u16], family: u32, t: usize, n: Named) -> Codes
     }
     if (family == tape::PROCEDURE) | ((family == tape::ELSE) | (family == tape::END_WHILE)) {
         return Codes::One(branch(ALWAYS, mark(thin, t + 1)));
+    }
+    if family == tape::END_CHOICE {
+        return Codes::One(branch(ALWAYS, mark(thin, t)));
     }
     Codes::None
 }
@@ -886,6 +945,9 @@ pub fn codes_of(
             w,
         );
     }
+    if family == tape::CHOSEN {
+        return chosen(thin, n.register, t, w);
+    }
     others(thin, family, t, n)
 }
 
@@ -899,6 +961,6 @@ pub fn event(kinds: &[u8], wide: &[u64], thin: &[u16], op: u32, t: usize, w: Wri
     let register = register_at(wide, thin, family, t);
     let goal = goal_at(thin, family, t);
     let codes = codes_of(kinds, wide, thin, family, t, w, u, Named { register, goal });
-    let writing = written_after(family, w, u, register);
+    let writing = written_after(family, t, w, u, register);
     Emitted { codes, writing }
 }

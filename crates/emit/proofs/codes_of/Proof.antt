@@ -109,24 +109,43 @@ returns-7 c =
     )
     (c .used .ensures)
 
-others-requires : tie.Need-others-requires
-others-requires c κs = search needs
+chosen-requires : tie.Need-chosen-requires
+chosen-requires c κs = search needs
 
 returns-8 : tie.Need-returns-8
 unfolding codesOf
 returns-8 c =
     rw (
-      ne-eqb _ _ (c .before .before .before .before .before .before .before .if1 .left),
-      ne-eqb _ _ (c .before .before .before .before .before .before .if2 .left),
-      ne-eqb _ _ (c .before .before .before .before .before .if3 .left),
-      ne-eqb _ _ (c .before .before .before .before .if4 .left),
-      ne-eqb _ _ (c .before .before .before .if5 .left),
-      ne-eqb _ _ (c .before .before .if6 .left),
-      ne-eqb _ _ (c .before .if7 .left),
+      ne-eqb _ _ (c .before .before .before .before .before .before .before .before .if1 .left),
+      ne-eqb _ _ (c .before .before .before .before .before .before .before .if2 .left),
+      ne-eqb _ _ (c .before .before .before .before .before .before .if3 .left),
+      ne-eqb _ _ (c .before .before .before .before .before .if4 .left),
+      ne-eqb _ _ (c .before .before .before .before .if5 .left),
+      ne-eqb _ _ (c .before .before .before .if6 .left),
+      ne-eqb _ _ (c .before .before .if7 .left),
+      eq-eqb _ _ (c .before .if8 .taken),
+    )
+    (c .chosen .ensures)
+
+others-requires : tie.Need-others-requires
+others-requires c κs = search needs
+
+returns-9 : tie.Need-returns-9
+unfolding codesOf
+returns-9 c =
+    rw (
+      ne-eqb _ _ (c .before .before .before .before .before .before .before .before .if1 .left),
+      ne-eqb _ _ (c .before .before .before .before .before .before .before .if2 .left),
+      ne-eqb _ _ (c .before .before .before .before .before .before .if3 .left),
+      ne-eqb _ _ (c .before .before .before .before .before .if4 .left),
+      ne-eqb _ _ (c .before .before .before .before .if5 .left),
+      ne-eqb _ _ (c .before .before .before .if6 .left),
+      ne-eqb _ _ (c .before .before .if7 .left),
+      ne-eqb _ _ (c .before .if8 .left),
     )
     (c .others .ensures)
 
 pub codes-of-spec : {M : Type 1} → statement M
 codes-of-spec = tie.close
     (tie.spec first-requires returns less-requires kind-requires next-requires returns-2 compared-requires returns-3 limit-requires returns-4 bare-requires
-    returns-5 step-requires returns-6 meaning-requires meant-requires used-requires returns-7 others-requires returns-8)
+    returns-5 step-requires returns-6 meaning-requires meant-requires used-requires returns-7 chosen-requires returns-8 others-requires returns-9)

@@ -22,6 +22,12 @@ enum-known-m-2 c = search needs
 pick-requires : tie.Need-pick-requires
 pick-requires c κs = search needs
 
+enum-known-m-3 : tie.Need-enum-known-m-3
+enum-known-m-3 c = search needs
+
+head-requires : tie.Need-head-requires
+head-requires c κs = search needs
+
 returns : tie.Need-returns
 unfolding listOf
 returns c = rw (c .before .enum-told .given .1) (c .blank .ensures)
@@ -34,6 +40,9 @@ returns-3 : tie.Need-returns-3
 unfolding listOf
 returns-3 c = rw (c .before .before .m2 .given .1) (c .pick .ensures)
 
+returns-4 : tie.Need-returns-4
+returns-4 c = rw (c .before .before .m3 .given .1) (c .head .ensures)
+
 pub nth-spec : {M : Type 1} → statement M
 nth-spec =
     tie.close
@@ -44,6 +53,9 @@ nth-spec =
     only-requires
     enum-known-m-2
     pick-requires
+    enum-known-m-3
+    head-requires
     returns
     returns-2
-    returns-3)
+    returns-3
+    returns-4)

@@ -49,16 +49,32 @@ returns-5 c =
     )
     (c .no-writing .ensures)
 
+cast-t14 : tie.Need-cast-t14
+cast-t14 c = search needs
+
 returns-6 : tie.Need-returns-6
 unfolding writtenAfter
 returns-6 c =
     rw (
-      ne-eqb _ _ (c .before .before .before .before .if1 .left),
-      ne-eqb _ _ (c .before .before .before .if2 .left),
-      c .before .before .if3 .left,
-      ne-eqb _ _ (c .before .if4 .left),
-      c .if5 .left,
+      ne-eqb _ _ (c .before .before .before .before .before .if1 .left),
+      ne-eqb _ _ (c .before .before .before .before .if2 .left),
+      c .before .before .before .if3 .left,
+      ne-eqb _ _ (c .before .before .if4 .left),
+      c .before .if5 .left,
+      eq-eqb _ _ (c .if6 .taken),
+    )
+
+returns-7 : tie.Need-returns-7
+unfolding writtenAfter
+returns-7 c =
+    rw (
+      ne-eqb _ _ (c .before .before .before .before .before .if1 .left),
+      ne-eqb _ _ (c .before .before .before .before .if2 .left),
+      c .before .before .before .if3 .left,
+      ne-eqb _ _ (c .before .before .if4 .left),
+      c .before .if5 .left,
+      ne-eqb _ _ (c .if6 .left),
     )
 
 pub written-after-spec : {M : Type 1} → statement M
-written-after-spec = tie.close (tie.spec returns returns-2 signing-requires returns-3 more-requires returns-4 no-writing-requires returns-5 returns-6)
+written-after-spec = tie.close (tie.spec returns returns-2 signing-requires returns-3 more-requires returns-4 no-writing-requires returns-5 cast-t14 returns-6 returns-7)
