@@ -14,7 +14,7 @@ use Rattle.grammar.specs.Tree.{Designator, Operand, number, Sign, abs, neg, neg
 use Rattle.grammar.specs.Pinned.{headOf}
 use Rattle.grammar.proofs.Pinned.{pinned-designator, pinned-operand}
 use Rattle.grammar.specs.Derives.{isDesignator, isOperand, isCondition, isRegister, isProgram}
-use Rattle.grammar.specs.Events.{Edge, opened, closed, entered, left, Route, labelled, sent, Entry, named, celled, itemed, valued, based, Phrase, aimed, driven, signed, given, joined, tested, limited, called, applied, argued, counted, Mark, looped, otherwise, endedIf, endedElse, endedWhile, endedFor, Event, edge, route, entry, phrase, mark, eventsOf}
+use Rattle.grammar.specs.Events.{Edge, opened, closed, entered, left, Route, labelled, sent, Entry, named, celled, itemed, valued, based, Phrase, aimed, driven, signed, given, joined, tested, limited, called, applied, argued, counted, chosen, Mark, looped, otherwise, endedIf, endedElse, endedWhile, endedFor, listed, endedChoice, endedCase, Event, edge, route, entry, phrase, mark, eventsOf}
 use Rattle.grammar.specs.Places.{Block, within, body, Place, after}
 use Rattle.grammar.specs.Contexts.{Context, nowhere, aiming, applying, declaring, contextAfter, Complete, Aims, Shown, entrySuits, phraseSuits, Suits}
 use Rattle.grammar.proofs.Contexts.{program-coherent}
@@ -151,6 +151,9 @@ module _ (f : Tables) where
     turn-mark (endedElse t) p s n room g y = refl
     turn-mark (endedWhile t) p s n room g y = refl
     turn-mark (endedFor v) p s n room g y = refl
+    turn-mark (listed k) p s n room g y = refl
+    turn-mark (endedChoice t) p s n room g y = refl
+    turn-mark (endedCase t) p s n room g y = refl
 
     -- ── entries ──
 
@@ -355,6 +358,10 @@ module _ (f : Tables) where
       unfolding judgeEvent heldAfter cellsAfter openAfter eventRule statementRule assignmentRule layerAt formAt
       counted-is t y v = ap (λ (k : ℕ). judgedBy g (R.countBy (meaningAt f t) t k)) v
 
+      chosen-is : (t : ℕ) → step E.CHOSEN t here ≡ judgedBy g (R.takenRules f (keptIn f p) t)
+      unfolding judgeEvent heldAfter cellsAfter openAfter eventRule statementRule assignmentRule layerAt formAt
+      chosen-is t = refl
+
     call-step : (p : Place) (s n room : ℕ) (g : Open) (x : Broken) (t : ℕ) → step E.CALL t (at p s n room g x) ≡ at p s n room g (x ⊕ R.callRules f (keptIn f p) t)
     unfolding judgeEvent heldAfter cellsAfter openAfter eventRule statementRule assignmentRule layerAt formAt
     call-step p s n room g x t = refl
@@ -395,6 +402,8 @@ module _ (f : Tables) where
         (u, ap (λ (l : ℕ). l + 1) v) join-right (argued-is p s n room g x a _ _ t y (h .1 .1) u v)
     turn-phrase (counted t y) p (applying m k) b s n room g x i j h q o e =
         judged (phrase (counted t y)) p (applying m k) b s n room g x s n room g (e ∙ join-right x) tt join-right (counted-is p s n room g x t y (o .1 ∙ q .1))
+    turn-phrase (chosen t) p c b s n room g x i j h q o e =
+        judged (phrase (chosen t)) p c b s n room g x s n room g (complete c room b x q e) tt join-right (chosen-is p s n room g x t)
 
     -- ── along the tape ──
 

@@ -14,7 +14,7 @@ use Rattle.scopes.specs.declared.Broken.{Broken}
 use Rattle.scopes.specs.Broken.{unbroken, rule, broken, _⊕_}
 use Rattle.static_rules.specs.Meaning.{Meaning, nothing, register, cell, routine, function, isByte, registerOf, argumentOf}
 use Rattle.static_rules.specs.Tables.{Tables, valueAt, meaningAt}
-use Rattle.static_rules.specs.Rules.{protected, bareName, mostElements, fitsWidth, writeRule, registerRule, zeroRule, placeBy, operandRules, onlyRegister, termRules, callRules, argumentRules, countBy, baseRules}
+use Rattle.static_rules.specs.Rules.{protected, bareName, mostElements, fitsWidth, writeRule, registerRule, zeroRule, placeBy, operandRules, onlyRegister, termRules, callRules, argumentRules, countBy, takenRules, baseRules}
 use Rattle.tables.specs.Packed.{widthBy}
 use Rattle.tables.specs.Stacks.{stackOf, top, under}
 use Rattle.rules.specs.Parts.{designatorAt, operandAt, termAt}
@@ -155,6 +155,7 @@ statementRule f kept o op t =
     if eqb op E.CALL then callRules f kept t else
     if eqb (familyAt op) E.ARGUED then argumentRules f kept (argumentOf (meaningAt f (o .name)) (o .position)) (operandAt (formAt op) t) else
     if eqb op E.COUNTED then countBy (meaningAt f t) t (o .position) else
+    if eqb op E.CHOSEN then takenRules f kept t else
     assignmentRule f kept (o .target) op t
 
 unfoldable pub eventRule : Tables → List ℕ → Cells → Open → (op t : ℕ) → Broken

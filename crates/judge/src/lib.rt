@@ -34,6 +34,7 @@ use rules::none;
 use rules::only_register;
 use rules::operand_rules;
 use rules::register_rule;
+use rules::taken_rules;
 use rules::term_rules;
 use rules::used_register;
 use rules::write_rule;
@@ -476,6 +477,9 @@ fn statement_rule(
     }
     if op == tape::COUNTED {
         return counted_rules(wide, thin, t, o.position);
+    }
+    if op == tape::CHOSEN {
+        return taken_rules(wide, thin, depth, t);
     }
     assignment_rule(op, t, kinds, wide, thin, depth, o.target)
 }

@@ -10,7 +10,7 @@ use Rattle.base.specs.Lists.{All}
 use Rattle.base.proofs.Tests.{never-true}
 use Rattle.grammar.specs.Tree.{Designator, Item, Statement}
 use Rattle.grammar.specs.Derives.{isProgram}
-use Rattle.grammar.specs.Events.{Entry, named, celled, itemed, valued, based, Phrase, aimed, driven, signed, given, joined, tested, limited, called, applied, argued, counted, Event, edge, route, entry, phrase, mark, eventsOf}
+use Rattle.grammar.specs.Events.{Entry, named, celled, itemed, valued, based, Phrase, aimed, driven, signed, given, joined, tested, limited, called, applied, argued, counted, chosen, Event, edge, route, entry, phrase, mark, eventsOf}
 use Rattle.grammar.specs.Places.{Place, after}
 use Rattle.grammar.specs.Contexts.{Context, nowhere, aiming, applying, declaring, contextAfter, Complete, Aims, Applies, phraseContext, phraseSuits, entrySuits, Suits}
 use Rattle.grammar.proofs.Contexts.{program-coherent}
@@ -76,6 +76,7 @@ phrase-none (called n) c q = (complete-none c q, refl)
 phrase-none (applied n) c q = (complete-none c q, refl)
 phrase-none (argued n p a) c q = (applies-none n p c q, refl)
 phrase-none (counted n k) c q = (applies-none n k c q, refl)
+phrase-none (chosen n) c q = (complete-none c q, refl)
 
 module _ (kinds values found : List ℕ) where
   -- only a cell's event lists a cell more

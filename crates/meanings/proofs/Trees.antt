@@ -15,7 +15,7 @@ use Rattle.grammar.specs.Tree.{Designator, Operand, number, place, Sign, plain,
 use Rattle.grammar.specs.Derives.{isRegister, isProgram}
 use Rattle.grammar.specs.Pinned.{headOf}
 use Rattle.grammar.proofs.Pinned.{pinned-operand}
-use Rattle.grammar.specs.Events.{Edge, opened, closed, entered, left, Route, labelled, sent, Entry, named, celled, itemed, valued, based, Phrase, aimed, driven, signed, given, joined, tested, limited, called, applied, argued, counted, Mark, looped, otherwise, endedIf, endedElse, endedWhile, endedFor, Event, edge, route, entry, phrase, mark, eventsOf}
+use Rattle.grammar.specs.Events.{Edge, opened, closed, entered, left, Route, labelled, sent, Entry, named, celled, itemed, valued, based, Phrase, aimed, driven, signed, given, joined, tested, limited, called, applied, argued, counted, chosen, Mark, looped, otherwise, endedIf, endedElse, endedWhile, endedFor, listed, endedChoice, endedCase, Event, edge, route, entry, phrase, mark, eventsOf}
 use Rattle.grammar.specs.Places.{within, body, Place, after}
 use Rattle.grammar.specs.Contexts.{Context, nowhere, aiming, applying, declaring, contextAfter, Aims, entrySuits, phraseSuits, Suits}
 use Rattle.grammar.proofs.Contexts.{program-coherent}
@@ -305,31 +305,29 @@ module _ (kinds values found : List ℕ) where
             ≡ tell p s form (targetOf (meaningIn found s (d .name))) (writeTarget (ownIn p) (targetOf (meaningIn found s (d .name))) (tabled s))) refl refl refl refl (d .subscript) (d .index)
 
   -- what a target leaves
-  abbrev aimedAt : Designator → Place → Meant → ℕ → Meaning-walk
-  aimedAt d p s form = tell p s form (targetOf (meaningIn found s (d .name))) (writeTarget (ownIn p) (targetOf (meaningIn found s (d .name))) (tabled s))
+  abbrev aimedAt : ℕ → Place → Meant → ℕ → Meaning-walk
+  aimedAt n p s form = tell p s form (targetOf (meaningIn found s n)) (writeTarget (ownIn p) (targetOf (meaningIn found s n)) (tabled s))
 
-  aim-is : (op : ℕ) (d : Designator) (p : Place) (s t : Meant) (form : ℕ) (x : Meaning-walk) → t ≡ targetWrites (meaningIn found s (d .name)) (λ r. r) (ownIn p) s → Settles p s t
-      → t .means ≡ s .means
-      → x ≡ aimedAt d p s form
-      → (form′ : ℕ) × (target′ : ℕ) × (first′ : Bool) × (x ≡ walk p t form′ target′ first′) × (target′ ≡ targetOf (meaningIn found t (d .name)))
-  aim-is op d p s t form x u g k e =
-      let m = meaningIn found s (d .name) in (
+  aim-is : (n : ℕ) (p : Place) (s t : Meant) (form : ℕ) (x : Meaning-walk) → t ≡ targetWrites (meaningIn found s n) (λ r. r) (ownIn p) s → Settles p s t → t .means ≡ s .means
+      → x ≡ aimedAt n p s form → (form′ : ℕ) × (target′ : ℕ) × (first′ : Bool) × (x ≡ walk p t form′ target′ first′) × (target′ ≡ targetOf (meaningIn found t n))
+  aim-is n p s t form x u g k e =
+      let m = meaningIn found s n in (
         form,
         targetOf m,
         false,
         settle (ownIn p) (ownersIn p) p s t form (targetOf m) x g (e ∙ ap (tell p s form (targetOf m)) (target-same m (ownIn p) s ∙ ap tabled (sym u))),
-        ap (λ (ms : List Meaning). targetOf (meaningOf found ms (d .name))) (sym k),
+        ap (λ (ms : List Meaning). targetOf (meaningOf found ms n)) (sym k),
       )
 
   turn-phrase : (f : Phrase) (p : Place) (c : Context) (s : Meant) (form target : ℕ) (first : Bool) → Settles p s (meanAt (phrase f) p s) → (i j : ℕ) → isEvent kinds (phrase f) i j → phraseSuits f c
       → Opens c s form target first → Next (phrase f) p c s form target first
   unfolding D.meanEvent meanEvent withinAfter formAfter targetAfter firstAfter declaredAfter writtenAfter formAt
   turn-phrase (aimed d) p c s form target first g i j h q o =
-      aim-is E.TARGET d p s _ form _ refl g (phrase-alike kinds values found (aimed d) p s .of-means)
-      (by-shape (λ n. step (E.TARGET + n) (d .name) (walk p s form target first) ≡ aimedAt d p s form) refl refl refl refl (d .subscript) (d .index))
+      aim-is (d .name) p s _ form _ refl g (phrase-alike kinds values found (aimed d) p s .of-means)
+      (by-shape (λ n. step (E.TARGET + n) (d .name) (walk p s form target first) ≡ aimedAt (d .name) p s form) refl refl refl refl (d .subscript) (d .index))
   turn-phrase (driven d) p c s form target first g i j h q o =
-      aim-is E.CONTROL d p s _ form _ refl g (phrase-alike kinds values found (driven d) p s .of-means)
-      (by-shape (λ n. step (E.CONTROL + n) (d .name) (walk p s form target first) ≡ aimedAt d p s form) refl refl refl refl (d .subscript) (d .index))
+      aim-is (d .name) p s _ form _ refl g (phrase-alike kinds values found (driven d) p s .of-means)
+      (by-shape (λ n. step (E.CONTROL + n) (d .name) (walk p s form target first) ≡ aimedAt (d .name) p s form) refl refl refl refl (d .subscript) (d .index))
   turn-phrase (signed d x) p c s form target first g i j h q o = (form, target, false, sign-is p s form target first x, aims-still d c s form target first (q .0) o)
   turn-phrase (given d a) p c s form target first g i j h q o = (
     form,
@@ -380,6 +378,9 @@ module _ (kinds values found : List ℕ) where
         sym (later-read (meaningIn found t n) z),
       )
   turn-phrase (counted n k) p c s form target first g i j h q o = (form, target, false, refl, tt)
+  turn-phrase (chosen n) p c s form target first g i j h q o =
+      let (form′, target′, first′, e, u) = aim-is n p s _ form _ refl g (phrase-alike kinds values found (chosen n) p s .of-means) refl in
+      (form′, target′, first′, e, tt)
 
   -- ── marks ──
 
@@ -391,6 +392,9 @@ module _ (kinds values found : List ℕ) where
   unheeded (endedElse t) p s form target first = refl
   unheeded (endedWhile t) p s form target first = refl
   unheeded (endedFor v) p s form target first = refl
+  unheeded (listed k) p s form target first = refl
+  unheeded (endedChoice t) p s form target first = refl
+  unheeded (endedCase t) p s form target first = refl
 
   -- ── along the tape ──
 

@@ -86,10 +86,10 @@ formAfter values op t form =
     if eqb (familyAt op) E.ARRAY-FULL then packed ARRAY (formAt op % WIDTHS) (getD values t 0) else
     form
 
--- an argument is a target where it is written; a number is none
+-- the register of a CASE is a target, as "The case register counts as written", and an argument where it is written; a number is none
 unfoldable pub targetAfter : (found : List ℕ) (op t : ℕ) → List Meaning → (first : Bool) → ℕ → ℕ
 targetAfter found op t means first target =
-    if (eqb (familyAt op) E.TARGET || eqb (familyAt op) E.CONTROL) || ((eqb (familyAt op) E.ARGUED && first) && not (eqb (formAt op) E.NUMBER)) then targetOf (meaningOf found means t) else
+    if ((eqb (familyAt op) E.TARGET || eqb (familyAt op) E.CONTROL) || eqb op E.CHOSEN) || ((eqb (familyAt op) E.ARGUED && first) && not (eqb (formAt op) E.NUMBER)) then targetOf (meaningOf found means t) else
     if eqb (familyAt op) E.ARGUED then 0 else
     target
 
@@ -115,12 +115,12 @@ writeProduct kinds found op t own target s = if isProductAt kinds found op t (s 
 
 unfoldable pub writtenAfter : (kinds found : List ℕ) (op t own target : ℕ) → Meant → Meant
 writtenAfter kinds found op t own target s =
-    if (eqb (familyAt op) E.TARGET || eqb (familyAt op) E.CONTROL) || eqb (familyAt op) E.ARGUED then writeTarget own target s else
+    if ((eqb (familyAt op) E.TARGET || eqb (familyAt op) E.CONTROL) || eqb op E.CHOSEN) || eqb (familyAt op) E.ARGUED then writeTarget own target s else
     if eqb (familyAt op) E.TERM then writeProduct kinds found op t own target s else
     if eqb op E.CALL then callWrites (meaningIn found s t) own (getD found t 0) s else
     s
 
--- between two events: where the walk is; what the cells that follow are; the register that the target is, of an assignment or as an argument that is written; whether the
+-- between two events: where the walk is; what the cells that follow are; the register that the target is, of an assignment, of a CASE or as an argument that is written; whether the
 -- argument that follows is written; the tables, but for the list of cells
 pub record Meaning-walk : Type 0 where
   pub within : Within

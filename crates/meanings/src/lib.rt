@@ -173,14 +173,18 @@ fn target_of(m: u64) -> usize
     0
 }
 
-// An argument is a target where it is written; a number is none.
+// The register of a CASE is a target, as "The case register counts as written", and an argument where it is written; a number is none.
 fn target_after(op: u32, t: usize, wide: &[u64], thin: &[u16], first: bool, target: usize) -> usize
     ensures { λ r. ⌜ ((under : List ℕ) → r ≡ targetAfter (thinOf (now (thin .entry)) .found) op t (meaningsOf (wideOf (now (wide .entry)) .means) under) first target) ⌝ }
 {
     let k = family(op);
     let argued = k == tape::ARGUED;
     let named = tape::form(op) != tape::NUMBER;
-    if (k == tape::TARGET) | (k == tape::CONTROL) | (argued & first & named) {
+    if (k == tape::TARGET)
+        | (k == tape::CONTROL)
+        | (op == tape::CHOSEN)
+        | (argued & first & named)
+    {
         return target_of(meaning(wide, thin, t));
     }
     if argued {
@@ -366,7 +370,7 @@ fn written_after(
         (viewOf (wideOf (now (wide .entry))) (thinOf (now (thin .entry))) n)) ⌝ }
 {
     let k = family(op);
-    if (k == tape::TARGET) | (k == tape::CONTROL) | (k == tape::ARGUED) {
+    if (k == tape::TARGET) | (k == tape::CONTROL) | (op == tape::CHOSEN) | (k == tape::ARGUED) {
         write_target(thin, own, target);
         return;
     }

@@ -15,11 +15,12 @@ use Rattle.grammar.specs.Tree.{number, place}
 use Rattle.ledger.specs.Book.{Wide, Thin}
 use Rattle.scopes.specs.declared.Broken.{Broken}
 use Rattle.scopes.specs.Broken.{unbroken, rule, broken, _⊕_}
+use Rattle.scopes.proofs.Joins.{join-assoc}
 use Rattle.static_rules.specs.Registers.{spares}
 use Rattle.static_rules.specs.Functions.{Function, functionAt, arity, argumentAt}
 use Rattle.static_rules.specs.Meaning.{Meaning, cell, Based, Cell, argumentOf, registerOf, isLong, longOperand}
 use Rattle.static_rules.specs.Tables.{Tables, meaningAt}
-use Rattle.static_rules.specs.Rules.{isRegister, isZero, isCell, isBare, inside, shifts, fullOnly, writeRule, registerRule, zeroRule, indexRules, subscriptRules, placeBy, placeRules, operandRules, onlyRegister, shiftRules, noByte, noShort, productRules, termRules, callBy, callRules, noIndex, targetBy, countBy, baseRules}
+use Rattle.static_rules.specs.Rules.{isRegister, isZero, isCell, isBare, inside, shifts, fullOnly, writeRule, registerRule, zeroRule, indexRules, subscriptRules, placeBy, placeRules, operandRules, onlyRegister, shiftRules, noByte, noShort, productRules, termRules, callBy, callRules, noIndex, targetBy, countBy, takenRules, baseRules}
 use Rattle.functions.specs.Arguments.{argumentNumber, argumentBy, functionIn}
 use Rattle.functions.proofs.Packed.{meant-is}
 use Rattle.functions.proofs.Table.{by-number}
@@ -174,16 +175,20 @@ module _ {f : Tables} {w : Wide} {l : Thin} (s : Listed f w l) (t m : ℕ) (e : 
   unfolding productRules
   no-product shape kept r {l} h k c = rw (long-is-at shape l h, k) c
 
-  pub a-base :
-      (kept : List ℕ) {r o : ℕ} {v w x y a b c : Broken} → r ≡ registerIn m → o ≡ getD (l .opens) t 0
-      → OfMeaning m v (λ y. rule (isRegister y) 8 t) → OfMeaning m w (λ y. rule (not (isZero y)) 9 t) → x ≡ writeRule kept r t → y ≡ rule (leb o 3) 12 t
-      → a ≡ x ⊕ y → b ≡ w ⊕ a → c ≡ v ⊕ b → c ≡ baseRules f kept t
-  unfolding baseRules
-  a-base kept {r} {o} g h p₁ p₂ p₃ p₄ a b c =
-      c ∙ ap₂ (λ (j k : Broken). j ⊕ k) (a-register p₁)
-      (b ∙ ap₂ (λ (j k : Broken). j ⊕ k) (no-zero p₂)
-      (a ∙ ap₂ (λ (j k : Broken). j ⊕ k) (p₃ ∙ ap (λ (k : ℕ). writeRule kept k t) (g ∙ sym (ap registerOf (meant-at s t m e) ∙ register-is _ _ _)))
-      (p₄ ∙ rw (s .opens-is, ← h))))
+  pub a-taken :
+      (kept : List ℕ) {r : ℕ} {x y z : Broken} → r ≡ registerIn m → x ≡ registerRule f t ⊕ zeroRule f t → y ≡ writeRule kept r t → z ≡ x ⊕ y → z ≡ takenRules f kept t
+  unfolding takenRules
+  a-taken kept g p q z =
+      z ∙ (ap₂ (λ (j k : Broken). j ⊕ k) p (q ∙ ap (λ (k : ℕ). writeRule kept k t) (g ∙ sym (ap registerOf (meant-at s t m e) ∙ register-is _ _ _)))
+      ∙ join-assoc (registerRule f t) (zeroRule f t) (writeRule kept (registerOf (meaningAt f t)) t))
+
+-- ── base declarations ──
+
+pub a-base :
+    {f : Tables} {w : Wide} {l : Thin} (s : Listed f w l) (kept : List ℕ) (t : ℕ) {o : ℕ} {x y z : Broken} → x ≡ takenRules f kept t → o ≡ getD (l .opens) t 0
+    → y ≡ rule (leb o 3) 12 t → z ≡ x ⊕ y → z ≡ baseRules f kept t
+unfolding baseRules
+a-base s kept t p h q z = z ∙ ap₂ (λ (j k : Broken). j ⊕ k) p (q ∙ rw (s .opens-is, ← h))
 
 -- ── calls ──
 

@@ -9,7 +9,7 @@ ghost use Rattle.scopes.specs.Broken.{unbroken, rule as ruleOf, broken as broke
 ghost use Rattle.static_rules.specs.Registers.{spares as sparesOf};
 ghost use Rattle.static_rules.specs.Meaning.{Based, cell, argumentOf};
 ghost use Rattle.static_rules.specs.Tables.{Tables, meaningAt};
-ghost use Rattle.static_rules.specs.Rules.{isRegister, isZero, inside, isBare, shifts, fullOnly, writeRule, registerRule, zeroRule, indexRules, subscriptRules, placeBy, placeRules, operandRules, onlyRegister, shiftRules, noByte, noShort, productRules, termRules, callRules, noIndex, writtenRules, byteRules, cellRules, plainRules, argumentRules, countBy, baseRules};
+ghost use Rattle.static_rules.specs.Rules.{isRegister, isZero, inside, isBare, shifts, fullOnly, writeRule, registerRule, zeroRule, indexRules, subscriptRules, placeBy, placeRules, operandRules, onlyRegister, shiftRules, noByte, noShort, productRules, termRules, callRules, noIndex, writtenRules, byteRules, cellRules, plainRules, argumentRules, countBy, takenRules, baseRules};
 ghost use Rattle.functions.specs.Arguments.{argumentBy};
 ghost use Rattle.tables.specs.Packed.{cellIn, unpacked, setOf};
 ghost use Rattle.tables.specs.Stacks.{stackOf};
@@ -86,7 +86,7 @@ pub fn zero_rule(m: u64, t: usize) -> Broken
     rule(!(is_register(m) & (number(m) == 0)), 9, t)
 }
 
-// A base, a return register or an index.
+// A base, a return register, an index or the register of a CASE.
 pub fn used_register(wide: &[u64], thin: &[u16], t: usize) -> Broken
     ensures { λ x. ⌜ ((f : Tables) → Listed f (wideOf (now (wide .entry))) (thinOf (now (thin .entry))) → x ≡ registerRule f t ⊕ zeroRule f t) ⌝ }
 {
@@ -434,18 +434,24 @@ pub fn counted_rules(wide: &[u64], thin: &[u16], n: usize, count: usize) -> Brok
     broken(8, n)
 }
 
-// ── base declarations ──
+// ── registers that the text takes for itself: of a base, of a CASE ──
+
+// "0 as base"; document 02, 3/13: "Register 0 is refusal 9. The case register counts as written, refusal 10 at its name."
+pub fn taken_rules(wide: &[u64], thin: &[u16], depth: usize, t: usize) -> Broken
+    ensures { λ x.
+        ⌜ ((f : Tables) → Listed f (wideOf (now (wide .entry))) (thinOf (now (thin .entry)))
+        → x ≡ takenRules f (stackOf (wideOf (now (wide .entry)) .offsets) depth) t) ⌝ }
+{
+    let used = used_register(wide, thin, t);
+    let r = register(meaning(wide, thin, t));
+    join(used, write_rule(wide, depth, r, t))
+}
 
 pub fn base_rules(wide: &[u64], thin: &[u16], depth: usize, t: usize) -> Broken
     ensures { λ x.
         ⌜ ((f : Tables) → Listed f (wideOf (now (wide .entry))) (thinOf (now (thin .entry)))
         → x ≡ baseRules f (stackOf (wideOf (now (wide .entry)) .offsets) depth) t) ⌝ }
 {
-    let m = meaning(wide, thin, t);
-    let writes = write_rule(wide, depth, register(m), t);
-    let few = rule(opens(thin, t) <= 3, 12, t);
-    join(
-        register_rule(m, t),
-        join(zero_rule(m, t), join(writes, few)),
-    )
+    let taken = taken_rules(wide, thin, depth, t);
+    join(taken, rule(opens(thin, t) <= 3, 12, t))
 }

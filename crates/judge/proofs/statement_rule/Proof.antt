@@ -1,4 +1,4 @@
--- The rules of conditions, limits, calls and uses; all other phrases are parts of assignments.
+-- The rules of conditions, limits, calls, uses and the register of a CASE; all other phrases are parts of assignments.
 use Rattle.tape.specs.Events as E
 use Rattle.judge.specs.Along.{statementRule}
 use Rattle.tape.specs.Numbers.{formAt}
@@ -72,19 +72,27 @@ returns-5 : tie.Need-returns-5
 unfolding statementRule formAt
 returns-5 c = λ f s. rw (c .before .if5 .taken) (c .counted-rules .ensures f (s .listed))
 
+taken-rules-requires : tie.Need-taken-rules-requires
+taken-rules-requires c κs = search needs
+
+returns-6 : tie.Need-returns-6
+unfolding statementRule formAt
+returns-6 c = λ f s. rw (c .before .if6 .taken) (c .taken-rules .ensures f (s .listed))
+
 assignment-rule-requires : tie.Need-assignment-rule-requires
 assignment-rule-requires c κs = search needs
 
-returns-6 : tie.Need-returns-6
+returns-7 : tie.Need-returns-7
 unfolding statementRule
-returns-6 c = λ f s.
+returns-7 c = λ f s.
     rw (
-      ← (c .before .before .before .before .before .before .family .ensures),
-      ne-eqb _ E.COMPARED (c .before .before .before .before .before .if1 .left),
-      ne-eqb _ E.LIMIT (c .before .before .before .before .if2 .left),
-      ne-eqb _ E.CALL (c .before .before .before .if3 .left),
-      ne-eqb _ E.ARGUED (c .before .before .if4 .left),
-      ne-eqb _ E.COUNTED (c .before .if5 .left),
+      ← (c .before .before .before .before .before .before .before .family .ensures),
+      ne-eqb _ E.COMPARED (c .before .before .before .before .before .before .if1 .left),
+      ne-eqb _ E.LIMIT (c .before .before .before .before .before .if2 .left),
+      ne-eqb _ E.CALL (c .before .before .before .before .if3 .left),
+      ne-eqb _ E.ARGUED (c .before .before .before .if4 .left),
+      ne-eqb _ E.COUNTED (c .before .before .if5 .left),
+      ne-eqb _ E.CHOSEN (c .before .if6 .left),
     )
     (c .assignment-rule .ensures f s)
 
@@ -106,5 +114,7 @@ statement-rule-spec =
     returns-4
     counted-rules-requires
     returns-5
+    taken-rules-requires
+    returns-6
     assignment-rule-requires
-    returns-6)
+    returns-7)

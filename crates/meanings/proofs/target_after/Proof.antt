@@ -1,4 +1,4 @@
--- A target, a control and an argument that is written name a new target, by what they mean; another argument is none; every other event leaves it.
+-- A target, a control, the register of a CASE and an argument that is written name a new target, by what they mean; another argument is none; every other event leaves it.
 use denote.Ref.{now}
 use borrow.Author.Tests.{eq-eqb, ne-eqb}
 use Rattle.tape.specs.Events as E
