@@ -1,34 +1,41 @@
 -- On the tape of a tree the address pass comes to where the tree's code ends, and leaves the addresses that `marksOf` says: a line for each way to make a tree.
 -- Assumes nothing.
 use mathlib.Core.Path.{_≡_, refl, sym, ap, subst, _∙_}
-use mathlib.Core.List.{List, _∷_}
-use Prim.Native.Nat.{ℕ, _+_, _-_, _%_, _<_}
+use mathlib.Core.Bool.{Bool, true, false, _&&_}
+use mathlib.Core.List.{List, [], _∷_, _++_, append-nil, append-assoc}
+use Prim.Native.Nat.{ℕ, zero, suc, _+_, _-_, _/_, _%_, _<_}
 use native.Mathlib.Omega.{arith}
+use lib.Dec.{eqb}
 use lib.ListN.{set}
+use Rattle.base.specs.Choose.{if_then_else_}
 use Rattle.base.specs.Lists.{All}
+use Rattle.base.specs.Walk.{fold}
 use Rattle.base.proofs.Lists.{all-in, all-of}
-use Rattle.grammar.specs.Tree.{registers, cells, base, Statement, assign, call, apply, block, goto, null, ifThen, ifElse, while, for, Body, declare, procedure, items, Items, ended, label, item}
-use Rattle.grammar.specs.Derives.{isOperand, areArguments, isStatement, isBody, isItems}
+use Rattle.grammar.specs.Tree.{registers, cells, base, Statement, assign, call, apply, block, goto, null, ifThen, ifElse, while, for, choose, Body, declare, procedure, items, Items, ended, label, item, Choices, over, choice}
+use Rattle.grammar.specs.Derives.{isOperand, areArguments, isStatement, isBody, isItems, areChoices}
+use Rattle.grammar.specs.Events.{choicesCount}
 use Rattle.tape.specs.Events as E
-use Rattle.tape.specs.Numbers.{formAt}
-use Rattle.tape.specs.Tape.{event, tapeDeclaration, tapeStatement, tapeBody, tapeItems}
-use Rattle.tape.specs.Pass.{pass}
-use Rattle.tape.proofs.Pass.{pass-event}
+use Rattle.tape.specs.Numbers.{familyAt, formAt}
+use Rattle.tape.specs.Tape.{event, tapeDeclaration, tapeStatement, tapeBody, tapeItems, tapeChoices}
+use Rattle.tape.specs.Pass.{onEvent, pass}
 use Rattle.tables.specs.Packed.{meaningsOf}
 use Rattle.static_rules.specs.Meaning.{registerOf}
 use Rattle.static_rules.specs.Tables.{Tables, meaningAt}
 use Rattle.translation.specs.Instructions.{sizes}
-use Rattle.translation.specs.Core.{toRegister, compareWith, testOf, controlOf, coreStatement, coreBody, coreItems}
-use Rattle.translation.specs.Code.{sizeOf}
+use Rattle.translation.specs.Core.{Arms, last, arm, toRegister, compareWith, testOf, controlOf, coreStatement, coreBody, coreItems, coreChoices}
+use Rattle.translation.specs.Code.{armCount, headSize, sizeOf, armsSize}
+use Rattle.emit.specs.declared.Use.the-variants.{Absent}
 use Rattle.emit.specs.declared.Writing.{Writing}
 use Rattle.emit.specs.Codes.{listOf, codeSize, applyCode, isAbsent, applyThen}
-use Rattle.emit.specs.Events.{registerAt, goalAt, writtenAfter, stepCodes, otherCodes, codesOf, writingAfter, codesBy}
-use Rattle.code.specs.Places.{whole, Placing, placingOf, markClosing, markAfter, placeEvent}
+use Rattle.emit.specs.Events.{registerAt, goalAt, noWriting, writtenAfter, stepCodes, chosenCodes, otherCodes, codesOf, writingAfter, codesBy}
+use Rattle.emit.specs.Along.{eventBytes, starts}
+use Rattle.code.specs.Places.{placingOf, markClosing, markAfter, placeEvent}
 use Rattle.emit.proofs.Operands.{Small}
 use Rattle.emit.proofs.Events.{declaring}
 use Rattle.code.proofs.Declarations.{registers-out, cells-out}
-use Rattle.code.proofs.Expressions.{place, assignment-placed, use-placed, control-placed, condition-placed, limit-placed}
-use Rattle.code.proofs.Statements.{leaves, leavesBody, leavesItems}
+use Rattle.code.proofs.Expressions.{Listing, listing, gather, Quiet, quiet-stays, Walking, placeAt, place, stepped, assignment-placed, use-placed, control-placed, condition-placed, limit-placed}
+use Rattle.code.proofs.Kept.{event-bytes}
+use Rattle.code.proofs.Leaves.{leaves, leavesBody, leavesItems, leavesChoices}
 
 -- ── the addresses by token after a tree whose code starts at p ──
 
@@ -54,6 +61,8 @@ module _ (f : Tables) where
         (marksOf x (p + (sizes (toRegister f (controlOf f a) a) + (sizes (compareWith f (controlOf f a) l) + 4)))
         (set (set ms v (p + sizes (toRegister f (controlOf f a) a))) (v + 1) (controlOf f a)))
         (v - 1) (p + (sizes (toRegister f (controlOf f a) a) + (sizes (compareWith f (controlOf f a) l) + (4 + (sizeOf (coreStatement f x) + 8)))))
+    marksOf (choose t n xs) p ms =
+        set (marksChoices xs (p + headSize (choicesCount xs)) (set ms n (p + headSize (choicesCount xs)))) (n + 1) (p + (headSize (choicesCount xs) + armsSize (coreChoices f xs)))
 
     pub marksBody : Body → ℕ → List ℕ → List ℕ
     marksBody (declare (registers rs) b) p ms = marksBody b p ms
@@ -69,104 +78,259 @@ module _ (f : Tables) where
     marksItems (label l is) p ms = marksItems is p (set ms l p)
     marksItems (item x is) p ms = marksItems is (p + sizeOf (coreStatement f x)) (marksOf x p ms)
 
+    pub marksChoices : Choices → ℕ → List ℕ → List ℕ
+    marksChoices over p ms = ms
+    marksChoices (choice x xs) p ms = marksChoices xs (p + (sizeOf (coreStatement f x) + 4)) (marksOf x p ms)
+
 -- ── along the tape ──
 
 -- what names mean are registers 0 to 15, if any
 abbrev pub Held : Tables → Type 0
 Held f = (t : ℕ) → registerOf (meaningAt f t) < 16
 
-module _ (f : Tables) (means under offsets : List ℕ) where
-  abbrev at : ℕ → Writing → List ℕ → List ℕ → Placing
-  at p w ms k = place f means under offsets p w ms k
+-- ── the statements of a CASE ──
 
-  -- an event of n bytes that changes the addresses to what `marked` says by the address behind it
-  on : (op t p n q : ℕ) (w : Writing) (ms : List ℕ) (marked : ℕ → List ℕ) (k : List ℕ)
-      → placeEvent whole (f .kinds) (f .values) (f .found) (f .goes) means under (f .opens) offsets (op % E.EVENTS) t (placingOf p w ms) ≡ placingOf (p + n) w (marked (p + n))
-      → p + n ≡ q → at p w ms (event op t ∷ k) ≡ at q w (marked q) k
-  on op t p n q w ms marked k e g =
-      pass-event _ op t (placingOf p w ms) k
-      ∙ (ap (λ (m : Placing). pass (placeEvent whole (f .kinds) (f .values) (f .found) (f .goes) means under (f .opens) offsets) m k) e ∙ ap (λ (m : ℕ). at m w (marked m) k) g)
+pub arms-counted : (f : Tables) (xs : Choices) → armCount (coreChoices f xs) ≡ choicesCount xs
+unfolding coreStatement
+arms-counted f over = refl
+arms-counted f (choice x xs) = ap (λ (n : ℕ). n + 1) (arms-counted f xs)
+
+-- where they start, the first at p
+unfoldable pub startsOf : Arms → ℕ → List ℕ
+startsOf last p = []
+startsOf (arm c xs) p = p ∷ startsOf xs (p + (sizeOf c + 4))
+
+abbrev seenIn : Listing → List ℕ
+seenIn (listing d from seen) = seen
+
+-- what is passed behind them
+abbrev gatherArms : Arms → ℕ → Listing → Listing
+gatherArms last p g = g
+gatherArms (arm c xs) p g = gatherArms xs (p + (sizeOf c + 4)) (gather E.END-CHOICE (p + (sizeOf c + 4)) g)
+
+-- of a CASE inside: nothing
+abbrev inner : Listing → Listing
+inner (listing d from seen) = if eqb d 0 then listing d from seen else listing (suc d) from seen
+
+inner-is : (to : ℕ) (g : Listing) → gather E.CHOSEN to g ≡ inner g
+inner-is to (listing d from seen) = refl
+
+outer-is : (to : ℕ) (g : Listing) → gather E.END-CASE to (inner g) ≡ g
+outer-is to (listing zero from seen) = refl
+outer-is to (listing (suc d) from seen) = refl
+
+inner-passes : (to : ℕ) (g : Listing) → gather E.END-CHOICE to (inner g) ≡ inner g
+inner-passes to (listing zero from seen) = refl
+inner-passes to (listing (suc d) from seen) = refl
+
+inner-arms : (xs : Arms) (p : ℕ) (g : Listing) → gatherArms xs p (inner g) ≡ inner g
+inner-arms last p g = refl
+inner-arms (arm c xs) p g = ap (gatherArms xs (p + (sizeOf c + 4))) (inner-passes (p + (sizeOf c + 4)) g) ∙ inner-arms xs (p + (sizeOf c + 4)) g
+
+-- of the CASE itself: where each starts
+own-arms : (xs : Arms) (p : ℕ) (seen : List ℕ) → gatherArms xs p (listing 1 p seen) ≡ listing 1 (p + armsSize xs) (seen ++ startsOf xs p)
+unfolding startsOf sizeOf
+own-arms last p seen = let e : p + 0 ≡ p = omega arith in rw (e, append-nil seen)
+own-arms (arm c xs) p seen =
+    let q = p + (sizeOf c + 4) in
+    let e : q + armsSize xs ≡ p + (sizeOf c + (4 + armsSize xs)) = omega arith in
+    own-arms xs q (seen ++ (p ∷ [])) ∙ rw (e, append-assoc seen (p ∷ []) (startsOf xs q))
+
+module _ (f : Tables) (means under offsets : List ℕ) where
+  abbrev at : ℕ → Writing → List ℕ → Listing → List ℕ → Walking
+  at p w ms g k = place f means under offsets p w ms g k
+
+  -- an event of n bytes, none of a CASE's, that changes the addresses to what `marked` says by the address behind it
+  on : (op t p n q : ℕ) (w : Writing) (ms : List ℕ) (marked : ℕ → List ℕ) (g : Listing) (k : List ℕ) → Quiet (familyAt (op % E.EVENTS))
+      → placeAt f means under offsets (op % E.EVENTS) t (placingOf p w ms) ≡ placingOf (p + n) w (marked (p + n)) → p + n ≡ q → at p w ms g (event op t ∷ k) ≡ at q w (marked q) g k
+  on op t p n q w ms marked g k h e i =
+      stepped f means under offsets op t p n q w w ms marked g k e i ∙ ap (λ (x : Listing). at q w (marked q) x k) (quiet-stays (familyAt (op % E.EVENTS)) q g h)
 
   -- the same address, in other words
-  moved : (p q : ℕ) (w : Writing) (ms k : List ℕ) → p ≡ q → at p w ms k ≡ at q w ms k
-  moved p q w ms k e = ap (λ (m : ℕ). at m w ms k) e
+  moved : (p q : ℕ) (w : Writing) (ms : List ℕ) (g : Listing) (k : List ℕ) → p ≡ q → at p w ms g k ≡ at q w ms g k
+  moved p q w ms g k e = ap (λ (m : ℕ). at m w ms g k) e
 
   -- ── declarations ──
 
-  still : (p : ℕ) (w : Writing) (ms : List ℕ) (t : ℕ) (k : List ℕ) → All (λ (op : ℕ). at p w ms (event op t ∷ k) ≡ at p w ms k) declaring
+  still : (p : ℕ) (w : Writing) (ms : List ℕ) (g : Listing) (t : ℕ) (k : List ℕ) → All (λ (op : ℕ). at p w ms g (event op t ∷ k) ≡ at p w ms g k) declaring
   unfolding placeEvent listOf formAt otherCodes codesOf codesBy writtenAfter writingAfter codeSize markAfter markClosing
-  still p w ms t k =
-      all-of (λ (op : ℕ). at p w ms (event op t ∷ k) ≡ at p w ms k) declaring (λ op i. on op t p 0 p w ms (λ q. ms) k (all-in Still declaring each-still op i) (omega arith))
+  still p w ms g t k =
+      all-of (λ (op : ℕ). at p w ms g (event op t ∷ k) ≡ at p w ms g k) declaring
+      (λ op i. let h = all-in Still declaring each-still op i in on op t p 0 p w ms (λ q. ms) g k (h .0) (h .1) (omega arith))
     where
       Still : ℕ → Type 0
-      Still op = placeEvent whole (f .kinds) (f .values) (f .found) (f .goes) means under (f .opens) offsets (op % E.EVENTS) t (placingOf p w ms) ≡ placingOf (p + 0) w ms
+      Still op = Quiet (familyAt (op % E.EVENTS)) × (placeAt f means under offsets (op % E.EVENTS) t (placingOf p w ms) ≡ placingOf (p + 0) w ms)
 
       each-still : All Still declaring
-      each-still = (refl, (refl, (refl, (refl, (refl, (refl, (refl, (refl, (refl, (refl, (refl, tt)))))))))))
+      each-still = (
+        ((refl, refl, refl), refl),
+        (
+          ((refl, refl, refl), refl),
+          (
+            ((refl, refl, refl), refl),
+            (
+              ((refl, refl, refl), refl),
+              (
+                ((refl, refl, refl), refl),
+                (
+                  ((refl, refl, refl), refl),
+                  (((refl, refl, refl), refl), (((refl, refl, refl), refl), (((refl, refl, refl), refl), (((refl, refl, refl), refl), (((refl, refl, refl), refl), tt))))),
+                ),
+              ),
+            ),
+          ),
+        ),
+      )
 
   -- ── statements ──
 
   module _ (table : f .means ≡ meaningsOf means under) (small : Small f) (held : Held f) where
     mutual
-      unfolding isStatement tapeStatement tapeDeclaration coreStatement sizeOf leaves marksOf placeEvent listOf formAt otherCodes stepCodes codesOf codesBy
+      unfolding isStatement tapeStatement tapeDeclaration coreStatement sizeOf leaves marksOf placeEvent listOf formAt otherCodes stepCodes chosenCodes codesOf codesBy
           applyThen isAbsent applyCode writtenAfter writingAfter codeSize markAfter markClosing
 
-      pub place-statement : (x : Statement) (i j : ℕ) → isStatement (f .kinds) x i j → (p : ℕ) (w : Writing) (ms k : List ℕ)
-          → at p w ms (tapeStatement x k) ≡ at (p + sizeOf (coreStatement f x)) (leaves f means under offsets x w) (marksOf f x p ms) k
-      place-statement (assign a) i j h p w ms k = assignment-placed f means under offsets table small a i j h p w ms k
-      place-statement (call n) i j h p w ms k = on E.CALL n p 4 _ w ms (λ q. ms) k refl refl
-      place-statement (apply n a xs) i j (e, _, h) p w ms k =
-          use-placed f means under offsets table small n a xs j (subst (λ (q : ℕ). areArguments (f .kinds) (a ∷ xs) (q + 1) j) (sym e) h) p w ms k
-      place-statement (block t b) i j h p w ms k =
-          on E.BLOCK t p 0 p w ms (λ q. ms) _ refl (omega arith) ∙ (place-body b _ _ (h .2) p w ms _ ∙ on E.END-BLOCK t _ 0 _ _ _ (λ q. marksBody f b p ms) k refl (omega arith))
-      place-statement (goto t n) i j h p w ms k = on E.GOTO n p 4 _ w ms (λ q. ms) k refl refl
-      place-statement null i j h p w ms k = moved p _ w ms k (omega arith)
-      place-statement (ifThen t c x) i j h p w ms k =
-          condition-placed f means under offsets table small c _ _ (h .2 .1) p w ms _
-          ∙ (place-statement x _ _ (h .2 .2 .1) _ w ms _
-          ∙ on E.END-IF t _ 0 _ _ _ (λ q. set (marksOf f x (p + (sizes (testOf f c) + 4)) ms) t q) k refl (omega arith))
-      place-statement (ifElse t c x e y) i j h p w ms k =
+      pub place-statement : (x : Statement) (i j : ℕ) → isStatement (f .kinds) x i j → (p : ℕ) (w : Writing) (ms : List ℕ) (g : Listing) (k : List ℕ)
+          → at p w ms g (tapeStatement x k) ≡ at (p + sizeOf (coreStatement f x)) (leaves f means under offsets x w) (marksOf f x p ms) g k
+      place-statement (assign a) i j h p w ms g k = assignment-placed f means under offsets table small a i j h p w ms g k
+      place-statement (call n) i j h p w ms g k = on E.CALL n p 4 _ w ms (λ q. ms) g k (refl, refl, refl) refl refl
+      place-statement (apply n a xs) i j (e, _, h) p w ms g k =
+          use-placed f means under offsets table small n a xs j (subst (λ (q : ℕ). areArguments (f .kinds) (a ∷ xs) (q + 1) j) (sym e) h) p w ms g k
+      place-statement (block t b) i j h p w ms g k =
+          on E.BLOCK t p 0 p w ms (λ q. ms) g _ (refl, refl, refl) refl (omega arith) ∙ (place-body b _ _ (h .2) p w ms g _ ∙ on E.END-BLOCK t _ 0 _ _ _ (λ q. marksBody f b p ms) g k (refl, refl, refl) refl (omega arith))
+      place-statement (goto t n) i j h p w ms g k = on E.GOTO n p 4 _ w ms (λ q. ms) g k (refl, refl, refl) refl refl
+      place-statement null i j h p w ms g k = moved p _ w ms g k (omega arith)
+      place-statement (ifThen t c x) i j h p w ms g k =
+          condition-placed f means under offsets table small c _ _ (h .2 .1) p w ms g _
+          ∙ (place-statement x _ _ (h .2 .2 .1) _ w ms g _
+          ∙ on E.END-IF t _ 0 _ _ _ (λ q. set (marksOf f x (p + (sizes (testOf f c) + 4)) ms) t q) g k (refl, refl, refl) refl (omega arith))
+      place-statement (ifElse t c x e y) i j h p w ms g k =
           let q1 = p + (sizes (testOf f c) + 4) in
           let q2 = p + (sizes (testOf f c) + (4 + (sizeOf (coreStatement f x) + 4))) in
-          condition-placed f means under offsets table small c _ _ (h .2 .1) p w ms _
-          ∙ (place-statement x _ _ (h .2 .2 .1 .1 .1) q1 w ms _
-          ∙ (on E.ELSE t _ 4 q2 _ _ (λ q. set (marksOf f x q1 ms) t q) _ refl (omega arith)
-          ∙ (place-statement y _ _ (h .2 .2 .1 .2 .2) q2 _ _ _
-          ∙ on E.END-ELSE t _ 0 _ _ _ (λ q. set (marksOf f y q2 (set (marksOf f x q1 ms) t q2)) (t + 1) q) k refl (omega arith))))
-      place-statement (while t c x) i j h p w ms k =
+          condition-placed f means under offsets table small c _ _ (h .2 .1) p w ms g _
+          ∙ (place-statement x _ _ (h .2 .2 .1 .1 .1) q1 w ms g _
+          ∙ (on E.ELSE t _ 4 q2 _ _ (λ q. set (marksOf f x q1 ms) t q) g _ (refl, refl, refl) refl (omega arith)
+          ∙ (place-statement y _ _ (h .2 .2 .1 .2 .2) q2 _ _ g _
+          ∙ on E.END-ELSE t _ 0 _ _ _ (λ q. set (marksOf f y q2 (set (marksOf f x q1 ms) t q2)) (t + 1) q) g k (refl, refl, refl) refl (omega arith))))
+      place-statement (while t c x) i j h p w ms g k =
           let q1 = p + (sizes (testOf f c) + 4) in
-          on E.WHILE t p 0 p w ms (λ q. set ms (t + 1) p) _ refl (omega arith)
-          ∙ (condition-placed f means under offsets table small c _ _ (h .2 .1) p w _ _
-          ∙ (place-statement x _ _ (h .2 .2 .1) q1 w _ _
-          ∙ on E.END-WHILE t _ 4 _ _ _ (λ q. set (marksOf f x q1 (set ms (t + 1) p)) t q) k refl (omega arith)))
-      place-statement (for t a v l x) i j h p w ms k =
+          on E.WHILE t p 0 p w ms (λ q. set ms (t + 1) p) g _ (refl, refl, refl) refl (omega arith)
+          ∙ (condition-placed f means under offsets table small c _ _ (h .2 .1) p w _ g _
+          ∙ (place-statement x _ _ (h .2 .2 .1) q1 w _ g _
+          ∙ on E.END-WHILE t _ 4 _ _ _ (λ q. set (marksOf f x q1 (set ms (t + 1) p)) t q) g k (refl, refl, refl) refl (omega arith)))
+      place-statement (for t a v l x) i j h p w ms g k =
           let e : v ≡ h .2 .0 + 1 = h .2 .2 .1 .0 in
           let q0 = p + sizes (toRegister f (controlOf f a) a) in
           let q1 = p + (sizes (toRegister f (controlOf f a) a) + (sizes (compareWith f (controlOf f a) l) + 4)) in
-          control-placed f means under offsets table small a _ _ (h .2 .1) p w ms _
+          control-placed f means under offsets table small a _ _ (h .2 .1) p w ms g _
           ∙ (limit-placed f means under offsets table small a l v (h .2 .2 .1 .2 .1 .0) (held (a .target .name))
-          (subst (λ (q : ℕ). isOperand (f .kinds) l q (h .2 .2 .1 .2 .1 .0)) (omega arith) (h .2 .2 .1 .2 .1 .1)) q0 _ refl ms _
-          ∙ (moved _ q1 _ _ _ (omega arith)
-          ∙ (place-statement x _ _ (h .2 .2 .1 .2 .1 .2 .1) q1 _ _ _
-          ∙ on E.END-FOR v _ 8 _ _ _ (λ q. set (marksOf f x q1 (set (set ms v q0) (v + 1) (controlOf f a))) (v - 1) q) k refl (omega arith))))
+          (subst (λ (q : ℕ). isOperand (f .kinds) l q (h .2 .2 .1 .2 .1 .0)) (omega arith) (h .2 .2 .1 .2 .1 .1)) q0 _ refl ms g _
+          ∙ (moved _ q1 _ _ g _ (omega arith)
+          ∙ (place-statement x _ _ (h .2 .2 .1 .2 .1 .2 .1) q1 _ _ g _
+          ∙ on E.END-FOR v _ 8 _ _ _ (λ q. set (marksOf f x q1 (set (set ms v q0) (v + 1) (controlOf f a))) (v - 1) q) g k (refl, refl, refl) refl (omega arith))))
 
-      pub place-body : (b : Body) (i j : ℕ) → isBody (f .kinds) b i j → (p : ℕ) (w : Writing) (ms k : List ℕ)
-          → at p w ms (tapeBody b k) ≡ at (p + sizeOf (coreBody f b)) (leavesBody f means under offsets b w) (marksBody f b p ms) k
-      place-body (declare (registers rs) b) i j h p w ms k = registers-out (at p w ms) (still p w ms) rs _ ∙ place-body b _ _ (h .2 .1) p w ms k
-      place-body (declare (cells c s is) b) i j h p w ms k = cells-out (at p w ms) (still p w ms) c s is _ ∙ place-body b _ _ (h .2 .1) p w ms k
-      place-body (declare (base n) b) i j h p w ms k =
-          on E.BASE n p 4 (p + 4) w ms (λ q. ms) _ refl refl ∙ (place-body b _ _ (h .2 .1) (p + 4) w ms k ∙ moved _ _ _ _ k (omega arith))
-      place-body (procedure n r x b) i j h p w ms k =
+      place-statement (choose t n xs) i j h p w ms g k =
+          let c = choicesCount xs in
+          let w′ : Writing = record { aim = Absent; sign = 0; arguments = c } in
+          let q = p + headSize c in
+          stepped f means under offsets E.LISTED c p 0 p w w′ ms (λ m. ms) g _ refl (omega arith)
+          ∙ (ap (λ (x : Listing). at p w′ ms x _) (quiet-stays E.LISTED p g (refl, refl, refl))
+          ∙ (stepped f means under offsets E.CHOSEN n p (headSize c) q w′ noWriting ms (λ m. set ms n m) g _ refl refl
+          ∙ (ap (λ (x : Listing). at q noWriting (set ms n q) x _) (inner-is q g)
+          ∙ (place-choices n xs _ _ (h .2 .2 .1 .1) q noWriting _ (inner g) _
+          ∙ (ap (λ (x : Listing). at _ _ _ x _) (inner-arms (coreChoices f xs) q g)
+          ∙ (stepped f means under offsets E.END-CASE n _ 0 (p + (headSize c + armsSize (coreChoices f xs))) _ _ _ (λ m. set (marksChoices f xs q (set ms n q)) (n + 1) m) (inner g) k refl (omega arith)
+          ∙ (ap (λ (x : Listing). at _ _ _ x k) (outer-is (p + (headSize c + armsSize (coreChoices f xs))) g) ∙ moved _ _ _ _ g k (rw (arms-counted f xs)))))))))
+
+      pub place-body : (b : Body) (i j : ℕ) → isBody (f .kinds) b i j → (p : ℕ) (w : Writing) (ms : List ℕ) (g : Listing) (k : List ℕ)
+          → at p w ms g (tapeBody b k) ≡ at (p + sizeOf (coreBody f b)) (leavesBody f means under offsets b w) (marksBody f b p ms) g k
+      place-body (declare (registers rs) b) i j h p w ms g k = registers-out (at p w ms g) (still p w ms g) rs _ ∙ place-body b _ _ (h .2 .1) p w ms g k
+      place-body (declare (cells c s is) b) i j h p w ms g k = cells-out (at p w ms g) (still p w ms g) c s is _ ∙ place-body b _ _ (h .2 .1) p w ms g k
+      place-body (declare (base n) b) i j h p w ms g k =
+          on E.BASE n p 4 (p + 4) w ms (λ q. ms) g _ (refl, refl, refl) refl refl ∙ (place-body b _ _ (h .2 .1) (p + 4) w ms g k ∙ moved _ _ _ _ g k (omega arith))
+      place-body (procedure n r x b) i j h p w ms g k =
           let q = p + (4 + (sizeOf (coreStatement f x) + 2)) in
-          on E.PROCEDURE n p 4 (p + 4) w ms (λ m. set ms n m) _ refl refl
-          ∙ (place-statement x _ _ (h .1 .1 .2 .1 .2 .1 .1) (p + 4) w _ _
-          ∙ (on E.END-PROCEDURE n _ 2 q _ _ (λ m. set (marksOf f x (p + 4) (set ms n (p + 4))) (n + 1) m) _ refl (omega arith)
-          ∙ (place-body b _ _ (h .2 .1) q _ _ k ∙ moved _ _ _ _ k (omega arith))))
-      place-body (items is) i j h p w ms k = place-items is i j h p w ms k
+          on E.PROCEDURE n p 4 (p + 4) w ms (λ m. set ms n m) g _ (refl, refl, refl) refl refl
+          ∙ (place-statement x _ _ (h .1 .1 .2 .1 .2 .1 .1) (p + 4) w _ g _
+          ∙ (on E.END-PROCEDURE n _ 2 q _ _ (λ m. set (marksOf f x (p + 4) (set ms n (p + 4))) (n + 1) m) g _ (refl, refl, refl) refl (omega arith)
+          ∙ (place-body b _ _ (h .2 .1) q _ _ g k ∙ moved _ _ _ _ g k (omega arith))))
+      place-body (items is) i j h p w ms g k = place-items is i j h p w ms g k
 
-      pub place-items : (is : Items) (i j : ℕ) → isItems (f .kinds) is i j → (p : ℕ) (w : Writing) (ms k : List ℕ)
-          → at p w ms (tapeItems is k) ≡ at (p + sizeOf (coreItems f is)) (leavesItems f means under offsets is w) (marksItems f is p ms) k
-      place-items ended i j h p w ms k = moved p _ w ms k (omega arith)
-      place-items (label l is) i j h p w ms k = on E.LABEL l p 0 p w ms (λ q. set ms l p) _ refl (omega arith) ∙ place-items is _ _ (h .2 .1) p w _ k
-      place-items (item x is) i j h p w ms k =
-          place-statement x _ _ (h .1) p w ms _ ∙ (place-items is _ _ (h .2 .1) _ _ _ k ∙ moved _ _ _ _ k (omega arith))
+      pub place-items : (is : Items) (i j : ℕ) → isItems (f .kinds) is i j → (p : ℕ) (w : Writing) (ms : List ℕ) (g : Listing) (k : List ℕ)
+          → at p w ms g (tapeItems is k) ≡ at (p + sizeOf (coreItems f is)) (leavesItems f means under offsets is w) (marksItems f is p ms) g k
+      place-items ended i j h p w ms g k = moved p _ w ms g k (omega arith)
+      place-items (label l is) i j h p w ms g k = on E.LABEL l p 0 p w ms (λ q. set ms l p) g _ (refl, refl, refl) refl (omega arith) ∙ place-items is _ _ (h .2 .1) p w _ g k
+      place-items (item x is) i j h p w ms g k =
+          place-statement x _ _ (h .1) p w ms g _ ∙ (place-items is _ _ (h .2 .1) _ _ _ g k ∙ moved _ _ _ _ g k (omega arith))
+
+      place-choices : (t : ℕ) (xs : Choices) (i j : ℕ) → areChoices (f .kinds) xs i j → (p : ℕ) (w : Writing) (ms : List ℕ) (g : Listing) (k : List ℕ)
+          → at p w ms g (tapeChoices t xs k)
+          ≡ at (p + armsSize (coreChoices f xs)) (leavesChoices f means under offsets xs w) (marksChoices f xs p ms) (gatherArms (coreChoices f xs) p g) k
+      place-choices t over i j h p w ms g k = moved p _ w ms g k (omega arith)
+      place-choices t (choice x xs) i j h p w ms g k =
+          let q = p + (sizeOf (coreStatement f x) + 4) in
+          place-statement x _ _ (h .1) p w ms g _
+          ∙ (stepped f means under offsets E.END-CHOICE t _ 4 q _ _ _ (λ m. marksOf f x p ms) g _ refl (omega arith)
+          ∙ (place-choices t xs _ _ (h .2 .1) q _ _ _ k ∙ moved _ _ _ _ _ k (omega arith)))
+
+    -- ── where the statements of a CASE start, as the code pass finds them ──
+
+    module _ (marks : List ℕ) where
+      abbrev startsAlong : (depth from p : ℕ) → Writing → List ℕ → List ℕ
+      startsAlong d from p w es = starts (f .kinds) (f .values) (f .found) (f .goes) means under (f .opens) offsets marks d from p w es
+
+      -- what is seen along a tape: what was, and what the code pass finds
+      seen-is : (es : List ℕ) (p : ℕ) (w : Writing) (ms : List ℕ) (d from : ℕ) (seen : List ℕ) → seenIn (at p w ms (listing d from seen) es .list) ≡ seen ++ startsAlong d from p w es
+      unfolding starts pass fold onEvent placeEvent
+      seen-is [] p w ms d from seen = sym (append-nil seen)
+      seen-is (e ∷ es) p w ms d from seen =
+          let op = e % E.EVENTS in
+          let t = e / E.EVENTS in
+          let size = event-bytes (f .kinds) (f .values) (f .found) (f .goes) means under (f .opens) offsets ms marks op t w in
+          rw (← size) (go (eqb d 0) refl (eqb (familyAt op) E.CHOSEN) (eqb (familyAt op) E.END-CASE) (eqb (familyAt op) E.END-CHOICE && eqb d 1))
+        where
+          family : ℕ
+          family = familyAt (e % E.EVENTS)
+
+          q : ℕ
+          q = p + eventBytes (f .kinds) (f .values) (f .found) (f .goes) means under (f .opens) offsets ms (e % E.EVENTS) (e / E.EVENTS) w
+
+          v : Writing
+          v = writingAfter (f .values) (f .found) means under offsets (e % E.EVENTS) (e / E.EVENTS) w
+
+          ms′ : List ℕ
+          ms′ = markAfter family (e / E.EVENTS) p q (w .aim) ms
+
+          -- behind the CASE nothing more is seen
+          none : (es : List ℕ) (p : ℕ) (w : Writing) → eqb d 0 ≡ true → startsAlong d from p w es ≡ []
+          unfolding starts
+          none [] p w h = refl
+          none (e ∷ es) p w h = rw h
+
+          go : (a : Bool) → eqb d 0 ≡ a → (b c z : Bool)
+              → seenIn (at q v ms′ (if a then listing d from seen else if b then listing (suc d) from seen else if c then listing (d - 1) from seen else
+              if z then listing d q (seen ++ (from ∷ [])) else listing d from seen) es .list)
+              ≡ seen ++ (if a then [] else if b then startsAlong (suc d) from q v es else if c then startsAlong (d - 1) from q v es else
+              if z then (from ∷ startsAlong d q q v es) else startsAlong d from q v es)
+          go true h b c z = seen-is es q v ms′ d from seen ∙ ap (λ (l : List ℕ). seen ++ l) (none es q v h)
+          go false h true c z = seen-is es q v ms′ (suc d) from seen
+          go false h false true z = seen-is es q v ms′ (d - 1) from seen
+          go false h false false true = seen-is es q v ms′ d q (seen ++ (from ∷ [])) ∙ append-assoc seen (from ∷ []) (startsAlong d q q v es)
+          go false h false false false = seen-is es q v ms′ d from seen
+
+      pub starts-choices : (t : ℕ) (xs : Choices) (i j : ℕ) → areChoices (f .kinds) xs i j → (p : ℕ) (w : Writing) (k : List ℕ)
+          → startsAlong 1 p p w (tapeChoices t xs (event E.END-CASE t ∷ k)) ≡ startsOf (coreChoices f xs) p
+      unfolding starts placeEvent listOf formAt otherCodes codesOf codesBy writtenAfter writingAfter codeSize markAfter markClosing
+      starts-choices t xs i j h p w k =
+          let q = p + armsSize (coreChoices f xs) in
+          let found = startsOf (coreChoices f xs) p in
+          sym (seen-is (tapeChoices t xs (event E.END-CASE t ∷ k)) p w [] 1 p [])
+          ∙ (ap (λ (s : Walking). seenIn (s .list))
+          (place-choices t xs i j h p w [] (listing 1 p []) (event E.END-CASE t ∷ k)
+          ∙ (ap (λ (g : Listing). at q _ _ g (event E.END-CASE t ∷ k)) (own-arms (coreChoices f xs) p [])
+          ∙ stepped f means under offsets E.END-CASE t q 0 q _ _ _ (λ m. set (marksChoices f xs p []) (t + 1) m) (listing 1 q found) k refl (omega arith)))
+          ∙ (seen-is k q _ _ 0 q found ∙ (ap (λ (l : List ℕ). found ++ l) (ended k) ∙ append-nil found)))
+        where
+          ended : (k : List ℕ) {p : ℕ} {w : Writing} {from : ℕ} → startsAlong 0 from p w k ≡ []
+          unfolding starts
+          ended [] = refl
+          ended (e ∷ es) = refl

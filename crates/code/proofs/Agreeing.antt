@@ -13,13 +13,13 @@ use borrow.Author.Tests.{eqb-true, eqb-false}
 use Rattle.base.specs.Choose.{if_then_else_}
 use Rattle.base.specs.Lists.{_∈_, All}
 use Rattle.base.proofs.Lists.{all-in}
-use Rattle.grammar.specs.Tree.{Assignment, Condition, compared, bare, Declaration, registers, cells, base, Statement, assign, call, apply, block, goto, null, ifThen, ifElse, while, for, Body, declare, procedure, items, Items, ended, label, item}
+use Rattle.grammar.specs.Tree.{Assignment, Condition, compared, bare, Declaration, registers, cells, base, Statement, assign, call, apply, block, goto, null, ifThen, ifElse, while, for, choose, Body, declare, procedure, items, Items, ended, label, item, Choices, over, choice}
 use Rattle.grammar.specs.Derives.{isCondition, isRegister}
-use Rattle.grammar.specs.Events.{Route, labelled, sent, Entry, named, celled, itemed, valued, based, Phrase, aimed, driven, signed, given, joined, tested, limited, called, Event, edge, route, entry, phrase, mark, entryDeclares, labelsOnto, labelsOf, eventsDeclaration, eventsChain, eventsStatement, eventsBody, eventsItems, eventsOf}
+use Rattle.grammar.specs.Events.{Route, labelled, sent, Entry, named, celled, itemed, valued, based, Phrase, aimed, driven, signed, given, joined, tested, limited, called, Event, edge, route, entry, phrase, mark, entryDeclares, labelsOnto, labelsOf, eventsDeclaration, eventsChain, choicesCount, eventsStatement, eventsBody, eventsItems, eventsChoices, eventsOf}
 use Rattle.grammar.specs.Places.{Block, within, Place, enterName, enterLabel, after, afterAll, Along}
 use Rattle.grammar.specs.Texts.{Stands, Text}
 use Rattle.grammar.proofs.Kept.{keep-operand}
-use Rattle.grammar.proofs.Places.{Appends, append-chain, append-declaration, append-statement, append-body, leave-chain, after-statement, along-parts, IsEntry, blockAfter, after-entries, labels-stay, declaration-entries}
+use Rattle.grammar.proofs.Places.{Appends, append-chain, append-declaration, append-statement, append-body, append-choices, leave-chain, after-statement, after-choices, along-parts, IsEntry, blockAfter, after-entries, labels-stay, declaration-entries}
 use Rattle.grammar.proofs.Texts.{text-rises, text-parts, statement-text}
 use Rattle.scopes.specs.Search.{innermost, enter, around, firstToken}
 use Rattle.scopes.specs.Names.{namesIn}
@@ -27,10 +27,10 @@ use Rattle.scopes.specs.Labels.{labelsIn}
 use Rattle.scopes.proofs.Bound.{Within, Bound, Goes}
 use Rattle.static_rules.specs.Tables.{Tables}
 use Rattle.translation.specs.Instructions.{sizes}
-use Rattle.translation.specs.Core.{toRegister, compareWith, testOf, controlOf, coreStatement, coreItems}
-use Rattle.translation.specs.Code.{Mark, sizeOf, own, markAt}
-use Rattle.code.proofs.Statements.{Agree, AgreeBody, AgreeItems}
-use Rattle.code.proofs.Addresses.{marksOf, marksBody, marksItems}
+use Rattle.translation.specs.Core.{toRegister, compareWith, testOf, controlOf, coreStatement, coreItems, coreChoices}
+use Rattle.translation.specs.Code.{Mark, headSize, sizeOf, armsSize, own, markAt}
+use Rattle.code.proofs.Statements.{Agree, AgreeBody, AgreeItems, AgreeChoices}
+use Rattle.code.proofs.Addresses.{marksOf, marksBody, marksItems, marksChoices}
 
 -- ── what is changed lies at the tokens from lo up to hi ──
 
@@ -81,6 +81,10 @@ module _ (f : Tables) where
   part-chain : (a : Assignment) (k : List Event) (pl : Place) (lo hi : ℕ) → Part (eventsChain a k) pl lo hi → Parted (eventsChain a) k pl pl lo hi
   unfolding afterAll
   part-chain a k pl lo hi h = part (eventsChain a) (append-chain a) k pl pl lo hi (leave-chain a [] pl) h
+
+  part-choices : (n : ℕ) (xs : Choices) (k : List Event) (pl : Place) (lo hi : ℕ) → Part (eventsChoices n xs k) pl lo hi → Parted (eventsChoices n xs) k pl pl lo hi
+  unfolding afterAll
+  part-choices n xs k pl lo hi h = part (eventsChoices n xs) (append-choices n xs) k pl pl lo hi (after-choices n xs [] pl) h
 
   part-body : (x : Body) (k : List Event) (pl : Place) (lo hi : ℕ) → Part (eventsBody x k) pl lo hi → Parted (eventsBody x) k pl (afterAll (eventsBody x []) pl) lo hi
   part-body x k pl lo hi h = part (eventsBody x) (append-body x) k pl _ lo hi refl h
@@ -137,6 +141,11 @@ module _ (f : Tables) where
         changes-then (wider (changes-set ms v _) (omega arith))
         (changes-then (wider (changes-set _ (v + 1) _) (omega arith))
         (changes-then (wider (changes-statement x pl (o .to) (q .m) _ _ (q .one)) (omega arith)) (wider (changes-set _ (v - 1) _) (omega arith))))
+    changes-statement (choose t n xs) pl lo hi p ms ((l, (s, h)), (v, (u, g))) =
+        let e = s .is in
+        let q = part-choices n xs _ pl (s .to) hi (h, g) in
+        changes-then (wider (changes-set ms n _) (omega arith))
+        (changes-then (wider (changes-choices n xs pl (s .to) (q .m) _ _ (q .one)) (omega arith)) (wider (changes-set _ (n + 1) _) (omega arith)))
 
     changes-body : (x : Body) (b : Block) (pl : Place) (lo hi p : ℕ) (ms : List ℕ) → Part (eventsBody x []) (within b ∷ pl) lo hi → Changes lo hi ms (marksBody f x p ms)
     changes-body (declare (registers rs) x) b pl lo hi p ms h =
@@ -165,6 +174,14 @@ module _ (f : Tables) where
     changes-items (item x is) b pl lo hi p ms h =
         let q = part-statement x _ _ lo hi h in
         changes-then (wider (changes-statement x _ lo (q .m) p ms (q .one)) (omega arith)) (wider (changes-items is b pl (q .m) hi _ _ (q .next)) (omega arith))
+
+    changes-choices : (n : ℕ) (xs : Choices) (pl : Place) (lo hi p : ℕ) (ms : List ℕ) → Part (eventsChoices n xs []) pl lo hi → Changes lo hi ms (marksChoices f xs p ms)
+    changes-choices n over pl lo hi p ms h = changes-none ms
+    changes-choices n (choice x xs) pl lo hi p ms h =
+        let q = part-statement x _ pl lo hi h in
+        let o = q .next .0 .0 in
+        let z = rises (eventsChoices n xs []) pl (o .to) hi (q .next .0 .1, q .next .1 .1) in
+        changes-then (wider (changes-statement x pl lo (q .m) p ms (q .one)) (omega arith)) (wider (changes-choices n xs pl (o .to) hi _ _ (q .next .0 .1, q .next .1 .1)) (omega arith))
 
 -- ── the marks that the pass leaves in the end ──
 
@@ -426,6 +443,20 @@ module _ (marks : List ℕ) where
                   (without-first (b .to) (q .m) (without-first (b .to) (q .m) (without-last (b .to) (q .m) k ce (omega arith)) cv (omega arith)) cr (omega arith)) ls ps n l,
             )
 
+        agree-statement (choose t m xs) pl lo hi p ms ((w, (s, h)), (v, (u, g))) k ls ps n l =
+            let e = s .is in
+            let q = part-choices f m xs _ pl (s .to) hi (h, g) in
+            let p1 = p + headSize (choicesCount xs) in
+            let p2 = p + (headSize (choicesCount xs) + armsSize (coreChoices f xs)) in
+            let m1 = set ms m p1 in
+            let cm = changes-set ms m p1 in
+            let cx = changes-choices f m xs pl (s .to) (q .m) p1 m1 (q .one) in
+            let ce = changes-set (marksChoices f xs p1 m1) (m + 1) p2 in (
+              set-final _ _ (without-first (m + 1) (m + 2) (without-first (m + 1) (m + 2) k cm (omega arith)) cx (omega arith)) (omega arith),
+              set-final _ _ (without-last m (m + 1) (without-last m (m + 1) k ce (omega arith)) cx (omega arith)) (omega arith),
+              agree-choices m xs pl (s .to) (q .m) p1 m1 (q .one) (without-first (s .to) (q .m) (without-last (s .to) (q .m) k ce (omega arith)) cm (omega arith)) ls ps n l,
+            )
+
         agree-body : (x : Body) (b : Block) (pl : Place) (lo hi p : ℕ) (ms : List ℕ) → b .labels ≡ labelsOf x [] → Part f (eventsBody x []) (within b ∷ pl) lo hi → Final lo hi ms (marksBody f x p ms)
             → (ls ps : List Mark) → Told (b .names ∷ namesIn pl) ps → Told (labelsIn pl) ls → AgreeBody f marks ls ps x p
         agree-body (declare (registers rs) x) b pl lo hi p ms e h k ls ps n l =
@@ -477,6 +508,21 @@ module _ (marks : List ℕ) where
             let ci = changes-items f is b pl (q .m) hi p1 (marksOf f x p ms) (q .next) in (
               agree-statement x _ lo (q .m) p ms (q .one) (without-last lo (q .m) k ci (omega arith)) ls ps n l,
               agree-items is b pl (q .m) hi p1 _ (q .next) (without-first (q .m) hi k cx (omega arith)) ls ps n l,
+            )
+
+        agree-choices : (m : ℕ) (xs : Choices) (pl : Place) (lo hi p : ℕ) (ms : List ℕ) → Part f (eventsChoices m xs []) pl lo hi → Final lo hi ms (marksChoices f xs p ms)
+            → (ls ps : List Mark) → Told (namesIn pl) ps → Told (labelsIn pl) ls → AgreeChoices f marks ls ps xs p
+        agree-choices m over pl lo hi p ms h k ls ps n l = tt
+        agree-choices m (choice x xs) pl lo hi p ms h k ls ps n l =
+            let q = part-statement f x _ pl lo hi h in
+            let o = q .next .0 .0 in
+            let rest : Part f (eventsChoices m xs []) pl (o .to) hi = (q .next .0 .1, q .next .1 .1) in
+            let z = rises f (eventsChoices m xs []) pl (o .to) hi rest in
+            let p1 = p + (sizeOf (coreStatement f x) + 4) in
+            let cx = changes-statement f x pl lo (q .m) p ms (q .one) in
+            let ci = changes-choices f m xs pl (o .to) hi p1 (marksOf f x p ms) rest in (
+              agree-statement x pl lo (q .m) p ms (q .one) (without-last lo (q .m) k ci (omega arith)) ls ps n l,
+              agree-choices m xs pl (o .to) hi p1 _ rest (without-first (o .to) hi k cx (omega arith)) ls ps n l,
             )
 
 -- ── programs ──

@@ -7,17 +7,16 @@ use mathlib.Core.Bool.{true, false}
 use mathlib.Core.List.{List, [], _∷_, _++_}
 use native.Mathlib.Omega.{arith}
 use lib.Dec.{ltb}
-use lib.ListN.{length, length-append, take, drop, getD}
+use lib.ListN.{length, length-append, take, drop, getD, drop-of-length-le}
 use lib.Seq.{length-take-le}
 use borrow.Author.Tests.{ltb-true, ltb-false}
 use Rattle.base.specs.Choose.{if_then_else_}
 use Rattle.base.specs.Lists.{member}
 use Rattle.base.specs.Walk.{fold}
 use Rattle.base.proofs.Tests.{cases}
+use Rattle.base.proofs.Parts.{drop-turn}
 use Rattle.base.proofs.Walk.{fold-turn, fold-end}
 use Rattle.tape.specs.Events as E
-use Rattle.tape.specs.Pass.{pass}
-use Rattle.tape.proofs.Pass.{pass-turn, pass-end}
 use Rattle.translation.specs.Instructions.{literal}
 use Rattle.translation.specs.Layout.{needs}
 use Rattle.emit.specs.declared.Code.{Code}
@@ -28,7 +27,8 @@ use Rattle.emit.specs.Codes.{listOf, blank, codeSize, stopCode}
 use Rattle.ledger.specs.Book.{Wide, Thin}
 use Rattle.emit.specs.Events.{writingAfter, codesBy, writingIn, codesIn}
 use Rattle.code.specs.Places.{noWriting}
-use Rattle.code.specs.Coding.{Laid, laidOf, laidBy, literalsAfter, layCode, layAll, Coding, codingOf, codeEvent, codeAlong, codeStep, codeIn, Holds}
+use Rattle.code.specs.Coding.{Laid, laidOf, laidBy, literalsAfter, layCode, layAll, Coding, codingOf, codeEvent, codeFrom, codeAlong, codeRest, tableIn, codeIn, Holds}
+use Rattle.code.proofs.Kept.{laid-at}
 
 -- ── an instruction ──
 
@@ -105,38 +105,62 @@ module _ (start room k : ℕ) (cs : List Code) where
       (at n : ℕ) (image literals : List ℕ) (whole : Laid) → length cs ≤ k → Left start room at n image literals (drop k cs) whole → Holds room at n image literals whole
   event-end at n image literals whole h l = subst (λ (s : Laid). Holds room at n image literals s) (fold-end _ (l .state) cs k h (l .leads)) (l .holds)
 
+-- instructions that are laid whatever literals there are: a table
+literals-all : (start : ℕ) (cs : List Code) (s : Laid) → length (s .literals) ≤ length (layAll start cs s .literals)
+unfolding fold layCode
+literals-all start [] s = omega arith
+literals-all start (c ∷ cs) s = omega (arith, literals-more c (s .literals), literals-all start cs (layCode start c s))
+
+pub holds-table :
+    (start room at n at′ : ℕ) (image literals image′ : List ℕ) (cs : List Code) (s : Laid) → ((k : ℕ) (seen : List ℕ) → laidOf at′ image′ seen ≡ layAll k cs (laidOf at image seen))
+    → Holds room at n image literals s → Holds room at′ n image′ literals (layAll start cs s)
+holds-table start room at n at′ image literals image′ cs s e h = record {
+  reached =
+      let a = laid-at start cs s in
+      let b = laid-at start cs (laidOf at image []) in
+      let c : at′ ≡ layAll start cs (laidOf at image []) .at = ap (λ (x : Laid). x .at) (e start []) in
+      let d = h .reached in
+      omega arith;
+  inside = h .inside;
+  same = λ l. e start (take n literals) ∙ ap (layAll start cs) (h .same l);
+  full = λ l. omega (arith, h .full l, literals-all start cs s);
+}
+
 -- ── a tape ──
 
 module _ (start room : ℕ) (kinds : List ℕ) (w : Wide) (b : Thin) where
-  abbrev step : ℕ → ℕ → Coding → Coding
-  step = codeStep start kinds w b
-
   pub record Coded (at n : ℕ) (image literals : List ℕ) (v : Writing) (rest : List ℕ) (whole : Coding) : Type 0 where
     pub state : Laid
     pub holds : Holds room at n image literals state
-    pub leads : pass step (codingOf state v) rest ≡ whole
+    pub leads : codeRest start kinds w b (codingOf state v) rest ≡ whole
 
+  -- the instructions of an event are laid up to at₁, and its table
   pub tape-turn :
-      (tape : List ℕ) (i op t at n at′ n′ : ℕ) (image literals image′ literals′ : List ℕ) (m : Codes) (v v′ : Writing) (whole : Coding) → i < length tape
+      (tape : List ℕ) (i op t at n at₁ n′ at′ : ℕ) (image literals image₁ literals′ image′ : List ℕ) (m : Codes) (v v′ : Writing) (whole : Coding) → i < length tape
       → op ≡ getD tape i 0 % E.EVENTS → t ≡ getD tape i 0 / E.EVENTS
       → m ≡ codesIn kinds w b op t v → v′ ≡ writingIn w b op t v
-      → {given : ℕ} → given ≡ room → ((s : Laid) → Holds given at n image literals s → Holds given at′ n′ image′ literals′ (layAll start (listOf m) s))
+      → {given : ℕ} → given ≡ room → ((s : Laid) → Holds given at n image literals s → Holds given at₁ n′ image₁ literals′ (layAll start (listOf m) s))
+      → ((k : ℕ) (seen : List ℕ) → laidOf at′ image′ seen
+      ≡ layAll k (tableIn kinds w b (getD tape i 0 % E.EVENTS) (getD tape i 0 / E.EVENTS) v′ (drop (i + 1) tape)) (laidOf at₁ image₁ seen))
       → Coded at n image literals v (drop i tape) whole → Coded at′ n′ image′ literals′ v′ (drop (i + 1) tape) whole
-  unfolding codeEvent
-  tape-turn tape i op t at n at′ n′ image literals image′ literals′ m v v′ whole h eo et em ew e laid l = record {
-    state = layAll start (listOf m) (l .state);
-    holds = (rw e at laid) (l .state) (l .holds);
-    leads = rw (em, ew) (pass-turn step (codingOf (l .state) v) tape i op t h eo et (l .leads));
-  }
+  unfolding codeFrom codeEvent
+  tape-turn tape i op t at n at₁ n′ at′ image literals image₁ literals′ image′ m v v′ whole h eo et em ew e laid table l =
+      let first : List Code = tableIn kinds w b (getD tape i 0 % E.EVENTS) (getD tape i 0 / E.EVENTS) v′ (drop (i + 1) tape) in
+      record {
+        state = layAll start first (layAll start (listOf m) (l .state));
+        holds = holds-table start room at₁ n′ at′ image₁ literals′ image′ first (layAll start (listOf m) (l .state)) table ((rw e at laid) (l .state) (l .holds));
+        leads = rw (em, ew, eo, et) (ap (codeRest start kinds w b (codingOf (l .state) v)) (sym (drop-turn tape i 0 h)) ∙ l .leads);
+      }
 
   -- and the last instruction behind all
   pub tape-end :
       (tape image₀ : List ℕ) (i at n n′ : ℕ) (image literals image′ literals′ : List ℕ) (v : Writing) (c : Code) → length tape ≤ i → length literals′ ≡ room → c ≡ stopCode
       → (n < room → laidBy (at + codeSize c) n′ image′ literals′ ≡ layCode start c (laidBy at n image literals)) → (n ≡ room → n′ ≡ n)
-      → n′ ≤ n + 1 → Coded at n image literals v (drop i tape) (pass step (codingOf (laidOf 0 image₀ []) noWriting) tape)
+      → n′ ≤ n + 1 → Coded at n image literals v (drop i tape) (codeRest start kinds w b (codingOf (laidOf 0 image₀ []) noWriting) tape)
       → Holds room (at + 2) n′ image′ literals′ (codeIn start kinds w b image₀ tape)
-  unfolding codeAlong codeSize
+  unfolding codeAlong codeSize codeFrom
   tape-end tape image₀ i at n n′ image literals image′ literals′ v c h e ec step′ stays one l =
-      let q = pass-end step (codingOf (l .state) v) tape i h (l .leads) in
+      let q : codingOf (l .state) v ≡ codeRest start kinds w b (codingOf (laidOf 0 image₀ []) noWriting) tape =
+          ap (codeRest start kinds w b (codingOf (l .state) v)) (sym (drop-of-length-le tape {i = i} h)) ∙ l .leads in
       let g = holds-on start room at n n′ image literals image′ literals′ stopCode (l .state) e (rw ec at step′) stays one (l .holds) in
       subst (λ (x : Coding). Holds room (at + 2) n′ image′ literals′ (layCode start stopCode (x .laid))) q g

@@ -16,9 +16,8 @@ use Rattle.base.specs.Choose.{if_then_else_}
 use Rattle.base.specs.Lists.{_∈_, member}
 use Rattle.base.specs.Runs.{runLen, indexOf}
 use Rattle.tape.specs.Events as E
-use Rattle.tape.specs.Pass.{onEvent, pass}
 use Rattle.static_rules.specs.Meaning.{Cell, Based}
-use Rattle.translation.specs.Instructions.{Datum, element, literal, entry, Instruction, rr, rx, address, immediate, shift, branch, link, stop, size, sizes, addressOp}
+use Rattle.translation.specs.Instructions.{Datum, element, literal, entry, Instruction, rr, rx, address, immediate, shift, branch, link, indexed, stop, size, sizes, addressOp}
 use Rattle.translation.specs.Core.{Core}
 use Rattle.translation.specs.Code.{code, instructions}
 use Rattle.translation.specs.Layout.{Layout, offsetOf, needs, literalsFrom}
@@ -29,26 +28,25 @@ use Rattle.emit.specs.declared.Code.{Code}
 use Rattle.emit.specs.declared.Writing.{Writing}
 use Rattle.emit.specs.Codes.{listOf, codeSize}
 use Rattle.emit.specs.Events.{writingAfter, codesBy}
-use Rattle.emit.specs.Along.{along, codeAt, codeFor}
+use Rattle.emit.specs.Along.{tableAlong, along, codeAt, codeFor}
 use Rattle.code.specs.Places.{noWriting}
-use Rattle.code.specs.Coding.{bytesIn, Laid, laidOf, codeBytes, literalsAfter, layCode, layAll, Coding, codingOf, codeEvent, codeAlong}
+use Rattle.code.specs.Coding.{bytesIn, Laid, laidOf, codeBytes, literalsAfter, layCode, layAll, Coding, codingOf, codeEvent, codeFrom, codeAlong}
 
 module _ (start : ℕ) where
   lay-append : (cs ds : List Code) (s : Laid) → layAll start (cs ++ ds) s ≡ layAll start ds (layAll start cs s)
   lay-append cs ds s = fold-append _ s cs ds
 
   module _ (kinds values found goes means under opens offsets marks : List ℕ) where
-    abbrev step : ℕ → ℕ → Coding → Coding
-    step = codeEvent start kinds values found goes means under opens offsets marks
-
     pub laid-along : (tape : List ℕ) (s : Laid) (w : Writing)
-        → pass step (codingOf s w) tape .laid ≡ layAll start (along kinds values found goes means under opens offsets marks w tape) s
-    unfolding pass fold onEvent along codeEvent
+        → codeFrom start kinds values found goes means under opens offsets marks (codingOf s w) tape .laid ≡ layAll start (along kinds values found goes means under opens offsets marks w tape) s
+    unfolding fold along codeFrom codeEvent
     laid-along [] s w = refl
     laid-along (e ∷ es) s w =
         let cs = listOf (codesBy kinds values found goes means under opens offsets marks (e % E.EVENTS) (e / E.EVENTS) w) in
         let v = writingAfter values found means under offsets (e % E.EVENTS) (e / E.EVENTS) w in
-        laid-along es (layAll start cs s) v ∙ sym (lay-append cs (along kinds values found goes means under opens offsets marks v es) s)
+        let ts = tableAlong kinds values found goes means under opens offsets marks (e % E.EVENTS) (e / E.EVENTS) v es in
+        let rest = along kinds values found goes means under opens offsets marks v es in
+        laid-along es (layAll start ts (layAll start cs s)) v ∙ sym (lay-append cs (ts ++ rest) s ∙ lay-append ts rest (layAll start cs s))
 
 -- ── the definition's instructions ──
 
@@ -83,6 +81,7 @@ module _ (l : Layout) (place : ℕ → ℕ) (right : (t : ℕ) → place t ≡ o
   Placed (shift op r s n) seen = Unit {0}
   Placed (branch m t) seen = Unit {0}
   Placed (link r t) seen = Unit {0}
+  Placed (indexed r t) seen = Unit {0}
   Placed stop seen = Unit {0}
 
   -- of four bytes, with an operand in storage
@@ -103,6 +102,7 @@ module _ (l : Layout) (place : ℕ → ℕ) (right : (t : ℕ) → place t ≡ o
   lays-one (shift op r s n) seen h = record { lays = λ at image. refl }
   lays-one (branch m t) seen h = record { lays = λ at image. refl }
   lays-one (link r t) seen h = record { lays = λ at image. refl }
+  lays-one (indexed r t) seen h = record { lays = λ at image. refl }
   lays-one stop seen h = record { lays = λ at image. refl }
 
   -- one after the other
@@ -119,6 +119,7 @@ module _ (l : Layout) (place : ℕ → ℕ) (right : (t : ℕ) → place t ≡ o
   literals-cons (shift op r s n) is seen = refl
   literals-cons (branch m t) is seen = refl
   literals-cons (link r t) is seen = refl
+  literals-cons (indexed r t) is seen = refl
   literals-cons stop is seen = refl
 
   laid-list : (is : List Instruction) (at : ℕ) (image seen : List ℕ) → AllPlaced is seen
@@ -153,6 +154,7 @@ module _ (l : Layout) (place : ℕ → ℕ) (right : (t : ℕ) → place t ≡ o
       one (shift op r s n) g = tt
       one (branch m t) g = tt
       one (link r t) g = tt
+      one (indexed r t) g = tt
       one stop g = tt
 
   map-end : (is : List Instruction) (i : Instruction) → map (codeFor place) (is ++ (i ∷ [])) ≡ map (codeFor place) is ++ (codeFor place i ∷ [])

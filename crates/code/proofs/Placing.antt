@@ -11,12 +11,12 @@ use Rattle.ledger.specs.Book.{Wide, Thin}
 use Rattle.emit.specs.declared.Codes.{Codes}
 use Rattle.emit.specs.declared.Writing.{Writing}
 use Rattle.emit.specs.Codes.{listOf, codeSizes}
-use Rattle.emit.specs.Events.{writingAfter, codesBy, writingIn, codesIn}
+use Rattle.emit.specs.Events.{tableBytes, writingAfter, codesBy, writingIn, codesIn}
 use Rattle.code.specs.Places.{kept, markAfter, Placing, placingOf, placeEvent, onMarks, placeStep}
 
 pub place-is :
     (keep : ℕ → ℕ) (kinds values found goes means under opens offsets marks : List ℕ) (op t p : ℕ) (w : Writing) {marks′ : List ℕ} {w′ : Writing} {m : Codes} {z : ℕ}
-    → m ≡ codesBy kinds values found goes means under opens offsets marks op t w → z ≡ codeSizes (listOf m)
+    → m ≡ codesBy kinds values found goes means under opens offsets marks op t w → z ≡ codeSizes (listOf m) + tableBytes (familyAt op) w
     → marks′ ≡ markAfter (familyAt op) t (keep p) (keep (p + z)) (w .aim) marks → w′ ≡ writingAfter values found means under offsets op t w
     → placingOf (p + z) w′ marks′ ≡ placeEvent keep kinds values found goes means under opens offsets op t (placingOf p w marks)
 unfolding placeEvent
@@ -29,7 +29,7 @@ Same b₀ b = b ≡ onMarks (λ (m : List ℕ). b .written) b₀
 module _ (kinds tape : List ℕ) (w : Wide) (b₀ : Thin) where
   pub places-turn :
       (b b′ : Thin) (i op t p z : ℕ) (v v′ : Writing) (m : Codes) {x : Placing} → Same b₀ b → i < length tape → op ≡ getD tape i 0 % E.EVENTS → t ≡ getD tape i 0 / E.EVENTS
-      → m ≡ codesIn kinds w b op t v → z ≡ codeSizes (listOf m)
+      → m ≡ codesIn kinds w b op t v → z ≡ codeSizes (listOf m) + tableBytes (familyAt op) v
       → b′ ≡ onMarks (markAfter (familyAt op) t (kept p) (kept (p + z)) (v .aim)) b → v′ ≡ writingIn w b op t v
       → pass (placeStep kinds w b₀) (placingOf p v (b .written)) (drop i tape) ≡ x
       → Same b₀ b′ × (pass (placeStep kinds w b₀) (placingOf (p + z) v′ (b′ .written)) (drop (i + 1) tape) ≡ x)

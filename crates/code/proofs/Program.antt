@@ -22,7 +22,9 @@ use Rattle.emit.specs.Along.{along}
 use Rattle.emit.proofs.Operands.{Small}
 use Rattle.emit.proofs.Written.{coded}
 use Rattle.code.specs.Places.{whole, Placing, placingOf, noWriting, placesAlong}
-use Rattle.code.proofs.Statements.{leaves, code-statement}
+use Rattle.code.proofs.Expressions.{listing, Walking, place-alone}
+use Rattle.code.proofs.Leaves.{leaves}
+use Rattle.code.proofs.Statements.{code-statement}
 use Rattle.code.proofs.Addresses.{Held, marksOf, place-statement}
 use Rattle.code.proofs.Agreeing.{agree-program}
 
@@ -35,8 +37,9 @@ module _
         ≡ placingOf (sizeOf (coreStatement f x)) (leaves f means under offsets x noWriting) (marksOf f x 0 (replicate n 0))
     unfolding isProgram placesAlong
     places-program =
-        place-statement f means under offsets table small held x _ _ (program .1 .1) 0 noWriting (replicate n 0) []
-        ∙ (pass-none _ _ ∙ ap (λ (p : ℕ). placingOf p (leaves f means under offsets x noWriting) (marksOf f x 0 (replicate n 0))) (omega arith))
+        place-alone f means under offsets (tapeStatement x []) 0 noWriting (replicate n 0) (listing 0 0 [])
+        ∙ (ap (λ (s : Walking). s .placing) (place-statement f means under offsets table small held x _ _ (program .1 .1) 0 noWriting (replicate n 0) (listing 0 0 []) [] ∙ pass-none _ _)
+        ∙ ap (λ (p : ℕ). placingOf p (leaves f means under offsets x noWriting) (marksOf f x 0 (replicate n 0))) (omega arith))
 
     -- the tokens of names around a program stand before it, and the marks have room for its own
     module _ (starts : firstToken ≤ i) (room : j ≤ n) (bound : Along (Goes (f .found) (f .goes)) (eventsOf x) []) where
@@ -50,6 +53,6 @@ module _
           (λ (s : Placing).
           along (f .kinds) (f .values) (f .found) (f .goes) means under (f .opens) offsets (s .marks) noWriting (tapeStatement x []))
           places-program
-          ∙ (code-statement f means under offsets _ table small x _ _ (program .1 .1) [] [] 0
+          ∙ (code-statement f means under offsets _ table small held x _ _ (program .1 .1) [] [] 0
           (agree-program f x i j n (program-text (f .kinds) x i j program) bound starts room) noWriting []
           ∙ append-nil _)

@@ -1,31 +1,38 @@
 -- On the tape of a tree, with the addresses that the tree has, the code pass makes the definition's instructions: a line for each way to make a tree. Assumes nothing.
 use mathlib.Core.Path.{_≡_, refl, sym, ap, subst, _∙_}
-use mathlib.Core.List.{List, [], _∷_, _++_}
+use mathlib.Core.List.{List, [], _∷_, _++_, map}
 use mathlib.Core.Bool.{true}
 use Prim.Native.Nat.{ℕ, _+_, _-_}
 use native.Mathlib.Omega.{arith}
 use lib.ListN.{getD}
 use Rattle.base.specs.Lists.{All, member}
 use Rattle.base.proofs.Lists.{all-in, all-of}
-use Rattle.grammar.specs.Tree.{Condition, registers, cells, base, Statement, assign, call, apply, block, goto, null, ifThen, ifElse, while, for, Body, declare, procedure, items, Items, ended, label, item}
-use Rattle.grammar.specs.Derives.{isOperand, isCondition, areArguments, isStatement, isBody, isItems}
+use Rattle.grammar.specs.Tree.{Condition, registers, cells, base, Statement, assign, call, apply, block, goto, null, ifThen, ifElse, while, for, choose, Body, declare, procedure, items, Items, ended, label, item, Choices, over, choice}
+use Rattle.grammar.specs.Derives.{isOperand, isCondition, areArguments, isStatement, isBody, isItems, areChoices}
+use Rattle.grammar.specs.Events.{choicesCount}
 use Rattle.tape.specs.Events as E
-use Rattle.tape.specs.Tape.{event, tapeCondition, tapeDeclaration, tapeStatement, tapeBody, tapeItems}
+use Rattle.tape.specs.Numbers.{formAt}
+use Rattle.tape.specs.Tape.{event, tapeCondition, tapeDeclaration, tapeStatement, tapeBody, tapeItems, tapeChoices}
 use Rattle.tables.specs.Packed.{meaningsOf}
 use Rattle.static_rules.specs.Meaning.{registerOf}
 use Rattle.static_rules.specs.Tables.{Tables, valueAt, meaningAt}
 use Rattle.translation.specs.Instructions.{Instruction, rr, rx, branch, link, entry, literal, sizes, opcode, loadRow, addRow, returnOp, always}
-use Rattle.translation.specs.Core.{returnOf, toRegister, compareWith, testOf, maskOf, controlOf, coreStatement, coreBody, coreItems}
-use Rattle.translation.specs.Code.{Mark, sizeOf, own, markAt, code}
+use Rattle.translation.specs.Core.{Arms, last, arm, returnOf, toRegister, compareWith, testOf, maskOf, controlOf, coreStatement, coreBody, coreItems, coreChoices}
+use Rattle.translation.specs.Code.{Mark, headSize, sizeOf, armsSize, own, markAt, caseHead, table as branchTable, code, codeArms}
 use Rattle.emit.specs.declared.Code.{Code}
+use Rattle.emit.specs.declared.Use.the-variants.{Absent}
 use Rattle.emit.specs.declared.Writing.{Writing}
+use Rattle.emit.specs.Codes.{branchCode}
 use Rattle.emit.specs.Events.{noWriting}
-use Rattle.emit.specs.Along.{codeFor, targetWriting, controlWriting}
+use Rattle.emit.specs.Along.{codeFor, controlWriting}
 use Rattle.emit.proofs.Operands.{Small, offsetAt}
 use Rattle.emit.proofs.Written.{coded}
-use Rattle.emit.proofs.Events.{declaring, idle, Adds, idle-adds, procedure-adds, else-adds, end-while-adds, end-for-adds, goto-adds, base-adds, end-procedure-adds, call-adds}
-use Rattle.emit.proofs.Trees.{go, along-makes, assignment-coded, use-coded, control-coded, condition-coded, limit-coded}
+use Rattle.emit.proofs.Walks.{Plain}
+use Rattle.emit.proofs.Events.{declaring, idle, Adds, idle-adds, idle-plain, procedure-adds, else-adds, end-while-adds, end-for-adds, end-choice-adds, listed-makes, goto-adds, base-adds, end-procedure-adds, call-adds, chosen-makes}
+use Rattle.emit.proofs.Trees.{go, along-makes, along-case, assignment-coded, use-coded, control-coded, condition-coded, limit-coded}
 use Rattle.code.proofs.Declarations.{registers-out, cells-out}
+use Rattle.code.proofs.Leaves.{leaves, leavesBody, leavesItems, leavesChoices}
+use Rattle.code.proofs.Addresses.{Held, arms-counted, startsOf, starts-choices}
 
 -- ── the addresses in `marks` are those that the tree has ──
 
@@ -56,6 +63,8 @@ module _ (f : Tables) (marks : List ℕ) where
         × (to v ≡ p + sizes (toRegister f (controlOf f a) a))
         × (to (v + 1) ≡ controlOf f a)
         × Agree ls ps x (p + (sizes (toRegister f (controlOf f a) a) + (sizes (compareWith f (controlOf f a) l) + 4)))
+    Agree ls ps (choose t n xs) p =
+        (to (n + 1) ≡ p + (headSize (choicesCount xs) + armsSize (coreChoices f xs))) × (to n ≡ p + headSize (choicesCount xs)) × AgreeChoices ls ps xs (p + headSize (choicesCount xs))
 
     pub AgreeBody : (ls ps : List Mark) → Body → ℕ → Type 0
     AgreeBody ls ps (declare (registers rs) b) p = AgreeBody ls ps b p
@@ -72,31 +81,9 @@ module _ (f : Tables) (marks : List ℕ) where
     AgreeItems ls ps (label l is) p = AgreeItems ls ps is p
     AgreeItems ls ps (item x is) p = Agree ls ps x p × AgreeItems ls ps is (p + sizeOf (coreStatement f x))
 
-module _ (f : Tables) (means under offsets : List ℕ) where
-  -- ── the assignment or use that is written after a tree's tape ──
-
-  unfoldable mutual
-    pub leaves : Statement → Writing → Writing
-    leaves (assign a) w = targetWriting (f .values) (f .found) means under offsets a
-    leaves (call n) w = w
-    leaves (apply n a xs) w = noWriting
-    leaves (block t b) w = leavesBody b w
-    leaves (goto t n) w = w
-    leaves null w = w
-    leaves (ifThen t c x) w = leaves x w
-    leaves (ifElse t c x e y) w = leaves y (leaves x w)
-    leaves (while t c x) w = leaves x w
-    leaves (for t a v l x) w = leaves x (controlWriting (f .found) means a)
-
-    pub leavesBody : Body → Writing → Writing
-    leavesBody (declare d b) w = leavesBody b w
-    leavesBody (procedure n r x b) w = leavesBody b (leaves x w)
-    leavesBody (items is) w = leavesItems is w
-
-    pub leavesItems : Items → Writing → Writing
-    leavesItems ended w = w
-    leavesItems (label l is) w = leavesItems is w
-    leavesItems (item x is) w = leavesItems is (leaves x w)
+    pub AgreeChoices : (ls ps : List Mark) → Choices → ℕ → Type 0
+    AgreeChoices ls ps over p = Unit {0}
+    AgreeChoices ls ps (choice x xs) p = Agree ls ps x p × AgreeChoices ls ps xs (p + (sizeOf (coreStatement f x) + 4))
 
 -- ── the instructions ──
 
@@ -132,13 +119,20 @@ module _ (f : Tables) (means under offsets marks : List ℕ) where
   abbrev along-it : Writing → List ℕ → List Code
   along-it w k = go f means under offsets marks w k
 
-  event-begins : (op t : ℕ) (w : Writing) (k : List ℕ) (is : List Instruction) → Adds f means under offsets marks op t w is → Begins (along-it w (event op t ∷ k)) is (along-it w k)
-  event-begins op t w k is h = record { begins = along-makes f means under offsets marks op t w k h }
+  event-begins : (op t : ℕ) (w : Writing) (k : List ℕ) (is : List Instruction) → Plain op → Adds f means under offsets marks op t w is → Begins (along-it w (event op t ∷ k)) is (along-it w k)
+  event-begins op t w k is n h = record { begins = along-makes f means under offsets marks op t w k n h }
+
+  -- ── tables ──
+
+  table-coded : (xs : Arms) (p : ℕ) → coded offsets (branchTable xs p) ≡ map (branchCode always) (startsOf xs p)
+  unfolding branchTable codeFor startsOf
+  table-coded last p = refl
+  table-coded (arm c xs) p = ap (λ (l : List Code). branchCode always p ∷ l) (table-coded xs (p + (sizeOf c + 4)))
 
   -- ── events that make none ──
 
   idle-event : (op : ℕ) → member op idle ≡ true → (t : ℕ) (w : Writing) (k : List ℕ) → along-it w (event op t ∷ k) ≡ along-it w k
-  idle-event op h t w k = along-makes f means under offsets marks op t w k (idle-adds f means under offsets marks op h t w)
+  idle-event op h t w k = along-makes f means under offsets marks op t w k (idle-plain f means under offsets marks op h) (idle-adds f means under offsets marks op h t w)
 
   idle-declaring : (w : Writing) (t : ℕ) (k : List ℕ) → All (λ (op : ℕ). along-it w (event op t ∷ k) ≡ along-it w k) declaring
   idle-declaring w t k =
@@ -149,25 +143,25 @@ module _ (f : Tables) (means under offsets marks : List ℕ) where
 
   -- ── statements ──
 
-  module _ (table : f .means ≡ meaningsOf means under) (small : Small f) where
+  module _ (table : f .means ≡ meaningsOf means under) (small : Small f) (held : Held f) where
     tested : (c : Condition) (t i j q : ℕ) → t ≡ i → isCondition (f .kinds) c (i + 1) j → getD marks t 0 ≡ q → (w : Writing) (k : List ℕ)
         → Begins (along-it w (tapeCondition c k)) (testOf f c) (codeFor (offsetAt offsets) (branch (maskOf f c) q) ∷ along-it w k)
     tested c t i j q e h g w k = record { begins = condition-coded f means under offsets marks table small c t j q (rw e h) g w k }
 
     mutual
-      unfolding isStatement tapeStatement tapeDeclaration coreStatement code leaves Agree codeFor
+      unfolding isStatement tapeStatement tapeDeclaration coreStatement code leaves Agree codeFor formAt
 
       statement-begins : (x : Statement) (i j : ℕ) → isStatement (f .kinds) x i j → (ls ps : List Mark) (p : ℕ) → Agree f marks ls ps x p → (w : Writing) (k : List ℕ)
           → Begins (along-it w (tapeStatement x k)) (code ls ps (coreStatement f x) p) (along-it (leaves f means under offsets x w) k)
       statement-begins (assign a) i j h ls ps p g w k = record { begins = assignment-coded f means under offsets marks table small a i j h w k }
       statement-begins (call n) i j h ls ps p g w k =
-          by-address (λ (q : ℕ). link (returnOf (meaningAt f n)) q ∷ []) g (event-begins E.CALL n w k _ (call-adds f means under offsets marks table n w))
+          by-address (λ (q : ℕ). link (returnOf (meaningAt f n)) q ∷ []) g (event-begins E.CALL n w k _ refl (call-adds f means under offsets marks table n w))
       statement-begins (apply n a xs) i j (e, _, h) ls ps p g w k =
           record { begins = use-coded f means under offsets marks table small n a xs j (subst (λ (q : ℕ). areArguments (f .kinds) (a ∷ xs) (q + 1) j) (sym e) h) w k }
       statement-begins (block t b) i j h ls ps p g w k =
           after-none (idle-event E.BLOCK refl t w _) (before-none (body-begins b _ _ (h .2) ls ps p g w _) (idle-event E.END-BLOCK refl t _ k))
       statement-begins (goto t n) i j h ls ps p g w k =
-          by-address (λ (q : ℕ). branch always q ∷ []) g (event-begins E.GOTO n w k _ (goto-adds f means under offsets marks n w))
+          by-address (λ (q : ℕ). branch always q ∷ []) g (event-begins E.GOTO n w k _ refl (goto-adds f means under offsets marks n w))
       statement-begins null i j h ls ps p g w k = none-begins _
       statement-begins (ifThen t c x) i j h ls ps p g w k =
           then-begins (tested c t _ _ _ (h .0) (h .2 .1) (g .0) w _)
@@ -177,7 +171,7 @@ module _ (f : Tables) (means under offsets marks : List ℕ) where
           then-begins (tested c t _ _ _ (h .0) (h .2 .1) (g .0) w _)
           (then-begins (one-begins (branch _ _) _)
           (then-begins (statement-begins x _ _ (h .2 .2 .1 .1 .1) ls ps _ (g .2) w _)
-          (then-begins (by-address (λ (q : ℕ). branch always q ∷ []) (g .1) (event-begins E.ELSE t w′ _ _ (else-adds f means under offsets marks t w′)))
+          (then-begins (by-address (λ (q : ℕ). branch always q ∷ []) (g .1) (event-begins E.ELSE t w′ _ _ refl (else-adds f means under offsets marks t w′)))
           (before-none (statement-begins y _ _ (h .2 .2 .1 .2 .2) ls ps _ (g .3) w′ _) (idle-event E.END-ELSE refl t _ k)))))
       statement-begins (while t c x) i j h ls ps p g w k =
           let w′ = leaves f means under offsets x w in
@@ -185,7 +179,7 @@ module _ (f : Tables) (means under offsets marks : List ℕ) where
           (then-begins (tested c t _ _ _ (h .0) (h .2 .1) (g .0) w _)
           (then-begins (one-begins (branch _ _) _)
           (then-begins (statement-begins x _ _ (h .2 .2 .1) ls ps _ (g .2) w _)
-          (by-address (λ (q : ℕ). branch always q ∷ []) (g .1) (event-begins E.END-WHILE t w′ k _ (end-while-adds f means under offsets marks t w′))))))
+          (by-address (λ (q : ℕ). branch always q ∷ []) (g .1) (event-begins E.END-WHILE t w′ k _ refl (end-while-adds f means under offsets marks t w′))))))
       statement-begins (for t a v l x) i j h ls ps p g w k =
           let e : v ≡ h .2 .0 + 1 = h .2 .2 .1 .0 in
           let w′ = controlWriting (f .found) means a in
@@ -201,7 +195,23 @@ module _ (f : Tables) (means under offsets marks : List ℕ) where
           (then-begins (statement-begins x _ _ (h .2 .2 .1 .2 .1 .2 .1) ls ps _ (g .3) w′ _)
           (by-address (λ (q : ℕ). rx (opcode addRow 1) (controlOf f a) (literal (valueAt f v)) ∷ branch always q ∷ []) (g .1)
           (by-address (λ (r : ℕ). rx (opcode addRow 1) r (literal (valueAt f v)) ∷ branch always (getD marks v 0) ∷ []) (g .2)
-          (event-begins E.END-FOR v w″ k _ (end-for-adds f means under offsets marks v w″)))))))
+          (event-begins E.END-FOR v w″ k _ refl (end-for-adds f means under offsets marks v w″)))))))
+
+      statement-begins (choose t n xs) i j h ls ps p g w k =
+          let w′ : Writing = record { aim = Absent; sign = 0; arguments = choicesCount xs } in
+          let q = p + headSize (choicesCount xs) in
+          let count = arms-counted f xs in
+          after-none (along-makes f means under offsets marks E.LISTED (choicesCount xs) w _ refl (listed-makes f means under offsets marks (choicesCount xs) w))
+          (before-none
+          (rw count
+          (then-begins {is = caseHead (registerOf (meaningAt f n)) (choicesCount xs) p (p + (headSize (choicesCount xs) + armsSize (coreChoices f xs)))}
+          (record {
+            begins = along-case f means under offsets marks n q w′ _ (g .1) (chosen-makes f means under offsets marks table n p _ w′ (g .1) (g .0));
+          })
+          (then-begins {is = branchTable (coreChoices f xs) q}
+          (record { begins = ap (λ (l : List ℕ). map (branchCode always) l ++ _) (starts-choices f means under offsets table small held marks n xs _ _ (h .2 .2 .1 .1) q noWriting k) ∙ ap (λ (l : List Code). l ++ _) (sym (table-coded (coreChoices f xs) q)) })
+          (choices-begins n xs _ _ (h .2 .2 .1 .1) ls ps q _ (g .0) (g .2) noWriting _))))
+          (idle-event E.END-CASE refl n _ k))
 
       body-begins : (b : Body) (i j : ℕ) → isBody (f .kinds) b i j → (ls ps : List Mark) (p : ℕ) → AgreeBody f marks ls ps b p → (w : Writing) (k : List ℕ)
           → Begins (along-it w (tapeBody b k)) (code ls ps (coreBody f b) p) (along-it (leavesBody f means under offsets b w) k)
@@ -209,15 +219,15 @@ module _ (f : Tables) (means under offsets marks : List ℕ) where
       body-begins (declare (cells c s is) b) i j h ls ps p g w k =
           after-none (cells-out (along-it w) (idle-declaring w) c s is _) (body-begins b _ _ (h .2 .1) ls ps p g w k)
       body-begins (declare (base n) b) i j h ls ps p g w k =
-          then-begins (event-begins E.BASE n w _ (rx (opcode loadRow 1) (registerOf (meaningAt f n)) (entry (getD (f .opens) n 0)) ∷ [])
+          then-begins (event-begins E.BASE n w _ (rx (opcode loadRow 1) (registerOf (meaningAt f n)) (entry (getD (f .opens) n 0)) ∷ []) refl
           (base-adds f means under offsets marks table n w)) (body-begins b _ _ (h .2 .1) ls ps _ g w k)
       body-begins (procedure n r x b) i j h ls ps p g w k =
           let e : n + 2 ≡ r = omega (arith, h .1 .1 .0, h .1 .1 .2 .1 .0) in
           let w′ = leaves f means under offsets x w in
-          then-begins (by-address (λ (q : ℕ). branch always q ∷ []) (g .0) (event-begins E.PROCEDURE n w _ _ (procedure-adds f means under offsets marks n w)))
+          then-begins (by-address (λ (q : ℕ). branch always q ∷ []) (g .0) (event-begins E.PROCEDURE n w _ _ refl (procedure-adds f means under offsets marks n w)))
           (then-begins (statement-begins x _ _ (h .1 .1 .2 .1 .2 .1 .1) [] _ _ (g .1) w _)
           (then-begins (by-address (λ (q : ℕ). rr returnOp always (registerOf (meaningAt f q)) ∷ []) e
-          (event-begins E.END-PROCEDURE n w′ _ _ (end-procedure-adds f means under offsets marks table n w′)))
+          (event-begins E.END-PROCEDURE n w′ _ _ refl (end-procedure-adds f means under offsets marks table n w′)))
           (body-begins b _ _ (h .2 .1) ls _ _ (g .2) w′ k)))
       body-begins (items is) i j h ls ps p g w k = items-begins is i j h _ ps p g w k
 
@@ -227,6 +237,15 @@ module _ (f : Tables) (means under offsets marks : List ℕ) where
       items-begins (label l is) i j h ls ps p g w k = after-none (idle-event E.LABEL refl l w _) (items-begins is _ _ (h .2 .1) ls ps p g w k)
       items-begins (item x is) i j h ls ps p g w k =
           then-begins (statement-begins x _ _ (h .1) ls ps p (g .0) w _) (items-begins is _ _ (h .2 .1) ls ps _ (g .1) _ k)
+
+      choices-begins : (t : ℕ) (xs : Choices) (i j : ℕ) → areChoices (f .kinds) xs i j → (ls ps : List Mark) (p end : ℕ) → getD marks (t + 1) 0 ≡ end → AgreeChoices f marks ls ps xs p → (w : Writing) (k : List ℕ)
+          → Begins (along-it w (tapeChoices t xs k)) (codeArms ls ps (coreChoices f xs) p end) (along-it (leavesChoices f means under offsets xs w) k)
+      choices-begins t over i j h ls ps p end e g w k = none-begins _
+      choices-begins t (choice x xs) i j h ls ps p end e g w k =
+          let w′ = leaves f means under offsets x w in
+          then-begins (statement-begins x _ _ (h .1) ls ps p (g .0) w _)
+          (then-begins (by-address (λ (q : ℕ). branch always q ∷ []) e (event-begins E.END-CHOICE t w′ _ _ refl (end-choice-adds f means under offsets marks t w′)))
+          (choices-begins t xs _ _ (h .2 .1) ls ps _ end e (g .1) w′ k))
 
     pub code-statement : (x : Statement) (i j : ℕ) → isStatement (f .kinds) x i j → (ls ps : List Mark) (p : ℕ) → Agree f marks ls ps x p → (w : Writing) (k : List ℕ)
         → go f means under offsets marks w (tapeStatement x k) ≡ coded offsets (code ls ps (coreStatement f x) p) ++ go f means under offsets marks (leaves f means under offsets x w) k

@@ -31,8 +31,8 @@ markLimit t from aim marks = set (set marks (t - 2) from) (t - 1) (kept (heldIn 
 unfoldable pub markClosing : (family t to : ℕ) → List ℕ → List ℕ
 markClosing family t to marks =
     if eqb family E.END-FOR then set marks (t - 1) to else
-    if eqb family E.END-PROCEDURE || eqb family E.END-ELSE then set marks (t + 1) to else
-    if (eqb family E.PROCEDURE || eqb family E.ELSE) || ((eqb family E.END-IF || eqb family E.END-WHILE) || (eqb family E.CHOSEN || eqb family E.END-CASE)) then set marks t to else
+    if eqb family E.END-PROCEDURE || (eqb family E.END-ELSE || eqb family E.END-CASE) then set marks (t + 1) to else
+    if (eqb family E.PROCEDURE || eqb family E.ELSE) || (eqb family E.END-IF || (eqb family E.END-WHILE || eqb family E.CHOSEN)) then set marks t to else
     marks
 
 unfoldable pub markAfter : (family t from to : ℕ) → Use → List ℕ → List ℕ

@@ -59,13 +59,12 @@ fn mark_closing(family: u32, t: usize, to: usize, thin: &mut [u16])
         put_mark(thin, less(t, 1), to);
         return;
     }
-    if (family == tape::END_PROCEDURE) | (family == tape::END_ELSE) {
+    if (family == tape::END_PROCEDURE) | ((family == tape::END_ELSE) | (family == tape::END_CASE)) {
         put_mark(thin, t + 1, to);
         return;
     }
     let opens = (family == tape::PROCEDURE) | (family == tape::ELSE);
-    let ends = (family == tape::END_IF) | (family == tape::END_WHILE);
-    if opens | (ends | ((family == tape::CHOSEN) | (family == tape::END_CASE))) {
+    if opens | ((family == tape::END_IF) | ((family == tape::END_WHILE) | (family == tape::CHOSEN))) {
         put_mark(thin, t, to);
     }
 }

@@ -80,7 +80,7 @@ module _ (f : Tables) (means under offsets marks : List ℕ) where
   unfolding listOf codeFor stepCodes applyThen isAbsent applyCode formAt registerAt goalAt otherCodes codesOf codesBy writtenAfter writingAfter
   end-for-adds v w = (refl, refl)
 
-  pub end-choice-adds : (t : ℕ) (w : Writing) → Adds E.END-CHOICE t w (branch always (getD marks t 0) ∷ [])
+  pub end-choice-adds : (t : ℕ) (w : Writing) → Adds E.END-CHOICE t w (branch always (getD marks (t + 1) 0) ∷ [])
   unfolding listOf codeFor formAt registerAt goalAt otherCodes codesOf codesBy writtenAfter writingAfter
   end-choice-adds t w = (refl, refl)
 
@@ -108,9 +108,9 @@ module _ (f : Tables) (means under offsets marks : List ℕ) where
     call-adds n w = (ap (λ (r : ℕ). linkCode r (getD marks (getD (f .found) n 0) 0) ∷ []) (return-at f means under table n), refl)
 
     -- the register of a CASE: what it makes but its table, which starts at p
-    pub chosen-makes : (n p end : ℕ) (w : Writing) → getD marks n 0 ≡ p + headSize (w .arguments) → getD marks (n - 1) 0 ≡ end
+    pub chosen-makes : (n p end : ℕ) (w : Writing) → getD marks n 0 ≡ p + headSize (w .arguments) → getD marks (n + 1) 0 ≡ end
         → Makes f means under offsets marks E.CHOSEN n w (coded offsets (caseHead (registerOf (meaningAt f n)) (w .arguments) p end)) noWriting
     unfolding listOf codeFor formAt registerAt goalAt chosenCodes codesOf codesBy writtenAfter writingAfter
     chosen-makes n p end w e g =
         let at : getD marks n 0 - (4 * w .arguments + 4) ≡ p + 18 = omega arith in
-        (ap (λ (r : ℕ). listOf (Head r (w .arguments) (getD marks n 0 - (4 * w .arguments + 4)) (getD marks (n - 1) 0))) (register-at f means under table n) ∙ rw (at, g), refl)
+        (ap (λ (r : ℕ). listOf (Head r (w .arguments) (getD marks n 0 - (4 * w .arguments + 4)) (getD marks (n + 1) 0))) (register-at f means under table n) ∙ rw (at, g), refl)

@@ -1,6 +1,7 @@
 -- The instructions of an event. Where branches go stands in `marks`, by token: a label's name, its statement; a procedure's name, its body, and behind it at the
 -- next token; IF and WHILE, where a false condition goes, and at the next token behind an ELSE part, or the condition of the loop; a STEP's number, the compare,
--- and at the token before it behind the loop, at the token after it the control register; CASE, behind it, and at its register's name its first statement.
+-- and at the token before it behind the loop, at the token after it the control register; a CASE's register, its first statement, and at the next token
+-- behind it all.
 use mathlib.Core.List.{List}
 use mathlib.Core.Bool.{_||_}
 use Prim.Native.Nat.{ℕ, _+_, _-_, _*_, _/_, _%_}
@@ -136,7 +137,7 @@ usedCodes kinds values found means t g w =
 
 -- its instructions but the table; "at four bytes before the branch table", which stands before the first statement
 unfoldable pub chosenCodes : (marks : List ℕ) (r t : ℕ) → Writing → Codes
-chosenCodes marks r t w = Head r (w .arguments) (getD marks t 0 - (4 * w .arguments + 4)) (getD marks (t - 1) 0)
+chosenCodes marks r t w = Head r (w .arguments) (getD marks t 0 - (4 * w .arguments + 4)) (getD marks (t + 1) 0)
 
 -- how many bytes its table has
 abbrev pub tableBytes : (family : ℕ) → Writing → ℕ
@@ -151,8 +152,7 @@ otherCodes marks family t n =
     if eqb family E.END-PROCEDURE then One (returnCode (n .register)) else
     if eqb family E.CALL then One (linkCode (n .register) (getD marks (n .goal) 0)) else
     if eqb family E.GOTO then One (branchCode always (getD marks (n .goal) 0)) else
-    if eqb family E.PROCEDURE || (eqb family E.ELSE || eqb family E.END-WHILE) then One (branchCode always (getD marks (t + 1) 0)) else
-    if eqb family E.END-CHOICE then One (branchCode always (getD marks t 0)) else
+    if (eqb family E.PROCEDURE || eqb family E.ELSE) || (eqb family E.END-WHILE || eqb family E.END-CHOICE) then One (branchCode always (getD marks (t + 1) 0)) else
     None
 
 unfoldable pub codesOf : (kinds values found means marks : List ℕ) (family t : ℕ) → Writing → Use → Named → Codes

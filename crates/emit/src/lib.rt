@@ -855,11 +855,12 @@ fn used(kinds: &[u8], wide: &[u64], thin: &[u16], t: usize, k: u64, w: Writing) 
 
 // The instructions of a CASE but its table, which stands before the first statement: "at four bytes before the branch table".
 fn chosen(thin: &[u16], r: u64, t: usize, w: Writing) -> Codes
+    requires { ⌜ t < TOKEN-LIMIT ⌝ }
     ensures { λ m. ⌜ m ≡ chosenCodes (thinOf (now (thin .entry)) .written) r t w ⌝ }
 {
     let n = w.arguments as usize;
     let at = less(mark(thin, t), 4 * n + 4);
-    let end = mark(thin, less(t, 1));
+    let end = mark(thin, t + 1);
     Codes::Head(r, n as u64, at as u64, end as u64)
 }
 
@@ -892,11 +893,9 @@ fn others(thin: &[u16], family: u32, t: usize, n: Named) -> Codes
     if family == tape::GOTO {
         return Codes::One(branch(ALWAYS, mark(thin, goal)));
     }
-    if (family == tape::PROCEDURE) | ((family == tape::ELSE) | (family == tape::END_WHILE)) {
+    let opens = (family == tape::PROCEDURE) | (family == tape::ELSE);
+    if opens | ((family == tape::END_WHILE) | (family == tape::END_CHOICE)) {
         return Codes::One(branch(ALWAYS, mark(thin, t + 1)));
-    }
-    if family == tape::END_CHOICE {
-        return Codes::One(branch(ALWAYS, mark(thin, t)));
     }
     Codes::None
 }

@@ -151,7 +151,7 @@ module _ (kinds : List ℕ) (j : ℕ) where
         (assignment (driven (a .target)) a p _ (i + 1) v (λ u v q. q) h
         (put (phrase (limited (a .target) s l)) p _ v w tt (z, (q, r, (o, hl))) (omega arith) (sooner _ _ _ _ (omega arith) (statement x p _ (w + 1) m hs (marked _ p k m t)))))
     statement (choose n r xs) p k i m (e, y, (u, v, (o, (b, h)))) t =
-        marked (listed (choicesCount xs)) p _ i (put (phrase (chosen r)) p _ i (i + 1 + 1 + 1 + 1) tt (y, (u, v, (o, (b, refl)))) (omega arith) (choosing n xs p _ _ m h (marked _ p k m t)))
+        marked (listed (choicesCount xs)) p _ i (put (phrase (chosen r)) p _ i (i + 1 + 1 + 1 + 1) tt (y, (u, v, (o, (b, refl)))) (omega arith) (choosing r xs p _ _ m h (marked _ p k m t)))
 
     bodied : (x : Body) (b : Block) (p : Place) (k : List Event) (i m : ℕ) → labelsOf x (b .set) ≡ b .labels → isBody kinds x i m → Ended k b p m → Text kinds (eventsBody x k) (within b ∷ p) i j
     bodied (declare d x) b p k i m e (n, h, (z, hs)) f =

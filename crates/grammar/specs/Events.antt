@@ -42,12 +42,12 @@ pub data Phrase : Type 0 where
   chosen : (name : ℕ) → Phrase
 
 -- where statements begin, part and end that hold others: only the code heeds them. Before the register of a CASE stands how many statements it chooses from; each of them ends, and
--- then the CASE.
+-- then the CASE, by its register.
 pub data Mark : Type 0 where
   looped otherwise endedIf endedElse endedWhile : (at : ℕ) → Mark
   endedFor : (step : ℕ) → Mark
   listed : (count : ℕ) → Mark
-  endedChoice endedCase : (at : ℕ) → Mark
+  endedChoice endedCase : (name : ℕ) → Mark
 
 pub data Event : Type 0 where
   edge : Edge → Event
@@ -198,7 +198,7 @@ unfoldable mutual
   eventsStatement (ifElse t c x e y) k = phrase (tested t c) ∷ eventsStatement x (mark (otherwise t) ∷ eventsStatement y (mark (endedElse t) ∷ k))
   eventsStatement (while t c x) k = mark (looped t) ∷ phrase (tested t c) ∷ eventsStatement x (mark (endedWhile t) ∷ k)
   eventsStatement (for t a v l x) k = phrase (driven (a .target)) ∷ eventsChain a (phrase (limited (a .target) v l) ∷ eventsStatement x (mark (endedFor v) ∷ k))
-  eventsStatement (choose t n xs) k = mark (listed (choicesCount xs)) ∷ phrase (chosen n) ∷ eventsChoices t xs (mark (endedCase t) ∷ k)
+  eventsStatement (choose t n xs) k = mark (listed (choicesCount xs)) ∷ phrase (chosen n) ∷ eventsChoices n xs (mark (endedCase n) ∷ k)
 
   pub eventsBody : Body → List Event → List Event
   eventsBody (declare d b) k = eventsDeclaration d (eventsBody b k)
@@ -210,10 +210,10 @@ unfoldable mutual
   eventsItems (label l is) k = route (labelled l) ∷ eventsItems is k
   eventsItems (item x is) k = eventsStatement x (eventsItems is k)
 
-  -- of the CASE at token t
-  pub eventsChoices : (at : ℕ) → Choices → List Event → List Event
-  eventsChoices t over k = k
-  eventsChoices t (choice x xs) k = eventsStatement x (mark (endedChoice t) ∷ eventsChoices t xs k)
+  -- of the CASE whose register is named at token n
+  pub eventsChoices : (name : ℕ) → Choices → List Event → List Event
+  eventsChoices n over k = k
+  eventsChoices n (choice x xs) k = eventsStatement x (mark (endedChoice n) ∷ eventsChoices n xs k)
 
 -- all that stands in a program
 abbrev pub eventsOf : Statement → List Event

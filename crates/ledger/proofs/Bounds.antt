@@ -149,7 +149,7 @@ module _ (most : ℕ) where
         (quiet-chain b p a _ (quiet b p (phrase (limited (a .target) v l)) refl _ (deep-statement x b p _ (omega arith) (quiet b p (mark (endedFor v)) refl k n))))
     deep-statement (choose t r xs) b p k h n =
         quiet b p (mark (listed (choicesCount xs))) refl _
-        (quiet b p (phrase (chosen r)) refl _ (deep-choices t xs b p _ (omega arith) (quiet b p (mark (endedCase t)) refl k n)))
+        (quiet b p (phrase (chosen r)) refl _ (deep-choices r xs b p _ (omega arith) (quiet b p (mark (endedCase r)) refl k n)))
 
     deep-body : (s : Body) → Goes (bodyNesting s) (eventsBody s)
     deep-body (declare d s) b p k h n = quiet-declaration b p d _ (deep-body s b p k h n)

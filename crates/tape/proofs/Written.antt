@@ -94,7 +94,7 @@ mutual
   same-statement (for t a v l x) k =
       cons _ (same-chain a _ ∙ ap (λ (o : List ℕ). tapeSign (a .sign) (tapeOperand E.FIRST (a .first) (tapeEach tapeTerm (a .rest) o)))
       (same-operand E.LIMIT l _ ∙ ap (tapeOperand E.LIMIT l) (same-statement x _)))
-  same-statement (choose t n xs) k = cons _ (cons _ (same-choices t xs _))
+  same-statement (choose t n xs) k = cons _ (cons _ (same-choices n xs _))
 
   same-body : (b : Body) → Same (eventsBody b) (tapeBody b)
   same-body (declare d b) k = same-declaration d _ ∙ ap (tapeDeclaration d) (same-body b k)

@@ -97,7 +97,7 @@ unfoldable mutual
   tapeStatement (ifElse t c x e y) k = tapeCondition c (tapeStatement x (event E.ELSE t ∷ tapeStatement y (event E.END-ELSE t ∷ k)))
   tapeStatement (while t c x) k = event E.WHILE t ∷ tapeCondition c (tapeStatement x (event E.END-WHILE t ∷ k))
   tapeStatement (for t a v l x) k = tapeAssignment E.CONTROL a (tapeOperand E.LIMIT l (tapeStatement x (event E.END-FOR v ∷ k)))
-  tapeStatement (choose t n xs) k = event E.LISTED (choicesCount xs) ∷ event E.CHOSEN n ∷ tapeChoices t xs (event E.END-CASE t ∷ k)
+  tapeStatement (choose t n xs) k = event E.LISTED (choicesCount xs) ∷ event E.CHOSEN n ∷ tapeChoices n xs (event E.END-CASE n ∷ k)
 
   pub tapeBody : Body → List ℕ → List ℕ
   tapeBody (declare d b) k = tapeDeclaration d (tapeBody b k)
@@ -109,7 +109,7 @@ unfoldable mutual
   tapeItems (label n is) k = event E.LABEL n ∷ tapeItems is k
   tapeItems (item x is) k = tapeStatement x (tapeItems is k)
 
-  -- of the CASE at token t
-  pub tapeChoices : (at : ℕ) → Choices → List ℕ → List ℕ
-  tapeChoices t over k = k
-  tapeChoices t (choice x xs) k = tapeStatement x (event E.END-CHOICE t ∷ tapeChoices t xs k)
+  -- of the CASE whose register is named at token n
+  pub tapeChoices : (name : ℕ) → Choices → List ℕ → List ℕ
+  tapeChoices n over k = k
+  tapeChoices n (choice x xs) k = tapeStatement x (event E.END-CHOICE n ∷ tapeChoices n xs k)

@@ -398,7 +398,7 @@ module _ (f : Tables) (l : Layout) (n : ℕ) (small : All Small (f .means))
           ),
           (_, gs),
         )
-    core-made (T.choose t m xs) k p (c, (h, hs)) = let (s, (o, (g, gs))) = core-made-choices t xs (mark (endedCase t) ∷ k) p hs in ((register-at m, s), (_, gs))
+    core-made (T.choose t m xs) k p (c, (h, hs)) = let (s, (o, (g, gs))) = core-made-choices m xs (mark (endedCase m) ∷ k) p hs in ((register-at m, s), (_, gs))
 
     core-made-body : (x : Body) (k : List Event) (p : Place) → Quiet (eventsBody x k) p → ReadyCore l n (coreBody f x) × Later k
     core-made-body (T.declare (T.registers rs) x) k p h = let (o, g) = each-passes eventsRegister (λ r k p (q, s). (_, s)) rs (eventsBody x k) p h in core-made-body x k o g

@@ -19,15 +19,15 @@ add-less c = search needs
 less-requires : tie.Need-less-requires
 less-requires c κs = search needs
 
-less-requires-2 : tie.Need-less-requires-2
-less-requires-2 c κs = search needs
+add-mark : tie.Need-add-mark
+add-mark c = search needs
 
 mark-requires-2 : tie.Need-mark-requires-2
 mark-requires-2 c κs = search needs
 
 returns : tie.Need-returns
 unfolding chosenCodes
-returns c = rw (← (c .before .before .before .mark .ensures .0), ← (c .before .before .less .ensures), ← (c .before .less2 .ensures), ← (c .mark2 .ensures .0))
+returns c = rw (← (c .before .before .mark .ensures .0), ← (c .before .less .ensures), ← (c .mark2 .ensures .0))
 
 pub chosen-spec : {M : Type 1} → statement M
-chosen-spec = tie.close (tie.spec cast-n mark-requires mul-less add-less less-requires less-requires-2 mark-requires-2 returns)
+chosen-spec = tie.close (tie.spec cast-n mark-requires mul-less add-less less-requires add-mark mark-requires-2 returns)

@@ -73,39 +73,18 @@ returns-5 c =
       ← (c .branch2 .ensures),
     )
 
-mark-requires-4 : tie.Need-mark-requires-4
-mark-requires-4 c κs = search needs
-
-branch-requires-3 : tie.Need-branch-requires-3
-branch-requires-3 c κs = search needs
-
 returns-6 : tie.Need-returns-6
 unfolding otherCodes
 returns-6 c =
     rw (
-      ne-eqb _ _ (c .before .before .before .before .before .before .before .if1 .left),
-      ne-eqb _ _ (c .before .before .before .before .before .before .if2 .left),
-      ne-eqb _ _ (c .before .before .before .before .before .if3 .left),
-      ne-eqb _ _ (c .before .before .before .before .if4 .left),
-      c .before .before .before .if5 .left,
-      eq-eqb _ _ (c .before .before .if6 .taken),
-      ← (c .before .mark4 .ensures .0),
-      ← (c .branch3 .ensures),
-    )
-
-returns-7 : tie.Need-returns-7
-unfolding otherCodes
-returns-7 c =
-    rw (
-      ne-eqb _ _ (c .before .before .before .before .before .if1 .left),
-      ne-eqb _ _ (c .before .before .before .before .if2 .left),
-      ne-eqb _ _ (c .before .before .before .if3 .left),
-      ne-eqb _ _ (c .before .before .if4 .left),
-      c .before .if5 .left,
-      ne-eqb _ _ (c .if6 .left),
+      ne-eqb _ _ (c .before .before .before .before .if1 .left),
+      ne-eqb _ _ (c .before .before .before .if2 .left),
+      ne-eqb _ _ (c .before .before .if3 .left),
+      ne-eqb _ _ (c .before .if4 .left),
+      c .if5 .left,
     )
 
 pub others-spec : {M : Type 1} → statement M
 others-spec = tie.close
     (tie.spec base-requires returns returns-2 mark-requires link-requires returns-3 mark-requires-2 branch-requires returns-4 add-mark mark-requires-3
-    branch-requires-2 returns-5 mark-requires-4 branch-requires-3 returns-6 returns-7)
+    branch-requires-2 returns-5 returns-6)
