@@ -13,9 +13,9 @@ use Rattle.token.specs.Kinds as K
 use Rattle.token.specs.Text.{wordKind, comment, nameOrWord, number, begins, sign, lexeme, nextStep, nextToken, readFrom, tokensOf}
 use Rattle.token.specs.Answers.{kindOf}
 use Rattle.grammar.specs.Reader.{andThen, look, next, want, wantOne}
-use Rattle.grammar.specs.Grammar.{designatorOf, operand, condition, terms, signOf, assignedTo, assignmentOf, numbers, cellItem, registerItem, listOf, typeOf, cellsOf, afterType, declaration, arguments, targetOf, assignOr, afterName, statementOf, itemsOf, bodyOf, ifOf, constructOf, statement, procedureOf, program}
+use Rattle.grammar.specs.Grammar.{designatorOf, operand, condition, terms, signOf, assignedTo, assignmentOf, numbers, cellItem, registerItem, listOf, typeOf, cellsOf, afterType, declaration, arguments, targetOf, assignOr, afterName, statementOf, itemsOf, choicesOf, bodyOf, ifOf, constructOf, statement, procedureOf, program}
 use Rattle.tape.specs.Events as E
-use Rattle.tape.specs.Tape.{event, tapeDesignator, tapeOperand, tapeCondition, tapeSign, tapeEach, tapeAssignment, tapeItem, tapeDeclaration, tapeStatement, tapeBody, tapeItems}
+use Rattle.tape.specs.Tape.{event, tapeDesignator, tapeOperand, tapeCondition, tapeSign, tapeEach, tapeAssignment, tapeItem, tapeDeclaration, tapeStatement, tapeBody, tapeItems, tapeChoices}
 use Rattle.parse.specs.Programs.{toldOf, says, judged}
 
 -- number and place
@@ -43,6 +43,18 @@ unfolding sameBytes runLen numberFrom walk wordKind comment nameOrWord number be
     statementOf itemsOf bodyOf constructOf statement procedureOf program
 uses = refl
 
+-- document 02, 3/13: "CASE register OF BEGIN {statement ;} END" is simple, and in its list stand no labels and no declarations
+choices :
+    map verdict
+    ("BEGIN CASE R1 OF BEGIN END; END @" ∷ "BEGIN CASE R1 OF BEGIN NULL; BEGIN L: END; END; END @" ∷ "BEGIN IF < THEN CASE R1 OF BEGIN NULL; END ELSE NULL; END @" ∷
+    "BEGIN CASE 1 OF BEGIN END; END @" ∷ "BEGIN CASE R1(4) OF BEGIN END; END @" ∷ "BEGIN CASE R1 OF NULL; END @" ∷ "BEGIN CASE R1 OF BEGIN NULL END; END @" ∷
+    "BEGIN CASE R1 OF BEGIN L: NULL; END; END @" ∷ "BEGIN CASE R1 OF BEGIN INTEGER A; END; END @" ∷ "BEGIN CASE R1 OF BEGIN NULL;" ∷ [])
+    ≡ (0, 0) ∷ (0, 0) ∷ (0, 0) ∷ (4, 11) ∷ (4, 13) ∷ (4, 17) ∷ (4, 28) ∷ (4, 24) ∷ (4, 23) ∷ (4, 28) ∷ []
+unfolding sameBytes runLen numberFrom walk wordKind comment nameOrWord number begins sign lexeme nextStep nextToken readFrom tokensOf judged andThen look next
+    want wantOne designatorOf operand condition terms arguments targetOf assignOr afterName statementOf itemsOf choicesOf bodyOf ifOf constructOf statement
+    procedureOf program
+choices = refl
+
 -- document 02, 2/13: a refusal reports its line and column, "and one at the end where the next byte would stand"; success reports 0
 spots :
     map (λ s. judged (bytes s))
@@ -65,7 +77,8 @@ tapes :
     map tape
     ("BEGIN INTEGER A(5); R1 := A + 3; A := R1; END @" ∷ "BEGIN FOR R1 := NEG ABS A(4)(R2) STEP 1 UNTIL 9 DO IF < THEN L ELSE WHILE R1 = 5 DO GOTO X; END @" ∷
     "BEGIN ARRAY (8) SHORT INTEGER S, T(1)(2); INTEGER REGISTER N(3); SEGMENT BASE RC; PROCEDURE P(R5); R0 := S(R1); L: P; END @" ∷
-    "BEGIN ARRAY (4) CHARACTER C(7); BYTE B; IC(R1)(C(2)(R2)); SET(B); B(4)(R1) := R2; END @" ∷ [])
+    "BEGIN ARRAY (4) CHARACTER C(7); BYTE B; IC(R1)(C(2)(R2)); SET(B); B(4)(R1) := R2; END @" ∷
+    "BEGIN CASE R1 OF BEGIN NULL; P; CASE R2 OF BEGIN END; R3 := 4; END; END @" ∷ [])
     ≡ map events
     (((E.BLOCK, 0) ∷ (E.SINGLE-FULL, 0) ∷ (E.ITEM, 2) ∷ (E.VALUE, 4) ∷ (E.TARGET, 7) ∷ (E.FIRST, 9) ∷ (E.TERM + E.NUMBER, 11) ∷ (E.TARGET, 13) ∷ (E.FIRST, 15) ∷ (E.END-BLOCK, 0) ∷ [])
     ∷ ((E.BLOCK, 0) ∷ (E.CONTROL, 2) ∷ (E.NEG-ABS, 4) ∷ (E.FIRST + E.SUBSCRIPTED-INDEXED, 6) ∷ (E.LIMIT + E.NUMBER, 16) ∷ (E.BARE, 19) ∷ (E.CALL, 21) ∷ (E.ELSE, 18) ∷ (
@@ -81,11 +94,13 @@ tapes :
     ∷ ((E.BLOCK, 0) ∷ (E.ARRAY-CHARACTER, 3) ∷ (E.ITEM, 6) ∷ (E.VALUE, 8) ∷ (E.SINGLE-BYTE, 0) ∷ (E.ITEM, 12) ∷ (E.APPLIED, 14) ∷ (E.ARGUED, 16)
     ∷ (E.ARGUED + E.SUBSCRIPTED-INDEXED, 19) ∷ (E.COUNTED, 14) ∷ (E.APPLIED, 28) ∷ (E.ARGUED, 30) ∷ (E.COUNTED, 28) ∷ (E.TARGET + E.SUBSCRIPTED-INDEXED, 33) ∷ (E.FIRST, 41)
     ∷ (E.END-BLOCK, 0) ∷ [])
+    ∷ ((E.BLOCK, 0) ∷ (E.LISTED, 4) ∷ (E.CHOSEN, 2) ∷ (E.END-CHOICE, 1) ∷ (E.CALL, 7) ∷ (E.END-CHOICE, 1) ∷ (E.LISTED, 0) ∷ (E.CHOSEN, 10) ∷ (E.END-CASE, 9)
+    ∷ (E.END-CHOICE, 1) ∷ (E.TARGET, 15) ∷ (E.FIRST + E.NUMBER, 17) ∷ (E.END-CHOICE, 1) ∷ (E.END-CASE, 1) ∷ (E.END-BLOCK, 0) ∷ [])
     ∷ [])
 unfolding sameBytes runLen numberFrom walk wordKind comment nameOrWord number begins sign lexeme nextStep nextToken readFrom tokensOf andThen look next want
     wantOne designatorOf operand condition terms signOf assignedTo assignmentOf numbers cellItem registerItem listOf typeOf cellsOf afterType declaration
-    arguments targetOf assignOr afterName statementOf itemsOf bodyOf ifOf constructOf statement procedureOf program event tapeDesignator tapeOperand tapeCondition tapeSign tapeEach tapeAssignment
-    tapeItem tapeDeclaration tapeStatement tapeBody tapeItems
+    arguments targetOf assignOr afterName statementOf itemsOf choicesOf bodyOf ifOf constructOf statement procedureOf program event tapeDesignator tapeOperand tapeCondition tapeSign tapeEach tapeAssignment
+    tapeItem tapeDeclaration tapeStatement tapeBody tapeItems tapeChoices
 tapes = refl
 
 -- n blocks, one inside the other

@@ -56,6 +56,14 @@ headOf word = do
   want word
   give c
 
+-- "name OF BEGIN", with the register's name
+abbrev pub caseHead : Reader ℕ
+caseHead = do
+  n ← want K.NAME
+  want K.OF
+  want K.BEGIN
+  give n
+
 -- "assignment STEP"
 abbrev pub controlOf : Reader Assignment
 controlOf = do
@@ -80,6 +88,9 @@ procedureHead = do
   r ← inParens K.NAME
   want K.SEMICOLON
   give r
+
+abbrev pub tapeChosen : ℕ → List ℕ → List ℕ
+tapeChosen n k = event E.CHOSEN n ∷ k
 
 abbrev pub tapeOpening : ℕ → ℕ → List ℕ → List ℕ
 tapeOpening n r k = event E.PROCEDURE n ∷ k

@@ -19,7 +19,7 @@ ghost use Rattle.grammar.specs.Grammar as G;
 ghost use Rattle.tape.specs.Events as E;
 ghost use Rattle.tape.specs.Tape.{tapeOperand, tapeCondition, tapeEach, tapeArgument, tapeAssignment, tapeStatement};
 ghost use Rattle.readers.specs.Reads.{Ready, Wrote};
-ghost use Rattle.phrases.specs.Parts.{usedOf, headOf, controlOf, limitOf, procedureHead, tapeOpening};
+ghost use Rattle.phrases.specs.Parts.{usedOf, headOf, caseHead, controlOf, limitOf, procedureHead, tapeChosen, tapeOpening};
 use token::kinds;
 
 // The arguments of a use, "each in its own parentheses"; one stands at i.
@@ -74,7 +74,7 @@ pub fn after_name(kinds: &[u8], n: usize, tape: &mut [u32], p: usize) -> Answer
     used(kinds, n, tape, p)
 }
 
-// A statement that is not BEGIN, IF, WHILE or FOR.
+// A statement that is not BEGIN, IF, WHILE, CASE or FOR.
 pub fn simple(kinds: &[u8], i: usize, tape: &mut [u32], p: usize) -> Answer
     requires { ⌜ Ready (now kinds) (now tape) i p ⌝ }
     ensures { λ r. ⌜ Wrote tapeStatement (now (kinds .entry)) i p (now (tape .entry)) (now (tape .exit)) r (G.statementOf (refuse 4) (now (kinds .entry)) i) ⌝ }
@@ -112,6 +112,27 @@ pub fn head(kinds: &[u8], i: usize, word: u8, tape: &mut [u32], p: usize) -> Ans
         return w;
     }
     read(w.at, c.value)
+}
+
+// "name OF BEGIN"
+pub fn case_head(kinds: &[u8], i: usize, tape: &mut [u32], p: usize) -> Answer
+    requires { ⌜ Ready (now kinds) (now tape) i p ⌝ }
+    ensures { λ r. ⌜ Wrote tapeChosen (now (kinds .entry)) i p (now (tape .entry)) (now (tape .exit)) r (caseHead (now (kinds .entry)) i) ⌝ }
+{
+    let name = wanted(kinds, i, kinds::NAME);
+    if name.number != 0 {
+        return name;
+    }
+    let of = wanted(kinds, name.at, kinds::OF);
+    if of.number != 0 {
+        return of;
+    }
+    let begin = wanted(kinds, of.at, kinds::BEGIN);
+    if begin.number != 0 {
+        return begin;
+    }
+    write(tape, p, tape::CHOSEN, i);
+    read(begin.at, p + 1)
 }
 
 // "assignment STEP"

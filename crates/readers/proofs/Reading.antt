@@ -8,20 +8,35 @@ use native.Mathlib.Nat.{mod-eq-of-lt}
 use native.Mathlib.Numerals.{add-one}
 use borrow.Author.Tests.{eq-eqb, ne-eqb}
 use lib.Dec.{T, eqb, leb, leb→le}
-use lib.ListN.{getD, length, take, set, List·getD-eq-default}
-use lib.Seq.{take-suc-set}
+use lib.ListN.{getD, length, take, set, length-take, length-append, List·getD-eq-default}
+use lib.Seq.{take-suc-set, take-set-lt, set-append-left, length-take-le}
 use Rattle.base.proofs.Tests.{and-left, and-right}
 use Rattle.base.specs.Choose.{if_then_else_}
 use Rattle.grammar.specs.Reader.{Result, ok, bad, andThen, want}
 use Rattle.readers.specs.declared.tokens.Answer.{Answer}
 use Rattle.tape.specs.Events as E
 use Rattle.tape.specs.Tape.{event}
-use Rattle.readers.specs.Reads.{Tells, Reads, Is, Pushed, Kind, Took}
+use Rattle.readers.specs.Reads.{Tells, Reads, Laid, Is, Pushed, Kind, Took}
 
 -- ── one event more ──
-pub pushed : (l : List ℕ) (p op token : ℕ) → p < length l → op < E.EVENTS → Pushed (event op token) p l (set l p (token * E.EVENTS + op))
+pub event-is : (op token : ℕ) → op < E.EVENTS → token * E.EVENTS + op ≡ event op token
 unfolding event
-pushed l p op token h s k = rw (mod-eq-of-lt s, add-one p, take-suc-set l p (token * E.EVENTS + op) h) (append-assoc (take p l) ((token * E.EVENTS + op) ∷ []) k)
+event-is op token h = rw (mod-eq-of-lt h)
+
+pub pushed : (l : List ℕ) (p e : ℕ) → p < length l → Pushed e p l (set l p e)
+pushed l p e h k = rw (add-one p, take-suc-set l p e h) (append-assoc (take p l) (e ∷ []) k)
+
+-- an event put before the place q
+pub put-before : (l : List ℕ) (p q e : ℕ) (k : List ℕ) → p < q → q ≤ length l → take q (set l p e) ++ k ≡ set (take q l ++ k) p e
+put-before l p q e k h g = rw (take-set-lt q l p e h) (sym (set-append-left (take q l) k p e (omega (arith, length-take-le q l g))))
+
+-- what has been laid reaches at least as far as what stood before it
+pub reaches : {A : Type 0} (out : A → List ℕ → List ℕ) (p : ℕ) (before after : List ℕ) {ks : List ℕ} {i : ℕ} {r : Answer} {m : Result A}
+    → Reads (Laid out p before after) ks i r m → r .number ≡ 0 → p ≤ length before → p ≤ r .value
+reaches out p before after {r} {m = ok a j} h e l =
+    let s = ap length (h .tells .2 []) in
+    omega (arith, length-append (take (r .value) after) [], length-append (take p before) (out a []), length-take (r .value) after, length-take-le p before l)
+reaches out p before after {m = bad n t} h e l = absurd (let l = h .tells .2 in let g = h .tells .0 in omega arith)
 
 -- ── one reader after another ──
 

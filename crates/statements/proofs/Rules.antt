@@ -1,24 +1,29 @@
 -- The rules that hold statements, as the code reads them. Assumes nothing.
 use mathlib.Core.Path.{_≡_, refl, _∙_, sym, subst}
 use mathlib.Core.Bool.{Bool, true, false, not, _&&_}
-use mathlib.Core.List.{List, [], _∷_}
-use Prim.Native.Nat.{ℕ, zero, suc, _+_, _-_, _<_}
+use mathlib.Core.List.{List, [], _∷_, _++_}
+use Prim.Native.Nat.{ℕ, zero, suc, _+_, _-_, _≤_, _<_}
+use native.Mathlib.Nat.{add-zero, zero-add}
 use native.Mathlib.Omega.{arith}
 use borrow.Author.Tests.{ne-eqb, eqb-true}
 use lib.Dec.{eqb}
-use lib.ListN.{getD, length}
+use lib.ListN.{getD, length, take, set}
 use Rattle.base.specs.Choose.{if_then_else_}
 use Rattle.base.specs.Lists.{member}
 use Rattle.base.proofs.Tests.{cases, both}
 use Rattle.token.specs.Kinds as K
-use Rattle.grammar.specs.Tree.{Statement, while, for, item}
+use Rattle.grammar.specs.Tree.{Statement, while, choose, for, item, Choices, choice}
+use Rattle.grammar.specs.Events.{choicesCount}
 use Rattle.grammar.specs.Reader.{Result, ok, bad, Reader, andThen, look, next, want, refuse}
-use Rattle.grammar.specs.Grammar.{openers, afterName, statementOf, itemsOf, ifOf, constructOf, statement, procedureOf}
+use Rattle.grammar.specs.Grammar.{fuelled, openers, choicesOf, afterName, statementOf, itemsOf, ifOf, constructOf, statement, procedureOf}
 use Rattle.grammar.proofs.Tests.{real}
 use Rattle.readers.specs.Reads.{Kind}
-use Rattle.phrases.specs.Parts.{headOf, controlOf, limitOf, procedureHead}
+use Rattle.phrases.specs.Parts.{headOf, caseHead, controlOf, limitOf, procedureHead}
+use Rattle.tape.specs.Events as E
+use Rattle.tape.specs.Tape.{event, tapeStatement, tapeChoices}
 use Rattle.readers.proofs.Choices.{among}
-use Rattle.statements.specs.Parts.{ifPart, whilePart, forPart}
+use Rattle.readers.proofs.Reading.{pushed, put-before}
+use Rattle.statements.specs.Parts.{ifPart, whilePart, casePart, forPart}
 
 -- ── readers regrouped ──
 assoc : {A B C : Type 0} (m : Result A) (f : A → ℕ → Result B) (g : B → ℕ → Result C) → andThen (andThen m f) g ≡ andThen m (λ a j. andThen (f a j) g)
@@ -43,6 +48,10 @@ module _ (inner : Reader Statement) (t : ℕ) (ks : List ℕ) (i : ℕ) where
   pub while-parts : andThen (headOf K.DO ks i) (λ c j. andThen (inner ks j) (λ s o. ok (while t c s) o)) ≡ whilePart inner t ks i
   unfolding andThen
   while-parts = simp assoc
+
+  pub case-parts : andThen (caseHead ks i) (λ n j. andThen (fuelled (choicesOf inner) ks j) (λ xs o. ok (choose t n xs) o)) ≡ casePart inner t ks i
+  unfolding andThen
+  case-parts = simp assoc
 
   pub for-parts : andThen (controlOf ks i) (λ a j. andThen (limitOf ks j) (λ l o. andThen (inner ks o) (λ s q. ok (for t a j l s) q))) ≡ forPart inner t ks i
   unfolding andThen
@@ -118,3 +127,27 @@ module _ (ks : List ℕ) (i : ℕ) {b : Bool} (e : b ≡ (eqb (getD ks i 0) K.NA
 
       no : eqb (getD ks i 0) K.NAME ≡ false → Goal
       no x = rw (ne-eqb _ K.END n, x)
+
+-- ── the list of a CASE ──
+
+-- the rest of a list, n of whose statements stand before the place q, with how many there are in all put at p
+abbrev pub Counted : (t p n q : ℕ) (now after : List ℕ) → Choices → ℕ → Type 0
+Counted t p n q now after xs v = (k : List ℕ) → take v after ++ k ≡ set (take q now ++ tapeChoices t xs (event E.END-CASE t ∷ k)) p (event E.LISTED (n + choicesCount xs))
+
+-- the number put at p, the list being over
+pub count-over : (p n q : ℕ) (now k : List ℕ) → p < q → q ≤ length now → take q (set now p (event E.LISTED n)) ++ k ≡ set (take q now ++ k) p (event E.LISTED (n + 0))
+count-over p n q now k h l = rw (add-zero n) (put-before now p q (event E.LISTED n) k h l)
+
+-- one statement more before the rest
+pub count-one : (t p n : ℕ) (x : Statement) (xs : Choices) (now new k : List ℕ) → ((k : List ℕ) → new ++ k ≡ now ++ tapeStatement x (event E.END-CHOICE t ∷ k))
+    → set (new ++ tapeChoices t xs k) p (event E.LISTED (n + 1 + choicesCount xs)) ≡ set (now ++ tapeChoices t (choice x xs) k) p (event E.LISTED (n + choicesCount (choice x xs)))
+unfolding tapeChoices
+count-one t p n x xs now new k e = let c : n + 1 + choicesCount xs ≡ n + (choicesCount xs + 1) = omega arith in rw (c, e (tapeChoices t xs k))
+
+-- the whole list, behind the register that chooses
+pub count-all : (t p n : ℕ) (xs : Choices) (before now k : List ℕ) → p < length before → ((k : List ℕ) → now ++ k ≡ take (p + 1) before ++ (event E.CHOSEN n ∷ k))
+    → set (now ++ tapeChoices t xs (event E.END-CASE t ∷ k)) p (event E.LISTED (0 + choicesCount xs)) ≡ take p before ++ tapeStatement (choose t n xs) k
+unfolding tapeStatement
+count-all t p n xs before now k h e =
+    rw (zero-add (choicesCount xs), e (tapeChoices t xs (event E.END-CASE t ∷ k)))
+    (sym (put-before before p (p + 1) (event E.LISTED (choicesCount xs)) _ (omega arith) (omega arith)) ∙ pushed before p (event E.LISTED (choicesCount xs)) h _)

@@ -2,13 +2,13 @@
 use mathlib.Core.List.{List, _∷_}
 use Prim.Native.Nat.{ℕ}
 use Rattle.token.specs.Kinds as K
-use Rattle.grammar.specs.Tree.{Statement, while, for}
+use Rattle.grammar.specs.Tree.{Statement, while, choose, for}
 use Rattle.grammar.specs.Reader.{Reader, _>>=_, _>>_, give, want}
-use Rattle.grammar.specs.Grammar.{operand, condition, assignmentOf, ifOf, Procedure}
+use Rattle.grammar.specs.Grammar.{fuelled, operand, condition, assignmentOf, choicesOf, ifOf, Procedure}
 use Rattle.tape.specs.Events as E
 use Rattle.tape.specs.Tape.{event, tapeStatement}
 
--- after IF, WHILE and FOR, the token t; `inner` reads a statement inside
+-- after IF, WHILE, CASE and FOR, the token t; `inner` reads a statement inside
 abbrev pub ifPart : Reader Statement → ℕ → Reader Statement
 ifPart inner t = do
   c ← condition
@@ -21,6 +21,14 @@ whilePart inner t = do
   want K.DO
   s ← inner
   give (while t c s)
+
+abbrev pub casePart : Reader Statement → ℕ → Reader Statement
+casePart inner t = do
+  n ← want K.NAME
+  want K.OF
+  want K.BEGIN
+  xs ← fuelled (choicesOf inner)
+  give (choose t n xs)
 
 abbrev pub forPart : Reader Statement → ℕ → Reader Statement
 forPart inner t = do

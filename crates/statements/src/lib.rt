@@ -4,8 +4,9 @@ ghost use lib.ListN.{length};
 ghost use Rattle.grammar.specs.Grammar as G;
 ghost use Rattle.tape.specs.Tape.{tapeStatement, tapeBody, tapeItems};
 ghost use Rattle.readers.specs.Reads.{Ready, Wrote};
-ghost use Rattle.statements.specs.Parts.{ifPart, whilePart, forPart, tapeProcedure, tapeBlock};
+ghost use Rattle.statements.specs.Parts.{ifPart, whilePart, casePart, forPart, tapeProcedure, tapeBlock};
 use phrases::declarations::declaration;
+use phrases::simple::case_head;
 use phrases::simple::control;
 use phrases::simple::head;
 use phrases::simple::limit;
@@ -15,6 +16,7 @@ use readers::classes::declares;
 use readers::classes::has_else;
 use readers::classes::has_label;
 use readers::classes::opens;
+use readers::events::put;
 use readers::events::write;
 use readers::tokens::Answer;
 use readers::tokens::kind_at;
@@ -42,6 +44,9 @@ pub fn statement(kinds: &[u8], i: usize, room: usize, tape: &mut [u32], p: usize
         }
         if k == kinds::WHILE {
             return while_do(kinds, i, room - 1, tape, p);
+        }
+        if k == kinds::CASE {
+            return case_of(kinds, i, room - 1, tape, p);
         }
         return for_do(kinds, i, room - 1, tape, p);
     }
@@ -89,6 +94,37 @@ fn while_do(kinds: &[u8], i: usize, room: usize, tape: &mut [u32], p: usize) -> 
     }
     write(tape, s.value, tape::END_WHILE, i);
     read(s.at, s.value + 1)
+}
+
+// How many statements there are to choose from stands first on the tape and is known last.
+fn case_of(kinds: &[u8], i: usize, room: usize, tape: &mut [u32], p: usize) -> Answer
+    requires { ⌜ Ready (now kinds) (now tape) i p × (i < length (now kinds)) ⌝ }
+    ensures { λ r. ⌜ Wrote tapeStatement (now (kinds .entry)) i p (now (tape .entry)) (now (tape .exit)) r (casePart (G.statement room) i (now (kinds .entry)) (i + 1)) ⌝ }
+{
+    let h = case_head(kinds, i + 1, tape, p + 1);
+    if h.number != 0 {
+        return h;
+    }
+    let mut at = h.at;
+    let mut q = h.value;
+    let mut n: usize = 0;
+    while kind_at(kinds, at) != kinds::END {
+        let s = statement(kinds, at, room, tape, q);
+        if s.number != 0 {
+            return s;
+        }
+        let semicolon = wanted(kinds, s.at, kinds::SEMICOLON);
+        if semicolon.number != 0 {
+            return semicolon;
+        }
+        write(tape, s.value, tape::END_CHOICE, i);
+        at = semicolon.at;
+        q = s.value + 1;
+        n += 1;
+    }
+    put(tape, p, tape::LISTED, n);
+    write(tape, q, tape::END_CASE, i);
+    read(at + 1, q + 1)
 }
 
 fn for_do(kinds: &[u8], i: usize, room: usize, tape: &mut [u32], p: usize) -> Answer

@@ -1,32 +1,21 @@
 -- `write` puts one event more on the tape. Assumes nothing.
 use denote.Ref.{now}
 use borrow.Author.Needs.{needs}
+use Rattle.tape.specs.Tape.{event}
 use Rattle.readers.proofs.Reading.{pushed}
 use Rattle.readers.proofs.events.write.Statement.{statement}
 use Rattle.readers.proofs.events.write.Tie as tie
 
-cast-tape : tie.Need-cast-tape
-cast-tape c = search needs
-
-mul-tape : tie.Need-mul-tape
-mul-tape c = search needs
-
-add-tape : tie.Need-add-tape
-add-tape c = search needs
-
-mul-tape-2 : tie.Need-mul-tape-2
-mul-tape-2 c = search needs
-
-slice-write-tape : tie.Need-slice-write-tape
-slice-write-tape c = search needs
+put-requires : tie.Need-put-requires
+put-requires c κs = search needs
 
 same-length : tie.Need-same-length
 same-length c = search needs
 
 returns : tie.Need-returns
-returns c = pushed (now (c .args .tape)) (c .args .p) (c .args .op) (c .args .token) (search needs) (search needs)
+returns c =
+    let start = c .before .before .before .before .before in
+    rw (c .before .before .put .ensures) (pushed (now (start .args .tape)) (start .args .p) (event (start .args .op) (start .args .token)) (search needs))
 
 pub write-spec : {M : Type 1} → statement M
-write-spec =
-    tie.close
-    (tie.spec cast-tape mul-tape add-tape mul-tape-2 slice-write-tape same-length returns)
+write-spec = tie.close (tie.spec put-requires same-length returns)

@@ -1,49 +1,56 @@
--- The rules that hold statements meet their contracts: one recursion, whose measure is the room for constructs. Along a block the invariant is that whatever
--- reads the rest from where the loop stands reads the whole. Assumes nothing.
-use Rattle.statements.proofs.Rules.{if-parts, while-parts, for-parts, no-construct, too-deep, construct, procedure-too-deep, procedure-parts, label-kinds, label-inside, item-is, else-inside}
+-- The rules that hold statements meet their contracts: one recursion, whose measure is the room for constructs. Along a block, and along the list of a CASE, the
+-- invariant is that whatever reads the rest from where the loop stands reads the whole. Assumes nothing.
+use Rattle.statements.proofs.Rules.{if-parts, while-parts, case-parts, for-parts, no-construct, too-deep, construct, procedure-too-deep, procedure-parts, label-kinds, label-inside, item-is, else-inside, Counted, count-over, count-one, count-all}
 use Rattle.readers.proofs.Choices.{among, is-token}
 use Rattle.statements.specs.Parts.{tapeBlock}
-use Rattle.readers.proofs.Loops.{Going, starts, leaves, turn}
-use Rattle.readers.proofs.Reading.{done, no, since, stops, goes, gives, along}
-use Rattle.tape.specs.Tape.{tapeStatement, tapeBody, tapeItems}
+use Rattle.phrases.specs.Parts.{tapeChosen}
+use Rattle.readers.proofs.Loops.{Onward, Going, starts, leaves, turn}
+use Rattle.readers.proofs.Reading.{reaches, done, no, since, stops, goes, gives, along}
+use Rattle.tape.specs.Tape.{tapeStatement, tapeBody, tapeItems, tapeChoices}
 use Rattle.grammar.specs.Grammar as G
-use Rattle.grammar.specs.Grammar.{declarators, openers, ifOf, constructOf, bodyOf, itemsOf, procedureOf}
+use Rattle.grammar.specs.Grammar.{declarators, openers, choicesOf, ifOf, constructOf, bodyOf, itemsOf, procedureOf}
 use Rattle.grammar.specs.Reader.{andThen, look, next}
 use Rattle.grammar.specs.Tree as T
 use Rattle.base.proofs.Tests.{same, other}
-use lib.ListN.{length}
+use lib.ListN.{length, take}
 use Prim.Native.Nat.{_+_, _-_, _*_}
 use mathlib.Core.Path.{refl, _∙_}
+use mathlib.Core.List.{[]}
 use denote.Ref.{now}
 use native.Mathlib.Omega.{arith}
 use borrow.Author.Tests.{eq-eqb, ne-eqb}
 use borrow.Author.Needs.{needs}
-use Prim.Native.Nat.{ℕ, _<_}
+use Prim.Native.Nat.{ℕ, _≤_, _<_}
 use borrow.Fn.Kinds.{In}
 use borrow.Fn.PlainCycle.{Measures, is, falls, and}
 use Rattle.statements.proofs.body.Reads as body
 use Rattle.statements.proofs.body.Kinds as body-kinds
-use Rattle.statements.proofs.+body+for_do+if_then+items+procedure+statement+while_do.Lts-body as body-lts
+use Rattle.statements.proofs.+body+case_of+for_do+if_then+items+procedure+statement+while_do.Lts-body as body-lts
+use Rattle.statements.proofs.case_of.Reads as case-of
+use Rattle.statements.proofs.case_of.Kinds as case-of-kinds
+use Rattle.statements.proofs.+body+case_of+for_do+if_then+items+procedure+statement+while_do.Lts-case_of as case-of-lts
 use Rattle.statements.proofs.for_do.Reads as for-do
 use Rattle.statements.proofs.for_do.Kinds as for-do-kinds
-use Rattle.statements.proofs.+body+for_do+if_then+items+procedure+statement+while_do.Lts-for_do as for-do-lts
+use Rattle.statements.proofs.+body+case_of+for_do+if_then+items+procedure+statement+while_do.Lts-for_do as for-do-lts
 use Rattle.statements.proofs.if_then.Reads as if-then
 use Rattle.statements.proofs.if_then.Kinds as if-then-kinds
-use Rattle.statements.proofs.+body+for_do+if_then+items+procedure+statement+while_do.Lts-if_then as if-then-lts
+use Rattle.statements.proofs.+body+case_of+for_do+if_then+items+procedure+statement+while_do.Lts-if_then as if-then-lts
 use Rattle.statements.proofs.items.Reads as items
 use Rattle.statements.proofs.items.Kinds as items-kinds
-use Rattle.statements.proofs.+body+for_do+if_then+items+procedure+statement+while_do.Lts-items as items-lts
+use Rattle.statements.proofs.+body+case_of+for_do+if_then+items+procedure+statement+while_do.Lts-items as items-lts
 use Rattle.statements.proofs.procedure.Reads as procedure
 use Rattle.statements.proofs.procedure.Kinds as procedure-kinds
-use Rattle.statements.proofs.+body+for_do+if_then+items+procedure+statement+while_do.Lts-procedure as procedure-lts
+use Rattle.statements.proofs.+body+case_of+for_do+if_then+items+procedure+statement+while_do.Lts-procedure as procedure-lts
 use Rattle.statements.proofs.statement.Reads as statement′
 use Rattle.statements.proofs.statement.Kinds as statement-kinds
-use Rattle.statements.proofs.+body+for_do+if_then+items+procedure+statement+while_do.Lts-statement as statement-lts
+use Rattle.statements.proofs.+body+case_of+for_do+if_then+items+procedure+statement+while_do.Lts-statement as statement-lts
 use Rattle.statements.proofs.while_do.Reads as while-do
 use Rattle.statements.proofs.while_do.Kinds as while-do-kinds
-use Rattle.statements.proofs.+body+for_do+if_then+items+procedure+statement+while_do.Lts-while_do as while-do-lts
+use Rattle.statements.proofs.+body+case_of+for_do+if_then+items+procedure+statement+while_do.Lts-while_do as while-do-lts
 use Rattle.phrases.proofs.declarations.declaration.Reads as declaration-reads
+use Rattle.readers.proofs.events.put.Reads as put-reads
 use Rattle.readers.proofs.events.write.Reads as write-reads
+use Rattle.phrases.proofs.simple.case_head.Reads as case-head-reads
 use Rattle.phrases.proofs.simple.control.Reads as control-reads
 use Rattle.readers.proofs.classes.declares.Reads as declares-reads
 use Rattle.readers.proofs.classes.has_else.Reads as has-else-reads
@@ -57,15 +64,18 @@ use Rattle.readers.proofs.tokens.kind_at.Reads as kind-at-reads
 use Rattle.readers.proofs.tokens.read.Reads as read-reads
 use Rattle.readers.proofs.tokens.refused.Reads as refused-reads
 use Rattle.readers.proofs.tokens.wanted.Reads as wanted-reads
-use Rattle.statements.proofs.+body+for_do+if_then+items+procedure+statement+while_do.{
+use Rattle.statements.proofs.+body+case_of+for_do+if_then+items+procedure+statement+while_do.{
   statement,
 }
-use Rattle.statements.proofs.+body+for_do+if_then+items+procedure+statement+while_do.Tie.{
+use Rattle.statements.proofs.+body+case_of+for_do+if_then+items+procedure+statement+while_do.Tie.{
   close,
 }
 
 abbrev μ-body : Measures 2 body-kinds.ps ℕ
 μ-body κs a = 4 * a .1 .1 .1 .0 + 2
+
+abbrev μ-case-of : Measures 2 case-of-kinds.ps ℕ
+μ-case-of κs a = 4 * a .1 .1 .0 + 1
 
 abbrev μ-for-do : Measures 2 for-do-kinds.ps ℕ
 μ-for-do κs a = 4 * a .1 .1 .0 + 1
@@ -90,6 +100,12 @@ body-at t = and 2 body-kinds.ps (is 2 body-kinds.ps μ-body t) body.Pre
 
 abbrev body-below : ℕ → In 2 body-kinds.ps
 body-below t = and 2 body-kinds.ps (falls 2 body-kinds.ps _<_ μ-body t) body.Pre
+
+abbrev case-of-at : ℕ → In 2 case-of-kinds.ps
+case-of-at t = and 2 case-of-kinds.ps (is 2 case-of-kinds.ps μ-case-of t) case-of.Pre
+
+abbrev case-of-below : ℕ → In 2 case-of-kinds.ps
+case-of-below t = and 2 case-of-kinds.ps (falls 2 case-of-kinds.ps _<_ μ-case-of t) case-of.Pre
 
 abbrev for-do-at : ℕ → In 2 for-do-kinds.ps
 for-do-at t = and 2 for-do-kinds.ps (is 2 for-do-kinds.ps μ-for-do t) for-do.Pre
@@ -144,6 +160,24 @@ body-calls t = (
   items.Post,
   procedure-below t,
   procedure.Post,
+)
+
+abbrev case-of-calls : ℕ → case-of-lts.Claims
+case-of-calls t = (
+  case-head-reads.Asked,
+  case-head-reads.Learnt,
+  kind-at-reads.Asked,
+  kind-at-reads.Learnt,
+  statement-below t,
+  statement′.Post,
+  wanted-reads.Asked,
+  wanted-reads.Learnt,
+  write-reads.Asked,
+  write-reads.Learnt,
+  put-reads.Asked,
+  put-reads.Learnt,
+  read-reads.Asked,
+  read-reads.Learnt,
 )
 
 abbrev for-do-calls : ℕ → for-do-lts.Claims
@@ -222,6 +256,8 @@ statement-calls t = (
   if-then.Post,
   while-do-below t,
   while-do.Post,
+  case-of-below t,
+  case-of.Post,
   for-do-below t,
   for-do.Post,
   simple-reads.Asked,
@@ -384,6 +420,191 @@ body-loop-again-2 t c = turn (c .before .before .before .before .before .before 
     )
     (goes _ (c .before .before .before .before .before .before .before .procedure .ensures .read) (c .before .before .before .if5 .left) (λ d w.
     goes _ (c .before .before .wanted2 .ensures .read) (c .if6 .left) (λ u e. gives (T.procedure (d .name) (d .return) (d .body)) (λ b l k. l k ∙ w _) r))))
+
+abbrev case-of-Inv-loop : case-of-lts.InvT-loop
+case-of-Inv-loop kinds i room tape₀ p at₀ q₀ n₀ tape at q n =
+    Onward (Counted i p 0 q₀ tape₀) (Counted i p n q tape) (choicesOf (G.statement room)) kinds at₀ q₀ tape₀ tape at q × ((p < q) × (n ≤ at))
+
+abbrev case-of-μ-loop : case-of-lts.MeasureT-loop
+case-of-μ-loop kinds i room tape₀ p at₀ q₀ n₀ tape at q n = length kinds - at
+
+case-of-add-case-head : (t : ℕ) → case-of-lts.Need-add-case-head (case-of-calls t) (case-of-at t) case-of.Post case-of-Inv-loop case-of-μ-loop
+case-of-add-case-head t c = search needs
+
+case-of-add-case-head-2 : (t : ℕ) → case-of-lts.Need-add-case-head-2 (case-of-calls t) (case-of-at t) case-of.Post case-of-Inv-loop case-of-μ-loop
+case-of-add-case-head-2 t c = search needs
+
+case-of-case-head-requires : (t : ℕ) → case-of-lts.Need-case-head-requires (case-of-calls t) (case-of-at t) case-of.Post case-of-Inv-loop case-of-μ-loop
+case-of-case-head-requires t c κs = search needs
+
+case-of-same-length : (t : ℕ) → case-of-lts.Need-same-length (case-of-calls t) (case-of-at t) case-of.Post case-of-Inv-loop case-of-μ-loop
+case-of-same-length t c = search needs
+
+case-of-returns : (t : ℕ) → case-of-lts.Need-returns (case-of-calls t) (case-of-at t) case-of.Post case-of-Inv-loop case-of-μ-loop
+case-of-returns t c =
+    let at-head = c .before .before .before .before in
+    let start = at-head .before .before .before .before in
+    record {
+      read = since (omega arith) (along (case-parts (G.statement (start .args .room)) (start .args .i) _ _)
+          (stops _ (at-head .case-head .ensures .read) (c .if1 .taken)));
+      low = search needs;
+    }
+
+case-of-loop-holds : (t : ℕ) → case-of-lts.Need-loop-holds (case-of-calls t) (case-of-at t) case-of.Post case-of-Inv-loop case-of-μ-loop
+case-of-loop-holds t c =
+    let at-head = c .before .before .before .before in
+    let start = at-head .before .before .before .before in
+    let r =
+    reaches tapeChosen (start .args .p + 1) (now (start .args .tape)) (at-head .case-head .last .1 .1 .0) (at-head .case-head .ensures .read) (c .if1 .left)
+    (let o = start .pre in omega arith) in (starts (search needs), (omega arith, omega arith))
+
+case-of-kind-at-requires : (t : ℕ) → case-of-lts.Need-kind-at-requires (case-of-calls t) (case-of-at t) case-of.Post case-of-Inv-loop case-of-μ-loop
+case-of-kind-at-requires t c κs = search needs
+
+case-of-statement-requires : (t : ℕ) → case-of-lts.Need-statement-requires (case-of-calls t) (case-of-at t) case-of.Post case-of-Inv-loop case-of-μ-loop
+case-of-statement-requires t c κs = search needs
+
+case-of-same-length-2 : (t : ℕ) → case-of-lts.Need-same-length-2 (case-of-calls t) (case-of-at t) case-of.Post case-of-Inv-loop case-of-μ-loop
+case-of-same-length-2 t c = search needs
+
+case-of-returns-2 : (t : ℕ) → case-of-lts.Need-returns-2 (case-of-calls t) (case-of-at t) case-of.Post case-of-Inv-loop case-of-μ-loop
+unfolding choicesOf andThen look
+case-of-returns-2 t c =
+    let at-statement = c .before .before .before .before in
+    let at-if2 = at-statement .before .before in
+    let at-kind-at = at-if2 .before in
+    let at-loop = at-kind-at .before in
+    let at-if1 = at-loop .before in
+    let at-head = at-if1 .before .before .before .before in
+    let start = at-head .before .before .before .before in
+    record {
+      read = since (omega arith) (along (case-parts (G.statement (start .args .room)) (start .args .i) _ _)
+          (goes _ (at-head .case-head .ensures .read) (at-if1 .if1 .left) (λ n w. stops _ (leaves {after = []} (at-loop .loop .inv .0) (λ f.
+          rw (ne-eqb _ _ (other (at-kind-at .kind-at .ensures .is) (at-if2 .if2 .taken))) (stops _ (at-statement .statement .ensures .read) (c .if3 .taken)))) (c .if3 .taken))));
+      low = search needs;
+    }
+
+case-of-wanted-requires : (t : ℕ) → case-of-lts.Need-wanted-requires (case-of-calls t) (case-of-at t) case-of.Post case-of-Inv-loop case-of-μ-loop
+case-of-wanted-requires t c κs = search needs
+
+case-of-same-length-3 : (t : ℕ) → case-of-lts.Need-same-length-3 (case-of-calls t) (case-of-at t) case-of.Post case-of-Inv-loop case-of-μ-loop
+case-of-same-length-3 t c = search needs
+
+case-of-returns-3 : (t : ℕ) → case-of-lts.Need-returns-3 (case-of-calls t) (case-of-at t) case-of.Post case-of-Inv-loop case-of-μ-loop
+unfolding choicesOf andThen look
+case-of-returns-3 t c =
+    let at-wanted = c .before .before in
+    let at-if3 = at-wanted .before in
+    let at-statement = at-if3 .before .before .before .before in
+    let at-if2 = at-statement .before .before in
+    let at-kind-at = at-if2 .before in
+    let at-loop = at-kind-at .before in
+    let at-if1 = at-loop .before in
+    let at-head = at-if1 .before .before .before .before in
+    let start = at-head .before .before .before .before in
+    record {
+      read = since (omega arith) (along (case-parts (G.statement (start .args .room)) (start .args .i) _ _)
+          (goes _ (at-head .case-head .ensures .read) (at-if1 .if1 .left) (λ n w. stops _ (leaves {after = []} (at-loop .loop .inv .0) (λ f.
+          rw (ne-eqb _ _ (other (at-kind-at .kind-at .ensures .is) (at-if2 .if2 .taken))) (goes _ (at-statement .statement .ensures .read) (at-if3 .if3 .left) (λ x y.
+          stops _ (at-wanted .wanted .ensures .read) (c .if4 .taken))))) (c .if4 .taken))));
+      low = let g = at-loop .loop .inv .0 in let h = at-head .case-head in let o = start .pre in let s = at-statement .statement in let w = at-wanted .wanted in omega
+          arith;
+    }
+
+case-of-write-requires : (t : ℕ) → case-of-lts.Need-write-requires (case-of-calls t) (case-of-at t) case-of.Post case-of-Inv-loop case-of-μ-loop
+case-of-write-requires t c κs =
+    let at-wanted = c .before .before .before in
+    let at-statement = at-wanted .before .before .before .before .before in
+    let at-loop = at-statement .before .before .before .before in
+    let at-head = at-loop .before .before .before .before .before in
+    let start = at-head .before .before .before .before in
+    let low : at-loop .loop .q ≤ at-loop .loop .at = let g = at-loop .loop .inv .0 in let h = at-head .case-head .ensures in let o = start .pre in omega arith in
+    let long : length (now (start .args .kinds)) ≤ length (at-loop .loop .tape) =
+    let g = at-loop .loop .inv .0 in let h = at-head .case-head .kept in let o = start .pre in omega arith in
+    let z = c .before .if4 .left in let o = start .pre in let s = at-statement .statement in let e = s .ensures in let k = s .kept .1 .1 .1 in
+    let w = at-wanted .wanted .ensures in omega arith
+
+case-of-add-q : (t : ℕ) → case-of-lts.Need-add-q (case-of-calls t) (case-of-at t) case-of.Post case-of-Inv-loop case-of-μ-loop
+case-of-add-q t c =
+    let at-wanted = c .before .before .before .before .before .before .before in
+    let at-statement = at-wanted .before .before .before .before .before in
+    let at-loop = at-statement .before .before .before .before in
+    let at-head = at-loop .before .before .before .before .before in
+    let start = at-head .before .before .before .before in
+    let g = at-loop .loop .inv .0 in let h = at-head .case-head in let o = start .pre in let s = at-statement .statement in let w = at-wanted .wanted in omega arith
+
+case-of-add-n : (t : ℕ) → case-of-lts.Need-add-n (case-of-calls t) (case-of-at t) case-of.Post case-of-Inv-loop case-of-μ-loop
+case-of-add-n t c = search needs
+
+case-of-loop-less : (t : ℕ) → case-of-lts.Need-loop-less (case-of-calls t) (case-of-at t) case-of.Post case-of-Inv-loop case-of-μ-loop
+case-of-loop-less t c = search needs
+
+case-of-loop-again : (t : ℕ) → case-of-lts.Need-loop-again (case-of-calls t) (case-of-at t) case-of.Post case-of-Inv-loop case-of-μ-loop
+unfolding choicesOf andThen look
+case-of-loop-again t c =
+    let at-write = c .before .before .before in
+    let at-if4 = at-write .before .before in
+    let at-wanted = at-if4 .before .before in
+    let at-if3 = at-wanted .before in
+    let at-statement = at-if3 .before .before .before .before in
+    let at-if2 = at-statement .before .before in
+    let at-kind-at = at-if2 .before in
+    let at-loop = at-kind-at .before in
+    let at-head = at-loop .before .before .before .before .before in
+    let start = at-head .before .before .before .before in
+    let r =
+    reaches tapeStatement (at-loop .loop .q) (at-loop .loop .tape) (at-statement .statement .last .1 .1 .1 .0) (at-statement .statement .ensures .read)
+    (at-if3 .if3 .left) (let g = at-loop .loop .inv .0 in let h = at-head .case-head in let o = start .pre in omega arith) in
+    let g = at-loop .loop .inv .0 in let m = at-loop .loop .inv .1 in let s = at-statement .statement in let l = s .ensures in let w = at-wanted .wanted in
+    let z = at-if4 .if4 .left in (
+      turn g (omega arith) (omega arith) (omega arith) (let a = s .kept .1 .1 .1 in let b = at-write .write .kept in omega arith) (λ f s after r.
+          rw (ne-eqb _ _ (other (at-kind-at .kind-at .ensures .is) (at-if2 .if2 .taken))) (goes _ (at-statement .statement .ensures .read) (at-if3 .if3 .left) (λ x y.
+          goes _ (at-wanted .wanted .ensures .read) (at-if4 .if4 .left) (λ u e. gives (T.choice x) (λ xs l k.
+          l k ∙ count-one (start .args .i) (start .args .p) (at-loop .loop .n) x xs (take (at-loop .loop .q) (at-loop .loop .tape))
+          (take (at-statement .statement .result .value + 1) (at-write .write .last .0)) _ (λ k. at-write .write .ensures k ∙ y _)) r)))),
+      (omega arith, omega arith),
+    )
+
+case-of-put-requires : (t : ℕ) → case-of-lts.Need-put-requires (case-of-calls t) (case-of-at t) case-of.Post case-of-Inv-loop case-of-μ-loop
+case-of-put-requires t c κs = search needs
+
+case-of-write-requires-2 : (t : ℕ) → case-of-lts.Need-write-requires-2 (case-of-calls t) (case-of-at t) case-of.Post case-of-Inv-loop case-of-μ-loop
+case-of-write-requires-2 t c κs = search needs
+
+case-of-add-read : (t : ℕ) → case-of-lts.Need-add-read (case-of-calls t) (case-of-at t) case-of.Post case-of-Inv-loop case-of-μ-loop
+case-of-add-read t c = search needs
+
+case-of-add-read-2 : (t : ℕ) → case-of-lts.Need-add-read-2 (case-of-calls t) (case-of-at t) case-of.Post case-of-Inv-loop case-of-μ-loop
+case-of-add-read-2 t c = search needs
+
+case-of-read-requires : (t : ℕ) → case-of-lts.Need-read-requires (case-of-calls t) (case-of-at t) case-of.Post case-of-Inv-loop case-of-μ-loop
+case-of-read-requires t c κs = search needs
+
+case-of-same-length-4 : (t : ℕ) → case-of-lts.Need-same-length-4 (case-of-calls t) (case-of-at t) case-of.Post case-of-Inv-loop case-of-μ-loop
+case-of-same-length-4 t c = search needs
+
+case-of-returns-4 : (t : ℕ) → case-of-lts.Need-returns-4 (case-of-calls t) (case-of-at t) case-of.Post case-of-Inv-loop case-of-μ-loop
+unfolding choicesOf andThen look next tapeChoices
+case-of-returns-4 t c =
+    let at-write2 = c .before .before .before in
+    let at-put = at-write2 .before .before .before .before in
+    let at-if2 = at-put .before .before in
+    let at-kind-at = at-if2 .before in
+    let at-loop = at-kind-at .before in
+    let at-if1 = at-loop .before in
+    let at-head = at-if1 .before .before .before .before in
+    let start = at-head .before .before .before .before in
+    record {
+      read = since (omega arith) (along (case-parts (G.statement (start .args .room)) (start .args .i) _ _)
+          (goes _ (at-head .case-head .ensures .read) (at-if1 .if1 .left) (λ n w.
+          gives (T.choose (start .args .i) n) (λ xs l k. l k ∙ count-all (start .args .i) (start .args .p) n xs (now (start .args .tape))
+          (take (at-head .case-head .result .value) (at-head .case-head .last .1 .1 .0)) k (search needs) w)
+          (leaves (at-loop .loop .inv .0) (λ f. rw (same (at-kind-at .kind-at .ensures .is) (at-if2 .if2 .left))
+          (done (c .read .ensures) (omega arith) (omega arith) (λ k. at-write2 .write2 .ensures k
+          ∙ rw (at-put .put .ensures) (count-over (start .args .p) (at-loop .loop .n) (at-loop .loop .q) (at-loop .loop .tape) _ (at-loop .loop .inv .1 .0)
+          (let g = at-loop .loop .inv .0 in let h = at-head .case-head in let o = start .pre in omega arith)))))))));
+      low = search needs;
+    }
 
 for-do-add-control : (t : ℕ) → for-do-lts.Need-add-control (for-do-calls t) (for-do-at t) for-do.Post
 for-do-add-control t c = search needs
@@ -1025,12 +1246,36 @@ statement-returns-4 t c = record {
   low = search needs;
 }
 
+statement-sub-case-of : (t : ℕ) → statement-lts.Need-sub-case-of (statement-calls t) (statement-at t) statement′.Post
+statement-sub-case-of t c = search needs
+
+statement-case-of-requires : (t : ℕ) → statement-lts.Need-case-of-requires (statement-calls t) (statement-at t) statement′.Post
+statement-case-of-requires t c κs = search needs
+
+statement-same-length-4 : (t : ℕ) → statement-lts.Need-same-length-4 (statement-calls t) (statement-at t) statement′.Post
+statement-same-length-4 t c = search needs
+
+statement-returns-5 : (t : ℕ) → statement-lts.Need-returns-5 (statement-calls t) (statement-at t) statement′.Post
+unfolding constructOf andThen look next
+statement-returns-5 t c =
+    let at-case-of = c .before .before in
+    let at-if6 = at-case-of .before .before in
+    let at-if2 = at-if6 .before .before .before .before in
+    let at-if1 = at-if2 .before in
+    let at-opens = at-if1 .before in
+    let at-kind-at = at-opens .before in
+    record {
+      read = along (construct _ (at-kind-at .kind-at .ensures) (at-opens .opens .ensures) (at-if1 .if1 .taken) (at-if2 .if2 .left))
+          (rw (same (at-kind-at .kind-at .ensures .is) (at-if6 .if6 .taken)) (at-case-of .case-of .ensures .read));
+      low = search needs;
+    }
+
 statement-sub-for-do : (t : ℕ) → statement-lts.Need-sub-for-do (statement-calls t) (statement-at t) statement′.Post
 statement-sub-for-do t c = search needs
 
 statement-for-do-requires : (t : ℕ) → statement-lts.Need-for-do-requires (statement-calls t) (statement-at t) statement′.Post
 statement-for-do-requires t c κs =
-    let at-if2 = c .before .before .before .before in
+    let at-if2 = c .before .before .before .before .before in
     let at-if1 = at-if2 .before in
     let at-opens = at-if1 .before in
     let at-kind-at = at-opens .before in
@@ -1043,35 +1288,40 @@ statement-for-do-requires t c κs =
       ),
     )
 
-statement-same-length-4 : (t : ℕ) → statement-lts.Need-same-length-4 (statement-calls t) (statement-at t) statement′.Post
-statement-same-length-4 t c = search needs
-
-statement-returns-5 : (t : ℕ) → statement-lts.Need-returns-5 (statement-calls t) (statement-at t) statement′.Post
-unfolding constructOf andThen look next
-statement-returns-5 t c = record {
-  read = along (construct _
-      (c .before .before .before .before .before .before .before .before .before .before .kind-at .ensures)
-      (c .before .before .before .before .before .before .before .before .before .opens .ensures)
-      (c .before .before .before .before .before .before .before .before .if1 .taken) (c .before .before .before .before .before .before .before .if2 .left))
-      (rw (
-        ne-eqb _ _ (other (c .before .before .before .before .before .before .before .before .before .before .kind-at .ensures .is)
-            (c .before .before .before .before .before .before .if3 .left)),
-        ne-eqb _ _ (other (c .before .before .before .before .before .before .before .before .before .before .kind-at .ensures .is)
-            (c .before .before .before .before .before .if4 .left)),
-        ne-eqb _ _ (other (c .before .before .before .before .before .before .before .before .before .before .kind-at .ensures .is)
-            (c .before .before .before .before .if5 .left)),
-      ) (c .before .before .for-do .ensures .read));
-  low = search needs;
-}
-
-statement-simple-requires : (t : ℕ) → statement-lts.Need-simple-requires (statement-calls t) (statement-at t) statement′.Post
-statement-simple-requires t c κs = search needs
-
 statement-same-length-5 : (t : ℕ) → statement-lts.Need-same-length-5 (statement-calls t) (statement-at t) statement′.Post
 statement-same-length-5 t c = search needs
 
 statement-returns-6 : (t : ℕ) → statement-lts.Need-returns-6 (statement-calls t) (statement-at t) statement′.Post
-statement-returns-6 t c = record {
+unfolding constructOf andThen look next
+statement-returns-6 t c =
+    let at-for-do = c .before .before in
+    let at-if6 = at-for-do .before .before in
+    let at-if5 = at-if6 .before in
+    let at-if4 = at-if5 .before in
+    let at-if3 = at-if4 .before in
+    let at-if2 = at-if3 .before in
+    let at-if1 = at-if2 .before in
+    let at-opens = at-if1 .before in
+    let at-kind-at = at-opens .before in
+    record {
+      read = along (construct _ (at-kind-at .kind-at .ensures) (at-opens .opens .ensures) (at-if1 .if1 .taken) (at-if2 .if2 .left))
+          (rw (
+            ne-eqb _ _ (other (at-kind-at .kind-at .ensures .is) (at-if3 .if3 .left)),
+            ne-eqb _ _ (other (at-kind-at .kind-at .ensures .is) (at-if4 .if4 .left)),
+            ne-eqb _ _ (other (at-kind-at .kind-at .ensures .is) (at-if5 .if5 .left)),
+            ne-eqb _ _ (other (at-kind-at .kind-at .ensures .is) (at-if6 .if6 .left)),
+          ) (at-for-do .for-do .ensures .read));
+      low = search needs;
+    }
+
+statement-simple-requires : (t : ℕ) → statement-lts.Need-simple-requires (statement-calls t) (statement-at t) statement′.Post
+statement-simple-requires t c κs = search needs
+
+statement-same-length-6 : (t : ℕ) → statement-lts.Need-same-length-6 (statement-calls t) (statement-at t) statement′.Post
+statement-same-length-6 t c = search needs
+
+statement-returns-7 : (t : ℕ) → statement-lts.Need-returns-7 (statement-calls t) (statement-at t) statement′.Post
+statement-returns-7 t c = record {
   read = along (no-construct _ (c .before .before .before .before .before .before .kind-at .ensures)
       (c .before .before .before .before .before .opens .ensures) (c .before .before .before .before .if1 .left)) (c .before .before .simple .ensures .read);
   low = search needs;
@@ -1161,9 +1411,9 @@ while-do-returns-3 t c =
           at-statement .statement in omega arith;
     }
 
-pub +body+for-do+if-then+items+procedure+statement+while-do-spec : {M : Type 1} → statement M
-+body+for-do+if-then+items+procedure+statement+while-do-spec =
-    close μ-body μ-for-do μ-if-then μ-items μ-procedure μ-statement μ-while-do (λ t. body-lts.spec (body-calls t)
+pub +body+case-of+for-do+if-then+items+procedure+statement+while-do-spec : {M : Type 1} → statement M
++body+case-of+for-do+if-then+items+procedure+statement+while-do-spec =
+    close μ-body μ-case-of μ-for-do μ-if-then μ-items μ-procedure μ-statement μ-while-do (λ t. body-lts.spec (body-calls t)
     (body-at t)
     body.Post
     body-Inv-loop
@@ -1190,6 +1440,36 @@ pub +body+for-do+if-then+items+procedure+statement+while-do-spec : {M : Type 1} 
     (body-returns-5 t)
     (body-loop-less-2 t)
     (body-loop-again-2 t))
+    (λ t. case-of-lts.spec (case-of-calls t)
+    (case-of-at t)
+    case-of.Post
+    case-of-Inv-loop
+    case-of-μ-loop
+    (case-of-add-case-head t)
+    (case-of-add-case-head-2 t)
+    (case-of-case-head-requires t)
+    (case-of-same-length t)
+    (case-of-returns t)
+    (case-of-loop-holds t)
+    (case-of-kind-at-requires t)
+    (case-of-statement-requires t)
+    (case-of-same-length-2 t)
+    (case-of-returns-2 t)
+    (case-of-wanted-requires t)
+    (case-of-same-length-3 t)
+    (case-of-returns-3 t)
+    (case-of-write-requires t)
+    (case-of-add-q t)
+    (case-of-add-n t)
+    (case-of-loop-less t)
+    (case-of-loop-again t)
+    (case-of-put-requires t)
+    (case-of-write-requires-2 t)
+    (case-of-add-read t)
+    (case-of-add-read-2 t)
+    (case-of-read-requires t)
+    (case-of-same-length-4 t)
+    (case-of-returns-4 t))
     (λ t. for-do-lts.spec (for-do-calls t)
     (for-do-at t)
     for-do.Post
@@ -1305,13 +1585,17 @@ pub +body+for-do+if-then+items+procedure+statement+while-do-spec : {M : Type 1} 
     (statement-while-do-requires t)
     (statement-same-length-3 t)
     (statement-returns-4 t)
-    (statement-sub-for-do t)
-    (statement-for-do-requires t)
+    (statement-sub-case-of t)
+    (statement-case-of-requires t)
     (statement-same-length-4 t)
     (statement-returns-5 t)
-    (statement-simple-requires t)
+    (statement-sub-for-do t)
+    (statement-for-do-requires t)
     (statement-same-length-5 t)
-    (statement-returns-6 t))
+    (statement-returns-6 t)
+    (statement-simple-requires t)
+    (statement-same-length-6 t)
+    (statement-returns-7 t))
     λ t. while-do-lts.spec (while-do-calls t)
     (while-do-at t)
     while-do.Post
