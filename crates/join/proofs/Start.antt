@@ -17,7 +17,7 @@ use Rattle.machine.specs.Step.{Cpu}
 use Rattle.machine.proofs.Outside.{keeps-all}
 use Rattle.runner.specs.Load.{tableLength, loaded, spaceOf, started}
 use Rattle.runner.proofs.Loaded.{Short, segmentAt, object-short, loaded-bytes, loaded-table, length-loaded}
-use Rattle.translation.specs.Instructions.{Instruction, rr, rx, address, immediate, shift, branch, link, stop, size, sizes}
+use Rattle.translation.specs.Instructions.{Instruction, rr, rx, address, immediate, shift, branch, link, indexed, stop, size, sizes}
 use Rattle.translation.specs.Core.{Core}
 use Rattle.translation.specs.Code.{sizeOf, instructions}
 use Rattle.translation.specs.Layout.{Layout, segmentLimit, tableBytes, cellsEnd, literalsFrom}
@@ -46,6 +46,7 @@ size-even (immediate op v a) = refl
 size-even (shift op r s n) = refl
 size-even (branch m t) = refl
 size-even (link r t) = refl
+size-even (indexed r t) = refl
 size-even stop = refl
 
 sizes-even : (is : List Instruction) → sizes is % 2 ≡ 0
