@@ -1,5 +1,6 @@
 -- What is known inside the head of a CASE, as a fact of registers and condition code (`Told`), and that its two tests say so (`not-above`, `numbered`).
 use mathlib.Core.Path.{_≡_, refl, sym, ap, subst, _∙_}
+use mathlib.Core.List.{List}
 use mathlib.Core.Bool.{Bool, true, false}
 use Prim.Native.Nat.{ℕ, zero, suc, _+_, _*_, _-_, _%_, _^_, _≤_, _<_}
 use native.Mathlib.Omega.{arith}
@@ -16,10 +17,6 @@ use Rattle.join.specs.Points.{Case, choices, Knows, nothing, compared, a
 abbrev pub reg : Cpu → ℕ → ℕ
 reg c r = getD (c .regs) r 0
 
--- what the register of a CASE holds
-abbrev pub caseValue : Case → Cpu → ℕ
-caseValue k c = reg c (k .register)
-
 -- the count as a word, as its literal has it
 abbrev pub countWord : Case → ℕ
 countWord k = choices k % 2 ^ 32
@@ -28,13 +25,17 @@ countWord k = choices k % 2 ^ 32
 abbrev pub NotAbove : Case → ℕ → Type 0
 NotAbove k a = comparedCode a (countWord k) ≡ 2 → ⊥
 
+-- of the registers and the condition code
+abbrev pub ToldOf : Knows → (regs : List ℕ) → (code : ℕ) → Type 0
+ToldOf nothing regs code = Unit {0}
+ToldOf (compared k) regs code = code ≡ comparedCode (getD regs (k .register) 0) (countWord k)
+ToldOf (atMost k) regs code = NotAbove k (getD regs (k .register) 0)
+ToldOf (tested k) regs code = NotAbove k (getD regs (k .register) 0) × (code ≡ signCode (signed (getD regs (k .register) 0)))
+ToldOf (between k) regs code = (1 ≤ getD regs (k .register) 0) × (getD regs (k .register) 0 ≤ choices k) × (choices k < room)
+ToldOf (scaled k) regs code = (j : ℕ) × (1 ≤ j) × (j ≤ choices k) × (getD regs (k .register) 0 ≡ 4 * j)
+
 abbrev pub Told : Knows → Cpu → Type 0
-Told nothing c = Unit {0}
-Told (compared k) c = c .code ≡ comparedCode (caseValue k c) (countWord k)
-Told (atMost k) c = NotAbove k (caseValue k c)
-Told (tested k) c = NotAbove k (caseValue k c) × (c .code ≡ signCode (signed (caseValue k c)))
-Told (between k) c = (1 ≤ caseValue k c) × (caseValue k c ≤ choices k) × (choices k < room)
-Told (scaled k) c = (j : ℕ) × (1 ≤ j) × (j ≤ choices k) × (caseValue k c ≡ 4 * j)
+Told k c = ToldOf k (c .regs) (c .code)
 
 -- past "branch mask 2 to the end"
 pub not-above : (k : Case) (c : Cpu) → asked 2 (c .code) ≡ false → Told (compared k) c → Told (atMost k) c
@@ -45,7 +46,7 @@ pub numbered : (k : Case) (c : Cpu) → choices k < room → asked 12 (c .code) 
 numbered k c few a h = go (decLe 1 x) (decLe x (choices k)) (decLe (2 ^ 31) x)
   where
     x : ℕ
-    x = caseValue k c
+    x = reg c (k .register)
 
     -- the code is neither 0 nor 1
     not-zero : signCode (signed x) ≡ 0 → ⊥
