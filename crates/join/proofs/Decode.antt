@@ -36,14 +36,14 @@ module _ (m : Space) (c : Cpu) (s : List ℕ) where
   pub decode-opcode : (op r x b d : ℕ) → StandAt s (c .counter) (fourBytes op r x b d) → getD s (c .counter) 0 ≡ op
   decode-opcode op r x b d h = first op ((r * 16 + x) ∷ (b * 16 + d / 256) ∷ d % 256 ∷ []) h
 
-  -- the address that the machine makes of an instruction's fields where they have no index
-  pub decode-address : (op r x b d : ℕ) → x < 16 → indexOf (longKind op) x ≡ 0 → d < displacements → StandAt s (c .counter) (fourBytes op r x b d)
-      → operandAddress c s ≡ address (c .regs) 0 b d
-  decode-address op r x b d hx none hd h =
+  -- the address that the machine makes of an instruction's fields, where its index is i
+  pub decode-address : (op r x b d : ℕ) {i : ℕ} → x < 16 → indexOf (longKind op) x ≡ i → d < displacements → StandAt s (c .counter) (fourBytes op r x b d)
+      → operandAddress c s ≡ address (c .regs) i b d
+  decode-address op r x b d hx index hd h =
       let e1 = h 1 (omega arith) in
       let e2 = h 2 (omega arith) in
       let e3 = h 3 (omega arith) in
-      rw (decode-opcode op r x b d h, e1, e2, e3, second-field r x hx, none, base-field b d hd, displacement-field b d hd)
+      rw (decode-opcode op r x b d h, e1, e2, e3, second-field r x hx, index, base-field b d hd, displacement-field b d hd)
 
   module _ (even : c .counter % 2 ≡ 0) (low : origin 0 ≤ c .counter) where
     pub decode-two : (op r x : ℕ) → op < 64 → c .counter + 2 ≤ origin 0 + m .program → StandAt s (c .counter) (twoBytes op r x)

@@ -4,24 +4,26 @@ use mathlib.Core.Logic.{_⊎_, inl, inr}
 use mathlib.Core.List.{List, [], _∷_, _++_, map, map-append}
 use mathlib.Core.Bool.{Bool, true, false}
 use mathlib.Core.Option.{none, some}
-use Prim.Native.Nat.{ℕ, _+_, _<_}
+use Prim.Native.Nat.{ℕ, zero, suc, _+_, _*_, _≤_, _<_}
 use native.Mathlib.Omega.{arith}
 use lib.Dec.{eqb}
 use borrow.Author.Tests.{eqb-false}
 use Rattle.base.specs.Choose.{if_then_else_}
 use Rattle.base.specs.Lists.{_∈_, _⊆_, All}
 use Rattle.base.proofs.Lists.{all-both, all-first, all-last, all-map, all-of}
+use Rattle.token.specs.Kinds as K
 use Rattle.static_rules.specs.Registers.{Registers}
 use Rattle.static_rules.specs.Meaning.{Based}
 use Rattle.static_rules.specs.Meanings.{dataBase}
 use Rattle.static_rules.specs.Rules.{protected}
-use Rattle.translation.specs.Instructions.{element, literal, entry, Instruction, rr, rx, address, immediate, shift, branch, link, stop, size, sizes, opcode, addRow, always}
-use Rattle.translation.specs.Core.{Core, skip, run, seq, mark, scope, jump, call, procedure, base, when, either, loop, count}
-use Rattle.translation.specs.Code.{Mark, own, markAt, sizeOf}
+use Rattle.translation.specs.Instructions.{element, literal, entry, Instruction, rr, rx, address, immediate, shift, branch, link, indexed, stop, size, sizes, opcode, addRow, compareRow, shiftCode, testOp, always}
+use Rattle.translation.specs.Core.{Core, skip, run, seq, mark, scope, jump, call, procedure, base, when, either, loop, count, select, Arms, last, arm}
+use Rattle.translation.specs.Code.{Mark, armCount, headSize, own, markAt, sizeOf, armsSize, table}
 use Rattle.translation.specs.Layout.{Layout}
-use Rattle.join.specs.Points.{Within, Point, start, withBase, inBody, procedureOf, Placed, programSegment, here, line, placed, program}
-use Rattle.join.proofs.Safe.{KeptBase, Guarded, Plain, Basing, Routine, first, Callable, labelsOf, Safe}
-use Rattle.join.proofs.Flows.{Good, Enters, Calls, Goes, Flows}
+use Rattle.join.specs.Points.{Within, Point, start, withBase, inBody, procedureOf, Case, choices, firstOf, endOf, statementAt, Knows, nothing, compared, atMost, tested, between, scaled, Placed, programSegment, here-knowing, here, line, head, placed, placedArms, program}
+use Rattle.join.proofs.Safe.{KeptBase, Guarded, Plain, Basing, Routine, first, Callable, Choosing, labelsOf, Safe, SafeArms}
+use Rattle.join.proofs.Chosen.{not-above, numbered}
+use Rattle.join.proofs.Flows.{Good, Enters, Calls, Onward, Entry, Goes, Flows}
 
 abbrev namesOf : List Mark → List ℕ
 namesOf ms = map (λ (m : Mark). m .name) ms
@@ -49,6 +51,7 @@ own-names (when is m c) p q = refl
 own-names (either is m a b) p q = refl
 own-names (loop is m c) p q = refl
 own-names (count is cs m r v c) p q = refl
+own-names (select r xs) p q = refl
 
 names-in : (c : Core) (p : ℕ) (ls : List Mark) → labelsOf c ++ namesOf ls ≡ namesOf (own c p ++ ls)
 names-in c p ls = ap (λ (l : List ℕ). l ++ namesOf ls) (own-names c 0 p) ∙ sym (map-append _ (own c p) ls)
@@ -57,22 +60,25 @@ names-in c p ls = ap (λ (l : List ℕ). l ++ namesOf ls) (own-names c 0 p) ∙ 
 
 module _ (w : List Placed) where
   abbrev Reached : ℕ → Point → Type 0
-  Reached a q = Good w programSegment a q
+  Reached a q = Good w programSegment a q nothing
 
   abbrev Mine : List Placed → Type 0
   Mine xs = All (λ (x : Placed). x ∈ w) xs
 
   -- the same place, said otherwise
   at-same : (a b : ℕ) (q : Point) → a ≡ b → Reached a q → Reached b q
-  at-same a b q e g = record { to = g .to; one = g .one; segment = g .segment; at = g .at ∙ e; under = g .under }
+  at-same a b q e g = record { to = g .to; one = g .one; segment = g .segment; at = g .at ∙ e; under = g .under; knows = g .knows }
+
+  at-knowing : (p : ℕ) (i : Instruction) (q : Point) (k : Knows) → here-knowing p i q k ∈ w → Good w programSegment p q k
+  at-knowing p i q k h = record { to = here-knowing p i q k; one = h; segment = refl; at = refl; under = record { bases = λ b k. k; within = refl }; knows = refl }
 
   at-here : (p : ℕ) (i : Instruction) (q : Point) → here p i q ∈ w → Reached p q
-  at-here p i q h = record { to = here p i q; one = h; segment = refl; at = refl; under = record { bases = λ b k. k; within = refl } }
+  at-here p i q h = at-knowing p i q nothing h
 
   -- with a base more
   at-based : (a : ℕ) (q : Point) (r k : ℕ) → Reached a q → Reached a (withBase q r k)
   at-based a q r k g =
-      record { to = g .to; one = g .one; segment = g .segment; at = g .at; under = record { bases = λ b h. inr (g .under .bases b h); within = g .under .within } }
+      record { to = g .to; one = g .one; segment = g .segment; at = g .at; under = record { bases = λ b h. inr (g .under .bases b h); within = g .under .within }; knows = g .knows }
 
   -- the first of instructions one after the other, or what follows them
   enter-line : (is : List Instruction) (p : ℕ) (q : Point) → Mine (line is p q) → Reached (p + sizes is) q → Reached p q
@@ -115,6 +121,7 @@ module _ (w : List Placed) where
     entering ls ps (either is k a b) p q m g = enter-before is _ _ p q m
     entering ls ps (loop is k c) p q m g = enter-before is _ _ p q m
     entering ls ps (count is cs k r v c) p q m g = enter-both is cs _ _ p q m
+    entering ls ps (select r xs) p q m g = at-here p _ q (m .0)
 
     -- ── labels ──
 
@@ -146,6 +153,7 @@ module _ (w : List Placed) where
     own-reached ls ps (either is k a b) p q m g = tt
     own-reached ls ps (loop is k c) p q m g = tt
     own-reached ls ps (count is cs k r v c) p q m g = tt
+    own-reached ls ps (select r xs) p q m g = tt
 
     -- ── procedures ──
 
@@ -234,30 +242,34 @@ module _ (w : List Placed) where
       abbrev FlowsOn : Placed → Type 0
       FlowsOn x = Flows n l e w x
 
-      goes-on : (p : ℕ) (i : Instruction) (q : Point) → Plain l q i → Reached (p + size i) q → Goes n l e w (here p i q) i
-      goes-on p (rr op r s) q h g = inr (record { plain = h; next = g })
-      goes-on p (rx op r (element c o x)) q h g = record { plain = h; next = g }
-      goes-on p (rx op r (literal v)) q h g = record { plain = h; next = g }
-      goes-on p (rx op r (entry k)) q h g = absurd (h .fits .1)
-      goes-on p (address r a) q h g = record { plain = h; next = g }
-      goes-on p (immediate op v a) q h g = record { plain = h; next = g }
-      goes-on p (shift op r s d) q h g = record { plain = h; next = g }
-      goes-on p (branch m t) q h g = absurd (h .fits)
-      goes-on p (link r t) q h g = absurd (h .fits)
-      goes-on p stop q h g = absurd (h .fits)
+      on-to : (p : ℕ) (i : Instruction) (q : Point) → Plain l q i → Reached (p + size i) q → Onward l w (here p i q)
+      on-to p i q h g = record { plain = h; after = nothing; next = g; gains = tt }
+
+      goes-on : (p : ℕ) (i : Instruction) (q : Point) → Onward l w (here p i q) → Goes n l e w (here p i q) i
+      goes-on p (rr op r s) q u = inr u
+      goes-on p (rx op r (element c o x)) q u = u
+      goes-on p (rx op r (literal v)) q u = u
+      goes-on p (rx op r (entry k)) q u = absurd (u .plain .fits .1)
+      goes-on p (address r a) q u = u
+      goes-on p (immediate op v a) q u = u
+      goes-on p (shift op r s d) q u = u
+      goes-on p (branch m t) q u = absurd (u .plain .fits)
+      goes-on p (link r t) q u = absurd (u .plain .fits)
+      goes-on p (indexed r t) q u = absurd (u .plain .fits)
+      goes-on p stop q u = absurd (u .plain .fits)
 
       line-flow : (is : List Instruction) (p : ℕ) (q : Point) → Guarded n q → All (Plain l q) is → Mine (line is p q) → Reached (p + sizes is) q → All FlowsOn (line is p q)
       line-flow [] p q d h m g = tt
       line-flow (i ∷ is) p q d h m g =
           let next : Reached ((p + size i) + sizes is) q = at-same _ _ q (omega arith) g in
-          (record { guarded = d; goes = goes-on p i q (h .0) (enter-line is (p + size i) q (m .1) next) }, line-flow is (p + size i) q d (h .1) (m .1) next)
+          (record { guarded = d; goes = goes-on p i q (on-to p i q (h .0) (enter-line is (p + size i) q (m .1) next)) }, line-flow is (p + size i) q d (h .1) (m .1) next)
 
       -- a branch that is always taken, and one that may be
       goes-to : (p t : ℕ) (q : Point) → Guarded n q → Reached t q → FlowsOn (here p (branch always t) q)
-      goes-to p t q d g = record { guarded = d; goes = record { to = g; next = inl refl } }
+      goes-to p t q d g = record { guarded = d; goes = record { to = g; after = nothing; next = inl refl; gains = λ c b a k. tt } }
 
       branches : (p m t : ℕ) (q : Point) → Guarded n q → Reached t q → Reached (p + 4) q → FlowsOn (here p (branch m t) q)
-      branches p m t q d g h = record { guarded = d; goes = record { to = g; next = inr h } }
+      branches p m t q d g h = record { guarded = d; goes = record { to = g; after = nothing; next = inr h; gains = λ c b a k. tt } }
 
       calls : (ls ps : List Mark) (gs : List Routine) (q : Point) (x r p : ℕ) → InForce ls ps gs q → Callable gs q x r → Reached (p + 4) q
           → Calls w (here p (link r (markAt ps x)) q) r (markAt ps x)
@@ -270,128 +282,209 @@ module _ (w : List Placed) where
             return = c .return;
             small = subst (λ (y : ℕ). y < 16) (c .return) (k .1);
             segment = k .2;
-            body = record { to = b .to; one = b .one; segment = b .segment; at = b .at; within = b .within; bases = λ y i. k .0 y (b .bases y i) };
+            body = record { to = b .to; one = b .one; segment = b .segment; at = b .at; within = b .within; bases = λ y i. k .0 y (b .bases y i); knows = b .knows };
             spared = c .spared;
             counted = c .counted;
             back = g;
           }
 
       enters : (a : ℕ) (q : Point) (v : Within) → v .segment ≡ programSegment → Reached a (inBody q v) → Enters w a v (q .bases)
-      enters a q v s g = record { to = g .to; one = g .one; segment = g .segment ∙ sym s; at = g .at; within = g .under .within; bases = g .under .bases }
+      enters a q v s g = record { to = g .to; one = g .one; segment = g .segment ∙ sym s; at = g .at; within = g .under .within; bases = g .under .bases; knows = g .knows }
+
+      -- ── a CASE ──
+
+      -- the table's entry with a number, of the table that begins four bytes behind t
+      entry-at : (xs : Arms) (p t : ℕ) (q : Point) (j : ℕ) → 1 ≤ j → j ≤ armCount xs → Mine (line (table xs p) (t + 4) q)
+          → Entry w programSegment (t + 4 * j) q (statementAt xs j p)
+      unfolding table at-same at-here at-knowing
+      entry-at last p t q j low high m = absurd (omega arith)
+      entry-at (arm c xs) p t q zero low high m = absurd (omega arith)
+      entry-at (arm c xs) p t q (suc zero) low high m = record { good = at-same (t + 4) _ q (omega arith) (at-here (t + 4) _ q (m .0)); branches = refl }
+      entry-at (arm c xs) p t q (suc (suc j)) low high m =
+          let r = entry-at xs (p + (sizeOf c + 4)) (t + 4) q (suc j) (omega arith) (omega arith) (m .1) in
+          record { good = at-same _ _ q (omega arith) (r .good); branches = r .branches }
+
+      -- in its head control goes on in order, or to the end
+      head-flow : (k : Case) (q : Point) → Guarded n q → Choosing l q (k .register) (choices k) → Mine (head k q) → Mine (line (table (k .arms) (firstOf k)) (k .at + 18 + 4) q)
+          → Reached (endOf k) q → All FlowsOn (head k q)
+      head-flow k q d f m t g = (
+        record { guarded = d; goes = record { plain = f .compare; after = compared k; next = at-knowing _ _ q (compared k) (m .1 .0); gains = refl } },
+        (
+          record { guarded = d; goes = record { to = g; after = atMost k; next = inr (at-knowing _ _ q (atMost k) (m .1 .1 .0)); gains = λ c b a h. not-above k c a h } },
+          (
+            record { guarded = d; goes = inr (record { plain = f .test; after = tested k; next = at-knowing _ _ q (tested k) (m .1 .1 .1 .0); gains = (refl, refl, f .small) }) },
+            (
+              record { guarded = d; goes = record { to = g; after = between k; next = inr (at-knowing _ _ q (between k) (m .1 .1 .1 .1 .0)); gains = λ c b a h. numbered k c (omega arith) a h } },
+              (
+                record { guarded = d; goes = record { plain = f .scale; after = scaled k; next = at-knowing _ _ q (scaled k) (m .1 .1 .1 .1 .1 .0); gains = (refl, refl, f .small) } },
+                (
+                  record {
+                    guarded = d;
+                    goes = record {
+                      case = k;
+                      knows = refl;
+                      register = refl;
+                      positive = f .positive;
+                      small = f .small;
+                      before = omega arith;
+                      entries = λ j low high. entry-at (k .arms) (firstOf k) (k .at + 18) q j low high t;
+                    };
+                  },
+                  tt,
+                ),
+              ),
+            ),
+          ),
+        ),
+      )
+
+      -- a table leads to the statements
+      table-flow : (ls ps : List Mark) (xs : Arms) (p end at : ℕ) (q : Point) → Guarded n q → Mine (placedArms written ls ps xs p end q) → All FlowsOn (line (table xs p) at q)
+      unfolding table placed
+      table-flow ls ps last p end at q d m = tt
+      table-flow ls ps (arm c xs) p end at q d m =
+          let la = placed written ls ps c p q in
+          let lb = here (p + sizeOf c) (branch always end) q ∷ placedArms written ls ps xs (p + (sizeOf c + 4)) end q in
+          let mb = all-last _ la lb m in (
+            goes-to at p q d (entering ls ps c p q (all-first _ la lb m) (at-here (p + sizeOf c) _ q (mb .0))),
+            table-flow ls ps xs (p + (sizeOf c + 4)) end (at + 4) q d (mb .1),
+          )
 
       -- ── a safe text at q, from p on, with what follows it ──
 
-      flow : (ls ps : List Mark) (gs : List Routine) (c : Core) (p : ℕ) (q : Point) → InForce ls ps gs q → Safe written n l (namesOf ls) gs q c
-          → Mine (placed written ls ps c p q) → Reached (p + sizeOf c) q → All FlowsOn (placed written ls ps c p q)
-      unfolding placed sizeOf Safe
-      flow ls ps gs skip p q x f m g = tt
-      flow ls ps gs (run is) p q x f m g = line-flow is p q (x .guarded) f m g
-      flow ls ps gs (seq a b) p q x f m g =
-          let la = placed written ls ps a p q in
-          let lb = placed written ls ps b (p + sizeOf a) q in
-          let mb = all-last _ la lb m in
-          let gb : Reached ((p + sizeOf a) + sizeOf b) q = at-same _ _ q (omega arith) g in
-          all-both _ la lb (flow ls ps gs a p q x (f .0) (all-first _ la lb m) (entering ls ps b (p + sizeOf a) q mb gb)) (flow ls ps gs b (p + sizeOf a) q x (f .1) mb gb)
-      flow ls ps gs (mark y c) p q x f m g = flow ls ps gs c p q x f m g
-      flow ls ps gs (scope c) p q x f m g =
-          flow (own c p ++ ls) ps gs c p q (in-scope ls ps gs q c p x m g) (subst (λ (ns : List ℕ). Safe written n l ns gs q c) (names-in c p ls) f) m g
-      flow ls ps gs (jump y) p q x f m g = (goes-to p (markAt ls y) q (x .guarded) (mark-reached q ls y f (x .labels)), tt)
-      flow ls ps gs (call y r) p q x f m g = (record { guarded = x .guarded; goes = calls ls ps gs q y r p x f g }, tt)
-      flow ls ps gs (procedure y r a b) p q x f m g =
-          let v = procedureOf written y r in
-          let inner = inBody q v in
-          let at : Mark = record { name = y; at = p + 4 } in
-          let known : List Routine = record { within = v; bases = q .bases } ∷ gs in
-          let past = p + (4 + (sizeOf a + 2)) in
-          let last = here (p + (4 + sizeOf a)) (rr 0x07 15 r) inner in
-          let la = placed written [] (at ∷ ps) a (p + 4) inner in
-          let lb = last ∷ placed written ls (at ∷ ps) b past q in
-          let ma = all-first _ la lb (m .1) in
-          let mb = all-last _ la lb (m .1) in
-          let ga : Reached ((p + 4) + sizeOf a) inner = at-same _ _ inner (omega arith) (at-here (p + (4 + sizeOf a)) (rr 0x07 15 r) inner (mb .0)) in
-          let gb : Reached (past + sizeOf b) q = at-same _ _ q (omega arith) g in
-          let y1 = with-routine ls ps gs q at v x refl (enters (p + 4) q v refl (entering [] (at ∷ ps) a (p + 4) inner ma ga)) (f .0 .1) refl in
-          let xa = in-body ls (at ∷ ps) known q v y1 (f .0 .0) (f .0 .1) in (
-            goes-to p past q (x .guarded) (entering ls (at ∷ ps) b past q (mb .1) gb),
-            all-both _ la lb (flow [] (at ∷ ps) known a (p + 4) inner xa (f .1) ma ga) (
-              record { guarded = xa .guarded; goes = inl (record { branches = refl; taken = refl; v = v; within = refl; segment = refl; return = refl }) },
-              flow ls (at ∷ ps) known b past q y1 (f .2) (mb .1) gb,
-            ),
-          )
-      flow ls ps gs (base r k c) p q x f m g =
-          let inner = withBase q r k in
-          let gc : Reached ((p + 4) + sizeOf c) inner = at-based _ q r k (at-same _ _ q (omega arith) g) in (
-            record { guarded = x .guarded; goes = record { loads = refl; basing = f .0; next = entering ls ps c (p + 4) inner (m .1) gc } },
-            flow ls ps gs c (p + 4) inner (with-base ls ps gs q r k x (f .0)) (f .1) (m .1) gc,
-          )
-      flow ls ps gs (when is k c) p q x f m g =
-          let pc = p + (sizes is + 4) in
-          let exit = branch k (p + (sizes is + (4 + sizeOf c))) in
-          let lc = here (p + sizes is) exit q ∷ placed written ls ps c pc q in
-          let mc = all-last _ (line is p q) lc m in
-          let gc : Reached (pc + sizeOf c) q = at-same _ _ q (omega arith) g in
-          all-both _ (line is p q) lc (line-flow is p q (x .guarded) (f .0) (all-first _ (line is p q) lc m) (at-here (p + sizes is) exit q (mc .0))) (
-            branches (p + sizes is) k _ q (x .guarded) g (at-same _ _ q (omega arith) (entering ls ps c pc q (mc .1) gc)),
-            flow ls ps gs c pc q x (f .1) (mc .1) gc,
-          )
-      flow ls ps gs (either is k a b) p q x f m g =
-          let pa = p + (sizes is + 4) in
-          let pb = p + (sizes is + (4 + (sizeOf a + 4))) in
-          let exit = branch k pb in
-          let over = branch always (p + (sizes is + (4 + (sizeOf a + (4 + sizeOf b))))) in
-          let la = placed written ls ps a pa q in
-          let lb = here (p + (sizes is + (4 + sizeOf a))) over q ∷ placed written ls ps b pb q in
-          let lc = here (p + sizes is) exit q ∷ (la ++ lb) in
-          let mc = all-last _ (line is p q) lc m in
-          let ma = all-first _ la lb (mc .1) in
-          let mb = all-last _ la lb (mc .1) in
-          let ga : Reached (pa + sizeOf a) q = at-same _ _ q (omega arith) (at-here (p + (sizes is + (4 + sizeOf a))) over q (mb .0)) in
-          let gb : Reached (pb + sizeOf b) q = at-same _ _ q (omega arith) g in
-          all-both _ (line is p q) lc (line-flow is p q (x .guarded) (f .0) (all-first _ (line is p q) lc m) (at-here (p + sizes is) exit q (mc .0))) (
-            branches (p + sizes is) k pb q (x .guarded) (entering ls ps b pb q (mb .1) gb) (at-same _ _ q (omega arith) (entering ls ps a pa q ma ga)),
-            all-both _ la lb (flow ls ps gs a pa q x (f .1) ma ga) (goes-to _ _ q (x .guarded) g, flow ls ps gs b pb q x (f .2) (mb .1) gb),
-          )
-      flow ls ps gs (loop is k c) p q x f m g =
-          let pc = p + (sizes is + 4) in
-          let exit = branch k (p + (sizes is + (4 + (sizeOf c + 4)))) in
-          let back = here (p + (sizes is + (4 + sizeOf c))) (branch always p) q in
-          let lb = placed written ls ps c pc q in
-          let lc = here (p + sizes is) exit q ∷ (lb ++ (back ∷ [])) in
-          let mi = all-first _ (line is p q) lc m in
-          let mc = all-last _ (line is p q) lc m in
-          let mb = all-first _ lb (back ∷ []) (mc .1) in
-          let me = all-last _ lb (back ∷ []) (mc .1) in
-          let gc : Reached (pc + sizeOf c) q = at-same _ _ q (omega arith) (at-here (p + (sizes is + (4 + sizeOf c))) (branch always p) q (me .0)) in
-          let gi = at-here (p + sizes is) exit q (mc .0) in
-          all-both _ (line is p q) lc (line-flow is p q (x .guarded) (f .0) mi gi) (
-            branches (p + sizes is) k _ q (x .guarded) g (at-same _ _ q (omega arith) (entering ls ps c pc q mb gc)),
-            all-both _ lb (back ∷ []) (flow ls ps gs c pc q x (f .1) mb gc) (goes-to _ p q (x .guarded) (enter-line is p q mi gi), tt),
-          )
-      flow ls ps gs (count is cs k r v c) p q x f m g =
-          let pc = p + (sizes is + (sizes cs + 4)) in
-          let exit = branch k (p + (sizes is + (sizes cs + (4 + (sizeOf c + 8))))) in
-          let step = rx (opcode addRow 1) r (literal v) in
-          let stepped = p + (sizes is + (sizes cs + (8 + sizeOf c))) in
-          let after : List Placed = here (p + (sizes is + (sizes cs + (4 + sizeOf c)))) step q ∷ here stepped (branch always (p + sizes is)) q ∷ [] in
-          let lb = placed written ls ps c pc q in
-          let lc = here (p + (sizes is + sizes cs)) exit q ∷ (lb ++ after) in
-          let ld = line cs (p + sizes is) q ++ lc in
-          let md = all-last _ (line is p q) ld m in
-          let ms = all-first _ (line cs (p + sizes is) q) lc md in
-          let mc = all-last _ (line cs (p + sizes is) q) lc md in
-          let mb = all-first _ lb after (mc .1) in
-          let me = all-last _ lb after (mc .1) in
-          let gc : Reached (pc + sizeOf c) q = at-same _ _ q (omega arith) (at-here (p + (sizes is + (sizes cs + (4 + sizeOf c)))) step q (me .0)) in
-          let gj : Reached ((p + sizes is) + sizes cs) q = at-same _ _ q (omega arith) (at-here (p + (sizes is + sizes cs)) exit q (mc .0)) in
-          let compare = enter-line cs (p + sizes is) q ms gj in
-          all-both _ (line is p q) ld (line-flow is p q (x .guarded) (f .0) (all-first _ (line is p q) ld m) compare)
-          (all-both _ (line cs (p + sizes is) q) lc (line-flow cs (p + sizes is) q (x .guarded) (f .1) ms gj) (
-            branches _ k _ q (x .guarded) g (at-same _ _ q (omega arith) (entering ls ps c pc q mb gc)),
-            all-both _ lb after (flow ls ps gs c pc q x (f .3) mb gc) (
-              record { guarded = x .guarded; goes = record { plain = f .2; next = at-same _ _ q (omega arith) (at-here stepped (branch always (p + sizes is)) q (me .1 .0)) } },
-              (goes-to stepped (p + sizes is) q (x .guarded) compare, tt),
-            ),
-          ))
+      mutual
+        unfolding placed sizeOf Safe
+
+        flow : (ls ps : List Mark) (gs : List Routine) (c : Core) (p : ℕ) (q : Point) → InForce ls ps gs q → Safe written n l (namesOf ls) gs q c
+            → Mine (placed written ls ps c p q) → Reached (p + sizeOf c) q → All FlowsOn (placed written ls ps c p q)
+        flow ls ps gs skip p q x f m g = tt
+        flow ls ps gs (run is) p q x f m g = line-flow is p q (x .guarded) f m g
+        flow ls ps gs (seq a b) p q x f m g =
+            let la = placed written ls ps a p q in
+            let lb = placed written ls ps b (p + sizeOf a) q in
+            let mb = all-last _ la lb m in
+            let gb : Reached ((p + sizeOf a) + sizeOf b) q = at-same _ _ q (omega arith) g in
+            all-both _ la lb (flow ls ps gs a p q x (f .0) (all-first _ la lb m) (entering ls ps b (p + sizeOf a) q mb gb)) (flow ls ps gs b (p + sizeOf a) q x (f .1) mb gb)
+        flow ls ps gs (mark y c) p q x f m g = flow ls ps gs c p q x f m g
+        flow ls ps gs (scope c) p q x f m g =
+            flow (own c p ++ ls) ps gs c p q (in-scope ls ps gs q c p x m g) (subst (λ (ns : List ℕ). Safe written n l ns gs q c) (names-in c p ls) f) m g
+        flow ls ps gs (jump y) p q x f m g = (goes-to p (markAt ls y) q (x .guarded) (mark-reached q ls y f (x .labels)), tt)
+        flow ls ps gs (call y r) p q x f m g = (record { guarded = x .guarded; goes = calls ls ps gs q y r p x f g }, tt)
+        flow ls ps gs (procedure y r a b) p q x f m g =
+            let v = procedureOf written y r in
+            let inner = inBody q v in
+            let at : Mark = record { name = y; at = p + 4 } in
+            let known : List Routine = record { within = v; bases = q .bases } ∷ gs in
+            let past = p + (4 + (sizeOf a + 2)) in
+            let last = here (p + (4 + sizeOf a)) (rr 0x07 15 r) inner in
+            let la = placed written [] (at ∷ ps) a (p + 4) inner in
+            let lb = last ∷ placed written ls (at ∷ ps) b past q in
+            let ma = all-first _ la lb (m .1) in
+            let mb = all-last _ la lb (m .1) in
+            let ga : Reached ((p + 4) + sizeOf a) inner = at-same _ _ inner (omega arith) (at-here (p + (4 + sizeOf a)) (rr 0x07 15 r) inner (mb .0)) in
+            let gb : Reached (past + sizeOf b) q = at-same _ _ q (omega arith) g in
+            let y1 = with-routine ls ps gs q at v x refl (enters (p + 4) q v refl (entering [] (at ∷ ps) a (p + 4) inner ma ga)) (f .0 .1) refl in
+            let xa = in-body ls (at ∷ ps) known q v y1 (f .0 .0) (f .0 .1) in (
+              goes-to p past q (x .guarded) (entering ls (at ∷ ps) b past q (mb .1) gb),
+              all-both _ la lb (flow [] (at ∷ ps) known a (p + 4) inner xa (f .1) ma ga) (
+                record { guarded = xa .guarded; goes = inl (record { branches = refl; taken = refl; v = v; within = refl; segment = refl; return = refl }) },
+                flow ls (at ∷ ps) known b past q y1 (f .2) (mb .1) gb,
+              ),
+            )
+        flow ls ps gs (base r k c) p q x f m g =
+            let inner = withBase q r k in
+            let gc : Reached ((p + 4) + sizeOf c) inner = at-based _ q r k (at-same _ _ q (omega arith) g) in (
+              record { guarded = x .guarded; goes = record { loads = refl; basing = f .0; next = entering ls ps c (p + 4) inner (m .1) gc } },
+              flow ls ps gs c (p + 4) inner (with-base ls ps gs q r k x (f .0)) (f .1) (m .1) gc,
+            )
+        flow ls ps gs (when is k c) p q x f m g =
+            let pc = p + (sizes is + 4) in
+            let exit = branch k (p + (sizes is + (4 + sizeOf c))) in
+            let lc = here (p + sizes is) exit q ∷ placed written ls ps c pc q in
+            let mc = all-last _ (line is p q) lc m in
+            let gc : Reached (pc + sizeOf c) q = at-same _ _ q (omega arith) g in
+            all-both _ (line is p q) lc (line-flow is p q (x .guarded) (f .0) (all-first _ (line is p q) lc m) (at-here (p + sizes is) exit q (mc .0))) (
+              branches (p + sizes is) k _ q (x .guarded) g (at-same _ _ q (omega arith) (entering ls ps c pc q (mc .1) gc)),
+              flow ls ps gs c pc q x (f .1) (mc .1) gc,
+            )
+        flow ls ps gs (either is k a b) p q x f m g =
+            let pa = p + (sizes is + 4) in
+            let pb = p + (sizes is + (4 + (sizeOf a + 4))) in
+            let exit = branch k pb in
+            let over = branch always (p + (sizes is + (4 + (sizeOf a + (4 + sizeOf b))))) in
+            let la = placed written ls ps a pa q in
+            let lb = here (p + (sizes is + (4 + sizeOf a))) over q ∷ placed written ls ps b pb q in
+            let lc = here (p + sizes is) exit q ∷ (la ++ lb) in
+            let mc = all-last _ (line is p q) lc m in
+            let ma = all-first _ la lb (mc .1) in
+            let mb = all-last _ la lb (mc .1) in
+            let ga : Reached (pa + sizeOf a) q = at-same _ _ q (omega arith) (at-here (p + (sizes is + (4 + sizeOf a))) over q (mb .0)) in
+            let gb : Reached (pb + sizeOf b) q = at-same _ _ q (omega arith) g in
+            all-both _ (line is p q) lc (line-flow is p q (x .guarded) (f .0) (all-first _ (line is p q) lc m) (at-here (p + sizes is) exit q (mc .0))) (
+              branches (p + sizes is) k pb q (x .guarded) (entering ls ps b pb q (mb .1) gb) (at-same _ _ q (omega arith) (entering ls ps a pa q ma ga)),
+              all-both _ la lb (flow ls ps gs a pa q x (f .1) ma ga) (goes-to _ _ q (x .guarded) g, flow ls ps gs b pb q x (f .2) (mb .1) gb),
+            )
+        flow ls ps gs (loop is k c) p q x f m g =
+            let pc = p + (sizes is + 4) in
+            let exit = branch k (p + (sizes is + (4 + (sizeOf c + 4)))) in
+            let back = here (p + (sizes is + (4 + sizeOf c))) (branch always p) q in
+            let lb = placed written ls ps c pc q in
+            let lc = here (p + sizes is) exit q ∷ (lb ++ (back ∷ [])) in
+            let mi = all-first _ (line is p q) lc m in
+            let mc = all-last _ (line is p q) lc m in
+            let mb = all-first _ lb (back ∷ []) (mc .1) in
+            let me = all-last _ lb (back ∷ []) (mc .1) in
+            let gc : Reached (pc + sizeOf c) q = at-same _ _ q (omega arith) (at-here (p + (sizes is + (4 + sizeOf c))) (branch always p) q (me .0)) in
+            let gi = at-here (p + sizes is) exit q (mc .0) in
+            all-both _ (line is p q) lc (line-flow is p q (x .guarded) (f .0) mi gi) (
+              branches (p + sizes is) k _ q (x .guarded) g (at-same _ _ q (omega arith) (entering ls ps c pc q mb gc)),
+              all-both _ lb (back ∷ []) (flow ls ps gs c pc q x (f .1) mb gc) (goes-to _ p q (x .guarded) (enter-line is p q mi gi), tt),
+            )
+        flow ls ps gs (count is cs k r v c) p q x f m g =
+            let pc = p + (sizes is + (sizes cs + 4)) in
+            let exit = branch k (p + (sizes is + (sizes cs + (4 + (sizeOf c + 8))))) in
+            let step = rx (opcode addRow 1) r (literal v) in
+            let stepped = p + (sizes is + (sizes cs + (8 + sizeOf c))) in
+            let after : List Placed = here (p + (sizes is + (sizes cs + (4 + sizeOf c)))) step q ∷ here stepped (branch always (p + sizes is)) q ∷ [] in
+            let lb = placed written ls ps c pc q in
+            let lc = here (p + (sizes is + sizes cs)) exit q ∷ (lb ++ after) in
+            let ld = line cs (p + sizes is) q ++ lc in
+            let md = all-last _ (line is p q) ld m in
+            let ms = all-first _ (line cs (p + sizes is) q) lc md in
+            let mc = all-last _ (line cs (p + sizes is) q) lc md in
+            let mb = all-first _ lb after (mc .1) in
+            let me = all-last _ lb after (mc .1) in
+            let gc : Reached (pc + sizeOf c) q = at-same _ _ q (omega arith) (at-here (p + (sizes is + (sizes cs + (4 + sizeOf c)))) step q (me .0)) in
+            let gj : Reached ((p + sizes is) + sizes cs) q = at-same _ _ q (omega arith) (at-here (p + (sizes is + sizes cs)) exit q (mc .0)) in
+            let compare = enter-line cs (p + sizes is) q ms gj in
+            all-both _ (line is p q) ld (line-flow is p q (x .guarded) (f .0) (all-first _ (line is p q) ld m) compare)
+            (all-both _ (line cs (p + sizes is) q) lc (line-flow cs (p + sizes is) q (x .guarded) (f .1) ms gj) (
+              branches _ k _ q (x .guarded) g (at-same _ _ q (omega arith) (entering ls ps c pc q mb gc)),
+              all-both _ lb after (flow ls ps gs c pc q x (f .3) mb gc) (
+                record { guarded = x .guarded; goes = on-to _ step q (f .2) (at-same _ _ q (omega arith) (at-here stepped (branch always (p + sizes is)) q (me .1 .0))) },
+                (goes-to stepped (p + sizes is) q (x .guarded) compare, tt),
+              ),
+            ))
+        flow ls ps gs (select r xs) p q x f m g =
+            let k : Case = record { register = r; arms = xs; at = p } in
+            let lt = line (table xs (firstOf k)) (p + headSize 0) q in
+            let la = placedArms written ls ps xs (firstOf k) (endOf k) q in
+            let mr = all-last _ (head k q) (lt ++ la) m in
+            let ma = all-last _ lt la mr in
+            let e : p + headSize 0 ≡ p + 18 + 4 = omega arith in
+            let mt : Mine (line (table xs (firstOf k)) (p + 18 + 4) q) = subst (λ (a : ℕ). Mine (line (table xs (firstOf k)) a q)) e (all-first _ lt la mr) in
+            all-both _ (head k q) (lt ++ la) (head-flow k q (x .guarded) (f .0) (all-first _ (head k q) (lt ++ la) m) mt g)
+            (all-both _ lt la (table-flow ls ps xs (firstOf k) (endOf k) (p + headSize 0) q (x .guarded) ma) (flow-arms ls ps gs xs (firstOf k) (endOf k) q x (f .1) ma g))
+
+        flow-arms : (ls ps : List Mark) (gs : List Routine) (xs : Arms) (p end : ℕ) (q : Point) → InForce ls ps gs q → SafeArms written n l (namesOf ls) gs q xs
+            → Mine (placedArms written ls ps xs p end q) → Reached end q → All FlowsOn (placedArms written ls ps xs p end q)
+        flow-arms ls ps gs last p end q x f m g = tt
+        flow-arms ls ps gs (arm c xs) p end q x f m g =
+            let la = placed written ls ps c p q in
+            let lb = here (p + sizeOf c) (branch always end) q ∷ placedArms written ls ps xs (p + (sizeOf c + 4)) end q in
+            let mb = all-last _ la lb m in
+            all-both _ la lb (flow ls ps gs c p q x (f .0) (all-first _ la lb m) (at-here (p + sizeOf c) _ q (mb .0)))
+            (goes-to (p + sizeOf c) end q (x .guarded) g, flow-arms ls ps gs xs (p + (sizeOf c + 4)) end q x (f .1) (mb .1) g)
 
 -- ── the whole program ──
 
@@ -399,7 +492,7 @@ module _ (written : List Registers) (n : ℕ) (l : Layout) (c : Core) where
   all-mine : All (λ (x : Placed). x ∈ program written c) (program written c)
   all-mine = all-of _ (program written c) (λ x h. h)
 
-  last-reached : Good (program written c) programSegment (0 + sizeOf c) start
+  last-reached : Good (program written c) programSegment (0 + sizeOf c) start nothing
   unfolding program
   last-reached =
       let w = program written c in
@@ -428,6 +521,6 @@ module _ (written : List Registers) (n : ℕ) (l : Layout) (c : Core) where
       (record { guarded = guarded-start; goes = refl }, tt)
 
   -- its first instruction
-  pub program-start : Good (program written c) programSegment 0 start
+  pub program-start : Good (program written c) programSegment 0 start nothing
   unfolding program
   program-start = entering (program written c) written [] [] c 0 start (all-first _ (placed written [] [] c 0 start) (here (sizeOf c) stop start ∷ []) all-mine) last-reached

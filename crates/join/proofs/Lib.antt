@@ -1,6 +1,7 @@
 -- The files of this crate's proofs.
 pub mod Placement
 pub mod Safe
+pub mod Chosen
 pub mod Flows
 pub mod Flow
 pub mod Chain

@@ -69,7 +69,7 @@ end-firstData l =
     ∙ (fill-length 1 (l .placed) (replicate (endOfFirst l) 0) ∙ length-replicate {A = ℕ} (endOfFirst l) 0)
 
 -- with a literal the first data segment ends with the last
-with-literals : (l : Layout) → 0 < length (l .literals) → endOfFirst l ≡ literalsEnd l
+pub with-literals : (l : Layout) → 0 < length (l .literals) → endOfFirst l ≡ literalsEnd l
 with-literals l h = rw (ne-eqb (length (l .literals)) 0 (λ e. omega arith))
 
 module _ (n : ℕ) (l : Layout) (is : List Instruction) where

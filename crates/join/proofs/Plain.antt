@@ -30,20 +30,20 @@ use Rattle.machine.specs.declared.Fun.the-variants.{Positive, Complement, Negat
 use Rattle.machine.specs.declared.Shift.{Shift}
 use Rattle.machine.specs.Instructions as M
 use Rattle.machine.specs.Instructions.{Short, Long, appliesTo, stores, longKind}
-use Rattle.translation.specs.Instructions.{Datum, element, literal, entry, Instruction, rr, rx, address, immediate, shift, opcode, rowOf, loadRow, addRow, compareRow, timesRow, storeRow, shiftCode}
+use Rattle.translation.specs.Instructions.{Datum, element, literal, entry, Instruction, rr, rx, address, immediate, shift, opcode, rowOf, loadRow, addRow, compareRow, timesRow, storeRow, shiftCode, testOp}
 use Rattle.translation.specs.Core.{Use, held, stored, absent, apply, signed, load, functionWith, functionOn, isToken, subscriptOf, indexOf, useBy, useOf, shiftBy, productTarget, termOf, sourceOf, numberOf, compareWith, functionCode}
 use Rattle.translation.specs.Layout.{Layout, offsetOf}
 use Rattle.translation.proofs.Rooms.{CellAt}
 use Rattle.join.specs.Writes.{writes, writesShort, writesLong}
 use Rattle.join.specs.Points.{Within, Writes, Point}
-use Rattle.join.proofs.Safe.{PlainShort, Reads, Serves, InCell, served-all, FitsDatum, TakesNumber, Fits, Plain}
+use Rattle.join.proofs.Safe.{PlainShort, Reads, Serves, InCell, served-all, FitsDatum, TakesNumber, Fits, Plain, Choosing}
 use Rattle.join.proofs.Opcodes.{writes-only, AppliesShort, AppliesLong, Row, ShortRow, load-row, add-row, operator-row, short-row, shift-kind}
 
 -- the number of a rule is not 0
 pub refused : {A : Type 0} (n : ℕ) → suc n ≡ 0 → A
 refused n e = absurd (omega arith)
 
-is-register : (m : Meaning) → isRegister m ≡ true → m ≡ register (registerOf m)
+pub is-register : (m : Meaning) → isRegister m ≡ true → m ≡ register (registerOf m)
 is-register nothing h = never-true h
 is-register (register r) h = refl
 is-register (cell c) h = never-true h
@@ -169,6 +169,18 @@ module _ (l : Layout) (p : Point) where
 
   pub plain-step : (r v : ℕ) → Free p r → Plain l p (rx (opcode addRow 1) r (literal v))
   plain-step r v y = plain-long (opcode addRow 1) r full (literal v) (add-row .0 .1) refl y
+
+  -- ── the head of a CASE that chooses from n statements ──
+
+  pub plain-choosing : (r n : ℕ) → 0 < r → r < 16 → Free p r → Choosing l p r n
+  plain-choosing r n low small y =
+      record {
+        positive = low;
+        small = small;
+        compare = plain-compare r (stored full (literal n)) refl .0;
+        test = plain-short testOp r r (omega arith, (Test, refl)) small y;
+        scale = let k = shift-kind K.SHLL (inl refl) in plain-by (shift (shiftCode K.SHLL) r 0 2) (k .0, k .1, omega arith) (λ x i. free-one r x y i);
+      }
 
   -- ── products ──
 

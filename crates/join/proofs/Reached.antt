@@ -20,7 +20,7 @@ use Rattle.machine.specs.Step.{Cpu, atEnd, forbidden, misaligned}
 use Rattle.machine.specs.Run.{Result, budgetUsed, run}
 use Rattle.machine.proofs.Effects.{Changes}
 use Rattle.runner.specs.Load.{loaded, spaceOf, started}
-use Rattle.translation.specs.Instructions.{Instruction, stop, size, sizes, link}
+use Rattle.translation.specs.Instructions.{Instruction, stop, size, sizes, link, indexed}
 use Rattle.translation.specs.Core.{Core, coreStatement}
 use Rattle.translation.specs.Code.{sizeOf, instructions}
 use Rattle.translation.specs.Layout.{Layout, segmentLimit, tableBytes, literalsFrom, literalsEnd}
@@ -32,12 +32,13 @@ use Rattle.join.specs.Writes.{writes}
 use Rattle.join.specs.Points as P
 use Rattle.join.specs.Points.{Within, Point, Placed, start}
 use Rattle.join.specs.Operands.{Named, Indexed}
-use Rattle.join.specs.Programs.{At, Fixed, Stops, CalledFrom}
+use Rattle.join.specs.Programs.{At, Fixed, Stops, CalledFrom, Meets}
 use Rattle.join.proofs.Placement.{instructionsOf, Laid, Stands, stands, laid-program, program-code}
 use Rattle.join.proofs.Safe.{Safe}
+use Rattle.join.proofs.Chosen.{reg}
 use Rattle.join.proofs.Chain.{Chain}
 use Rattle.join.proofs.ChainMoves.{chain-holds, Back, chain-return}
-use Rattle.join.proofs.Step.{InStorage, Inv, Allowed, reg, guarded, operand-named, stop-last, two-or-more}
+use Rattle.join.proofs.Step.{InStorage, Inv, Allowed, guarded, operand-named, meets-table, stop-last, two-or-more}
 use Rattle.join.proofs.Runs.{Ends, run-fine}
 use Rattle.join.proofs.Start.{placed-in, in-storage, begins}
 
@@ -89,6 +90,7 @@ pub record Sound (w : List Placed) (is : List Instruction) (l : Layout) (s₀ : 
   pub bases : (getD (d .regs) 14 0 ≡ origin 1) × (getD (d .regs) 15 0 ≡ origin 0)
   pub called : (y : Placed) → y ∈ w → d .counter ≡ origin (y .segment) + y .at → (u : Within) → y .point .within ≡ some u
       → CalledFrom w u (getD (d .regs) (u .return) 0)
+  pub chosen : (y : Placed) → y ∈ w → d .counter ≡ origin (y .segment) + y .at → (r t : ℕ) → y .instruction ≡ indexed r t → Meets w d s y r
 
 module _
     (written : List Registers) (n : ℕ) (l : Layout) (c : Core) (m : Space) (s₀ : List ℕ) (p : InStorage n l (sizeOf c) (P.program written c) m s₀) (code-end : sizes (instructions c) ≡ sizeOf c + 2)
@@ -145,14 +147,18 @@ module _
     bases-held =
         (chain-holds n w (reg d) (v .x .point) (v .chain) dataBase (guarded n l (sizeOf c) w m s₀ p (v .x) (v .one) .fourteen), v .base ∙ ap origin (stand .segment))
 
-    called-from : (y : Placed) → y ∈ P.program written c → d .counter ≡ origin (y .segment) + y .at → (u : Within) → y .point .within ≡ some u
-        → CalledFrom (P.program written c) u (getD (d .regs) (u .return) 0)
-    called-from y i a u k =
+    -- the placed instruction at the counter
+    the-one : (y : Placed) → y ∈ P.program written c → d .counter ≡ origin (y .segment) + y .at → y ≡ v .x
+    the-one y i a =
         let g = stand .segment in
         let f = stands 0 (sizeOf c + 2) w (laid-program written c) y i .segment in
         let o = v .counter in
-        let q : y ≡ v .x = same-placed 0 (sizeOf c + 2) w (laid-program written c) y (v .x) i (v .one) (omega arith) in
-        let b = chain-return n w (reg d) (v .x .point) u (subst (λ (z : Placed). z .point .within ≡ some u) q k) (v .chain) in
+        same-placed 0 (sizeOf c + 2) w (laid-program written c) y (v .x) i (v .one) (omega arith)
+
+    called-from : (y : Placed) → y ∈ P.program written c → d .counter ≡ origin (y .segment) + y .at → (u : Within) → y .point .within ≡ some u
+        → CalledFrom (P.program written c) u (getD (d .regs) (u .return) 0)
+    called-from y i a u k =
+        let b = chain-return n w (reg d) (v .x .point) u (subst (λ (z : Placed). z .point .within ≡ some u) (the-one y i a) k) (v .chain) in
         let r : b .r ≡ u .return = sym (b .calls .return) ∙ ap (λ (z : Within). z .return) (b .same) in
         record {
           call = b .y;
@@ -164,6 +170,12 @@ module _
           holds = ap (λ (z : ℕ). reg d z % 2 ^ 24) (sym r) ∙ b .value;
         }
 
+    chosen-from : (y : Placed) → y ∈ P.program written c → d .counter ≡ origin (y .segment) + y .at → (r t : ℕ) → y .instruction ≡ indexed r t
+        → Meets (P.program written c) d s y r
+    chosen-from y i a r t q =
+        let e = the-one y i a in
+        subst (λ (z : Placed). Meets w d s z r) (sym e) (meets-table n l (sizeOf c) w m s₀ p d s v r t (subst (λ (z : Placed). z .instruction ≡ indexed r t) e q))
+
     pub sound : (b k q : ℕ) → ((k ≡ budgetUsed) × (q ≡ b)) ⊎ Allowed (v .x .instruction) k → Sound (P.program written c) (instructions c) l s₀ d s b k q
     sound b k q h =
         record {
@@ -174,6 +186,7 @@ module _
           stops = stops-at b k q h;
           bases = bases-held;
           called = called-from;
+          chosen = chosen-from;
         }
 
 -- ── an accepted text ──

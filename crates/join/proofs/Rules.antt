@@ -14,9 +14,9 @@ use Rattle.base.specs.Lists.{_∈_, All}
 use Rattle.base.proofs.Lists.{in-left, in-right, all-in, all-both}
 use Rattle.base.proofs.Tests.{never-true}
 use Rattle.grammar.specs.Tree as T
-use Rattle.grammar.specs.Tree.{Designator, Operand, number, place, Sign, plain, abs, neg, negAbs, Term, Assignment, Condition, compared, bare, Width, Register, Item, Statement, Body, Items}
+use Rattle.grammar.specs.Tree.{Designator, Operand, number, place, Sign, plain, abs, neg, negAbs, Term, Assignment, Condition, compared, bare, Width, Register, Item, Statement, Body, Items, Choices}
 use Rattle.grammar.specs.Events as E
-use Rattle.grammar.specs.Events.{opened, closed, entered, labelled, sent, celled, based, aimed, driven, given, joined, tested, called, argued, Event, edge, route, entry, phrase, mark, operandNames, uses, each, eventsValue, eventsItem, eventsRegister, eventsDeclaration, eventsSign, eventsTerm, eventsChain, eventsArguments, labelsOnto, eventsStatement, eventsBody, eventsItems, eventsOf}
+use Rattle.grammar.specs.Events.{opened, closed, entered, labelled, sent, celled, based, aimed, driven, given, joined, tested, called, argued, chosen, Event, edge, route, entry, phrase, mark, operandNames, uses, each, eventsValue, eventsItem, eventsRegister, eventsDeclaration, eventsSign, eventsTerm, eventsChain, eventsArguments, labelsOnto, eventsStatement, eventsBody, eventsItems, eventsChoices, eventsOf}
 use Rattle.grammar.specs.Places.{Block, Place, after, Along}
 use Rattle.grammar.specs.Places as P
 use Rattle.scopes.specs.Search.{firstToken, around, innermost}
@@ -39,14 +39,14 @@ use Rattle.static_rules.proofs.Unbroken.{Unbroken}
 use Rattle.static_rules.proofs.Kept.{kept-return, kept-in-block, kept-in-body}
 use Rattle.static_rules.proofs.Told.{WrittenBy, NotAround, Told}
 use Rattle.translation.specs.Instructions.{Instruction}
-use Rattle.translation.specs.Core.{Core, useOf, load, chainOf, termOf, toRegister, sourceOf, assignBy, assignmentOf, testOf, controlOf, functionCode, returnOf, coreStatement, coreBody, coreItems}
-use Rattle.translation.specs.Code.{Mark, own, sizeOf}
+use Rattle.translation.specs.Core.{Core, useOf, load, chainOf, termOf, toRegister, sourceOf, assignBy, assignmentOf, testOf, controlOf, functionCode, returnOf, coreStatement, coreBody, coreItems, coreChoices}
+use Rattle.translation.specs.Code.{Mark, armCount, own, sizeOf}
 use Rattle.translation.specs.Layout.{Layout, offsetOf}
 use Rattle.translation.proofs.Rooms.{CellAt}
 use Rattle.join.specs.Points.{Within, Writes, Point, start, procedureOf}
-use Rattle.join.proofs.Safe.{Plain, Routine, first, Callable, Basing, labelsOf, Safe}
+use Rattle.join.proofs.Safe.{Plain, Routine, first, Callable, Basing, Choosing, labelsOf, Safe, SafeArms}
 use Rattle.join.proofs.Flow.{some-is, none-some}
-use Rattle.join.proofs.Plain.{refused, Free, SeenOperand, used, spared-by, plain-load, plain-term, plain-compared, plain-stored, plain-step, register-is, taken, Given, function-plain}
+use Rattle.join.proofs.Plain.{refused, is-register, Free, SeenOperand, used, spared-by, plain-load, plain-term, plain-compared, plain-stored, plain-step, plain-choosing, register-is, taken, Given, function-plain}
 
 -- a register that is not 0
 positive : (m : Meaning) → isRegister m ≡ true → not (isZero m) ≡ true → 0 < registerOf m
@@ -443,23 +443,38 @@ module _ (kinds values found goes : List ℕ) (z : Meant) (l : Layout) where
           let d = cells-in c w is k inner p gs (with-name (i .name) b p gs t x) (values-in (i .numbers) _ inner p hs) in
           record { names = d .names; here = d .here; rest = d .rest }
 
-      -- a base declaration
-      base-safe : (n : ℕ) (p : Place) → Fact (entry (based n)) p → Basing (z .bases) (pointIn p) (registerOf (meaningAt f n)) (getD (z .opens) n 0)
-      unfolding R.baseRules R.registerRule R.zeroRule
-      base-safe n p k =
-          let q = k .unbroken in
+      -- a register that the text takes for itself
+      record Took (n : ℕ) (p : Place) : Type 0 where
+        register : isRegister (meaningAt f n) ≡ true
+        positive : 0 < registerOf (meaningAt f n)
+        spared : registerOf (meaningAt f n) ∈ keptIn f p → ⊥
+
+      took : (n : ℕ) (p : Place) → R.takenRules f (keptIn f p) n .number ≡ 0 → Took n p
+      unfolding R.takenRules R.registerRule R.zeroRule
+      took n p q =
           let a = rule-holds (isRegister (meaningAt f n)) 8 n (omega arith) (quiet-left (R.registerRule f n) _ q) in
           let rest = quiet-right (R.registerRule f n) _ q in
           let c = rule-holds (not (isZero (meaningAt f n))) 9 n (omega arith) (quiet-left (R.zeroRule f n) _ rest) in
-          let e = quiet-left (R.writeRule (keptIn f p) (registerOf (meaningAt f n)) n) _ (quiet-right (R.zeroRule f n) _ rest) in
+          let r = registerOf (meaningAt f n) in
+          record {
+            register = a;
+            positive = positive (meaningAt f n) a c;
+            spared = spared-by f small l (pointIn p) stands r n (quiet-right (R.zeroRule f n) _ rest);
+          }
+
+      -- a base declaration
+      base-safe : (n : ℕ) (p : Place) → Fact (entry (based n)) p → Basing (z .bases) (pointIn p) (registerOf (meaningAt f n)) (getD (z .opens) n 0)
+      unfolding R.baseRules
+      base-safe n p k =
+          let t = took n p (quiet-left (R.takenRules f (keptIn f p) n) _ (k .unbroken)) in
           let r = registerOf (meaningAt f n) in
           let h = register-at n in
           record {
-            positive = positive (meaningAt f n) a c;
+            positive = t .positive;
             small = h;
             data-segment = k .told .0;
             exists = k .told .1;
-            spared = λ x i. subst (λ (y : ℕ). y ∈ keptIn f p → ⊥) (sym i) (spared-by f small l (pointIn p) stands r n e);
+            spared = λ x i. subst (λ (y : ℕ). y ∈ keptIn f p → ⊥) (sym i) (t .spared);
             counted = λ v o x i. subst (λ (y : ℕ). Writes v y) (sym i) (counted-in p r h (k .told .2 h) v o);
           }
 
@@ -533,6 +548,15 @@ module _ (kinds values found goes : List ℕ) (z : Meant) (l : Layout) where
           let e = register-is f small l (pointIn p) stands d (quiet-left (R.onlyRegister f (place d)) _ (k .unbroken)) in
           (e, free-target p d (controlOf f a) e (register-at (d .name)) (quiet-right (R.onlyRegister f (place d)) _ (k .unbroken)) (k .told))
 
+      -- the register of a CASE that chooses from m statements
+      case-safe : (n m : ℕ) (p : Place) → Fact (phrase (chosen n)) p → Choosing l (pointIn p) (registerOf (meaningAt f n)) m
+      case-safe n m p k =
+          let t = took n p (k .unbroken) in
+          let r = registerOf (meaningAt f n) in
+          let h = register-at n in
+          plain-choosing l (pointIn p) r m (t .positive) h
+          (record { spared = t .spared; counted = counted-in p r h (k .told r h (is-register (meaningAt f n) (t .register))) })
+
       mutual
         unfolding eventsStatement coreStatement Safe Along
 
@@ -569,6 +593,9 @@ module _ (kinds values found goes : List ℕ) (z : Meant) (l : Layout) where
               ),
               s .1 .1,
             )
+        safe-statement (T.choose t n xs) k p ls gs i c (g, (h, hs)) =
+            let r = safe-choices t xs _ p ls gs i c hs in
+            ((case-safe n (armCount (coreChoices f xs)) p h, r .0), r .1 .1)
 
         safe-body : (x : Body) (k : List Event) (b : Block) (p : Place) (ls : List ℕ) (gs : List Routine) → InForce (P.within b ∷ p) gs → Covers (labelsIn p) ls
             → ((d : ℕ) → d ∈ b .labels → d ∈ E.labelsOf x []) → Along Fact (eventsBody x k) (P.within b ∷ p) → SafeAt (P.within b ∷ p) ls gs (coreBody f x) × Next k p
@@ -602,6 +629,14 @@ module _ (kinds values found goes : List ℕ) (z : Meant) (l : Layout) where
         safe-items (T.item x is) k b p ls gs i c h =
             let r = safe-statement x (eventsItems is k) (P.within b ∷ p) ls gs i c h in
             let s = safe-items is k b p ls gs i c (r .1) in
+            ((r .0, s .0), s .1)
+
+        safe-choices : (t : ℕ) (xs : Choices) (k : List Event) (p : Place) (ls : List ℕ) (gs : List Routine) → InForce p gs → Covers (labelsIn p) ls
+            → Along Fact (eventsChoices t xs k) p → SafeArms (z .written) (z .bases) l ls gs (pointIn p) (coreChoices f xs) × Along Fact k p
+        safe-choices t T.over k p ls gs i c h = (tt, h)
+        safe-choices t (T.choice x xs) k p ls gs i c h =
+            let r = safe-statement x _ p ls gs i c h in
+            let s = safe-choices t xs k p ls gs i c (r .1 .1) in
             ((r .0, s .0), s .1)
 
       -- ── the whole program ──

@@ -7,6 +7,7 @@ use Prim.Native.Nat.{ℕ, _+_, _*_, _%_, _<_, _≤_}
 use lib.Dec.{eqb}
 use Rattle.base.specs.Choose.{if_then_else_}
 use Rattle.base.specs.Lists.{_∈_, All}
+use Rattle.token.specs.Kinds as K
 use Rattle.static_rules.specs.Registers.{Registers}
 use Rattle.static_rules.specs.Meaning.{Based, Cell, elementSize}
 use Rattle.static_rules.specs.Meanings.{dataBase}
@@ -14,9 +15,9 @@ use Rattle.machine.specs.declared.Shift.{Shift}
 use Rattle.machine.specs.Space.{displacements}
 use Rattle.machine.specs.Instructions.{Long, shifts, moves, compares, shortKind, longKind}
 pub use Rattle.machine.proofs.Effects.{PlainShort, Reads, Serves}
-use Rattle.translation.specs.Instructions.{Datum, element, literal, entry, Instruction, rr, rx, address, immediate, shift, branch, link, stop, opcode, addRow}
-use Rattle.translation.specs.Core.{Core, skip, run, seq, mark, scope, jump, call, procedure, base, when, either, loop, count}
-use Rattle.translation.specs.Code.{Mark, own}
+use Rattle.translation.specs.Instructions.{Datum, element, literal, entry, Instruction, rr, rx, address, immediate, shift, branch, link, indexed, stop, opcode, addRow, compareRow, shiftCode, testOp}
+use Rattle.translation.specs.Core.{Core, skip, run, seq, mark, scope, jump, call, procedure, base, when, either, loop, count, select, Arms, last, arm}
+use Rattle.translation.specs.Code.{Mark, armCount, own}
 use Rattle.translation.specs.Layout.{Layout, offsetOf}
 use Rattle.translation.specs.Bytes.{programBase}
 use Rattle.translation.proofs.Rooms.{CellAt}
@@ -87,6 +88,7 @@ Fits l p (immediate op v a) = (64 ≤ op) × TakesNumber (longKind op) × IsCell
 Fits l p (shift op r s d) = (64 ≤ op) × ((f : Shift) × (longKind op ≡ shifts f)) × (d < displacements)
 Fits l p (branch m t) = ⊥
 Fits l p (link r t) = ⊥
+Fits l p (indexed r t) = ⊥
 Fits l p stop = ⊥
 
 -- its fields are as they should be, and what it writes is not protected and is counted
@@ -124,6 +126,16 @@ pub record Basing (n : ℕ) (p : Point) (r k : ℕ) : Type 0 where
   pub spared : Spared p (λ x. x ≡ r)
   pub counted : Counted p (λ x. x ≡ r)
 
+-- ── a CASE ──
+
+-- its register is not 0, and what is done with it before it chooses from n statements is plain
+pub record Choosing (l : Layout) (p : Point) (r n : ℕ) : Type 0 where
+  pub positive : 0 < r
+  pub small : r < 16
+  pub compare : Plain l p (rx (opcode compareRow 1) r (literal n))
+  pub test : Plain l p (rr testOp r r)
+  pub scale : Plain l p (shift (shiftCode K.SHLL) r 0 2)
+
 -- ── texts ──
 
 -- the labels of a block
@@ -132,21 +144,27 @@ labelsOf c = map (λ (m : Mark). m .name) (own c 0)
 
 -- a text at a point, with these labels and procedures known; n base declarations in the whole text
 module _ (written : List Registers) (n : ℕ) (l : Layout) where
-  unfoldable pub Safe : List ℕ → List Routine → Point → Core → Type 0
-  Safe ls gs p skip = Unit {0}
-  Safe ls gs p (run is) = All (Plain l p) is
-  Safe ls gs p (seq a b) = Safe ls gs p a × Safe ls gs p b
-  Safe ls gs p (mark x c) = Safe ls gs p c
-  Safe ls gs p (scope c) = Safe (labelsOf c ++ ls) gs p c
-  Safe ls gs p (jump x) = x ∈ ls
-  Safe ls gs p (call x r) = Callable gs p x r
-  Safe ls gs p (procedure x r a b) =
-      let v = procedureOf written x r in
-      let known : List Routine = record { within = v; bases = p .bases } ∷ gs in
-      ((0 < r) × (r < 16)) × Safe [] known (inBody p v) a × Safe ls known p b
-  Safe ls gs p (base r k c) = Basing n p r k × Safe ls gs (withBase p r k) c
-  Safe ls gs p (when is m c) = All (Plain l p) is × Safe ls gs p c
-  Safe ls gs p (either is m a b) = All (Plain l p) is × Safe ls gs p a × Safe ls gs p b
-  Safe ls gs p (loop is m c) = All (Plain l p) is × Safe ls gs p c
-  Safe ls gs p (count is cs m r v c) =
-      All (Plain l p) is × All (Plain l p) cs × Plain l p (rx (opcode addRow 1) r (literal v)) × Safe ls gs p c
+  unfoldable mutual
+    pub Safe : List ℕ → List Routine → Point → Core → Type 0
+    Safe ls gs p skip = Unit {0}
+    Safe ls gs p (run is) = All (Plain l p) is
+    Safe ls gs p (seq a b) = Safe ls gs p a × Safe ls gs p b
+    Safe ls gs p (mark x c) = Safe ls gs p c
+    Safe ls gs p (scope c) = Safe (labelsOf c ++ ls) gs p c
+    Safe ls gs p (jump x) = x ∈ ls
+    Safe ls gs p (call x r) = Callable gs p x r
+    Safe ls gs p (procedure x r a b) =
+        let v = procedureOf written x r in
+        let known : List Routine = record { within = v; bases = p .bases } ∷ gs in
+        ((0 < r) × (r < 16)) × Safe [] known (inBody p v) a × Safe ls known p b
+    Safe ls gs p (base r k c) = Basing n p r k × Safe ls gs (withBase p r k) c
+    Safe ls gs p (when is m c) = All (Plain l p) is × Safe ls gs p c
+    Safe ls gs p (either is m a b) = All (Plain l p) is × Safe ls gs p a × Safe ls gs p b
+    Safe ls gs p (loop is m c) = All (Plain l p) is × Safe ls gs p c
+    Safe ls gs p (count is cs m r v c) =
+        All (Plain l p) is × All (Plain l p) cs × Plain l p (rx (opcode addRow 1) r (literal v)) × Safe ls gs p c
+    Safe ls gs p (select r xs) = Choosing l p r (armCount xs) × SafeArms ls gs p xs
+
+    pub SafeArms : List ℕ → List Routine → Point → Arms → Type 0
+    SafeArms ls gs p last = Unit {0}
+    SafeArms ls gs p (arm c xs) = Safe ls gs p c × SafeArms ls gs p xs

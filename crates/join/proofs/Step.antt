@@ -8,41 +8,47 @@ use Prim.Native.Nat.{ℕ, zero, suc, _+_, _*_, _/_, _%_, _≤_, _<_, _^_}
 use native.Mathlib.Omega.{arith}
 use lib.Dec.{eqb}
 use lib.ListN.{length, getD, set, length-set}
-use lib.Seq.{getD-set-same, getD-set-other}
+use lib.Seq.{getD-set-same, getD-set-other, set-getD}
 use borrow.Author.Tests.{eq-eqb, ne-eqb}
 use Rattle.base.specs.Choose.{choose}
 use Rattle.base.specs.Lists.{_∈_, All}
-use Rattle.base.specs.Runs.{indexOf}
+use Rattle.base.specs.Runs.{runLen, indexOf}
 use Rattle.base.specs.Numbers.{valueOf, valueAt}
 use Rattle.base.proofs.Lists.{all-in}
 use Rattle.base.proofs.Parts.{same-part}
+use Rattle.base.proofs.Tests.{cases, never-true}
+use Rattle.token.specs.Kinds as K
 use Rattle.grammar.specs.Tree.{Width, full, short, byte}
 use Rattle.static_rules.specs.Meaning.{Based, Cell, elementSize}
 use Rattle.static_rules.specs.Meanings.{dataBase}
 use Rattle.static_rules.proofs.Elements.{size-positive}
+use Rattle.alu.specs.Word.{signed, signCode, comparedCode}
 use Rattle.machine.specs.declared.Shift.{Shift}
-use Rattle.machine.specs.declared.Fun.the-variants.{Load}
+use Rattle.machine.specs.declared.Shift.the-variants.{LeftLogical}
+use Rattle.machine.specs.declared.Fun.the-variants.{Load, Compare, Test}
 use Rattle.machine.specs.Space.{Space, room, origin, needed, displacements, readable, writable}
 use Rattle.machine.specs.Instructions.{Short, Long, appliesTo, multipliesBy, stores, branchesTo, links, shifts, addresses, moves, compares, unlistedLong, branches, ends, shortKind, longKind}
 use Rattle.machine.specs.Operands.{operandAddress, operandBytes}
 use Rattle.machine.specs.Writes.{writesShort, writesLong}
 use Rattle.machine.specs.Step as M
-use Rattle.machine.specs.Step.{Cpu, cpu, Turn, Stepped, stepped, went, moved, executed, completed, atEnd, forbidden, misaligned, address, operand, shortBy, longBy, step}
+use Rattle.machine.specs.Step.{Cpu, cpu, Turn, Stepped, stepped, went, moved, executed, completed, atEnd, forbidden, misaligned, address, asked, operand, shiftedBy, shortBy, longBy, step}
 use Rattle.machine.proofs.Outside.{Keeps, keeps-then, step-keeps}
 use Rattle.machine.proofs.Effects as E
-use Rattle.machine.proofs.Effects.{Changes, short-changes, long-changes, PlainShort, Reads, Serves, plain-onward, shift-onward, address-onward, Ended, on, off, read-ends, store-ends, move-ends, compare-ends, index-none, Branched, taken, passed, branch-goes, return-goes, link-address}
+use Rattle.machine.proofs.Effects.{Changes, short-changes, long-changes, PlainShort, Reads, Serves, plain-onward, shift-onward, address-onward, Ended, on, off, read-ends, store-ends, move-ends, compare-ends, index-none, asked-always, Branched, taken, passed, branch-goes, return-goes, link-address}
 use Rattle.translation.specs.Instructions as I
-use Rattle.translation.specs.Instructions.{Datum, element, literal, entry, Instruction, rr, rx, immediate, shift, branch, link, stop, size, opcode, loadRow, addressOp, branchOp, linkOp, always}
+use Rattle.translation.specs.Instructions.{Datum, element, literal, entry, Instruction, rr, rx, immediate, shift, branch, link, indexed, stop, size, opcode, loadRow, compareRow, shiftCode, addressOp, branchOp, linkOp, testOp, always}
 use Rattle.translation.specs.Layout.{Layout, offsetOf, cellsEnd}
 use Rattle.translation.specs.Bytes.{programBase, indexRegister, displacement, twoBytes, fourBytes, encode}
 use Rattle.translation.proofs.Sizes.{length-encode}
 use Rattle.translation.proofs.Literals.{Takes, index-lt}
 use Rattle.translation.proofs.Rooms.{startOf, CellAt}
 use Rattle.join.specs.Writes.{writes}
-use Rattle.join.specs.Points.{Within, Writes, Point, withBase, Placed}
-use Rattle.join.specs.Operands.{namedFrom, namedBytes, namedAt, Whole, Lies, Named, Indexed}
+use Rattle.join.specs.Points.{Within, Writes, Point, withBase, Case, choices, firstOf, statementAt, Knows, nothing, compared, atMost, tested, between, scaled, Placed}
+use Rattle.join.specs.Operands.{namedFrom, namedBytes, namedAt, Whole, Lies, Entered, Named, Indexed}
+use Rattle.join.specs.Programs.{Meets}
 use Rattle.join.proofs.Safe.{Spared, Counted, Guarded, InCell, Served, IsCell, TakesNumber, Fits, Plain, Basing}
-use Rattle.join.proofs.Flows.{Under, Good, Enters, Calls, Onward, Opens, Returns, Branches, Goes, Flows}
+use Rattle.join.proofs.Chosen.{reg, countWord, NotAbove, Told}
+use Rattle.join.proofs.Flows.{Under, Good, Enters, Calls, Gains, Onward, Opens, Returns, Branches, Entry, Chooses, Goes, Flows}
 use Rattle.join.proofs.Chain.{Holds, afterCall, Chain, outermost, called}
 use Rattle.join.proofs.ChainMoves.{chain-holds, chain-kept, chain-at, chain-under, chain-call, Back, chain-return}
 use Rattle.join.proofs.Loading.{Mapped}
@@ -65,13 +71,12 @@ pub record InStorage (n : ℕ) (l : Layout) (e : ℕ) (w : List Placed) (m : Spa
   pub table : (k : ℕ) → k < 2 + n → valueAt s (origin 1 + 4 * k) 4 ≡ origin k
   pub standing : (x : Placed) → x ∈ w → Standing l m s x
   pub literals : (x : Placed) → x ∈ w → (v : ℕ) → Takes (x .instruction) v → v ∈ l .literals
+  pub numbers : (v : ℕ) → v ∈ l .literals → valueAt s (origin 1 + (l .literalsAt + 4 * indexOf v (l .literals))) 4 ≡ v % 2 ^ 32
 
 -- ── the invariant ──
 
-abbrev pub reg : Cpu → ℕ → ℕ
-reg c r = getD (c .regs) r 0
-
--- the instruction x is at the counter; 15 holds the origin of its segment, its point's chain of calls holds, and storage that is not writable is as it was loaded
+-- the instruction x is at the counter; 15 holds the origin of its segment, its point's chain of calls holds, what is known there is so, and storage that is not
+-- writable is as it was loaded
 pub record Inv (n : ℕ) (w : List Placed) (m : Space) (s₀ : List ℕ) (c : Cpu) (s : List ℕ) : Type 0 where
   pub x : Placed
   pub one : x ∈ w
@@ -79,6 +84,7 @@ pub record Inv (n : ℕ) (w : List Placed) (m : Space) (s₀ : List ℕ) (c : Cp
   pub base : reg c programBase ≡ origin (x .segment)
   pub sixteen : length (c .regs) ≡ 16
   pub chain : Chain n w (reg c) (x .point)
+  pub known : Told (x .knows) c
   pub keeps : Keeps m s₀ s
 
 -- how it may stop: at the last instruction, or by 2 or 3 at an indexed operand
@@ -100,6 +106,7 @@ two-or-more (immediate op v a) = omega arith
 two-or-more (shift op r s n) = omega arith
 two-or-more (branch m t) = omega arith
 two-or-more (link r t) = omega arith
+two-or-more (indexed r t) = omega arith
 two-or-more stop = omega arith
 
 load-opcode : opcode loadRow 1 ≡ 0x58
@@ -227,8 +234,8 @@ module _ (n : ℕ) (l : Layout) (e : ℕ) (w : List Placed) (m : Space) (s₀ : 
     next = step m c s .turn .cpu
 
     arrives : (i : Instruction) (q : Point) (a : ℕ) → step m c s .turn .stop ≡ completed → next .counter ≡ origin (here .segment) + a → Changes c (writes i) next
-        → (programBase ∈ writes i → ⊥) → Chain n w (reg next) q → Good w (here .segment) a q → Fine n w m s₀ c s i
-    arrives i q a st ct ch f k g =
+        → (programBase ∈ writes i → ⊥) → Chain n w (reg next) q → {j : Knows} → Good w (here .segment) a q j → Told j next → Fine n w m s₀ c s i
+    arrives i q a st ct ch f k g t =
         goes st ch
         (record {
           x = g .to;
@@ -237,15 +244,96 @@ module _ (n : ℕ) (l : Layout) (e : ℕ) (w : List Placed) (m : Space) (s₀ : 
           base = ch .others programBase f ∙ (v .base ∙ ap origin (sym (g .segment)));
           sixteen = ch .long ∙ v .sixteen;
           chain = chain-under n w (reg next) q (g .to .point) (g .under) (guarded (g .to) (g .one)) k;
+          known = subst (λ (j : Knows). Told j next) (sym (g .knows)) t;
           keeps = keeps-then (v .keeps) (step-keeps m c s);
         })
 
     -- with registers written that are not protected here
     wrote : (i : Instruction) (a : ℕ) → step m c s .turn .stop ≡ completed → next .counter ≡ origin (here .segment) + a → Changes c (writes i) next
-        → Spared (here .point) (λ x. x ∈ writes i) → Counted (here .point) (λ x. x ∈ writes i) → Good w (here .segment) a (here .point) → Fine n w m s₀ c s i
-    wrote i a st ct ch d k g =
+        → Spared (here .point) (λ x. x ∈ writes i) → Counted (here .point) (λ x. x ∈ writes i) → {j : Knows} → Good w (here .segment) a (here .point) j → Told j next
+        → Fine n w m s₀ c s i
+    wrote i a st ct ch d k g t =
         arrives i (here .point) a st ct ch (fifteen-spared (λ x. x ∈ writes i) d)
-        (chain-kept n w (reg c) (reg next) (λ x. x ∈ writes i) (here .point) d k (ch .others) (v .chain)) g
+        (chain-kept n w (reg c) (reg next) (λ x. x ∈ writes i) (here .point) d k (ch .others) (v .chain)) g t
+
+    -- ── four bytes, as they are decoded ──
+
+    decode : (i : Instruction) (op r x b d : ℕ) → here .instruction ≡ i → encode l i ≡ fourBytes op r x b d → size i ≡ 4 → 64 ≤ op → d < displacements
+        → step m c s ≡ longBy (longKind op) m (r * 16 + x) b d c s
+    decode i op r x b d q en z h g =
+        let hi = high i q in
+        decode-four m c s even low op r x b d h g (omega arith) (subst (λ (bs : List ℕ). StandAt s (c .counter) bs) en (stand i q))
+
+    long-writes : (k : Long) (r x b d : ℕ) → x < 16 → step m c s ≡ longBy k m (r * 16 + x) b d c s → Changes c (writesLong k r) next
+    long-writes k r x b d h st =
+        subst (λ (o : Stepped). Changes c (writesLong k r) (o .turn .cpu)) (sym st) (rw (first-field r x h) at (long-changes k m (r * 16 + x) b d c s))
+
+    -- ── literals ──
+
+    literal-place : (op r y : ℕ) → here .instruction ≡ rx op r (literal y) → l .literalsAt + 4 * indexOf y (l .literals) + 4 ≤ room
+    literal-place op r y q =
+        let j = index-lt y (l .literals) (p .literals here (v .one) y (subst (λ (i : Instruction). Takes i y) (sym q) refl)) in
+        let g = p .map .literals-room in
+        omega arith
+
+    literal-address : (op r y : ℕ) → here .instruction ≡ rx op r (literal y)
+        → address (c .regs) 0 14 (l .literalsAt + 4 * indexOf y (l .literals)) ≡ origin 1 + (l .literalsAt + 4 * indexOf y (l .literals))
+    literal-address op r y q =
+        let j = literal-place op r y q in
+        address-based (c .regs) 14 (l .literalsAt + 4 * indexOf y (l .literals)) (origin 1) (omega arith) (base-holds dataBase (guarded here (v .one) .fourteen)) (omega arith)
+
+    -- the literal's word is as it was loaded
+    literal-word : (op r y : ℕ) → here .instruction ≡ rx op r (literal y) → valueAt s (origin 1 + (l .literalsAt + 4 * indexOf y (l .literals))) 4 ≡ y % 2 ^ 32
+    literal-word op r y q =
+        let d = l .literalsAt + 4 * indexOf y (l .literals) in
+        let j = literal-place op r y q in
+        ap valueOf
+        (same-part s s₀ (origin 1 + d) 4 0 (v .keeps .long)
+        (λ i h. let e : origin 1 + (d + i) ≡ origin 1 + d + i = omega arith in v .keeps .kept (origin 1 + d + i) (rw e at (p .map .fixed (d + i) (omega arith) (omega arith)))))
+        ∙ p .numbers y (p .literals here (v .one) y (subst (λ (i : Instruction). Takes i y) (sym q) refl))
+
+    -- ── what a plain instruction makes known ──
+
+    learns : (k : Knows) → Gains (here .knows) (here .instruction) k → Told k next
+    unfolding encode opcode shiftCode runLen
+    learns nothing q = tt
+    learns (compared k) q =
+        let r = k .register in
+        let y = choices k in
+        let d = l .literalsAt + 4 * indexOf y (l .literals) in
+        let j = literal-place 0x59 r y q in
+        let al = p .map .literals-aligned in
+        let z : (origin 1 + d) % 4 ≡ 0 = omega arith in
+        let i = index-lt y (l .literals) (p .literals here (v .one) y (subst (λ (i : Instruction). Takes i y) (sym q) refl)) in
+        let st : step m c s ≡ stepped (went (executed c Compare r (y % 2 ^ 32) (c .counter + 4))) s =
+        decode (rx 0x59 r (literal y)) 0x59 r 0 14 d q refl refl (omega arith) (omega arith)
+        ∙ rw (second-field r 0 (omega arith), first-field r 0 (omega arith), literal-address 0x59 r y q, eq-eqb ((origin 1 + d) % 4) 0 z, p .map .literals (indexOf y (l .literals)) i, literal-word 0x59 r y q) in
+        let e : reg next r ≡ reg c r = ap (λ (o : Stepped). reg (o .turn .cpu) r) st ∙ ap (λ (rs : List ℕ). getD rs r 0) (set-getD (c .regs) r 0) in
+        ap (λ (o : Stepped). o .turn .cpu .code) st ∙ ap (λ (x : ℕ). comparedCode x (countWord k)) (sym e)
+    learns (atMost k) q = absurd q
+    learns (tested k) (h, q, small) =
+        let r = k .register in
+        let st : step m c s ≡ stepped (went (executed c Test r (reg c r) (c .counter + 2))) s =
+        decode-two m c s even low 0x12 r r (omega arith) (high (rr 0x12 r r) q) (stand (rr 0x12 r r) q) ∙ rw (first-field r r small, second-field r r small) in
+        let e : reg next r ≡ reg c r = ap (λ (o : Stepped). reg (o .turn .cpu) r) st ∙ ap (λ (rs : List ℕ). getD rs r 0) (set-getD (c .regs) r 0) in
+        (
+          subst (NotAbove k) (sym e) (subst (λ (j : Knows). Told j c) h (v .known)),
+          ap (λ (o : Stepped). o .turn .cpu .code) st ∙ ap (λ (x : ℕ). signCode (signed x)) (sym e),
+        )
+    learns (between k) q = absurd q
+    learns (scaled k) (h, q, small) =
+        let r = k .register in
+        let b : Told (between k) c = subst (λ (j : Knows). Told j c) h (v .known) in
+        let st : step m c s ≡ stepped (went (M.wrote c r (shiftedBy LeftLogical (reg c r) 2 (c .code)) (c .counter + 4))) s =
+        decode (shift 0x89 r 0 2) 0x89 r 0 0 2 q refl refl (omega arith) (omega arith) ∙ rw (first-field r 0 (omega arith)) in
+        let lg = v .sixteen in
+        let b0 = b .0 in
+        let b1 = b .1 in
+        let b2 = b .2 in
+        let e : reg next r ≡ reg c r * 2 ^ 2 % 2 ^ 32 = ap (λ (o : Stepped). reg (o .turn .cpu) r) st ∙ getD-set-same (c .regs) r _ 0 (omega arith) in
+        (reg c r, b0, b1, e ∙ omega arith)
+
+    -- ── on to the next ──
 
     onward : (i : Instruction) → here .instruction ≡ i → E.Onward (size i) c (step m c s .turn) → Changes c (writes i) next → Onward l w here → Fine n w m s₀ c s i
     onward i q o ch u =
@@ -253,7 +341,7 @@ module _ (n : ℕ) (l : Layout) (e : ℕ) (w : List Placed) (m : Space) (s₀ : 
         wrote i (here .at + size i) (o .stop) ct ch
         (subst (λ (j : Instruction). Spared (here .point) (λ x. x ∈ writes j)) q (u .plain .spared))
         (subst (λ (j : Instruction). Counted (here .point) (λ x. x ∈ writes j)) q (u .plain .counted))
-        (subst (λ (j : Instruction). Good w (here .segment) (here .at + size j) (here .point)) q (u .next))
+        (subst (λ (j : Instruction). Good w (here .segment) (here .at + size j) (here .point) (u .after)) q (u .next)) (learns (u .after) (u .gains))
 
     fits : (i : Instruction) → here .instruction ≡ i → Onward l w here → Fits l (here .point) i
     fits i q u = subst (λ (j : Instruction). Fits l (here .point) j) q (u .plain .fits)
@@ -291,21 +379,11 @@ module _ (n : ℕ) (l : Layout) (e : ℕ) (w : List Placed) (m : Space) (s₀ : 
         let ct : next .counter ≡ origin (here .segment) + (b .y .at + 4) =
         ap (λ (o : Stepped). o .turn .cpu .counter) st ∙ (ap (λ (x : ℕ). reg c x % 2 ^ 24) (sym e2) ∙ (b .value ∙ ap (λ (x : ℕ). origin x + (b .y .at + 4)) e3)) in
         let ch : Changes c [] next = subst (λ (o : Stepped). Changes c [] (o .turn .cpu)) (sym st) (record { long = refl; others = λ x h. refl }) in
-        let go : Good w (here .segment) (b .y .at + 4) (b .y .point) = rw e3 at (k .back) in
+        let go : Good w (here .segment) (b .y .at + 4) (b .y .point) nothing = rw e3 at (k .back) in
         arrives (rr 0x07 15 r) (b .y .point) (b .y .at + 4) (ap (λ (o : Stepped). o .turn .stop) st) ct ch (λ h. h)
-        (chain-kept n w (reg c) (reg next) (λ x. x ∈ []) (b .y .point) (λ x h i. h) (λ z i x h. absurd h) (ch .others) (b .chain)) go
+        (chain-kept n w (reg c) (reg next) (λ x. x ∈ []) (b .y .point) (λ x h i. h) (λ z i x h. absurd h) (ch .others) (b .chain)) go tt
 
     -- ── four bytes ──
-
-    decode : (i : Instruction) (op r x b d : ℕ) → here .instruction ≡ i → encode l i ≡ fourBytes op r x b d → size i ≡ 4 → 64 ≤ op → d < displacements
-        → step m c s ≡ longBy (longKind op) m (r * 16 + x) b d c s
-    decode i op r x b d q en z h g =
-        let hi = high i q in
-        decode-four m c s even low op r x b d h g (omega arith) (subst (λ (bs : List ℕ). StandAt s (c .counter) bs) en (stand i q))
-
-    long-writes : (k : Long) (r x b d : ℕ) → x < 16 → step m c s ≡ longBy k m (r * 16 + x) b d c s → Changes c (writesLong k r) next
-    long-writes k r x b d h st =
-        subst (λ (o : Stepped). Changes c (writesLong k r) (o .turn .cpu)) (sym st) (rw (first-field r x h) at (long-changes k m (r * 16 + x) b d c s))
 
     shift-fine : (op r x d : ℕ) → here .instruction ≡ shift op r x d → Onward l w here → Fine n w m s₀ c s (shift op r x d)
     unfolding encode
@@ -337,18 +415,6 @@ module _ (n : ℕ) (l : Layout) (e : ℕ) (w : List Placed) (m : Space) (s₀ : 
         (subst (λ (y : Long). Ended c (longBy y m (r * 16 + x) b d c s .turn) (Indexed (rx op r a))) (sym k) (store-ends z m (r * 16 + x) b d c s (rw (second-field r x h) i))) u
 
     -- ── literals ──
-
-    literal-place : (op r y : ℕ) → here .instruction ≡ rx op r (literal y) → l .literalsAt + 4 * indexOf y (l .literals) + 4 ≤ room
-    literal-place op r y q =
-        let j = index-lt y (l .literals) (p .literals here (v .one) y (subst (λ (i : Instruction). Takes i y) (sym q) refl)) in
-        let g = p .map .literals-room in
-        omega arith
-
-    literal-address : (op r y : ℕ) → here .instruction ≡ rx op r (literal y)
-        → address (c .regs) 0 14 (l .literalsAt + 4 * indexOf y (l .literals)) ≡ origin 1 + (l .literalsAt + 4 * indexOf y (l .literals))
-    literal-address op r y q =
-        let j = literal-place op r y q in
-        address-based (c .regs) 14 (l .literalsAt + 4 * indexOf y (l .literals)) (origin 1) (omega arith) (base-holds dataBase (guarded here (v .one) .fourteen)) (omega arith)
 
     literal-fine : (op r y : ℕ) → here .instruction ≡ rx op r (literal y) → Onward l w here → Fine n w m s₀ c s (rx op r (literal y))
     unfolding encode
@@ -469,7 +535,7 @@ module _ (n : ℕ) (l : Layout) (e : ℕ) (w : List Placed) (m : Space) (s₀ : 
     -- ── branches ──
 
     -- an instruction to which one may come stands near
-    good-near : (a : ℕ) (q : Point) → Good w (here .segment) a q → (a < room) × (origin (here .segment) + a < 2 ^ 24)
+    good-near : (a : ℕ) (q : Point) {j : Knows} → Good w (here .segment) a q j → (a < room) × (origin (here .segment) + a < 2 ^ 24)
     good-near a q g =
         let t = near (g .to) (g .one) a (g .at) in
         let sh = t .short in
@@ -483,7 +549,7 @@ module _ (n : ℕ) (l : Layout) (e : ℕ) (w : List Placed) (m : Space) (s₀ : 
 
     branch-fine : (k t : ℕ) → here .instruction ≡ branch k t → Branches w here k t → Fine n w m s₀ c s (branch k t)
     unfolding encode
-    branch-fine k t q u = go (branch-goes m (k * 16 + 0) programBase t c s)
+    branch-fine k t q u = cases (asked k (c .code)) taken-to passed-by
       where
         b : (t < room) × (origin (here .segment) + t < 2 ^ 24)
         b = good-near t (here .point) (u .to)
@@ -494,22 +560,66 @@ module _ (n : ℕ) (l : Layout) (e : ℕ) (w : List Placed) (m : Space) (s₀ : 
         ch : Changes c [] next
         ch = long-writes branchesTo k 0 programBase t (omega arith) st
 
-        to-address : address (c .regs) ((k * 16 + 0) % 16) programBase t ≡ origin (here .segment) + t
-        to-address = rw (second-field k 0 (omega arith)) (from-base t (b .1))
+        goes-by : (a : ℕ) → step m c s ≡ stepped (went (moved c a)) s → (o : ℕ) → a ≡ origin (here .segment) + o → {j : Knows} → Good w (here .segment) o (here .point) j → Told j c
+            → Fine n w m s₀ c s (branch k t)
+        goes-by a e o h {j} g d =
+            wrote (branch k t) o (ap (λ (y : Stepped). y .turn .stop) e) (ap (λ (y : Stepped). y .turn .cpu .counter) e ∙ h) ch (λ x i z. i) (λ z i x h. absurd h) g
+            (subst (λ (y : Stepped). Told j (y .turn .cpu)) (sym e) d)
 
-        past : (k ≡ 15 → ⊥) → (k ≡ always) ⊎ Good w (here .segment) (here .at + 4) (here .point) → Good w (here .segment) (here .at + 4) (here .point)
-        past f (inl e) = absurd (f e)
+        taken-to : asked k (c .code) ≡ true → Fine n w m s₀ c s (branch k t)
+        taken-to e = goes-by _ (st ∙ rw (first-field k 0 (omega arith), second-field k 0 (omega arith), e)) t (from-base t (b .1)) (u .to) tt
+
+        past : asked k (c .code) ≡ false → (k ≡ always) ⊎ Good w (here .segment) (here .at + 4) (here .point) (u .after) → Good w (here .segment) (here .at + 4) (here .point) (u .after)
+        past f (inl e) = never-true (sym f ∙ (ap (λ (x : ℕ). asked x (c .code)) e ∙ asked-always (c .code)))
         past f (inr g) = g
 
-        go : Branched ((k * 16 + 0) / 16) c (address (c .regs) ((k * 16 + 0) % 16) programBase t) (longBy branchesTo m (k * 16 + 0) programBase t c s .turn) → Fine n w m s₀ c s (branch k t)
-        go (taken a g) =
-            wrote (branch k t) t (ap (λ (o : Stepped). o .turn .stop) st ∙ a) (ap (λ (o : Stepped). o .turn .cpu .counter) st ∙ (g ∙ to-address)) ch
-            (λ x h i. h) (λ z i x h. absurd h) (u .to)
-        go (passed f o) =
-            let ct : next .counter ≡ c .counter + 4 = ap (λ (y : Stepped). y .turn .cpu .counter) st ∙ o .counter in
+        passed-by : asked k (c .code) ≡ false → Fine n w m s₀ c s (branch k t)
+        passed-by e =
             let z = v .counter in
-            wrote (branch k t) (here .at + 4) (ap (λ (y : Stepped). y .turn .stop) st ∙ o .stop) (omega arith) ch
-            (λ x h i. h) (λ z i x h. absurd h) (past (λ e. f (first-field k 0 (omega arith) ∙ e)) (u .next))
+            goes-by (c .counter + 4) (st ∙ rw (first-field k 0 (omega arith), e)) (here .at + 4) (omega arith) (past e (u .next)) (u .gains c (b .0) e (v .known))
+
+    -- ── the branch of a CASE ──
+
+    -- the number of the statement that is chosen
+    chosen : (r t : ℕ) (u : Chooses w here r t) → (j : ℕ) × (1 ≤ j) × (j ≤ choices (u .case)) × (reg c r ≡ 4 * j)
+    chosen r t u = rw (u .register) at (subst (λ (k : Knows). Told k c) (u .knows) (v .known))
+
+    entry-of : (r t : ℕ) (u : Chooses w here r t) → Entry w (here .segment) (t + 4 * chosen r t u .0) (here .point) (statementAt (u .case .arms) (chosen r t u .0) (firstOf (u .case)))
+    entry-of r t u = let k = chosen r t u in u .entries (k .0) (k .1) (k .2)
+
+    entry-near : (r t : ℕ) (u : Chooses w here r t) → (t + 4 * chosen r t u .0 < room) × (origin (here .segment) + (t + 4 * chosen r t u .0) < 2 ^ 24)
+    entry-near r t u = good-near (t + 4 * chosen r t u .0) (here .point) (entry-of r t u .good)
+
+    -- 15, the register and a displacement
+    by-register : (r t : ℕ) (u : Chooses w here r t) → address (c .regs) r programBase t ≡ origin (here .segment) + (t + 4 * chosen r t u .0)
+    by-register r t u =
+        let k = chosen r t u in
+        let h = entry-near r t u .1 in
+        let low = u .positive in
+        rw (ne-eqb r 0 (λ z. omega arith), v .base, k .3) (omega arith)
+
+    indexed-address : (r t : ℕ) → here .instruction ≡ indexed r t → (u : Chooses w here r t) → operandAddress c s ≡ origin (here .segment) + (t + 4 * chosen r t u .0)
+    unfolding encode
+    indexed-address r t q u =
+        let h = entry-near r t u .0 in
+        decode-address m c s branchOp always r programBase t (u .small) refl (omega arith) (stand (indexed r t) q) ∙ by-register r t u
+
+    indexed-fine : (r t : ℕ) → here .instruction ≡ indexed r t → Chooses w here r t → Fine n w m s₀ c s (indexed r t)
+    unfolding encode
+    indexed-fine r t q u = go (branch-goes m (always * 16 + r) programBase t c s)
+      where
+        st : step m c s ≡ longBy branchesTo m (always * 16 + r) programBase t c s
+        st = let h = entry-near r t u .0 in decode (indexed r t) 0x47 always r programBase t q refl refl (omega arith) (omega arith)
+
+        to-address : address (c .regs) ((always * 16 + r) % 16) programBase t ≡ origin (here .segment) + (t + 4 * chosen r t u .0)
+        to-address = rw (second-field always r (u .small)) (by-register r t u)
+
+        go : Branched ((always * 16 + r) / 16) c (address (c .regs) ((always * 16 + r) % 16) programBase t) (longBy branchesTo m (always * 16 + r) programBase t c s .turn)
+            → Fine n w m s₀ c s (indexed r t)
+        go (taken a g) =
+            wrote (indexed r t) (t + 4 * chosen r t u .0) (ap (λ (o : Stepped). o .turn .stop) st ∙ a) (ap (λ (o : Stepped). o .turn .cpu .counter) st ∙ (g ∙ to-address))
+            (long-writes branchesTo always r programBase t (u .small) st) (λ x i z. i) (λ z i x h. absurd h) (entry-of r t u .good) tt
+        go (passed f o) = absurd (f (first-field always r (u .small)))
 
     link-fine : (r t : ℕ) → here .instruction ≡ link r t → Calls w here r t → Fine n w m s₀ c s (link r t)
     unfolding encode
@@ -533,10 +643,10 @@ module _ (n : ℕ) (l : Layout) (e : ℕ) (w : List Placed) (m : Space) (s₀ : 
         let sc = around .small in
         let cn = v .counter in
         let lk : reg next r % 2 ^ 24 ≡ afterCall here = ap (λ (x : ℕ). x % 2 ^ 24) rv ∙ (link-address (c .code) (c .counter + 4) (omega arith) ∙ omega arith) in
-        let g : Good w (here .segment) t (to .point) =
-        record { to = to; one = k .body .one; segment = sg; at = k .body .at; under = record { bases = λ b h. h; within = refl } } in
+        let g : Good w (here .segment) t (to .point) nothing =
+        record { to = to; one = k .body .one; segment = sg; at = k .body .at; under = record { bases = λ b h. h; within = refl }; knows = k .body .knows } in
         arrives (link r t) (to .point) t (ap (λ (o : Stepped). o .turn .stop) st) ct ch (λ h. k .spared programBase (inl (only-one programBase r h ∙ sym (k .return))) fifteen-kept)
-        (chain-call n w (reg c) (reg next) here r t k (v .one) q (guarded to (k .body .one)) (λ x h. ch .others x (λ i. h (only-one x r i))) lk (v .chain)) g
+        (chain-call n w (reg c) (reg next) here r t k (v .one) q (guarded to (k .body .one)) (λ x h. ch .others x (λ i. h (only-one x r i))) lk (v .chain)) g tt
 
     -- ── base declarations ──
 
@@ -579,6 +689,7 @@ module _ (n : ℕ) (l : Layout) (e : ℕ) (w : List Placed) (m : Space) (s₀ : 
           sixteen = ch .long ∙ v .sixteen;
           chain = chain-at n w (reg next) (here .point) (g .to .point) (g .under .within) (guarded (g .to) (g .one))
               (λ d i. held d (g .under .bases d i) rv (chain-holds n w (reg next) (here .point) kept)) kept;
+          known = subst (λ (j : Knows). Told j next) (sym (g .knows)) tt;
           keeps = keeps-then (v .keeps) (step-keeps m c s);
         })
       where
@@ -613,6 +724,7 @@ module _ (n : ℕ) (l : Layout) (e : ℕ) (w : List Placed) (m : Space) (s₀ : 
     fine (shift op r x d) q u = shift-fine op r x d q u
     fine (branch k t) q u = branch-fine k t q u
     fine (link r t) q u = link-fine r t q u
+    fine (indexed r t) q u = indexed-fine r t q u
     fine stop q u = stop-fine q
 
     pub step-fine : Fine n w m s₀ c s (v .x .instruction)
@@ -692,10 +804,36 @@ module _ (n : ℕ) (l : Layout) (e : ℕ) (w : List Placed) (m : Space) (s₀ : 
         let sm = nr .small in
         let sg : u .body .to .segment ≡ here .segment = u .body .segment ∙ u .segment in
         decode-address m c s linkOp r 0 programBase t (omega arith) refl sh (stand (link r t) q) ∙ from-base t (omega arith)
+    named (indexed r t) q u =
+        let k = chosen r t u in
+        record { number = k .0; from-one = k .1; holds = k .3; formed = indexed-address r t q u }
     named stop q u = tt
 
     pub operand-named : Named l (v .x .segment) c s (v .x .instruction)
     operand-named = named (v .x .instruction) refl flow
+
+    -- the branch of a CASE meets its table
+    meets : (r t : ℕ) → here .instruction ≡ indexed r t → (u : Chooses w here r t) → Meets w c s here r
+    meets r t q u =
+        let k = chosen r t u in
+        let g = entry-of r t u .good in
+        record {
+          case = u .case;
+          its = u .knows;
+          by = u .register;
+          number = k .0;
+          from-one = k .1;
+          to-count = k .2;
+          holds = k .3;
+          entry = g .to;
+          written = g .one;
+          at = g .at ∙ ap (λ (a : ℕ). a + 4 * k .0) (u .before);
+          formed = indexed-address r t q u ∙ let e = g .at in let f = g .segment in omega arith;
+          goes = entry-of r t u .branches;
+        }
+
+    pub meets-table : (r t : ℕ) → v .x .instruction ≡ indexed r t → Meets w c s (v .x) r
+    meets-table r t q = meets r t q (subst (λ (i : Instruction). Goes n l e w here i) q flow)
 
     -- the final instruction is the last
     pub stop-last : v .x .instruction ≡ stop → v .x .at ≡ e

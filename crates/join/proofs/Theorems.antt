@@ -13,13 +13,13 @@ use Rattle.machine.specs.Step.{atEnd, noInstruction}
 use Rattle.machine.specs.Run.{budgetUsed}
 use Rattle.runner.specs.Load.{loaded}
 use Rattle.runner.specs.Runner.{runner}
-use Rattle.translation.specs.Instructions.{Instruction, stop}
+use Rattle.translation.specs.Instructions.{Instruction, indexed, stop}
 use Rattle.translation.specs.Translate.{accepted, translated, translate}
 use Rattle.translation.proofs.Answers.{fits-room, acceptance}
 use Rattle.join.specs.Writes.{writes}
 use Rattle.join.specs.Points.{Within, Placed}
 use Rattle.join.specs.Operands.{Named, Indexed}
-use Rattle.join.specs.Programs.{tokensIn, treeOf, instructionsOf, layoutOf, segmentsOf, placedOf, stateOf, At, Fixed, Stops, CalledFrom}
+use Rattle.join.specs.Programs.{tokensIn, treeOf, instructionsOf, layoutOf, segmentsOf, placedOf, stateOf, At, Fixed, Stops, CalledFrom, Meets}
 use Rattle.join.proofs.Reached.{Sound, Program}
 use Rattle.join.proofs.Answered as By
 
@@ -69,6 +69,13 @@ module _ (source object : List ℕ) (room : ℕ) (accepts : translate source roo
     pub return-register-holds : (y : Placed) → y ∈ placedOf source → runner object regs code budget s .counter ≡ origin (y .segment) + y .at
         → (v : Within) → y .point .within ≡ some v → CalledFrom (placedOf source) v (getD (runner object regs code budget s .regs) (v .return) 0)
     return-register-holds = sound .called
+
+    -- of document 02, 3/13, "`47 Fr` indexed by r at four bytes before the branch table": the one branch whose goal is not in its text meets an entry of its own table, by the
+    -- two tests before it, past which nothing jumps. Its register holds 4·k, where k is from 1 to the count of its CASE; the address that it forms is that of the k-th
+    -- instruction behind it, and there stands an always-branch to where the k-th statement begins
+    pub case-branch-meets-its-table : (y : Placed) → y ∈ placedOf source → runner object regs code budget s .counter ≡ origin (y .segment) + y .at
+        → (r t : ℕ) → y .instruction ≡ indexed r t → Meets (placedOf source) (stateOf (runner object regs code budget s)) (runner object regs code budget s .store) y r
+    case-branch-meets-its-table = sound .chosen
 
     -- no run of an accepted program ends with stop 4
     pub never-stops-by-4 : runner object regs code budget s .stop ≡ noInstruction → ⊥

@@ -9,7 +9,7 @@ use Rattle.machine.specs.Space.{origin}
 use Rattle.machine.specs.Instructions.{longKind}
 use Rattle.machine.specs.Step.{Cpu}
 use Rattle.machine.specs.Operands.{operandAddress, operandBytes}
-use Rattle.translation.specs.Instructions.{Datum, element, literal, entry, Instruction, rr, rx, address, immediate, shift, branch, link, stop}
+use Rattle.translation.specs.Instructions.{Datum, element, literal, entry, Instruction, rr, rx, address, immediate, shift, branch, link, indexed, stop}
 use Rattle.translation.specs.Layout.{Layout, offsetOf}
 use Rattle.translation.specs.Bytes.{indexRegister}
 
@@ -42,6 +42,14 @@ pub record Lies (l : Layout) (c : Cpu) (s : List ℕ) (a : Datum) : Type 0 where
   pub formed : operandAddress c s ≡ namedFrom l a + namedAt a
   pub inside : namedAt a < namedBytes a
 
+-- the address that the machine forms at the branch of a CASE, by register r and the offset t of segment g, is that of an entry of its table, which begins four bytes
+-- behind t: "`47 Fr` indexed by r at four bytes before the branch table"; "Numbering starts at 1."
+pub record Entered (g : ℕ) (c : Cpu) (s : List ℕ) (r t : ℕ) : Type 0 where
+  pub number : ℕ
+  pub from-one : 1 ≤ number
+  pub holds : getD (c .regs) r 0 ≡ 4 * number
+  pub formed : operandAddress c s ≡ origin g + (t + 4 * number)
+
 -- "every unindexed operand lies wholly … in the cell, literal or table entry that the text names (and every branch goes to the instruction that the text means)";
 -- g is the segment of the instruction. LA touches no storage: its address, unindexed, lies in the cell that the text names. MVI and CLI have no index.
 abbrev pub Named : Layout → ℕ → Cpu → List ℕ → Instruction → Type 0
@@ -52,9 +60,10 @@ Named l g c s (immediate op v a) = Whole l c s a
 Named l g c s (shift op r x n) = Unit {0}
 Named l g c s (branch m t) = operandAddress c s ≡ origin g + t
 Named l g c s (link r t) = operandAddress c s ≡ origin g + t
+Named l g c s (indexed r t) = Entered g c s r t
 Named l g c s stop = Unit {0}
 
--- an operand that is indexed; the address of LA is no operand in storage
+-- an operand that is indexed; the address of LA is no operand in storage, nor is that of the branch of a CASE
 abbrev pub Indexed : Instruction → Type 0
 Indexed (rr op r x) = ⊥
 Indexed (rx op r a) = 0 < indexRegister a
@@ -63,4 +72,5 @@ Indexed (immediate op v a) = ⊥
 Indexed (shift op r x n) = ⊥
 Indexed (branch m t) = ⊥
 Indexed (link r t) = ⊥
+Indexed (indexed r t) = ⊥
 Indexed stop = ⊥

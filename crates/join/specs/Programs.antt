@@ -3,7 +3,7 @@ use mathlib.Core.Path.{_≡_}
 use mathlib.Core.Logic.{_⊎_}
 use mathlib.Core.List.{List, _++_}
 use mathlib.Core.Option.{some}
-use Prim.Native.Nat.{ℕ, suc, _+_, _%_, _^_, _≤_, _<_}
+use Prim.Native.Nat.{ℕ, suc, _+_, _*_, _%_, _^_, _≤_, _<_}
 use lib.ListN.{length, getD, take}
 use Rattle.base.specs.Lists.{_∈_}
 use Rattle.token.specs.declared.Token.{Token}
@@ -16,14 +16,15 @@ use Rattle.scopes.specs.Search.{inFront, firstToken}
 use Rattle.objtext.specs.Object.{Segment}
 use Rattle.machine.specs.Space.{origin}
 use Rattle.machine.specs.Step.{Cpu, cpu, atEnd, forbidden, misaligned}
+use Rattle.machine.specs.Operands.{operandAddress}
 use Rattle.machine.specs.Run.{budgetUsed}
 use Rattle.runner.specs.Runner.{Outcome}
-use Rattle.translation.specs.Instructions.{Instruction, link, stop, sizes}
+use Rattle.translation.specs.Instructions.{Instruction, branch, link, stop, sizes, always}
 use Rattle.translation.specs.Core.{coreStatement}
 use Rattle.translation.specs.Layout.{Layout, tableBytes, literalsEnd}
 use Rattle.translation.specs.Image.{segments}
 use Rattle.translation.specs.Translate.{kindsOf, Made, make}
-use Rattle.join.specs.Points.{Within, Placed, program}
+use Rattle.join.specs.Points.{Within, Case, choices, firstOf, statementAt, scaled, Placed, program}
 use Rattle.join.specs.Operands.{Indexed}
 
 -- ── the program ──
@@ -89,3 +90,19 @@ pub record CalledFrom (w : List Placed) (v : Within) (r : ℕ) : Type 0 where
   pub calls : call .instruction ≡ link (v .return) (body .at)
   pub of-it : body .point .within ≡ some v
   pub holds : r % 2 ^ 24 ≡ origin (call .segment) + (call .at + 4)
+
+-- at the branch y of a CASE by register r: which CASE it is; r holds four times the number of one of its statements; the address that the machine forms is that of
+-- an entry of its table, the one with that number behind y; and that is an always-branch to where the statement begins
+pub record Meets (w : List Placed) (c : Cpu) (s : List ℕ) (y : Placed) (r : ℕ) : Type 0 where
+  pub case : Case
+  pub its : y .knows ≡ scaled case
+  pub by : case .register ≡ r
+  pub number : ℕ
+  pub from-one : 1 ≤ number
+  pub to-count : number ≤ choices case
+  pub holds : getD (c .regs) r 0 ≡ 4 * number
+  pub entry : Placed
+  pub written : entry ∈ w
+  pub at : entry .at ≡ y .at + 4 * number
+  pub formed : operandAddress c s ≡ origin (entry .segment) + entry .at
+  pub goes : entry .instruction ≡ branch always (statementAt (case .arms) number (firstOf case))
