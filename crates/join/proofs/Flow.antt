@@ -11,14 +11,13 @@ use borrow.Author.Tests.{eqb-false}
 use Rattle.base.specs.Choose.{if_then_else_}
 use Rattle.base.specs.Lists.{_∈_, _⊆_, All}
 use Rattle.base.proofs.Lists.{all-both, all-first, all-last, all-map, all-of}
-use Rattle.token.specs.Kinds as K
 use Rattle.static_rules.specs.Registers.{Registers}
 use Rattle.static_rules.specs.Meaning.{Based}
 use Rattle.static_rules.specs.Meanings.{dataBase}
 use Rattle.static_rules.specs.Rules.{protected}
-use Rattle.translation.specs.Instructions.{element, literal, entry, Instruction, rr, rx, address, immediate, shift, branch, link, indexed, stop, size, sizes, opcode, addRow, compareRow, shiftCode, testOp, always}
+use Rattle.translation.specs.Instructions.{element, literal, entry, Instruction, rr, rx, address, immediate, shift, branch, link, indexed, stop, size, sizes, opcode, addRow, always}
 use Rattle.translation.specs.Core.{Core, skip, run, seq, mark, scope, jump, call, procedure, base, when, either, loop, count, select, Arms, last, arm}
-use Rattle.translation.specs.Code.{Mark, armCount, headSize, own, markAt, sizeOf, armsSize, table}
+use Rattle.translation.specs.Code.{Mark, armCount, headSize, own, markAt, sizeOf, table}
 use Rattle.translation.specs.Layout.{Layout}
 use Rattle.join.specs.Points.{Within, Point, start, withBase, inBody, procedureOf, Case, choices, firstOf, endOf, statementAt, Knows, nothing, compared, atMost, tested, between, scaled, Placed, programSegment, here-knowing, here, line, head, placed, placedArms, program}
 use Rattle.join.proofs.Safe.{KeptBase, Guarded, Plain, Basing, Routine, first, Callable, Choosing, labelsOf, Safe, SafeArms}

@@ -1,7 +1,7 @@
 -- A safe text's program as the runner loads it meets all that the invariant asks for (`in-storage`), and so does its start (`begins`).
 use mathlib.Core.Path.{_≡_, refl, sym, ap, subst, _∙_}
 use mathlib.Core.Logic.{_⊎_, inl, inr}
-use mathlib.Core.List.{List, [], _∷_, _++_}
+use mathlib.Core.List.{List, [], _∷_}
 use Prim.Native.Nat.{ℕ, zero, suc, _+_, _*_, _%_, _^_, _≤_, _<_}
 use native.Mathlib.Omega.{arith}
 use lib.ListN.{length, getD, set, take, length-set, replicate, length-replicate, length-append, List·getD-append}
@@ -25,7 +25,7 @@ use Rattle.translation.specs.Core.{Core}
 use Rattle.translation.specs.Code.{sizeOf, instructions}
 use Rattle.translation.specs.Layout.{Layout, segmentLimit, tableBytes, cellsEnd, literalsFrom}
 use Rattle.translation.specs.Bytes.{programBase, encode, encodeAll}
-use Rattle.translation.specs.Image.{fill, words, endOfFirst, firstData, dataFrom, segments}
+use Rattle.translation.specs.Image.{words, endOfFirst, firstData, dataFrom, segments}
 use Rattle.translation.proofs.Sizes.{length-encode, length-encodeAll, sizes-instructions}
 use Rattle.translation.proofs.Literals.{Takes, index-lt, index-at, literals-have}
 use Rattle.translation.proofs.Images.{Fitting, fill-length, end-first, length-data}

@@ -17,7 +17,6 @@ use Rattle.base.specs.Numbers.{valueOf, valueAt}
 use Rattle.base.proofs.Lists.{all-in}
 use Rattle.base.proofs.Parts.{same-part}
 use Rattle.base.proofs.Tests.{cases, never-true}
-use Rattle.token.specs.Kinds as K
 use Rattle.grammar.specs.Tree.{Width, full, short, byte}
 use Rattle.static_rules.specs.Meaning.{Based, Cell, elementSize}
 use Rattle.static_rules.specs.Meanings.{dataBase}
@@ -36,15 +35,15 @@ use Rattle.machine.proofs.Outside.{Keeps, keeps-then, step-keeps}
 use Rattle.machine.proofs.Effects as E
 use Rattle.machine.proofs.Effects.{Changes, short-changes, long-changes, PlainShort, Reads, Serves, plain-onward, shift-onward, address-onward, Ended, on, off, read-ends, store-ends, move-ends, compare-ends, index-none, asked-always, Branched, taken, passed, branch-goes, return-goes, link-address}
 use Rattle.translation.specs.Instructions as I
-use Rattle.translation.specs.Instructions.{Datum, element, literal, entry, Instruction, rr, rx, immediate, shift, branch, link, indexed, stop, size, opcode, loadRow, compareRow, shiftCode, addressOp, branchOp, linkOp, testOp, always}
+use Rattle.translation.specs.Instructions.{Datum, element, literal, entry, Instruction, rr, rx, immediate, shift, branch, link, indexed, stop, size, opcode, loadRow, shiftCode, addressOp, branchOp, linkOp, always}
 use Rattle.translation.specs.Layout.{Layout, offsetOf, cellsEnd}
 use Rattle.translation.specs.Bytes.{programBase, indexRegister, displacement, twoBytes, fourBytes, encode}
 use Rattle.translation.proofs.Sizes.{length-encode}
 use Rattle.translation.proofs.Literals.{Takes, index-lt}
 use Rattle.translation.proofs.Rooms.{startOf, CellAt}
 use Rattle.join.specs.Writes.{writes}
-use Rattle.join.specs.Points.{Within, Writes, Point, withBase, Case, choices, firstOf, statementAt, Knows, nothing, compared, atMost, tested, between, scaled, Placed}
-use Rattle.join.specs.Operands.{namedFrom, namedBytes, namedAt, Whole, Lies, Entered, Named, Indexed}
+use Rattle.join.specs.Points.{Within, Writes, Point, withBase, choices, firstOf, statementAt, Knows, nothing, compared, atMost, tested, between, scaled, Placed}
+use Rattle.join.specs.Operands.{namedFrom, namedBytes, namedAt, Whole, Lies, Named, Indexed}
 use Rattle.join.specs.Programs.{Meets}
 use Rattle.join.proofs.Safe.{Spared, Counted, Guarded, InCell, Served, IsCell, TakesNumber, Fits, Plain, Basing}
 use Rattle.join.proofs.Chosen.{reg, countWord, NotAbove, Told}
@@ -270,9 +269,12 @@ module _ (n : ℕ) (l : Layout) (e : ℕ) (w : List Placed) (m : Space) (s₀ : 
 
     -- ── literals ──
 
+    literal-in : (op r y : ℕ) → here .instruction ≡ rx op r (literal y) → y ∈ l .literals
+    literal-in op r y q = p .literals here (v .one) y (subst (λ (i : Instruction). Takes i y) (sym q) refl)
+
     literal-place : (op r y : ℕ) → here .instruction ≡ rx op r (literal y) → l .literalsAt + 4 * indexOf y (l .literals) + 4 ≤ room
     literal-place op r y q =
-        let j = index-lt y (l .literals) (p .literals here (v .one) y (subst (λ (i : Instruction). Takes i y) (sym q) refl)) in
+        let j = index-lt y (l .literals) (literal-in op r y q) in
         let g = p .map .literals-room in
         omega arith
 
@@ -282,7 +284,13 @@ module _ (n : ℕ) (l : Layout) (e : ℕ) (w : List Placed) (m : Space) (s₀ : 
         let j = literal-place op r y q in
         address-based (c .regs) 14 (l .literalsAt + 4 * indexOf y (l .literals)) (origin 1) (omega arith) (base-holds dataBase (guarded here (v .one) .fourteen)) (omega arith)
 
-    -- the literal's word is as it was loaded
+    literal-reach : (op r y : ℕ) → here .instruction ≡ rx op r (literal y)
+        → ((origin 1 + (l .literalsAt + 4 * indexOf y (l .literals))) % 4 ≡ 0) × (readable m (origin 1 + (l .literalsAt + 4 * indexOf y (l .literals))) 4 ≡ true)
+    literal-reach op r y q =
+        let al = p .map .literals-aligned in
+        (omega arith, p .map .literals (indexOf y (l .literals)) (index-lt y (l .literals) (literal-in op r y q)))
+
+    -- its word is as it was loaded
     literal-word : (op r y : ℕ) → here .instruction ≡ rx op r (literal y) → valueAt s (origin 1 + (l .literalsAt + 4 * indexOf y (l .literals))) 4 ≡ y % 2 ^ 32
     literal-word op r y q =
         let d = l .literalsAt + 4 * indexOf y (l .literals) in
@@ -290,7 +298,7 @@ module _ (n : ℕ) (l : Layout) (e : ℕ) (w : List Placed) (m : Space) (s₀ : 
         ap valueOf
         (same-part s s₀ (origin 1 + d) 4 0 (v .keeps .long)
         (λ i h. let e : origin 1 + (d + i) ≡ origin 1 + d + i = omega arith in v .keeps .kept (origin 1 + d + i) (rw e at (p .map .fixed (d + i) (omega arith) (omega arith)))))
-        ∙ p .numbers y (p .literals here (v .one) y (subst (λ (i : Instruction). Takes i y) (sym q) refl))
+        ∙ p .numbers y (literal-in op r y q)
 
     -- ── what a plain instruction makes known ──
 
@@ -302,12 +310,10 @@ module _ (n : ℕ) (l : Layout) (e : ℕ) (w : List Placed) (m : Space) (s₀ : 
         let y = choices k in
         let d = l .literalsAt + 4 * indexOf y (l .literals) in
         let j = literal-place 0x59 r y q in
-        let al = p .map .literals-aligned in
-        let z : (origin 1 + d) % 4 ≡ 0 = omega arith in
-        let i = index-lt y (l .literals) (p .literals here (v .one) y (subst (λ (i : Instruction). Takes i y) (sym q) refl)) in
+        let a = literal-reach 0x59 r y q in
         let st : step m c s ≡ stepped (went (executed c Compare r (y % 2 ^ 32) (c .counter + 4))) s =
         decode (rx 0x59 r (literal y)) 0x59 r 0 14 d q refl refl (omega arith) (omega arith)
-        ∙ rw (second-field r 0 (omega arith), first-field r 0 (omega arith), literal-address 0x59 r y q, eq-eqb ((origin 1 + d) % 4) 0 z, p .map .literals (indexOf y (l .literals)) i, literal-word 0x59 r y q) in
+        ∙ rw (second-field r 0 (omega arith), first-field r 0 (omega arith), literal-address 0x59 r y q, eq-eqb ((origin 1 + d) % 4) 0 (a .0), a .1, literal-word 0x59 r y q) in
         let e : reg next r ≡ reg c r = ap (λ (o : Stepped). reg (o .turn .cpu) r) st ∙ ap (λ (rs : List ℕ). getD rs r 0) (set-getD (c .regs) r 0) in
         ap (λ (o : Stepped). o .turn .cpu .code) st ∙ ap (λ (x : ℕ). comparedCode x (countWord k)) (sym e)
     learns (atMost k) q = absurd q
@@ -315,8 +321,7 @@ module _ (n : ℕ) (l : Layout) (e : ℕ) (w : List Placed) (m : Space) (s₀ : 
         let r = k .register in
         let st : step m c s ≡ stepped (went (executed c Test r (reg c r) (c .counter + 2))) s =
         decode-two m c s even low 0x12 r r (omega arith) (high (rr 0x12 r r) q) (stand (rr 0x12 r r) q) ∙ rw (first-field r r small, second-field r r small) in
-        let e : reg next r ≡ reg c r = ap (λ (o : Stepped). reg (o .turn .cpu) r) st ∙ ap (λ (rs : List ℕ). getD rs r 0) (set-getD (c .regs) r 0) in
-        (
+        let e : reg next r ≡ reg c r = ap (λ (o : Stepped). reg (o .turn .cpu) r) st ∙ ap (λ (rs : List ℕ). getD rs r 0) (set-getD (c .regs) r 0) in (
           subst (NotAbove k) (sym e) (subst (λ (j : Knows). Told j c) h (v .known)),
           ap (λ (o : Stepped). o .turn .cpu .code) st ∙ ap (λ (x : ℕ). signCode (signed x)) (sym e),
         )
@@ -327,11 +332,8 @@ module _ (n : ℕ) (l : Layout) (e : ℕ) (w : List Placed) (m : Space) (s₀ : 
         let st : step m c s ≡ stepped (went (M.wrote c r (shiftedBy LeftLogical (reg c r) 2 (c .code)) (c .counter + 4))) s =
         decode (shift 0x89 r 0 2) 0x89 r 0 0 2 q refl refl (omega arith) (omega arith) ∙ rw (first-field r 0 (omega arith)) in
         let lg = v .sixteen in
-        let b0 = b .0 in
-        let b1 = b .1 in
-        let b2 = b .2 in
         let e : reg next r ≡ reg c r * 2 ^ 2 % 2 ^ 32 = ap (λ (o : Stepped). reg (o .turn .cpu) r) st ∙ getD-set-same (c .regs) r _ 0 (omega arith) in
-        (reg c r, b0, b1, e ∙ omega arith)
+        (reg c r, b .0, b .1, e ∙ omega arith)
 
     -- ── on to the next ──
 
@@ -414,8 +416,6 @@ module _ (n : ℕ) (l : Layout) (e : ℕ) (w : List Placed) (m : Space) (s₀ : 
         operand-fine (rx op r a) _ q refl st (long-writes (longKind op) r x b d h st)
         (subst (λ (y : Long). Ended c (longBy y m (r * 16 + x) b d c s .turn) (Indexed (rx op r a))) (sym k) (store-ends z m (r * 16 + x) b d c s (rw (second-field r x h) i))) u
 
-    -- ── literals ──
-
     literal-fine : (op r y : ℕ) → here .instruction ≡ rx op r (literal y) → Onward l w here → Fine n w m s₀ c s (rx op r (literal y))
     unfolding encode
     literal-fine op r y q u =
@@ -423,11 +423,9 @@ module _ (n : ℕ) (l : Layout) (e : ℕ) (w : List Placed) (m : Space) (s₀ : 
         let d = l .literalsAt + 4 * indexOf y (l .literals) in
         let j = literal-place op r y q in
         let a = literal-address op r y q in
-        let al = p .map .literals-aligned in
-        let z : (origin 1 + d) % 4 ≡ 0 = omega arith in
-        let k = index-lt y (l .literals) (p .literals here (v .one) y (subst (λ (i : Instruction). Takes i y) (sym q) refl)) in
+        let k = literal-reach op r y q in
         reads-fine op r (literal y) 0 14 d 4 q (omega arith) (decode (rx op r (literal y)) op r 0 14 d q refl refl (f .0) (omega arith)) (f .1)
-        (inr (ap (λ (b : ℕ). b % 4) a ∙ z, ap (λ (b : ℕ). readable m b 4) a ∙ p .map .literals (indexOf y (l .literals)) k)) u
+        (inr (ap (λ (b : ℕ). b % 4) a ∙ k .0, ap (λ (b : ℕ). readable m b 4) a ∙ k .1)) u
 
     -- ── cells ──
 

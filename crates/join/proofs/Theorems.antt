@@ -70,9 +70,9 @@ module _ (source object : List ℕ) (room : ℕ) (accepts : translate source roo
         → (v : Within) → y .point .within ≡ some v → CalledFrom (placedOf source) v (getD (runner object regs code budget s .regs) (v .return) 0)
     return-register-holds = sound .called
 
-    -- of document 02, 3/13, "`47 Fr` indexed by r at four bytes before the branch table": the one branch whose goal is not in its text meets an entry of its own table, by the
-    -- two tests before it, past which nothing jumps. Its register holds 4·k, where k is from 1 to the count of its CASE; the address that it forms is that of the k-th
-    -- instruction behind it, and there stands an always-branch to where the k-th statement begins
+    -- document 02, 3/13: "`47 Fr` indexed by r at four bytes before the branch table; the table, one always-branch each". Wherever a run comes to this branch, the one whose
+    -- goal is in a register, the register holds 4·k with k from 1 to the count of its CASE; the address formed is that of the k-th entry of its own table, behind it; and
+    -- there stands an always-branch to the start of the k-th statement. This comes from the two tests before it, past which nothing jumps
     pub case-branch-meets-its-table : (y : Placed) → y ∈ placedOf source → runner object regs code budget s .counter ≡ origin (y .segment) + y .at
         → (r t : ℕ) → y .instruction ≡ indexed r t → Meets (placedOf source) (stateOf (runner object regs code budget s)) (runner object regs code budget s .store) y r
     case-branch-meets-its-table = sound .chosen

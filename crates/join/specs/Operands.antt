@@ -43,7 +43,8 @@ pub record Lies (l : Layout) (c : Cpu) (s : List ℕ) (a : Datum) : Type 0 where
   pub inside : namedAt a < namedBytes a
 
 -- the address that the machine forms at the branch of a CASE, by register r and the offset t of segment g, is that of an entry of its table, which begins four bytes
--- behind t: "`47 Fr` indexed by r at four bytes before the branch table"; "Numbering starts at 1."
+-- behind t: "`47 Fr` indexed by r at four bytes before the branch table", "Numbering starts at 1." That the table has an entry with this number, and where it leads,
+-- is `Meets`.
 pub record Entered (g : ℕ) (c : Cpu) (s : List ℕ) (r t : ℕ) : Type 0 where
   pub number : ℕ
   pub from-one : 1 ≤ number
