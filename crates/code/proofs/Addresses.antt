@@ -302,7 +302,6 @@ module _ (f : Tables) (means under offsets : List ℕ) where
 
           -- behind the CASE nothing more is seen
           none : (es : List ℕ) (p : ℕ) (w : Writing) → eqb d 0 ≡ true → startsAlong d from p w es ≡ []
-          unfolding starts
           none [] p w h = refl
           none (e ∷ es) p w h = rw h
 
@@ -331,6 +330,5 @@ module _ (f : Tables) (means under offsets : List ℕ) where
           ∙ (seen-is k q _ _ 0 q found ∙ (ap (λ (l : List ℕ). found ++ l) (ended k) ∙ append-nil found)))
         where
           ended : (k : List ℕ) {p : ℕ} {w : Writing} {from : ℕ} → startsAlong 0 from p w k ≡ []
-          unfolding starts
           ended [] = refl
           ended (e ∷ es) = refl

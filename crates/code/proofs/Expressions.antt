@@ -103,10 +103,10 @@ module _ (f : Tables) (means under offsets : List ℕ) where
 
   -- the addresses, whatever is passed
   pub place-alone : (tape : List ℕ) (p : ℕ) (w : Writing) (ms : List ℕ) (g : Listing) → pass placeAt (placingOf p w ms) tape ≡ place p w ms g tape .placing
+  unfolding pass fold onEvent
   place-alone tape p w ms g = along tape (placingOf p w ms) g
     where
       along : (tape : List ℕ) (s : Placing) (g : Listing) → pass placeAt s tape ≡ pass walkAt (record { placing = s; list = g }) tape .placing
-      unfolding pass fold onEvent
       along [] s g = refl
       along (e ∷ es) s g = along es (placeAt (e % E.EVENTS) (e / E.EVENTS) s) _
 

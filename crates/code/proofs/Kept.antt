@@ -162,6 +162,12 @@ module _ (start : ℕ) where
     abbrev from : List ℕ → Coding → List ℕ → Coding
     from ms = codeFrom start kinds values found goes means under opens offsets ms
 
+    abbrev codes : List ℕ → (op t : ℕ) → Writing → List Code
+    codes ms op t w = listOf (codesBy kinds values found goes means under opens offsets ms op t w)
+
+    abbrev table : List ℕ → (op t : ℕ) → Writing → List ℕ → List Code
+    table ms op t v es = tableAlong kinds values found goes means under opens offsets ms op t v es
+
     passes-same : (tape : List ℕ) (s s′ : Coding) → s .laid .at ≡ s′ .laid .at → s .writing ≡ s′ .writing → from marks s tape .laid .at ≡ from marks′ s′ tape .laid .at
     unfolding codeFrom codeEvent
     passes-same [] s s′ e q = e
@@ -169,13 +175,11 @@ module _ (start : ℕ) where
         let op = e % E.EVENTS in
         let t = e / E.EVENTS in
         let v = writingAfter values found means under offsets op t (s .writing) in
-        let codes = λ (ms : List ℕ) (w : Writing). listOf (codesBy kinds values found goes means under opens offsets ms op t w) in
-        let table = λ (ms : List ℕ). tableAlong kinds values found goes means under opens offsets ms op t v es in
         let ev : v ≡ writingAfter values found means under offsets op t (s′ .writing) = ap (writingAfter values found means under offsets op t) q in
-        let a = laid-at (codes marks (s .writing)) (s .laid) in
-        let b = laid-at (table marks) (layAll start (codes marks (s .writing)) (s .laid)) in
-        let a′ = laid-at (codes marks′ (s .writing)) (s′ .laid) in
-        let b′ = laid-at (table marks′) (layAll start (codes marks′ (s .writing)) (s′ .laid)) in
+        let a = laid-at (codes marks op t (s .writing)) (s .laid) in
+        let b = laid-at (table marks op t v es) (layAll start (codes marks op t (s .writing)) (s .laid)) in
+        let a′ = laid-at (codes marks′ op t (s .writing)) (s′ .laid) in
+        let b′ = laid-at (table marks′ op t v es) (layAll start (codes marks′ op t (s .writing)) (s′ .laid)) in
         let m = event-same kinds values found goes means under opens offsets marks marks′ op t (s .writing) in
         let z = table-same kinds values found goes means under opens offsets marks marks′ op t v es in
         passes-same es _ _ (rw (← q) (omega (arith, a, b, a′, b′, m, z, p))) ev

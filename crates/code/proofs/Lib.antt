@@ -5,6 +5,7 @@ pub mod Coding
 pub mod Holding
 pub mod Laying
 pub mod Expressions
+pub mod Leaves
 pub mod Declarations
 pub mod Statements
 pub mod Addresses

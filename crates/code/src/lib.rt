@@ -287,7 +287,8 @@ fn lay_table(
         let op = tape::op(e);
         let family = tape::family(op);
         let made = emit::event(kinds, wide, thin, op, tape::token(e), v);
-        p += size(made.codes) + table_size(op, v);
+        let codes = made.codes;
+        p += size(codes) + table_size(op, v);
         let next = made.writing;
         v = next;
         j += 1;
