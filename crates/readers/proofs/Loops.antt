@@ -8,7 +8,7 @@ use Rattle.grammar.specs.Reader.{Reader}
 use Rattle.readers.specs.declared.tokens.Answer.{Answer}
 use Rattle.readers.specs.Reads.{Reads, Laid}
 
--- at token j, with the next event at q; what is read there is to fit the tape after it as `rest` says, and then fits it as `whole` says
+-- at token j, with the next event at q: whatever reads the rest from there and fits the tape behind it as `Rest` says reads the whole from i and fits it as `Whole` says
 pub record Onward {A : Type 0} (Whole Rest : List ℕ → A → ℕ → Type 0) (list : ℕ → Reader A) (ks : List ℕ) (i p : ℕ) (before now : List ℕ) (j q : ℕ) : Type 0 where
   pub inside : j ≤ length ks
   pub onward : i ≤ j
@@ -18,7 +18,7 @@ pub record Onward {A : Type 0} (Whole Rest : List ℕ → A → ℕ → Type 0) 
   pub enough : length ks ≤ fuel + j
   pub rest : (s : Answer) (after : List ℕ) → Reads (Rest after) ks j s (list (suc fuel) ks j) → Reads (Whole after) ks i s (list (suc (length ks)) ks i)
 
--- where the tape is what was read, written out
+-- where what fits a tape is what was read, written out
 abbrev pub Going : {A : Type 0} → (A → List ℕ → List ℕ) → (ℕ → Reader A) → List ℕ → ℕ → ℕ → List ℕ → List ℕ → ℕ → ℕ → Type 0
 Going out list ks i p before now j q = Onward (Laid out p before) (Laid out q now) list ks i p before now j q
 

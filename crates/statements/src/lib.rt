@@ -96,7 +96,7 @@ fn while_do(kinds: &[u8], i: usize, room: usize, tape: &mut [u32], p: usize) -> 
     read(s.at, s.value + 1)
 }
 
-// How many statements there are to choose from stands first on the tape and is known last.
+// "CASE register OF BEGIN {statement ;} END": how many statements there are stands first on the tape and is known last.
 fn case_of(kinds: &[u8], i: usize, room: usize, tape: &mut [u32], p: usize) -> Answer
     requires { ⌜ Ready (now kinds) (now tape) i p × (i < length (now kinds)) ⌝ }
     ensures { λ r. ⌜ Wrote tapeStatement (now (kinds .entry)) i p (now (tape .entry)) (now (tape .exit)) r (casePart (G.statement room) i (now (kinds .entry)) (i + 1)) ⌝ }
