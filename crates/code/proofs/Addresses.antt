@@ -1,12 +1,13 @@
 -- On the tape of a tree the address pass comes to where the tree's code ends, and leaves the addresses that `marksOf` says: a line for each way to make a tree.
 -- Assumes nothing.
 use mathlib.Core.Path.{_≡_, refl, sym, ap, subst, _∙_}
-use mathlib.Core.Bool.{Bool, true, false, _&&_}
+use mathlib.Core.Bool.{Bool, true, false}
 use mathlib.Core.List.{List, [], _∷_, _++_, append-nil, append-assoc}
 use Prim.Native.Nat.{ℕ, zero, suc, _+_, _-_, _/_, _%_, _<_}
 use native.Mathlib.Omega.{arith}
 use lib.Dec.{eqb}
 use lib.ListN.{set}
+use borrow.Author.Tests.{ne-eqb}
 use Rattle.base.specs.Choose.{if_then_else_}
 use Rattle.base.specs.Lists.{All}
 use Rattle.base.specs.Walk.{fold}
@@ -28,7 +29,7 @@ use Rattle.emit.specs.declared.Use.the-variants.{Absent}
 use Rattle.emit.specs.declared.Writing.{Writing}
 use Rattle.emit.specs.Codes.{listOf, codeSize, applyCode, isAbsent, applyThen}
 use Rattle.emit.specs.Events.{registerAt, goalAt, noWriting, writtenAfter, stepCodes, chosenCodes, otherCodes, codesOf, writingAfter, codesBy}
-use Rattle.emit.specs.Along.{eventBytes, starts}
+use Rattle.emit.specs.Along.{depthAfter, entryOf, startAfter, eventBytes, starts}
 use Rattle.code.specs.Places.{placingOf, markClosing, markAfter, placeEvent}
 use Rattle.emit.proofs.Operands.{Small}
 use Rattle.emit.proofs.Events.{declaring}
@@ -103,6 +104,11 @@ startsOf (arm c xs) p = p ∷ startsOf xs (p + (sizeOf c + 4))
 abbrev seenIn : Listing → List ℕ
 seenIn (listing d from seen) = seen
 
+either : (F : Listing → List ℕ) (seen : List ℕ) (b : Bool) (g h : Listing) (k l : List ℕ) → (b ≡ true → F g ≡ seen ++ k) → (b ≡ false → F h ≡ seen ++ l)
+    → F (if b then g else h) ≡ seen ++ (if b then k else l)
+either F seen true g h k l e q = e refl
+either F seen false g h k l e q = q refl
+
 -- what is passed behind them
 abbrev gatherArms : Arms → ℕ → Listing → Listing
 gatherArms last p g = g
@@ -110,18 +116,26 @@ gatherArms (arm c xs) p g = gatherArms xs (p + (sizeOf c + 4)) (gather E.END-CHO
 
 -- of a CASE inside: nothing
 abbrev inner : Listing → Listing
-inner (listing d from seen) = if eqb d 0 then listing d from seen else listing (suc d) from seen
+inner (listing d from seen) = if eqb d 0 then listing d from seen else listing (d + 1) from seen
 
 inner-is : (to : ℕ) (g : Listing) → gather E.CHOSEN to g ≡ inner g
-inner-is to (listing d from seen) = refl
+inner-is to (listing d from seen) = rw (append-nil seen)
 
 outer-is : (to : ℕ) (g : Listing) → gather E.END-CASE to (inner g) ≡ g
 outer-is to (listing zero from seen) = refl
-outer-is to (listing (suc d) from seen) = refl
+outer-is to (listing (suc d) from seen) =
+    let x : eqb (suc d) 0 ≡ false = ne-eqb (suc d) 0 (λ e. omega arith) in
+    let y : eqb (suc d + 1) 0 ≡ false = ne-eqb (suc d + 1) 0 (λ e. omega arith) in
+    let z : suc d + 1 - 1 ≡ suc d = omega arith in
+    rw (x, y, z, append-nil seen)
 
 inner-passes : (to : ℕ) (g : Listing) → gather E.END-CHOICE to (inner g) ≡ inner g
 inner-passes to (listing zero from seen) = refl
-inner-passes to (listing (suc d) from seen) = refl
+inner-passes to (listing (suc d) from seen) =
+    let x : eqb (suc d) 0 ≡ false = ne-eqb (suc d) 0 (λ e. omega arith) in
+    let y : eqb (suc d + 1) 0 ≡ false = ne-eqb (suc d + 1) 0 (λ e. omega arith) in
+    let z : eqb (suc d + 1) 1 ≡ false = ne-eqb (suc d + 1) 1 (λ e. omega arith) in
+    rw (x, y, z, append-nil seen)
 
 inner-arms : (xs : Arms) (p : ℕ) (g : Listing) → gatherArms xs p (inner g) ≡ inner g
 inner-arms last p g = refl
@@ -230,16 +244,24 @@ module _ (f : Tables) (means under offsets : List ℕ) where
 
       place-statement (choose t n xs) i j h p w ms g k =
           let c = choicesCount xs in
+          let arms = coreChoices f xs in
           let w′ : Writing = record { aim = Absent; sign = 0; arguments = c } in
+          let w″ : Writing = leavesChoices f means under offsets xs noWriting in
           let q = p + headSize c in
-          stepped f means under offsets E.LISTED c p 0 p w w′ ms (λ m. ms) g _ refl (omega arith)
-          ∙ (ap (λ (x : Listing). at p w′ ms x _) (quiet-stays E.LISTED p g (refl, refl, refl))
-          ∙ (stepped f means under offsets E.CHOSEN n p (headSize c) q w′ noWriting ms (λ m. set ms n m) g _ refl refl
-          ∙ (ap (λ (x : Listing). at q noWriting (set ms n q) x _) (inner-is q g)
-          ∙ (place-choices n xs _ _ (h .2 .2 .1 .1) q noWriting _ (inner g) _
-          ∙ (ap (λ (x : Listing). at _ _ _ x _) (inner-arms (coreChoices f xs) q g)
-          ∙ (stepped f means under offsets E.END-CASE n _ 0 (p + (headSize c + armsSize (coreChoices f xs))) _ _ _ (λ m. set (marksChoices f xs q (set ms n q)) (n + 1) m) (inner g) k refl (omega arith)
-          ∙ (ap (λ (x : Listing). at _ _ _ x k) (outer-is (p + (headSize c + armsSize (coreChoices f xs))) g) ∙ moved _ _ _ _ g k (rw (arms-counted f xs)))))))))
+          let end = p + (headSize c + armsSize arms) in
+          let last : List ℕ = event E.END-CASE n ∷ k in
+          let list : List ℕ = tapeChoices n xs last in
+          let m1 = set ms n q in
+          let m2 = marksChoices f xs q m1 in
+          stepped f means under offsets E.LISTED c p 0 p w w′ ms (λ m. ms) g (event E.CHOSEN n ∷ list) refl (omega arith)
+          ∙ (ap (λ (x : Listing). at p w′ ms x (event E.CHOSEN n ∷ list)) (quiet-stays E.LISTED p g (refl, refl, refl))
+          ∙ (stepped f means under offsets E.CHOSEN n p (headSize c) q w′ noWriting ms (λ m. set ms n m) g list refl refl
+          ∙ (ap (λ (x : Listing). at q noWriting m1 x list) (inner-is q g)
+          ∙ (place-choices n xs _ _ (h .2 .2 .1 .1) q noWriting m1 (inner g) last
+          ∙ (ap (λ (x : Listing). at (q + armsSize arms) w″ m2 x last) (inner-arms arms q g)
+          ∙ (stepped f means under offsets E.END-CASE n (q + armsSize arms) 0 end w″ w″ m2 (λ m. set m2 (n + 1) m) (inner g) k refl (omega arith)
+          ∙ (ap (λ (x : Listing). at end w″ (set m2 (n + 1) end) x k) (outer-is end g)
+          ∙ moved end (p + (headSize (armCount arms) + armsSize arms)) w″ (set m2 (n + 1) end) g k (rw (arms-counted f xs)))))))))
 
       pub place-body : (b : Body) (i j : ℕ) → isBody (f .kinds) b i j → (p : ℕ) (w : Writing) (ms : List ℕ) (g : Listing) (k : List ℕ)
           → at p w ms g (tapeBody b k) ≡ at (p + sizeOf (coreBody f b)) (leavesBody f means under offsets b w) (marksBody f b p ms) g k
@@ -268,15 +290,24 @@ module _ (f : Tables) (means under offsets : List ℕ) where
       place-choices t over i j h p w ms g k = moved p _ w ms g k (omega arith)
       place-choices t (choice x xs) i j h p w ms g k =
           let q = p + (sizeOf (coreStatement f x) + 4) in
-          place-statement x _ _ (h .1) p w ms g _
-          ∙ (stepped f means under offsets E.END-CHOICE t _ 4 q _ _ _ (λ m. marksOf f x p ms) g _ refl (omega arith)
-          ∙ (place-choices t xs _ _ (h .2 .1) q _ _ _ k ∙ moved _ _ _ _ _ k (omega arith)))
+          let w′ = leaves f means under offsets x w in
+          let m1 = marksOf f x p ms in
+          let rest = tapeChoices t xs k in
+          place-statement x _ _ (h .1) p w ms g (event E.END-CHOICE t ∷ rest)
+          ∙ (stepped f means under offsets E.END-CHOICE t (p + sizeOf (coreStatement f x)) 4 q w′ w′ m1 (λ m. m1) g rest refl (omega arith)
+          ∙ (place-choices t xs _ _ (h .2 .1) q w′ m1 (gather E.END-CHOICE q g) k ∙ moved _ _ _ _ _ k (omega arith)))
 
     -- ── where the statements of a CASE start, as the code pass finds them ──
 
     module _ (marks : List ℕ) where
       abbrev startsAlong : (depth from p : ℕ) → Writing → List ℕ → List ℕ
       startsAlong d from p w es = starts (f .kinds) (f .values) (f .found) (f .goes) means under (f .opens) offsets marks d from p w es
+
+      -- behind the CASE nothing more is found
+      none-behind : (es : List ℕ) (d from p : ℕ) (w : Writing) → eqb d 0 ≡ true → startsAlong d from p w es ≡ []
+      unfolding starts
+      none-behind [] d from p w h = refl
+      none-behind (e ∷ es) d from p w h = rw h
 
       -- what is seen along a tape: what was, and what the code pass finds
       seen-is : (es : List ℕ) (p : ℕ) (w : Writing) (ms : List ℕ) (d from : ℕ) (seen : List ℕ) → seenIn (at p w ms (listing d from seen) es .list) ≡ seen ++ startsAlong d from p w es
@@ -286,35 +317,14 @@ module _ (f : Tables) (means under offsets : List ℕ) where
           let op = e % E.EVENTS in
           let t = e / E.EVENTS in
           let size = event-bytes (f .kinds) (f .values) (f .found) (f .goes) means under (f .opens) offsets ms marks op t w in
-          rw (← size) (go (eqb d 0) refl (eqb (familyAt op) E.CHOSEN) (eqb (familyAt op) E.END-CASE) (eqb (familyAt op) E.END-CHOICE && eqb d 1))
-        where
-          family : ℕ
-          family = familyAt (e % E.EVENTS)
-
-          q : ℕ
-          q = p + eventBytes (f .kinds) (f .values) (f .found) (f .goes) means under (f .opens) offsets ms (e % E.EVENTS) (e / E.EVENTS) w
-
-          v : Writing
-          v = writingAfter (f .values) (f .found) means under offsets (e % E.EVENTS) (e / E.EVENTS) w
-
-          ms′ : List ℕ
-          ms′ = markAfter family (e / E.EVENTS) p q (w .aim) ms
-
-          -- behind the CASE nothing more is seen
-          none : (es : List ℕ) (p : ℕ) (w : Writing) → eqb d 0 ≡ true → startsAlong d from p w es ≡ []
-          none [] p w h = refl
-          none (e ∷ es) p w h = rw h
-
-          go : (a : Bool) → eqb d 0 ≡ a → (b c z : Bool)
-              → seenIn (at q v ms′ (if a then listing d from seen else if b then listing (suc d) from seen else if c then listing (d - 1) from seen else
-              if z then listing d q (seen ++ (from ∷ [])) else listing d from seen) es .list)
-              ≡ seen ++ (if a then [] else if b then startsAlong (suc d) from q v es else if c then startsAlong (d - 1) from q v es else
-              if z then (from ∷ startsAlong d q q v es) else startsAlong d from q v es)
-          go true h b c z = seen-is es q v ms′ d from seen ∙ ap (λ (l : List ℕ). seen ++ l) (none es q v h)
-          go false h true c z = seen-is es q v ms′ (suc d) from seen
-          go false h false true z = seen-is es q v ms′ (d - 1) from seen
-          go false h false false true = seen-is es q v ms′ d q (seen ++ (from ∷ [])) ∙ append-assoc seen (from ∷ []) (startsAlong d q q v es)
-          go false h false false false = seen-is es q v ms′ d from seen
+          let q = p + eventBytes (f .kinds) (f .values) (f .found) (f .goes) means under (f .opens) offsets ms op t w in
+          let v = writingAfter (f .values) (f .found) means under offsets op t w in
+          let ms′ = markAfter (familyAt op) t p q (w .aim) ms in
+          let entry = entryOf (familyAt op) d from in
+          let from′ = startAfter (familyAt op) d from q in
+          rw (← size)
+          (either (λ g. seenIn (at q v ms′ g es .list)) seen (eqb d 0) _ _ _ _ (λ h. seen-is es q v ms′ d from seen ∙ ap (λ (l : List ℕ). seen ++ l) (none-behind es d from q v h))
+          (λ h. seen-is es q v ms′ (depthAfter (familyAt op) d) from′ (seen ++ entry) ∙ append-assoc seen entry (startsAlong (depthAfter (familyAt op) d) from′ q v es)))
 
       pub starts-choices : (t : ℕ) (xs : Choices) (i j : ℕ) → areChoices (f .kinds) xs i j → (p : ℕ) (w : Writing) (k : List ℕ)
           → startsAlong 1 p p w (tapeChoices t xs (event E.END-CASE t ∷ k)) ≡ startsOf (coreChoices f xs) p
@@ -327,8 +337,4 @@ module _ (f : Tables) (means under offsets : List ℕ) where
           (place-choices t xs i j h p w [] (listing 1 p []) (event E.END-CASE t ∷ k)
           ∙ (ap (λ (g : Listing). at q _ _ g (event E.END-CASE t ∷ k)) (own-arms (coreChoices f xs) p [])
           ∙ stepped f means under offsets E.END-CASE t q 0 q _ _ _ (λ m. set (marksChoices f xs p []) (t + 1) m) (listing 1 q found) k refl (omega arith)))
-          ∙ (seen-is k q _ _ 0 q found ∙ (ap (λ (l : List ℕ). found ++ l) (ended k) ∙ append-nil found)))
-        where
-          ended : (k : List ℕ) {p : ℕ} {w : Writing} {from : ℕ} → startsAlong 0 from p w k ≡ []
-          ended [] = refl
-          ended (e ∷ es) = refl
+          ∙ (seen-is k q _ _ 0 q found ∙ (ap (λ (l : List ℕ). found ++ l) (none-behind k 0 q q _ refl) ∙ append-nil found)))

@@ -1,9 +1,9 @@
 -- Over the tape of an assignment, a use, a condition or a FOR's limit the address grows by the size of the definition's instructions; a limit sets the place of its
 -- compare and its control register. Beside the addresses goes what is passed of a CASE (`Listing`), which these leave as it is. Assumes nothing.
 use mathlib.Core.Path.{_≡_, refl, sym, ap, _∙_}
-use mathlib.Core.Bool.{Bool, true, false, _&&_}
-use mathlib.Core.List.{List, [], _∷_, _++_}
-use Prim.Native.Nat.{ℕ, suc, _+_, _-_, _/_, _%_, _<_}
+use mathlib.Core.Bool.{Bool, true, false}
+use mathlib.Core.List.{List, [], _∷_, _++_, append-nil}
+use Prim.Native.Nat.{ℕ, _+_, _-_, _/_, _%_, _<_}
 use native.Mathlib.Omega.{arith}
 use lib.Dec.{eqb}
 use lib.ListN.{getD, set}
@@ -29,7 +29,7 @@ use Rattle.emit.specs.declared.Use.{Use}
 use Rattle.emit.specs.declared.Writing.{Writing}
 use Rattle.emit.specs.Codes.{codeSizes, heldIn}
 use Rattle.emit.specs.Events.{noWriting, tableBytes}
-use Rattle.emit.specs.Along.{targetWriting, controlWriting}
+use Rattle.emit.specs.Along.{depthAfter, entryOf, startAfter, targetWriting, controlWriting}
 use Rattle.emit.proofs.Operands.{Small, shapeOf, by-shape, operand-tape, register-at}
 use Rattle.emit.proofs.Sizes.{sizes-append, coded-sizes, tested-size}
 use Rattle.emit.proofs.Walks.{unmarking, made, after, Walk, limit-makes, assignment-walked, control-walked, use-walked, condition-walked}
@@ -62,18 +62,14 @@ pub data Listing : Type 0 where
 -- an event, with the address behind it
 abbrev pub gather : (family to : ℕ) → Listing → Listing
 gather family to (listing d from seen) =
-    if eqb d 0 then listing d from seen else
-    if eqb family E.CHOSEN then listing (suc d) from seen else
-    if eqb family E.END-CASE then listing (d - 1) from seen else
-    if eqb family E.END-CHOICE && eqb d 1 then listing d to (seen ++ (from ∷ [])) else
-    listing d from seen
+    if eqb d 0 then listing d from seen else listing (depthAfter family d) (startAfter family d from to) (seen ++ entryOf family d from)
 
 -- families that are none of a CASE's
 abbrev pub Quiet : ℕ → Type 0
 Quiet family = (eqb family E.CHOSEN ≡ false) × (eqb family E.END-CASE ≡ false) × (eqb family E.END-CHOICE ≡ false)
 
 pub quiet-stays : (family to : ℕ) (g : Listing) → Quiet family → gather family to g ≡ g
-quiet-stays family to (listing d from seen) h = rw (h .0, h .1, h .2) (go (eqb d 0))
+quiet-stays family to (listing d from seen) h = rw (h .0, h .1, h .2, append-nil seen) (go (eqb d 0))
   where
     go : (b : Bool) → (if b then listing d from seen else listing d from seen) ≡ listing d from seen
     go true = refl

@@ -1,9 +1,9 @@
 -- The ledger keeps 16 bits of an address. Of a program that ends below 65,536 that is all of it (`places-kept`); and how long a program is does not hang on where
 -- its branches go (`length-same`). Assumes nothing.
 use mathlib.Core.Path.{_≡_, refl, sym, ap, _∙_}
-use mathlib.Core.Bool.{Bool, true, false, _||_, _&&_}
-use mathlib.Core.List.{List, [], _∷_, map}
-use Prim.Native.Nat.{ℕ, suc, _+_, _-_, _*_, _/_, _%_, _<_, _≤_}
+use mathlib.Core.Bool.{Bool, true, false, _||_}
+use mathlib.Core.List.{List, [], _∷_, _++_, map}
+use Prim.Native.Nat.{ℕ, suc, _+_, _*_, _/_, _%_, _<_, _≤_}
 use native.Mathlib.Omega.{arith}
 use lib.Dec.{eqb}
 use lib.ListN.{length, getD}
@@ -19,7 +19,7 @@ use Rattle.emit.specs.declared.Use.{Use}
 use Rattle.emit.specs.declared.Writing.{Writing}
 use Rattle.emit.specs.Codes.{listOf, codeSize, codeSizes, applyCode, isAbsent, applyThen, branchCode, stopCode}
 use Rattle.emit.specs.Events.{useIn, registerAt, goalAt, comparedCodes, bareCodes, limitCodes, stepCodes, chosenCodes, tableBytes, otherCodes, codesOf, writingAfter, codesBy}
-use Rattle.emit.specs.Along.{eventBytes, starts, tableAlong}
+use Rattle.emit.specs.Along.{endsHere, eventBytes, starts, tableAlong}
 use Rattle.code.specs.Places.{whole, kept, Placing, noWriting, placeEvent, placesAlong}
 use Rattle.code.specs.Coding.{Laid, laidOf, layCode, layAll, Coding, codingOf, codeEvent, codeFrom, codeAlong}
 use Rattle.translation.specs.Instructions.{always}
@@ -123,14 +123,15 @@ module _ (kinds values found goes means under opens offsets marks marks′ : Lis
   either-long true k l k′ l′ e q = e
   either-long false k l k′ l′ e q = q
 
+  entry-long : (b : Bool) (from from′ : ℕ) (k k′ : List ℕ) → length k ≡ length k′ → length ((if b then from ∷ [] else []) ++ k) ≡ length ((if b then from′ ∷ [] else []) ++ k′)
+  entry-long true from from′ k k′ e = ap suc e
+  entry-long false from from′ k k′ e = e
+
   starts-same : (es : List ℕ) (d from from′ p p′ : ℕ) (w : Writing) → length (by marks d from p w es) ≡ length (by marks′ d from′ p′ w es)
   unfolding starts
   starts-same [] d from from′ p p′ w = refl
   starts-same (e ∷ es) d from from′ p p′ w =
-      either-long (eqb d 0) _ _ _ _ refl
-      (either-long (eqb (familyAt (e % E.EVENTS)) E.CHOSEN) _ _ _ _ (starts-same es (suc d) from from′ _ _ _)
-      (either-long (eqb (familyAt (e % E.EVENTS)) E.END-CASE) _ _ _ _ (starts-same es (d - 1) from from′ _ _ _)
-      (either-long (eqb (familyAt (e % E.EVENTS)) E.END-CHOICE && eqb d 1) _ _ _ _ (ap suc (starts-same es d _ _ _ _ _)) (starts-same es d from from′ _ _ _))))
+      either-long (eqb d 0) _ _ _ _ refl (entry-long (endsHere (familyAt (e % E.EVENTS)) d) from from′ _ _ (starts-same es _ _ _ _ _ _))
 
   table-long : (l : List ℕ) → codeSizes (map (branchCode always) l) ≡ 4 * length l
   unfolding codeSize

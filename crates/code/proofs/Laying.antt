@@ -33,7 +33,7 @@ use Rattle.code.specs.Places.{noWriting}
 use Rattle.code.specs.Coding.{bytesIn, Laid, laidOf, codeBytes, literalsAfter, layCode, layAll, Coding, codingOf, codeEvent, codeFrom, codeAlong}
 
 module _ (start : ℕ) where
-  lay-append : (cs ds : List Code) (s : Laid) → layAll start (cs ++ ds) s ≡ layAll start ds (layAll start cs s)
+  pub lay-append : (cs ds : List Code) (s : Laid) → layAll start (cs ++ ds) s ≡ layAll start ds (layAll start cs s)
   lay-append cs ds s = fold-append _ s cs ds
 
   module _ (kinds values found goes means under opens offsets marks : List ℕ) where

@@ -4,6 +4,7 @@ pub mod Kept
 pub mod Coding
 pub mod Holding
 pub mod Laying
+pub mod Tables
 pub mod Expressions
 pub mod Leaves
 pub mod Declarations

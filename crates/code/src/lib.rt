@@ -1,7 +1,7 @@
 // Document 01, "Code": where branches go, then the program's bytes and the literals that it needs, each in one loop along the tape.
 ghost use mathlib.Core.Path.{_≡_};
 ghost use Prim.Native.Nat.{ℕ, _+_, _-_, _*_, _/_, _%_, _≤_, _<_};
-ghost use mathlib.Core.List.{List};
+ghost use mathlib.Core.List.{List, map};
 ghost use Rattle.tape.specs.Events.{EVENTS, TOKEN-LIMIT};
 ghost use lib.ListN.{length, getD, take, drop, set};
 ghost use lib.Seq.{sets};
@@ -10,6 +10,9 @@ ghost use Rattle.translation.specs.Instructions.{literal};
 ghost use Rattle.translation.specs.Layout.{needs};
 ghost use Rattle.translation.specs.Bytes.{twoBytes, fourBytes};
 ghost use Rattle.emit.specs.Codes.{listOf, codeSize};
+ghost use Rattle.translation.specs.Instructions.{always};
+ghost use Rattle.emit.specs.Codes.{branchCode};
+ghost use Rattle.emit.specs.Along.{depthAfter, endsHere, entryOf, startAfter};
 ghost use Rattle.ledger.specs.Book.{wideOf, thinOf, putIn, thinLimit};
 ghost use Rattle.code.specs.Places.{markLimit, markClosing, markAfter, onMarks, placesIn};
 ghost use Rattle.code.specs.Coding.{bytesIn, Laid, laidOf, laidBy, layCode, layAll, codeIn, tableIn, codeLimit, Holds};
@@ -256,6 +259,50 @@ fn lay_codes(image: &mut [u8], literals: &mut [u64], start: u64, from: Reached, 
     }
 }
 
+// Inside how many CASEs it is after an event.
+fn depth_after(family: u32, depth: usize) -> usize
+    requires { ⌜ depth < TOKEN-LIMIT * 4 ⌝ }
+    ensures { λ r. ⌜ (r ≡ depthAfter family depth) × (r ≤ depth + 1) ⌝ }
+{
+    if family == tape::CHOSEN {
+        return depth + 1;
+    }
+    if family == tape::END_CASE {
+        return less(depth, 1);
+    }
+    depth
+}
+
+// One of the statements of the CASE ends.
+fn ends_here(family: u32, depth: usize) -> bool
+    ensures { λ r. ⌜ r ≡ endsHere family depth ⌝ }
+{
+    (family == tape::END_CHOICE) & (depth == 1)
+}
+
+// Where the statement at hand starts, after an event behind which is the address to.
+fn start_after(family: u32, depth: usize, from: usize, to: usize) -> usize
+    ensures { λ r. ⌜ r ≡ startAfter family depth from to ⌝ }
+{
+    if ends_here(family, depth) {
+        return to;
+    }
+    from
+}
+
+// The table's branch to a statement that ends: "one always-branch each".
+fn lay_entry(image: &mut [u8], at: usize, family: u32, depth: usize, from: usize) -> usize
+    requires { ⌜ at + 4 < codeLimit ⌝ }
+    ensures { λ r. ⌜ ((start : ℕ) (literals : List ℕ) → laidOf r (now (image .exit)) literals ≡ layAll start (map (branchCode always) (entryOf family depth from))
+        (laidOf at (now (image .entry)) literals)) × (r ≤ at + 4) ⌝ }
+{
+    if ends_here(family, depth) {
+        lay_four(image, at, BRANCH, ALWAYS, 0, PROGRAM_BASE, from as u64);
+        return at + 4;
+    }
+    at
+}
+
 // Behind the head of a CASE, the event at i, its table: "one always-branch each", to where its statements start, which are passed for it. Where the table ends.
 fn lay_table(
     tape: &[u32],
@@ -288,23 +335,14 @@ fn lay_table(
         let family = tape::family(op);
         let made = emit::event(kinds, wide, thin, op, tape::token(e), v);
         let codes = made.codes;
-        p += size(codes) + table_size(op, v);
+        let q = p + (size(codes) + table_size(op, v));
+        end = lay_entry(image, end, family, depth, from);
+        from = start_after(family, depth, from, q);
+        depth = depth_after(family, depth);
         let next = made.writing;
         v = next;
+        p = q;
         j += 1;
-        if family == tape::CHOSEN {
-            depth += 1;
-            continue;
-        }
-        if family == tape::END_CASE {
-            depth -= 1;
-            continue;
-        }
-        if (family == tape::END_CHOICE) & (depth == 1) {
-            lay_four(image, end, BRANCH, ALWAYS, 0, PROGRAM_BASE, from as u64);
-            end += 4;
-            from = p;
-        }
     }
     end
 }

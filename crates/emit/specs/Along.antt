@@ -1,7 +1,7 @@
 -- The instructions along a tape, and how the definition's instructions are laid: with the places of cells, but for a literal, whose place is found then.
 use mathlib.Core.List.{List, [], _∷_, _++_, map}
-use mathlib.Core.Bool.{_&&_}
-use Prim.Native.Nat.{ℕ, suc, _+_, _-_, _*_, _/_, _%_}
+use mathlib.Core.Bool.{Bool, _&&_}
+use Prim.Native.Nat.{ℕ, _+_, _-_, _*_, _/_, _%_}
 use lib.Dec.{eqb}
 use lib.ListN.{getD}
 use Rattle.base.specs.Choose.{if_then_else_}
@@ -20,6 +20,22 @@ use Rattle.emit.specs.declared.Writing.{Writing}
 use Rattle.emit.specs.Codes.{listOf, codeSizes, branchCode, indexedCode, linkCode, stopCode}
 use Rattle.emit.specs.Events.{placeIn, tableBytes, writingAfter, codesBy}
 
+-- ── the statements of a CASE, inside d CASEs counted from it: 1 in its own, 0 behind it ──
+
+abbrev pub depthAfter : (family d : ℕ) → ℕ
+depthAfter family d = if eqb family E.CHOSEN then d + 1 else if eqb family E.END-CASE then (d - 1) else d
+
+-- one of its own ends
+abbrev pub endsHere : (family d : ℕ) → Bool
+endsHere family d = eqb family E.END-CHOICE && eqb d 1
+
+-- that starts at `from`; the next one starts behind the event
+abbrev pub entryOf : (family d from : ℕ) → List ℕ
+entryOf family d from = if endsHere family d then from ∷ [] else []
+
+abbrev pub startAfter : (family d from to : ℕ) → ℕ
+startAfter family d from to = if endsHere family d then to else from
+
 module _ (kinds values found goes means under opens offsets marks : List ℕ) where
   -- how many bytes an event makes, the table of a CASE among them
   abbrev pub eventBytes : (op t : ℕ) → Writing → ℕ
@@ -27,18 +43,14 @@ module _ (kinds values found goes means under opens offsets marks : List ℕ) wh
 
   -- ── the table of a CASE: where each of its statements starts ──
 
-  -- along the tape behind its head, at address p, where the statement at hand starts at `from`; inside d CASEs, which is 1 in its own and 0 behind it
+  -- along the tape behind its head, at address p, where the statement at hand starts at `from`
   unfoldable pub starts : (depth from p : ℕ) → Writing → List ℕ → List ℕ
   starts d from p w [] = []
   starts d from p w (e ∷ es) =
       let op = e % E.EVENTS in
       let q = p + eventBytes op (e / E.EVENTS) w in
       let v = writingAfter values found means under offsets op (e / E.EVENTS) w in
-      if eqb d 0 then [] else
-      if eqb (familyAt op) E.CHOSEN then starts (suc d) from q v es else
-      if eqb (familyAt op) E.END-CASE then starts (d - 1) from q v es else
-      if eqb (familyAt op) E.END-CHOICE && eqb d 1 then from ∷ starts d q q v es else
-      starts d from q v es
+      if eqb d 0 then [] else (entryOf (familyAt op) d from ++ starts (depthAfter (familyAt op) d) (startAfter (familyAt op) d from q) q v es)
 
   -- "the table, one always-branch each"; the first statement starts behind it
   unfoldable pub tableAlong : (op t : ℕ) → Writing → List ℕ → List Code

@@ -56,7 +56,7 @@ spanningOf at w target span = record { at = at; writing = w; target = target; sp
 
 module _ (address : ℕ) (kinds : List ℕ) (w : Wide) (b : Thin) where
   abbrev pub behind : (op t : ℕ) → Spanning → ℕ
-  behind op t s = s .at + codeSizes (listOf (codesIn kinds w b op t (s .writing)))
+  behind op t s = s .at + (codeSizes (listOf (codesIn kinds w b op t (s .writing))) + tableBytes (familyAt op) (s .writing))
 
   unfoldable pub spanEvent : (op t : ℕ) → Spanning → Spanning
   spanEvent op t s =

@@ -2,7 +2,9 @@ use Rattle.code.proofs.lay_table.Statement.{statement}
 use Rattle.code.proofs.lay_table.Tie as tie
 use Rattle.code.proofs.lay_table.Reads as reads
 use Rattle.code.proofs.lay_table.Lts as lts
-use Rattle.code.proofs.lay_four.Reads as lay-four-reads
+use Rattle.code.proofs.depth_after.Reads as depth-after-reads
+use Rattle.code.proofs.lay_entry.Reads as lay-entry-reads
+use Rattle.code.proofs.start_after.Reads as start-after-reads
 use Rattle.emit.proofs.event.Reads as event-reads
 use Rattle.emit.proofs.size.Reads as size-reads
 use Rattle.emit.proofs.table_size.Reads as table-size-reads
@@ -18,139 +20,111 @@ Inv-loop tape i kinds wide thin image₀ at e from₀ p₀ depth₀ v₀ end₀ 
 abbrev μ-loop : tie.MeasureT-loop
 μ-loop tape i kinds wide thin image₀ at e from₀ p₀ depth₀ v₀ end₀ j₀ image from p depth v end j = ?
 
--- src/lib.rt:275:13
+-- src/lib.rt:322:13
 mul-e : tie.Need-mul-e Inv-loop μ-loop
 mul-e c = ?
 
--- src/lib.rt:275:13
+-- src/lib.rt:322:13
 shared-slice-read-e : tie.Need-shared-slice-read-e Inv-loop μ-loop
 shared-slice-read-e c = ?
 
--- src/lib.rt:276:21
+-- src/lib.rt:323:21
 op-requires : tie.Need-op-requires Inv-loop μ-loop
 op-requires c κs = ?
 
--- src/lib.rt:276:8
+-- src/lib.rt:323:8
 family-requires : tie.Need-family-requires Inv-loop μ-loop
 family-requires c κs = ?
 
--- src/lib.rt:277:9
+-- src/lib.rt:324:9
 returns : tie.Need-returns Inv-loop μ-loop
 returns c = ?
 
--- src/lib.rt:279:34
+-- src/lib.rt:326:34
 token-requires : tie.Need-token-requires Inv-loop μ-loop
 token-requires c κs = ?
 
--- src/lib.rt:279:9
+-- src/lib.rt:326:9
 written-requires : tie.Need-written-requires Inv-loop μ-loop
 written-requires c κs = ?
 
--- src/lib.rt:284:17
+-- src/lib.rt:331:17
 add-j : tie.Need-add-j Inv-loop μ-loop
 add-j c = ?
 
--- src/lib.rt:285:5
+-- src/lib.rt:332:5
 loop-holds : tie.Need-loop-holds Inv-loop μ-loop
 loop-holds c = ?
 
--- src/lib.rt:286:17
+-- src/lib.rt:333:17
 mul-e-2 : tie.Need-mul-e-2 Inv-loop μ-loop
 mul-e-2 c = ?
 
--- src/lib.rt:286:17
+-- src/lib.rt:333:17
 shared-slice-read-e-2 : tie.Need-shared-slice-read-e-2 Inv-loop μ-loop
 shared-slice-read-e-2 c = ?
 
--- src/lib.rt:287:13
+-- src/lib.rt:334:13
 op-requires-2 : tie.Need-op-requires-2 Inv-loop μ-loop
 op-requires-2 c κs = ?
 
--- src/lib.rt:288:13
+-- src/lib.rt:335:13
 family-requires-2 : tie.Need-family-requires-2 Inv-loop μ-loop
 family-requires-2 c κs = ?
 
--- src/lib.rt:289:55
+-- src/lib.rt:336:55
 token-requires-2 : tie.Need-token-requires-2 Inv-loop μ-loop
 token-requires-2 c κs = ?
 
--- src/lib.rt:289:13
+-- src/lib.rt:336:13
 event-requires : tie.Need-event-requires Inv-loop μ-loop
 event-requires c κs = ?
 
--- src/lib.rt:291:14
+-- src/lib.rt:338:22
 size-requires : tie.Need-size-requires Inv-loop μ-loop
 size-requires c κs = ?
 
--- src/lib.rt:291:28
+-- src/lib.rt:338:36
 table-size-requires : tie.Need-table-size-requires Inv-loop μ-loop
 table-size-requires c κs = ?
 
--- src/lib.rt:291:14
-add-p : tie.Need-add-p Inv-loop μ-loop
-add-p c = ?
+-- src/lib.rt:338:22
+add-q : tie.Need-add-q Inv-loop μ-loop
+add-q c = ?
 
--- src/lib.rt:291:9
-add-p-2 : tie.Need-add-p-2 Inv-loop μ-loop
-add-p-2 c = ?
+-- src/lib.rt:338:17
+add-q-2 : tie.Need-add-q-2 Inv-loop μ-loop
+add-q-2 c = ?
 
--- src/lib.rt:294:9
+-- src/lib.rt:339:9
+lay-entry-requires : tie.Need-lay-entry-requires Inv-loop μ-loop
+lay-entry-requires c κs = ?
+
+-- src/lib.rt:340:9
+start-after-requires : tie.Need-start-after-requires Inv-loop μ-loop
+start-after-requires c κs = ?
+
+-- src/lib.rt:341:9
+depth-after-requires : tie.Need-depth-after-requires Inv-loop μ-loop
+depth-after-requires c κs = ?
+
+-- src/lib.rt:345:9
 add-j-2 : tie.Need-add-j-2 Inv-loop μ-loop
 add-j-2 c = ?
 
--- src/lib.rt:296:13
-add-depth : tie.Need-add-depth Inv-loop μ-loop
-add-depth c = ?
-
--- src/lib.rt:285:5
+-- src/lib.rt:332:5
 loop-less : tie.Need-loop-less Inv-loop μ-loop
 loop-less c = ?
 
--- src/lib.rt:285:5
+-- src/lib.rt:332:5
 loop-again : tie.Need-loop-again Inv-loop μ-loop
 loop-again c = ?
 
--- src/lib.rt:300:13
-sub-depth : tie.Need-sub-depth Inv-loop μ-loop
-sub-depth c = ?
-
--- src/lib.rt:285:5
-loop-less-2 : tie.Need-loop-less-2 Inv-loop μ-loop
-loop-less-2 c = ?
-
--- src/lib.rt:285:5
-loop-again-2 : tie.Need-loop-again-2 Inv-loop μ-loop
-loop-again-2 c = ?
-
--- src/lib.rt:304:13
-lay-four-requires : tie.Need-lay-four-requires Inv-loop μ-loop
-lay-four-requires c κs = ?
-
--- src/lib.rt:305:13
-add-end : tie.Need-add-end Inv-loop μ-loop
-add-end c = ?
-
--- src/lib.rt:285:5
-loop-less-3 : tie.Need-loop-less-3 Inv-loop μ-loop
-loop-less-3 c = ?
-
--- src/lib.rt:285:5
-loop-again-3 : tie.Need-loop-again-3 Inv-loop μ-loop
-loop-again-3 c = ?
-
--- src/lib.rt:285:5
-loop-less-4 : tie.Need-loop-less-4 Inv-loop μ-loop
-loop-less-4 c = ?
-
--- src/lib.rt:285:5
-loop-again-4 : tie.Need-loop-again-4 Inv-loop μ-loop
-loop-again-4 c = ?
-
--- src/lib.rt:260:1
+-- src/lib.rt:307:1
 same-length : tie.Need-same-length Inv-loop μ-loop
 same-length c = ?
 
--- src/lib.rt:260:1
+-- src/lib.rt:307:1
 returns-2 : tie.Need-returns-2 Inv-loop μ-loop
 returns-2 c = ?
 
@@ -177,20 +151,13 @@ lay-table-spec =
     event-requires
     size-requires
     table-size-requires
-    add-p
-    add-p-2
+    add-q
+    add-q-2
+    lay-entry-requires
+    start-after-requires
+    depth-after-requires
     add-j-2
-    add-depth
     loop-less
     loop-again
-    sub-depth
-    loop-less-2
-    loop-again-2
-    lay-four-requires
-    add-end
-    loop-less-3
-    loop-again-3
-    loop-less-4
-    loop-again-4
     same-length
     returns-2)
