@@ -94,8 +94,8 @@ tapes :
     ∷ ((E.BLOCK, 0) ∷ (E.ARRAY-CHARACTER, 3) ∷ (E.ITEM, 6) ∷ (E.VALUE, 8) ∷ (E.SINGLE-BYTE, 0) ∷ (E.ITEM, 12) ∷ (E.APPLIED, 14) ∷ (E.ARGUED, 16)
     ∷ (E.ARGUED + E.SUBSCRIPTED-INDEXED, 19) ∷ (E.COUNTED, 14) ∷ (E.APPLIED, 28) ∷ (E.ARGUED, 30) ∷ (E.COUNTED, 28) ∷ (E.TARGET + E.SUBSCRIPTED-INDEXED, 33) ∷ (E.FIRST, 41)
     ∷ (E.END-BLOCK, 0) ∷ [])
-    ∷ ((E.BLOCK, 0) ∷ (E.LISTED, 4) ∷ (E.CHOSEN, 2) ∷ (E.END-CHOICE, 1) ∷ (E.CALL, 7) ∷ (E.END-CHOICE, 1) ∷ (E.LISTED, 0) ∷ (E.CHOSEN, 10) ∷ (E.END-CASE, 9)
-    ∷ (E.END-CHOICE, 1) ∷ (E.TARGET, 15) ∷ (E.FIRST + E.NUMBER, 17) ∷ (E.END-CHOICE, 1) ∷ (E.END-CASE, 1) ∷ (E.END-BLOCK, 0) ∷ [])
+    ∷ ((E.BLOCK, 0) ∷ (E.LISTED, 4) ∷ (E.CHOSEN, 2) ∷ (E.END-CHOICE, 2) ∷ (E.CALL, 7) ∷ (E.END-CHOICE, 2) ∷ (E.LISTED, 0) ∷ (E.CHOSEN, 10) ∷ (E.END-CASE, 10)
+    ∷ (E.END-CHOICE, 2) ∷ (E.TARGET, 15) ∷ (E.FIRST + E.NUMBER, 17) ∷ (E.END-CHOICE, 2) ∷ (E.END-CASE, 2) ∷ (E.END-BLOCK, 0) ∷ [])
     ∷ [])
 unfolding sameBytes runLen numberFrom walk wordKind comment nameOrWord number begins sign lexeme nextStep nextToken readFrom tokensOf andThen look next want
     wantOne designatorOf operand condition terms signOf assignedTo assignmentOf numbers cellItem registerItem listOf typeOf cellsOf afterType declaration

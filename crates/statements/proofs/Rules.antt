@@ -17,12 +17,13 @@ use Rattle.grammar.specs.Events.{choicesCount}
 use Rattle.grammar.specs.Reader.{Result, ok, bad, Reader, andThen, look, next, want, refuse}
 use Rattle.grammar.specs.Grammar.{fuelled, openers, choicesOf, afterName, statementOf, itemsOf, ifOf, constructOf, statement, procedureOf}
 use Rattle.grammar.proofs.Tests.{real}
-use Rattle.readers.specs.Reads.{Kind}
+use Rattle.readers.specs.declared.tokens.Answer.{Answer}
+use Rattle.readers.specs.Reads.{Reads, Kind}
 use Rattle.phrases.specs.Parts.{headOf, caseHead, controlOf, limitOf, procedureHead}
 use Rattle.tape.specs.Events as E
 use Rattle.tape.specs.Tape.{event, tapeStatement, tapeChoices}
 use Rattle.readers.proofs.Choices.{among}
-use Rattle.readers.proofs.Reading.{pushed, put-before}
+use Rattle.readers.proofs.Reading.{pushed, put-before, along}
 use Rattle.statements.specs.Parts.{ifPart, whilePart, casePart, forPart}
 
 -- ── readers regrouped ──
@@ -49,9 +50,9 @@ module _ (inner : Reader Statement) (t : ℕ) (ks : List ℕ) (i : ℕ) where
   unfolding andThen
   while-parts = simp assoc
 
-  pub case-parts : andThen (caseHead ks i) (λ n j. andThen (fuelled (choicesOf inner) ks j) (λ xs o. ok (choose t n xs) o)) ≡ casePart inner t ks i
+  pub case-parts : andThen (caseHead ks i) (λ _ j. andThen (fuelled (choicesOf inner) ks j) (λ xs o. ok (choose t i xs) o)) ≡ casePart inner t ks i
   unfolding andThen
-  case-parts = simp assoc
+  case-parts = simp (assoc, its-number)
 
   pub for-parts : andThen (controlOf ks i) (λ a j. andThen (limitOf ks j) (λ l o. andThen (inner ks o) (λ s q. ok (for t a j l s) q))) ≡ forPart inner t ks i
   unfolding andThen
@@ -130,24 +131,35 @@ module _ (ks : List ℕ) (i : ℕ) {b : Bool} (e : b ≡ (eqb (getD ks i 0) K.NA
 
 -- ── the list of a CASE ──
 
--- the rest of a list, n of whose statements stand before the place q, with how many there are in all put at p
-abbrev pub Counted : (t p n q : ℕ) (now after : List ℕ) → Choices → ℕ → Type 0
-Counted t p n q now after xs v = (k : List ℕ) → take v after ++ k ≡ set (take q now ++ tapeChoices t xs (event E.END-CASE t ∷ k)) p (event E.LISTED (n + choicesCount xs))
+-- what a reader gives that always gives b
+given : {A B : Type 0} {P : B → ℕ → Type 0} {ks : List ℕ} {i : ℕ} {r : Answer} {b : B} (m : Result A) → Reads P ks i r (andThen m (λ _ j. ok b j)) → r .number ≡ 0 → P b (r .value)
+unfolding andThen
+given (ok a j) h e = h .tells .2
+given (bad n t) h e = absurd (let l = h .tells .2 in let g = h .tells .0 in omega arith)
+
+-- the name before the list is the token at which its head begins
+pub case-name : {P : ℕ → ℕ → Type 0} (ks : List ℕ) (i : ℕ) {r : Answer} → Reads P ks i r (caseHead ks i) → r .number ≡ 0 → P i (r .value)
+unfolding andThen
+case-name ks i h e = given (caseHead ks i) (along (simp (assoc, its-number)) h) e
+
+-- the rest of a list, c of whose statements stand before the place q, with how many there are in all put at p
+abbrev pub Counted : (n p c q : ℕ) (now after : List ℕ) → Choices → ℕ → Type 0
+Counted n p c q now after xs v = (k : List ℕ) → take v after ++ k ≡ set (take q now ++ tapeChoices n xs (event E.END-CASE n ∷ k)) p (event E.LISTED (c + choicesCount xs))
 
 -- the number put at p, the list being over
-pub count-over : (p n q : ℕ) (now k : List ℕ) → p < q → q ≤ length now → take q (set now p (event E.LISTED n)) ++ k ≡ set (take q now ++ k) p (event E.LISTED (n + 0))
-count-over p n q now k h l = rw (add-zero n) (put-before now p q (event E.LISTED n) k h l)
+pub count-over : (p c q : ℕ) (now k : List ℕ) → p < q → q ≤ length now → take q (set now p (event E.LISTED c)) ++ k ≡ set (take q now ++ k) p (event E.LISTED (c + 0))
+count-over p c q now k h l = rw (add-zero c) (put-before now p q (event E.LISTED c) k h l)
 
 -- one statement more before the rest
-pub count-one : (t p n : ℕ) (x : Statement) (xs : Choices) (now new k : List ℕ) → ((k : List ℕ) → new ++ k ≡ now ++ tapeStatement x (event E.END-CHOICE t ∷ k))
-    → set (new ++ tapeChoices t xs k) p (event E.LISTED (n + 1 + choicesCount xs)) ≡ set (now ++ tapeChoices t (choice x xs) k) p (event E.LISTED (n + choicesCount (choice x xs)))
+pub count-one : (n p c : ℕ) (x : Statement) (xs : Choices) (now new k : List ℕ) → ((k : List ℕ) → new ++ k ≡ now ++ tapeStatement x (event E.END-CHOICE n ∷ k))
+    → set (new ++ tapeChoices n xs k) p (event E.LISTED (c + 1 + choicesCount xs)) ≡ set (now ++ tapeChoices n (choice x xs) k) p (event E.LISTED (c + choicesCount (choice x xs)))
 unfolding tapeChoices
-count-one t p n x xs now new k e = let c : n + 1 + choicesCount xs ≡ n + (choicesCount xs + 1) = omega arith in rw (c, e (tapeChoices t xs k))
+count-one n p c x xs now new k e = let f : c + 1 + choicesCount xs ≡ c + (choicesCount xs + 1) = omega arith in rw (f, e (tapeChoices n xs k))
 
 -- the whole list, behind the register that chooses
-pub count-all : (t p n : ℕ) (xs : Choices) (before now k : List ℕ) → p < length before → ((k : List ℕ) → now ++ k ≡ take (p + 1) before ++ (event E.CHOSEN n ∷ k))
-    → set (now ++ tapeChoices t xs (event E.END-CASE t ∷ k)) p (event E.LISTED (0 + choicesCount xs)) ≡ take p before ++ tapeStatement (choose t n xs) k
+pub count-all : (t n p : ℕ) (xs : Choices) (before now k : List ℕ) → p < length before → ((k : List ℕ) → now ++ k ≡ take (p + 1) before ++ (event E.CHOSEN n ∷ k))
+    → set (now ++ tapeChoices n xs (event E.END-CASE n ∷ k)) p (event E.LISTED (0 + choicesCount xs)) ≡ take p before ++ tapeStatement (choose t n xs) k
 unfolding tapeStatement
-count-all t p n xs before now k h e =
-    rw (zero-add (choicesCount xs), e (tapeChoices t xs (event E.END-CASE t ∷ k)))
+count-all t n p xs before now k h e =
+    rw (zero-add (choicesCount xs), e (tapeChoices n xs (event E.END-CASE n ∷ k)))
     (sym (put-before before p (p + 1) (event E.LISTED (choicesCount xs)) _ (omega arith) (omega arith)) ∙ pushed before p (event E.LISTED (choicesCount xs)) h _)

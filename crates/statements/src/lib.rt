@@ -101,7 +101,8 @@ fn case_of(kinds: &[u8], i: usize, room: usize, tape: &mut [u32], p: usize) -> A
     requires { ⌜ Ready (now kinds) (now tape) i p × (i < length (now kinds)) ⌝ }
     ensures { λ r. ⌜ Wrote tapeStatement (now (kinds .entry)) i p (now (tape .entry)) (now (tape .exit)) r (casePart (G.statement room) i (now (kinds .entry)) (i + 1)) ⌝ }
 {
-    let h = case_head(kinds, i + 1, tape, p + 1);
+    let name = i + 1;
+    let h = case_head(kinds, name, tape, p + 1);
     if h.number != 0 {
         return h;
     }
@@ -117,13 +118,13 @@ fn case_of(kinds: &[u8], i: usize, room: usize, tape: &mut [u32], p: usize) -> A
         if semicolon.number != 0 {
             return semicolon;
         }
-        write(tape, s.value, tape::END_CHOICE, i);
+        write(tape, s.value, tape::END_CHOICE, name);
         at = semicolon.at;
         q = s.value + 1;
         n += 1;
     }
     put(tape, p, tape::LISTED, n);
-    write(tape, q, tape::END_CASE, i);
+    write(tape, q, tape::END_CASE, name);
     read(at + 1, q + 1)
 }
 

@@ -1,6 +1,6 @@
 -- The rules that hold statements meet their contracts: one recursion, whose measure is the room for constructs. Along a block, and along the list of a CASE, the
 -- invariant is that whatever reads the rest from where the loop stands reads the whole. Assumes nothing.
-use Rattle.statements.proofs.Rules.{if-parts, while-parts, case-parts, for-parts, no-construct, too-deep, construct, procedure-too-deep, procedure-parts, label-kinds, label-inside, item-is, else-inside, Counted, count-over, count-one, count-all}
+use Rattle.statements.proofs.Rules.{if-parts, while-parts, case-parts, for-parts, no-construct, too-deep, construct, procedure-too-deep, procedure-parts, label-kinds, label-inside, item-is, else-inside, Counted, count-over, count-one, case-name, count-all}
 use Rattle.readers.proofs.Choices.{among, is-token}
 use Rattle.statements.specs.Parts.{tapeBlock}
 use Rattle.phrases.specs.Parts.{tapeChosen}
@@ -422,17 +422,17 @@ body-loop-again-2 t c = turn (c .before .before .before .before .before .before 
     goes _ (c .before .before .wanted2 .ensures .read) (c .if6 .left) (λ u e. gives (T.procedure (d .name) (d .return) (d .body)) (λ b l k. l k ∙ w _) r))))
 
 abbrev case-of-Inv-loop : case-of-lts.InvT-loop
-case-of-Inv-loop kinds i room tape₀ p at₀ q₀ n₀ tape at q n =
-    Onward (Counted i p 0 q₀ tape₀) (Counted i p n q tape) (choicesOf (G.statement room)) kinds at₀ q₀ tape₀ tape at q × ((p < q) × (n ≤ at))
+case-of-Inv-loop kinds i room tape₀ p name at₀ q₀ n₀ tape at q n =
+    Onward (Counted name p 0 q₀ tape₀) (Counted name p n q tape) (choicesOf (G.statement room)) kinds at₀ q₀ tape₀ tape at q × ((p < q) × (n ≤ at))
 
 abbrev case-of-μ-loop : case-of-lts.MeasureT-loop
-case-of-μ-loop kinds i room tape₀ p at₀ q₀ n₀ tape at q n = length kinds - at
+case-of-μ-loop kinds i room tape₀ p name at₀ q₀ n₀ tape at q n = length kinds - at
+
+case-of-add-name : (t : ℕ) → case-of-lts.Need-add-name (case-of-calls t) (case-of-at t) case-of.Post case-of-Inv-loop case-of-μ-loop
+case-of-add-name t c = search needs
 
 case-of-add-case-head : (t : ℕ) → case-of-lts.Need-add-case-head (case-of-calls t) (case-of-at t) case-of.Post case-of-Inv-loop case-of-μ-loop
 case-of-add-case-head t c = search needs
-
-case-of-add-case-head-2 : (t : ℕ) → case-of-lts.Need-add-case-head-2 (case-of-calls t) (case-of-at t) case-of.Post case-of-Inv-loop case-of-μ-loop
-case-of-add-case-head-2 t c = search needs
 
 case-of-case-head-requires : (t : ℕ) → case-of-lts.Need-case-head-requires (case-of-calls t) (case-of-at t) case-of.Post case-of-Inv-loop case-of-μ-loop
 case-of-case-head-requires t c κs = search needs
@@ -560,7 +560,7 @@ case-of-loop-again t c =
       turn g (omega arith) (omega arith) (omega arith) (let a = s .kept .1 .1 .1 in let b = at-write .write .kept in omega arith) (λ f s after r.
           rw (ne-eqb _ _ (other (at-kind-at .kind-at .ensures .is) (at-if2 .if2 .taken))) (goes _ (at-statement .statement .ensures .read) (at-if3 .if3 .left) (λ x y.
           goes _ (at-wanted .wanted .ensures .read) (at-if4 .if4 .left) (λ u e. gives (T.choice x) (λ xs l k.
-          l k ∙ count-one (start .args .i) (start .args .p) (at-loop .loop .n) x xs (take (at-loop .loop .q) (at-loop .loop .tape))
+          l k ∙ count-one (start .args .i + 1) (start .args .p) (at-loop .loop .n) x xs (take (at-loop .loop .q) (at-loop .loop .tape))
           (take (at-statement .statement .result .value + 1) (at-write .write .last .0)) _ (λ k. at-write .write .ensures k ∙ y _)) r)))),
       (omega arith, omega arith),
     )
@@ -596,9 +596,9 @@ case-of-returns-4 t c =
     let start = at-head .before .before .before .before in
     record {
       read = since (omega arith) (along (case-parts (G.statement (start .args .room)) (start .args .i) _ _)
-          (goes _ (at-head .case-head .ensures .read) (at-if1 .if1 .left) (λ n w.
-          gives (T.choose (start .args .i) n) (λ xs l k. l k ∙ count-all (start .args .i) (start .args .p) n xs (now (start .args .tape))
-          (take (at-head .case-head .result .value) (at-head .case-head .last .1 .1 .0)) k (search needs) w)
+          (goes _ (at-head .case-head .ensures .read) (at-if1 .if1 .left) (λ _ _.
+          gives (T.choose (start .args .i) (start .args .i + 1)) (λ xs l k. l k ∙ count-all (start .args .i) (start .args .i + 1) (start .args .p) xs (now (start .args .tape))
+          (take (at-head .case-head .result .value) (at-head .case-head .last .1 .1 .0)) k (search needs) (case-name _ (start .args .i + 1) (at-head .case-head .ensures .read) (at-if1 .if1 .left)))
           (leaves (at-loop .loop .inv .0) (λ f. rw (same (at-kind-at .kind-at .ensures .is) (at-if2 .if2 .left))
           (done (c .read .ensures) (omega arith) (omega arith) (λ k. at-write2 .write2 .ensures k
           ∙ rw (at-put .put .ensures) (count-over (start .args .p) (at-loop .loop .n) (at-loop .loop .q) (at-loop .loop .tape) _ (at-loop .loop .inv .1 .0)
@@ -1445,8 +1445,8 @@ pub +body+case-of+for-do+if-then+items+procedure+statement+while-do-spec : {M : 
     case-of.Post
     case-of-Inv-loop
     case-of-μ-loop
+    (case-of-add-name t)
     (case-of-add-case-head t)
-    (case-of-add-case-head-2 t)
     (case-of-case-head-requires t)
     (case-of-same-length t)
     (case-of-returns t)
