@@ -241,7 +241,6 @@ module _ (f : Tables) (means under offsets : List ℕ) where
           ∙ (moved _ q1 _ _ g _ (omega arith)
           ∙ (place-statement x _ _ (h .2 .2 .1 .2 .1 .2 .1) q1 _ _ g _
           ∙ on E.END-FOR v _ 8 _ _ _ (λ q. set (marksOf f x q1 (set (set ms v q0) (v + 1) (controlOf f a))) (v - 1) q) g k (refl, refl, refl) refl (omega arith))))
-
       place-statement (choose t n xs) i j h p w ms g k =
           let c = choicesCount xs in
           let arms = coreChoices f xs in
@@ -330,11 +329,16 @@ module _ (f : Tables) (means under offsets : List ℕ) where
           → startsAlong 1 p p w (tapeChoices t xs (event E.END-CASE t ∷ k)) ≡ startsOf (coreChoices f xs) p
       unfolding starts placeEvent listOf formAt otherCodes codesOf codesBy writtenAfter writingAfter codeSize markAfter markClosing
       starts-choices t xs i j h p w k =
-          let q = p + armsSize (coreChoices f xs) in
-          let found = startsOf (coreChoices f xs) p in
-          sym (seen-is (tapeChoices t xs (event E.END-CASE t ∷ k)) p w [] 1 p [])
+          let arms = coreChoices f xs in
+          let q = p + armsSize arms in
+          let found = startsOf arms p in
+          let w′ : Writing = leavesChoices f means under offsets xs w in
+          let m1 = marksChoices f xs p [] in
+          let last : List ℕ = event E.END-CASE t ∷ k in
+          sym (seen-is (tapeChoices t xs last) p w [] 1 p [])
           ∙ (ap (λ (s : Walking). seenIn (s .list))
-          (place-choices t xs i j h p w [] (listing 1 p []) (event E.END-CASE t ∷ k)
-          ∙ (ap (λ (g : Listing). at q _ _ g (event E.END-CASE t ∷ k)) (own-arms (coreChoices f xs) p [])
-          ∙ stepped f means under offsets E.END-CASE t q 0 q _ _ _ (λ m. set (marksChoices f xs p []) (t + 1) m) (listing 1 q found) k refl (omega arith)))
-          ∙ (seen-is k q _ _ 0 q found ∙ (ap (λ (l : List ℕ). found ++ l) (none-behind k 0 q q _ refl) ∙ append-nil found)))
+          (place-choices t xs i j h p w [] (listing 1 p []) last
+          ∙ (ap (λ (g : Listing). at q w′ m1 g last) (own-arms arms p [])
+          ∙ stepped f means under offsets E.END-CASE t q 0 q w′ w′ m1 (λ m. set m1 (t + 1) m) (listing 1 q found) k refl (omega arith)))
+          ∙ (seen-is k q w′ (set m1 (t + 1) q) 0 q (found ++ [])
+          ∙ (ap (λ (l : List ℕ). (found ++ []) ++ l) (none-behind k 0 q q w′ refl) ∙ (append-nil (found ++ []) ∙ append-nil found))))

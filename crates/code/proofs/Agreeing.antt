@@ -442,7 +442,6 @@ module _ (marks : List ℕ) where
               agree-statement x pl (b .to) (q .m) p1 m2 (q .one)
                   (without-first (b .to) (q .m) (without-first (b .to) (q .m) (without-last (b .to) (q .m) k ce (omega arith)) cv (omega arith)) cr (omega arith)) ls ps n l,
             )
-
         agree-statement (choose t m xs) pl lo hi p ms ((w, (s, h)), (v, (u, g))) k ls ps n l =
             let e = s .is in
             let q = part-choices f m xs _ pl (s .to) hi (h, g) in

@@ -77,9 +77,34 @@ quiet-stays family to (listing d from seen) h = rw (h .0, h .1, h .2, append-nil
 
 unmarked-quiet : (family : ℕ) → member family unmarking ≡ true → Quiet family
 unmarked-quiet family q =
-    each Quiet unmarking
-    ((refl, refl, refl), ((refl, refl, refl), ((refl, refl, refl), ((refl, refl, refl), ((refl, refl, refl), ((refl, refl, refl), ((refl, refl, refl), ((refl, refl, refl), ((refl, refl, refl),
-    ((refl, refl, refl), ((refl, refl, refl), ((refl, refl, refl), tt))))))))))))
+    each Quiet unmarking (
+      (refl, refl, refl),
+      (
+        (refl, refl, refl),
+        (
+          (refl, refl, refl),
+          (
+            (refl, refl, refl),
+            (
+              (refl, refl, refl),
+              (
+                (refl, refl, refl),
+                (
+                  (refl, refl, refl),
+                  (
+                    (refl, refl, refl),
+                    (
+                      (refl, refl, refl),
+                      ((refl, refl, refl), ((refl, refl, refl), ((refl, refl, refl), tt))),
+                    ),
+                  ),
+                ),
+              ),
+            ),
+          ),
+        ),
+      ),
+    )
     family q
 
 -- addresses, and what is passed of a CASE

@@ -161,6 +161,6 @@ module _ (start room : ℕ) (kinds : List ℕ) (w : Wide) (b : Thin) where
   unfolding codeAlong codeSize codeFrom
   tape-end tape image₀ i at n n′ image literals image′ literals′ v c h e ec step′ stays one l =
       let q : codingOf (l .state) v ≡ codeRest start kinds w b (codingOf (laidOf 0 image₀ []) noWriting) tape =
-          ap (codeRest start kinds w b (codingOf (l .state) v)) (sym (drop-of-length-le tape {i = i} h)) ∙ l .leads in
+      ap (codeRest start kinds w b (codingOf (l .state) v)) (sym (drop-of-length-le tape {i = i} h)) ∙ l .leads in
       let g = holds-on start room at n n′ image literals image′ literals′ stopCode (l .state) e (rw ec at step′) stays one (l .holds) in
       subst (λ (x : Coding). Holds room (at + 2) n′ image′ literals′ (layCode start stopCode (x .laid))) q g

@@ -196,10 +196,10 @@ module _ (f : Tables) (means under offsets marks : List ℕ) where
           (by-address (λ (q : ℕ). rx (opcode addRow 1) (controlOf f a) (literal (valueAt f v)) ∷ branch always q ∷ []) (g .1)
           (by-address (λ (r : ℕ). rx (opcode addRow 1) r (literal (valueAt f v)) ∷ branch always (getD marks v 0) ∷ []) (g .2)
           (event-begins E.END-FOR v w″ k _ refl (end-for-adds f means under offsets marks v w″)))))))
-
       statement-begins (choose t n xs) i j h ls ps p g w k =
           let w′ : Writing = record { aim = Absent; sign = 0; arguments = choicesCount xs } in
           let q = p + headSize (choicesCount xs) in
+          let rest : List Code = along-it noWriting (tapeChoices n xs (event E.END-CASE n ∷ k)) in
           let count = arms-counted f xs in
           after-none (along-makes f means under offsets marks E.LISTED (choicesCount xs) w _ refl (listed-makes f means under offsets marks (choicesCount xs) w))
           (before-none
@@ -209,7 +209,7 @@ module _ (f : Tables) (means under offsets marks : List ℕ) where
             begins = along-case f means under offsets marks n q w′ _ (g .1) (chosen-makes f means under offsets marks table n p _ w′ (g .1) (g .0));
           })
           (then-begins {is = branchTable (coreChoices f xs) q}
-          (record { begins = ap (λ (l : List ℕ). map (branchCode always) l ++ _) (starts-choices f means under offsets table small held marks n xs _ _ (h .2 .2 .1 .1) q noWriting k) ∙ ap (λ (l : List Code). l ++ _) (sym (table-coded (coreChoices f xs) q)) })
+          (record { begins = ap (λ (l : List ℕ). map (branchCode always) l ++ rest) (starts-choices f means under offsets table small held marks n xs _ _ (h .2 .2 .1 .1) q noWriting k) ∙ ap (λ (l : List Code). l ++ rest) (sym (table-coded (coreChoices f xs) q)) })
           (choices-begins n xs _ _ (h .2 .2 .1 .1) ls ps q _ (g .0) (g .2) noWriting _))))
           (idle-event E.END-CASE refl n _ k))
 

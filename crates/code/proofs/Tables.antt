@@ -1,11 +1,10 @@
 -- A turn along the statements of a CASE, whose starts become its table, and the end. Assumes nothing.
-use mathlib.Core.Path.{_≡_, ap, sym, _∙_}
-use mathlib.Core.Bool.{true, false}
+use mathlib.Core.Path.{_≡_, refl, ap, sym, _∙_}
 use mathlib.Core.List.{List, [], _∷_, _++_, map, map-append}
 use Prim.Native.Nat.{ℕ, _+_, _/_, _%_, _<_, _≤_}
-use lib.Dec.{eqb}
 use lib.ListN.{length, getD, drop, drop-of-length-le}
-use borrow.Author.Tests.{ne-eqb}
+use borrow.Author.Tests.{eq-eqb, ne-eqb}
+use Rattle.base.specs.Walk.{fold}
 use Rattle.base.proofs.Parts.{drop-turn}
 use Rattle.tape.specs.Events as E
 use Rattle.tape.specs.Numbers.{familyAt}
@@ -40,13 +39,14 @@ module _ (kinds tape : List ℕ) (w : Wide) (b : Thin) where
       ∙ (sym (lay-append k entry (map (branchCode always) later) (laidOf end image seen)) ∙ (ap (λ (cs : List Code). layAll k cs (laidOf end image seen)) (sym both) ∙ e))
 
   -- behind the CASE, or the tape
-  pub table-end : (j d from p : ℕ) (v : Writing) (s : Laid) (k : ℕ) {whole : Laid} → eqb d 0 ≡ true → layAll k (rest d from p v (drop j tape)) s ≡ whole → s ≡ whole
+  pub table-end : (j d from p : ℕ) (v : Writing) (s : Laid) (k : ℕ) {whole : Laid} → d ≡ 0 → layAll k (rest d from p v (drop j tape)) s ≡ whole → s ≡ whole
+  unfolding starts fold
   table-end j d from p v s k h e = sym (ap (λ (l : List ℕ). layAll k (map (branchCode always) l) s) (none (drop j tape))) ∙ e
     where
       none : (es : List ℕ) → startsIn kinds w b d from p v es ≡ []
-      none [] = rw starts
-      none (x ∷ es) = rw (starts, h)
+      none [] = refl
+      none (x ∷ es) = rw (eq-eqb d 0 h)
 
   pub tape-over : (j d from p : ℕ) (v : Writing) (s : Laid) (k : ℕ) {whole : Laid} → length tape ≤ j → layAll k (rest d from p v (drop j tape)) s ≡ whole → s ≡ whole
-  unfolding starts
+  unfolding starts fold
   tape-over j d from p v s k h e = sym (ap (λ (es : List ℕ). layAll k (rest d from p v es) s) (drop-of-length-le tape {i = j} h)) ∙ e

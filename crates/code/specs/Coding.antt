@@ -74,7 +74,7 @@ module _ (start : ℕ) (kinds values found goes means under opens offsets marks 
       record {
         laid =
             layAll start (tableAlong kinds values found goes means under opens offsets marks op t v later)
-                (layAll start (listOf (codesBy kinds values found goes means under opens offsets marks op t (s .writing))) (s .laid));
+            (layAll start (listOf (codesBy kinds values found goes means under opens offsets marks op t (s .writing))) (s .laid));
         writing = v;
       }
 

@@ -67,7 +67,9 @@ fn mark_closing(family: u32, t: usize, to: usize, thin: &mut [u16])
         return;
     }
     let opens = (family == tape::PROCEDURE) | (family == tape::ELSE);
-    if opens | ((family == tape::END_IF) | ((family == tape::END_WHILE) | (family == tape::CHOSEN))) {
+    if opens
+        | ((family == tape::END_IF) | ((family == tape::END_WHILE) | (family == tape::CHOSEN)))
+    {
         put_mark(thin, t, to);
     }
 }
@@ -329,7 +331,10 @@ fn lay_table(
     let mut v = w;
     let mut end = at;
     let mut j = i + 1;
-    while (j < tape.len()) & (depth != 0) {
+    while j < tape.len() {
+        if depth == 0 {
+            return end;
+        }
         let e = tape[j];
         let op = tape::op(e);
         let family = tape::family(op);

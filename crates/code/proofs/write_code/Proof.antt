@@ -1,11 +1,10 @@
 -- `write_code` is the pass, and the last instruction. The invariant: what is laid holds of a state from which the rest of the tape leads to the whole; an event takes
--- eight bytes and two literals at most. Assumes nothing.
+-- so many bytes and literals at most. Assumes nothing.
 use Rattle.code.proofs.Holding.{Coded, holds-first, tape-turn, tape-end}
 use Rattle.code.specs.Places.{noWriting}
-use Rattle.code.specs.Coding.{laidOf, codingOf, codeStep}
+use Rattle.code.specs.Coding.{laidOf, codingOf, codeRest}
 use Rattle.ledger.specs.Book.{wideOf, thinOf}
 use Rattle.emit.specs.declared.Emitted.{Emitted}
-use Rattle.tape.specs.Pass.{pass}
 use lib.ListN.{length, drop}
 use native.Mathlib.Omega.{arith}
 use mathlib.Core.Path.{_≡_, refl, sym, ap, _∙_}
@@ -16,10 +15,10 @@ use Rattle.code.proofs.write_code.Statement.{statement}
 use Rattle.code.proofs.write_code.Tie as tie
 
 abbrev Inv-loop : tie.InvT-loop
-Inv-loop tape kinds wide thin start image₀ literals₀ at₀ w₀ i₀ image literals at w i = (i ≤ length tape) × (at .length ≤ 8 * i) × (at .literals ≤ 2 * i)
+Inv-loop tape kinds wide thin start image₀ literals₀ at₀ w₀ i₀ image literals at w i = (i ≤ length tape) × (at .length ≤ 268435480 * i) × (at .literals ≤ 6 * i)
     × (at .literals ≤ length literals₀) × (length image ≡ length image₀) × (length literals ≡ length literals₀)
     × Coded start (length literals₀) kinds (wideOf wide) (thinOf thin) (at .length) (at .literals) image literals w (drop i tape)
-    (pass (codeStep start kinds (wideOf wide) (thinOf thin)) (codingOf (laidOf 0 image₀ []) noWriting) tape)
+    (codeRest start kinds (wideOf wide) (thinOf thin) (codingOf (laidOf 0 image₀ []) noWriting) tape)
 
 abbrev μ-loop : tie.MeasureT-loop
 μ-loop tape kinds wide thin start image₀ literals₀ at₀ w₀ i₀ image literals at w i = length tape - i
@@ -69,15 +68,26 @@ lay-codes-requires c κs =
       omega (arith, l .1, n .0),
     )
 
+lay-table-requires : tie.Need-lay-table-requires Inv-loop μ-loop
+lay-table-requires c κs =
+    let at-lay-codes = c .before .before .before .before .before .before in
+    let at-loop-test = c .before .before .before .before .before .before .before .before .before .before .before .before .before in
+    let at-loop = at-loop-test .before in
+    let start = at-loop .before .before .before .before .before .before .before in
+    let h = at-loop-test .loop-test .taken in
+    let n = start .pre in
+    (h, n .0, omega (arith, at-loop .loop .inv .1, at-lay-codes .lay-codes .ensures .3, n .0))
+
 add-i : tie.Need-add-i Inv-loop μ-loop
-add-i c = search needs
+add-i c = let h = c .before .before .before .before .before .before .before .before .before .before .before .before .before .before .before .before .loop-test .taken in let n = c .before .before .before .before .before .before .before .before .before .before .before .before .before .before .before .before .before .before .before .before .before .before .before .before .pre in omega (arith, n .0)
 
 loop-less : tie.Need-loop-less Inv-loop μ-loop
 loop-less c = search needs
 
 loop-again : tie.Need-loop-again Inv-loop μ-loop
 loop-again c =
-    let at-lay-codes = c .before .before .before .before .before in
+    let at-lay-table = c .before .before in
+    let at-lay-codes = at-lay-table .before .before .before .before .before .before .before in
     let at-event = at-lay-codes .before .before .before in
     let at-token = at-event .before in
     let at-op = at-token .before in
@@ -92,15 +102,17 @@ loop-again c =
     let codes = ap (λ (e : Emitted). e .codes) (at-event .event .ensures) in
     let written = ap (λ (e : Emitted). e .writing) (at-event .event .ensures) in
     let laid = at-lay-codes .lay-codes in
+    let table = at-lay-table .lay-table in
+    let n = start .pre in
     let len : length (l .literals) ≡ length (a .literals .now) = l .inv .5 in (
       omega arith,
-      omega (arith, l .inv .1, laid .ensures .3),
+      omega (arith, l .inv .1, laid .ensures .3, table .ensures .1, n .0),
       omega (arith, l .inv .2, laid .ensures .1),
       omega (arith, len, laid .ensures .2),
-      laid .kept .0 ∙ l .inv .4,
+      table .kept .1 .1 .1 .1 .1 .1 .0 ∙ (laid .kept .0 ∙ l .inv .4),
       laid .kept .1 .0 ∙ len,
-      tape-turn (a .start) (length (a .literals .now)) (a .kinds .now) (wideOf (a .wide .now)) (thinOf (a .thin .now)) (a .tape .now) (l .i) (op .result) (t .result) _ _ _ _ _ _ _ _
-          (at-event .event .result .codes) (l .w) _ _ h (op .ensures .0) (t .ensures .0) codes written len (laid .ensures .0) (l .inv .6),
+      tape-turn (a .start) (length (a .literals .now)) (a .kinds .now) (wideOf (a .wide .now)) (thinOf (a .thin .now)) (a .tape .now) (l .i) (op .result) (t .result) _ _ _ _ _ _ _ _ _ _
+          (at-event .event .result .codes) (l .w) _ _ h (op .ensures .0) (t .ensures .0) codes written len (laid .ensures .0) (table .ensures .0) (l .inv .6),
     )
 
 stop-requires : tie.Need-stop-requires Inv-loop μ-loop
@@ -158,6 +170,7 @@ write-code-spec =
     token-requires
     event-requires
     lay-codes-requires
+    lay-table-requires
     add-i
     loop-less
     loop-again
