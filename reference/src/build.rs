@@ -523,6 +523,13 @@ impl<'a> Builder<'a> {
         }
     }
 
+    /// A CASE with its `;`.
+    pub fn case_statement(&mut self) {
+        self.statements = 4;
+        self.case();
+        self.put(";");
+    }
+
     /// A CASE, its register mostly set just before, in a block of the two, to a number near the count.
     fn case(&mut self) {
         let count = match self.random.below(40) {
@@ -537,7 +544,10 @@ impl<'a> Builder<'a> {
         let (name, register) = self.register(|register, protected| register != 0 && protected & only(register) == 0);
         self.write(only(register));
         if set_before {
-            let value = (count + self.random.below(4)).wrapping_sub(self.random.below(count + 2)) as u32;
+            let value = match self.random.below(5) {
+                0 => count.wrapping_add(self.random.below(4)).wrapping_sub(self.random.below(count + 3)) as u32,
+                _ => self.random.range(count.min(1), count) as u32,
+            };
             let token = number(self.random, value);
             [&name, ":=", &token, ";"].iter().for_each(|token| self.put(token));
             self.literals.insert(value);

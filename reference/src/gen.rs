@@ -670,8 +670,9 @@ pub fn right_cases(random: &mut Random) -> Vec<u8> {
 
 fn tokens_with_cases(random: &mut Random, careless: usize) -> Vec<String> {
     let statements = size(random);
-    let mut builder = Builder::new(random, statements, careless).with_cases(50);
-    builder.program(|_| {});
+    let at_the_end = random.below(3);
+    let mut builder = Builder::new(random, statements, careless).with_cases(40);
+    builder.program(|builder| (0..at_the_end).for_each(|_| builder.case_statement()));
     builder.tokens
 }
 

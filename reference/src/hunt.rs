@@ -328,7 +328,11 @@ impl Hunter<'_> {
             None => return self.put("NULL"),
         };
         let count = self.random.below(5);
-        let value = if self.random.chance(1, 8) { count + 1 } else { self.random.below(count + 1) };
+        let value = if self.random.chance(1, 5) {
+            self.random.below(count + 2)
+        } else {
+            self.random.range(count.min(1), count)
+        };
         let set_before = self.protected() & only(register) == 0 && self.random.chance(2, 3);
         if set_before {
             self.put(&format!("BEGIN R{register:X} := {value} ;"));
