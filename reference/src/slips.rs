@@ -25,7 +25,8 @@ pub enum Slip {
     LessAsTen,
     /// "IC, LA and LTR write the first, so the protected rule counts it" left out.
     FunctionsForgotten,
-    /// "The case register counts as written" left out.
+    /// "The case register counts as written" left out. Nothing can go wrong by it, only too much is accepted: what is protected holds a
+    /// base, 4,096 or more, or a link, which is negative, and a CASE leaves both.
     CasesForgotten,
     /// The branch table is entered one entry too far, as if "Numbering starts at 1" said 0.
     CaseFromZero,

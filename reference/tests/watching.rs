@@ -238,6 +238,7 @@ fn wrong_translators_are_cried_out_for_and_nothing_else_is() {
         let trial = try_slip(slip, Texts::Hunted, 17, 1_000);
         assert!(trial.false_cries.is_empty(), "{}", trial.report("slip"));
         assert!(trial.wrong > 0, "{slip:?}: {}", trial.report("slip"));
-        assert_eq!(trial.cried() == 0, slip == Slip::NestedForgotten, "{slip:?}: {}", trial.report("slip"));
+        let harmless = matches!(slip, Slip::NestedForgotten | Slip::CasesForgotten);
+        assert_eq!(trial.cried() == 0, harmless, "{slip:?}: {}", trial.report("slip"));
     }
 }
