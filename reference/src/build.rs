@@ -11,7 +11,7 @@ use crate::spell::{any_value, number};
 use std::collections::HashSet;
 
 /// Names to be declared.
-const POOL: [&str; 52] = [
+const POOL: [&str; 53] = [
     "A",
     "B",
     "C",
@@ -44,7 +44,8 @@ const POOL: [&str; 52] = [
     "COUNT",
     "TOTAL",
     "REAL",
-    "CASE",
+    "CASES",
+    "OFF",
     "COMMENTS",
     "BEGINS",
     "ENDS",
@@ -67,6 +68,9 @@ const POOL: [&str; 52] = [
 ];
 
 const LABEL_POOL: [&str; 10] = ["L", "M", "N", "L1", "A", "R1", "LOOPSTARTS", "LOOPSTARTSX", "OUT", "P"];
+
+/// No CASE is begun behind so many bytes of code, so that a program stays in its segment.
+const CASE_ROOM: usize = 2500;
 
 #[derive(Clone, Copy, PartialEq)]
 pub enum Thing {
@@ -116,6 +120,8 @@ pub struct Builder<'a> {
     /// Statements that may still be written.
     statements: usize,
     nesting: usize,
+    /// In how many of 100 simple statements a CASE is written.
+    cases: usize,
     /// In how many of 1,000 choices a rule is left aside.
     careless: usize,
 }
@@ -148,8 +154,14 @@ impl<'a> Builder<'a> {
             literals: HashSet::new(),
             statements,
             nesting: 0,
+            cases: 8,
             careless,
         }
+    }
+
+    /// The same with more of CASE.
+    pub fn with_cases(self, cases: usize) -> Self {
+        Builder { cases, ..self }
     }
 
     /// A whole program; `extra` may write further statements at its end.
@@ -492,6 +504,10 @@ impl<'a> Builder<'a> {
     }
 
     fn simple(&mut self) {
+        let cases = self.cases;
+        if self.nesting < 60 && self.statements > 0 && self.length < CASE_ROOM && self.random.chance(cases, 100) {
+            return self.case();
+        }
         if self.random.chance(1, 4) {
             return self.function();
         }
@@ -504,6 +520,56 @@ impl<'a> Builder<'a> {
             15..=16 if self.nesting < 62 && self.statements > 0 => self.block(),
             17..=18 => self.goto(),
             _ => self.put("NULL"),
+        }
+    }
+
+    /// A CASE with its `;`.
+    pub fn case_statement(&mut self) {
+        self.statements = 4;
+        self.case();
+        self.put(";");
+    }
+
+    /// A CASE, its register mostly set just before, in a block of the two, to a number near the count.
+    fn case(&mut self) {
+        let count = match self.random.below(40) {
+            0 => self.random.range(6, 40),
+            1..=4 => 0,
+            _ => self.random.range(1, 4),
+        };
+        let set_before = self.random.chance(2, 3);
+        if set_before {
+            self.open_block();
+        }
+        let (name, register) = self.register(|register, protected| register != 0 && protected & only(register) == 0);
+        self.write(only(register));
+        if set_before {
+            let value = match self.random.below(5) {
+                0 => count.wrapping_add(self.random.below(4)).wrapping_sub(self.random.below(count + 3)) as u32,
+                _ => self.random.range(count.min(1), count) as u32,
+            };
+            let token = number(self.random, value);
+            [&name, ":=", &token, ";"].iter().for_each(|token| self.put(token));
+            self.literals.insert(value);
+            self.length += 4;
+        }
+        ["CASE", &name, "OF", "BEGIN"].iter().for_each(|token| self.put(token));
+        self.nesting += 1;
+        for _ in 0..count {
+            if count < 6 {
+                self.statement();
+            } else {
+                self.put("NULL");
+            }
+            self.put(";");
+        }
+        self.nesting -= 1;
+        self.put("END");
+        self.literals.insert(count as u32);
+        self.length += 22 + 8 * count;
+        if set_before {
+            self.put(";");
+            self.close_block();
         }
     }
 

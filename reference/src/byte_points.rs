@@ -35,7 +35,7 @@ impl Run {
     }
 }
 
-const fn run(
+pub(crate) const fn run(
     name: &'static str,
     text: &'static [u8],
     regs: &'static [(usize, u32)],
@@ -48,7 +48,8 @@ const fn run(
 pub const BYTE_POINTS: &[Point] = &[
     point("B1", b"BEGIN INTEGER BYTE; END @", 4, 14, ""),
     point("B1", b"BEGIN BYTE: NULL; END @", 4, 10, ""),
-    point("B1", b"BEGIN INTEGER BYTES, CHARACTERS, CASE, OF; END @", 0, 0, ""),
+    point("B1", b"BEGIN INTEGER BYTES, CHARACTERS; END @", 0, 0, ""),
+    point("B1", b"BEGIN INTEGER BYTES, CHARACTERS, CASE, OF; END @", 4, 33, ""),
     point("B2", b"BEGIN INTEGER SET; SET := R1; END @", 0, 0, "5010E010 0A00"),
     point("B2", b"BEGIN PROCEDURE TEST(R5); NULL; TEST; END @", 0, 0, "47F0F006 07F5 4550F004 0A00"),
     point("B2", b"BEGIN INTEGER REGISTER LTR(3); LTR := R1; END @", 0, 0, "1831 0A00"),

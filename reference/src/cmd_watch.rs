@@ -5,7 +5,7 @@ use crate::watching::{campaign, reference_runner, reference_translator, try_chan
 use std::io;
 
 pub const USAGE: &str =
-    "  reference watch generated|hunted SEED COUNT   watched runs of accepted texts, by the reference's runner
+    "  reference watch generated|hunted|cases SEED COUNT   watched runs of accepted texts, by the reference's runner
   reference watch-changed SEED COUNT   the watcher on object texts changed by one byte
   reference watch-slips SEED COUNT   the watcher on wrong translators";
 

@@ -32,8 +32,9 @@ pub enum Instruction {
     ShiftByNumber { opcode: u8, r: u8, amount: u8 },
     /// "or by register `89 r0 s0 00`"
     ShiftByRegister { opcode: u8, r: u8, s: u8 },
-    /// "Branch `47 m0` to a displacement from 15", "Call: `45 r0` to the body."
-    Branch { opcode: u8, field: u8, to: Point },
+    /// "Branch `47 m0` to a displacement from 15", "Call: `45 r0` to the body."; with an index only that of CASE, "`47 Fr` indexed by
+    /// r".
+    Branch { opcode: u8, field: u8, index: u8, to: Point },
 }
 
 pub struct Code {
@@ -85,6 +86,8 @@ const STORE: Opcodes = opcodes(NONE, 0x50, 0x40);
 const BRANCH: u8 = 0x47;
 const CALL: u8 = 0x45;
 const RETURN: u8 = 0x07;
+const LTR: u8 = 0x12;
+const SHLL: u8 = 0x89;
 /// "always is mask 15"
 const ALWAYS: u8 = 15;
 
@@ -123,7 +126,7 @@ fn sign_opcode(sign: SignKind) -> u8 {
 /// "Shifts 89, 88, 8B, 8A for SHLL, SHRL, SHLA, SHRA"
 fn shift_opcode(operator: Kind) -> Option<u8> {
     match operator {
-        Kind::Shll => Some(0x89),
+        Kind::Shll => Some(SHLL),
         Kind::Shrl => Some(0x88),
         Kind::Shla => Some(0x8B),
         Kind::Shra => Some(0x8A),
@@ -187,7 +190,7 @@ impl Writer<'_> {
     }
 
     fn branch(&mut self, mask: u8, to: Point) {
-        self.add(Instruction::Branch { opcode: BRANCH, field: mask, to });
+        self.add(Instruction::Branch { opcode: BRANCH, field: mask, index: 0, to });
     }
 
     /// A point that is still to be set.
@@ -285,6 +288,7 @@ impl Writer<'_> {
             Statement::Block(block) => self.block(block),
             Statement::Goto(name) => self.goto(*name),
             Statement::Null => {}
+            Statement::Case(case) => self.case(case),
             Statement::If { condition, then, otherwise, .. } => {
                 self.if_statement(condition, then, otherwise.as_deref())
             }
@@ -299,7 +303,7 @@ impl Writer<'_> {
             (self.findings.found[name], self.meaning(name))
         {
             let to = self.entry(token);
-            self.add(Instruction::Branch { opcode: CALL, field: register, to });
+            self.add(Instruction::Branch { opcode: CALL, field: register, index: 0, to });
         }
     }
 
@@ -340,6 +344,32 @@ impl Writer<'_> {
             let to = self.entry(label);
             self.branch(ALWAYS, to);
         }
+    }
+
+    /// "compare with the count as a literal, branch mask 2 to the end; LTR, branch mask 12 to the end; SHLL by 2; `47 Fr` indexed by
+    /// r at four bytes before the branch table; the table, one always-branch each; the statements, each followed by an
+    /// always-branch to the end."
+    fn case(&mut self, case: &Case) {
+        let r = self.register_of(case.register);
+        let end = self.new_point();
+        let address = Address::Literal(case.statements.len() as u32);
+        self.add(Instruction::Storage { opcode: COMPARE.integer, r, index: 0, address });
+        self.branch(2, end);
+        self.registers(LTR, r, r);
+        self.branch(if self.findings.slip == Slip::CaseOfZero { 4 } else { 12 }, end);
+        self.add(Instruction::ShiftByNumber { opcode: SHLL, r, amount: 2 });
+        let before_table = self.new_point();
+        self.add(Instruction::Branch { opcode: BRANCH, field: ALWAYS, index: r, to: before_table });
+        let before = if self.findings.slip == Slip::CaseFromZero { 0 } else { 4 };
+        self.points[before_table] = self.length - before;
+        let entries: Vec<Point> = case.statements.iter().map(|_| self.new_point()).collect();
+        entries.iter().for_each(|&entry| self.branch(ALWAYS, entry));
+        for (statement, entry) in case.statements.iter().zip(entries) {
+            self.set(entry);
+            self.statement(statement);
+            self.branch(ALWAYS, end);
+        }
+        self.set(end);
     }
 
     /// "IF and WHILE branch on false, past the true part (and its always-branch) or past the loop. With ELSE, the true
@@ -532,8 +562,8 @@ pub fn program_bytes(code: &Code, literals: &[u32], first_literal: usize) -> Vec
             }
             Instruction::ShiftByNumber { opcode, r, amount } => bytes.extend([opcode, r * 16, 0, amount]),
             Instruction::ShiftByRegister { opcode, r, s } => bytes.extend([opcode, r * 16, s * 16, 0]),
-            Instruction::Branch { opcode, field, to } => {
-                bytes.extend(four_bytes(opcode, field, 0, PROGRAM_BASE, code.points[to]));
+            Instruction::Branch { opcode, field, index, to } => {
+                bytes.extend(four_bytes(opcode, field, index, PROGRAM_BASE, code.points[to]));
             }
         }
     }

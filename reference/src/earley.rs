@@ -40,9 +40,15 @@ pub const BYTE_RULES: [(&str, &str); 2] = [
     ),
 ];
 
+/// And 3/13: "Add CASE register OF BEGIN {statement `;`} END as a simple statement". Which names are registers no grammar knows.
+pub const CASE_RULES: [(&str, &str); 1] = [(
+    "simple = assignment | use | block | GOTO name | NULL",
+    "simple = assignment | use | block | GOTO name | NULL | case case = CASE name OF BEGIN { statement ; } END",
+)];
+
 /// The grammar in force.
 pub fn grammar() -> String {
-    BYTE_RULES.iter().fold(DOCUMENT_01.to_string(), |grammar, (before, now)| {
+    BYTE_RULES.iter().chain(&CASE_RULES).fold(DOCUMENT_01.to_string(), |grammar, (before, now)| {
         assert!(grammar.contains(before));
         grammar.replace(before, now)
     })

@@ -61,6 +61,7 @@ fn inside(statement: &Statement, each: &mut dyn FnMut(usize, Type)) {
             otherwise.iter().for_each(|other| inside(other, each));
         }
         Statement::While { body, .. } | Statement::For { body, .. } => inside(body, each),
+        Statement::Case(case) => case.statements.iter().for_each(|statement| inside(statement, each)),
         _ => {}
     }
 }
@@ -277,7 +278,7 @@ pub fn files(dir: &Path) -> io::Result<Vec<(String, Vec<u8>)>> {
     for (name, example) in entries.iter().flat_map(Entry::files) {
         files.push((format!("refusals/{name}"), example.text()));
     }
-    for text in ["datum", "magic", "search", "sheet"] {
+    for text in ["datum", "legs", "magic", "search", "sheet"] {
         let source = std::fs::read(dir.join(format!("{text}.pl360")))?;
         files.push((format!("{text}.object"), translate(&source, None).object));
     }

@@ -18,6 +18,9 @@ fn any_text(random: &mut Random) -> Vec<u8> {
     if random.chance(1, 10) {
         return rows(random);
     }
+    if random.chance(1, 12) {
+        return cases(random);
+    }
     match random.below(1000) {
         0..=314 => right_text(random),
         315..=339 => cut_short(random),
@@ -258,15 +261,16 @@ fn nesting(random: &mut Random) -> Vec<u8> {
     let mut closing = vec!["END @"];
     let mut may_declare = true;
     for _ in 1..depth {
-        let (opening, close, declares) = match random.below(if may_declare { 6 } else { 5 }) {
+        let (opening, close, declares) = match random.below(if may_declare { 7 } else { 6 }) {
             0 => ("IF = THEN", "", false),
             1 => ("IF R1 < 5 THEN NULL ELSE", "", false),
             2 => ("WHILE > DO", "", false),
             3 => ("FOR R1 := 1 STEP 1 UNTIL 2 DO", "", false),
             4 => ("BEGIN", "END", true),
+            5 => ("CASE R1 OF BEGIN", "END", false),
             _ => ("PROCEDURE P ( R5 ) ;", "", false),
         };
-        // A statement directly in a block needs its `;`, so does a procedure.
+        // A statement directly in a block or in a CASE needs its `;`, so does a procedure.
         let before = closing.last().copied().unwrap_or("");
         if before.starts_with("END") {
             closing.push(";");
@@ -275,8 +279,8 @@ fn nesting(random: &mut Random) -> Vec<u8> {
         may_declare = declares;
         tokens.extend(opening.split(' ').map(str::to_string));
     }
-    let innermost_is_block = matches!(closing.last(), Some(close) if close.starts_with("END"));
-    if !innermost_is_block {
+    let may_be_empty = matches!(closing.last(), Some(close) if close.starts_with("END"));
+    if !may_be_empty {
         tokens.push("NULL".to_string());
     }
     for close in closing.iter().rev() {
@@ -411,14 +415,20 @@ fn full_segment(random: &mut Random) -> Vec<u8> {
     text(random, &tokens)
 }
 
-/// A program of about 4,096 bytes of code.
+/// A program of about 4,096 bytes of code, all but a few of them a CASE of NULLs or a row of operators.
 fn long_program(random: &mut Random) -> Vec<u8> {
     let wanted = *random.of(&[4092, 4094, 4096, 4096, 4098, 4098, 4098, 4100, 5000]);
     let statements = size(random);
     let mut builder = Builder::new(random, statements, 0);
     builder.program(|builder| {
         let (first, by) = *builder.random.of(&[("R1", "+R1"), ("R3", "-R2"), ("R8", "XOR R1")]);
-        let rest = wanted - builder.length.min(wanted);
+        let mut rest = wanted - builder.length.min(wanted);
+        if rest > 100 && builder.random.chance(1, 3) {
+            let statements = (rest - 22) / 8 - builder.random.below(3);
+            rest -= 22 + 8 * statements;
+            let phrase = format!("CASE {first} OF BEGIN {} END ;", "NULL ; ".repeat(statements));
+            phrase.split_ascii_whitespace().for_each(|token| builder.put(token));
+        }
         if rest == 0 {
             return;
         }
@@ -450,6 +460,9 @@ fn many_literals(random: &mut Random) -> Vec<u8> {
     for value in values {
         let token = number(random, value);
         let part = match random.below(4) {
+            0 if value == 5 || value == 82 => {
+                format!("; CASE R2 OF BEGIN {} END ; R1 := R1 ", "NULL ; ".repeat(value as usize))
+            }
             0 => format!("; IF R2 < {token} THEN NULL ; R1 := R1 "),
             1 => format!("; FOR R2 := R3 STEP {token} UNTIL R4 DO R6 := R7 ; R1 := R1 "),
             _ => format!("{} {token} ", random.of(&["+", "-", "++", "AND", "*"])),
@@ -537,7 +550,13 @@ fn written_somehow(random: &mut Random, callable: usize, depth: usize) -> String
         let (name, second) = *random.of(&[("IC", "B"), ("LA", "B"), ("LTR", "R1"), ("STC", "B"), ("LTR", "RE")]);
         return format!("{name} ( {register} ) ( {second} )");
     }
-    match random.below(11) {
+    match random.below(12) {
+        11 if depth > 0 => {
+            let parts: Vec<String> =
+                (0..random.below(3)).map(|_| written_somehow(random, callable, depth - 1)).collect();
+            let list: String = parts.iter().map(|part| format!("{part} ; ")).collect();
+            format!("CASE {register} OF BEGIN {list}END")
+        }
         0 => format!("{register} := R1"),
         1 => format!("BEGIN SEGMENT BASE {register} ; END"),
         2 => "R7 := R1 * R2".to_string(),
@@ -641,6 +660,90 @@ fn any_row(random: &mut Random) -> String {
     }
     let behind = one_of(random, ";|;|;|;|:= R1 ;|:= 5 ;|:= R1 + R2 ;|:|+ R1 ;|( ) ;|, R1 ;|R1 ;");
     format!("{row} {behind} ")
+}
+
+/// Accepted texts in which CASE stands at many places, inside all constructs and around all.
+pub fn right_cases(random: &mut Random) -> Vec<u8> {
+    let tokens = tokens_with_cases(random, 0);
+    text(random, &tokens)
+}
+
+fn tokens_with_cases(random: &mut Random, careless: usize) -> Vec<String> {
+    let statements = size(random);
+    let at_the_end = random.below(3);
+    let mut builder = Builder::new(random, statements, careless).with_cases(40);
+    builder.program(|builder| (0..at_the_end).for_each(|_| builder.case_statement()));
+    builder.tokens
+}
+
+/// What stands before CASE statements that are nearly right.
+const BEFORE_CASES: &str = "BEGIN INTEGER I ; ARRAY ( 4 ) BYTE A ; INTEGER REGISTER Z ( 0 ) , E ( 14 ) , Q ( 3 ) ; \
+    PROCEDURE P ( R5 ) ; CASE R7 OF BEGIN NULL ; END ;";
+
+/// What may stand where the case register belongs: one that fits, one that is protected there, 0, what is no register, no name.
+const NEARLY_REGISTERS: &str = "R1|R1|R2|R9|RD|Q|R0|Z|RE|RF|E|R5|R7|RC|I|A|P|LTR|IC|X|5|_1|A ( 1 )|R1 ( 4 )|A ( R1 )";
+
+/// What may stand in a CASE: statements of every sort, and what is none.
+const IN_CASES: &str = "NULL|NULL|R1 := R2|R2 := 7|Q := Q + 1|P|I := R1|SET ( A )|IC ( R1 ) ( A ( R2 ) )|BEGIN END|\
+    BEGIN NULL ; NULL ; END|BEGIN INTEGER B ; L : B := R1 ; END|GOTO L|IF = THEN NULL ELSE R3 := 1|IF R1 < 5 THEN P|\
+    WHILE < DO NULL|FOR R2 := 1 STEP 1 UNTIL 2 DO NULL|X|RE := 1|P ( R1 )";
+
+const NO_STATEMENTS: &str =
+    "L : NULL|INTEGER B|SEGMENT BASE RB|PROCEDURE N ( R6 ) ; NULL|NULL NULL|; NULL|END|ELSE NULL|5|OF|CASE";
+
+/// A CASE of any register and statements, `depth` deep.
+fn near_case(random: &mut Random, depth: usize) -> String {
+    let mut list = String::new();
+    for _ in 0..random.below(4) {
+        let statement = match random.below(20) {
+            0..=3 if depth > 0 => near_case(random, depth - 1),
+            4 if depth > 0 => format!("IF = THEN {} ELSE NULL", near_case(random, depth - 1)),
+            5 if depth > 0 => format!("WHILE > DO {}", near_case(random, depth - 1)),
+            6 if random.chance(1, 8) => one_of(random, NO_STATEMENTS).to_string(),
+            _ => one_of(random, IN_CASES).to_string(),
+        };
+        list += &statement;
+        list += if random.chance(1, 60) { " " } else { " ; " };
+    }
+    let register =
+        if random.chance(2, 3) { *random.of(&["R1", "R2", "R9", "Q"]) } else { one_of(random, NEARLY_REGISTERS) };
+    let (of, begin, end) = match random.below(60) {
+        0 => ("", "BEGIN", "END"),
+        1 => ("OF", "", "END"),
+        2 => ("DO", "BEGIN", "END"),
+        3 => ("OF", "BEGIN", ""),
+        4 => ("OF OF", "BEGIN", "END"),
+        _ => ("OF", "BEGIN", "END"),
+    };
+    format!("CASE {register} {of} {begin} {list}{end}")
+}
+
+/// Texts of CASE statements: right, careless and nearly right ones, in blocks, in procedures that write through calls, behind bases,
+/// and what is no CASE.
+pub fn cases(random: &mut Random) -> Vec<u8> {
+    let mut tokens = match random.below(8) {
+        0..=2 => tokens_with_cases(random, 0),
+        3 => tokens_with_cases(random, 60),
+        _ => {
+            let mut phrase = format!("{BEFORE_CASES} ");
+            match random.below(4) {
+                0 => phrase += &format!("PROCEDURE S ( R{:X} ) ; {} ; ", random.range(5, 8), near_case(random, 1)),
+                1 => phrase += &format!("SEGMENT BASE {} ; ", random.of(&["RC", "R7"])),
+                _ => {}
+            }
+            for _ in 0..random.range(1, 3) {
+                phrase += &format!("{} ; ", near_case(random, 2));
+            }
+            phrase += *random.of(&["L : END @", "L : P ; END @", "END @"]);
+            phrase.split_ascii_whitespace().map(str::to_string).collect()
+        }
+    };
+    match random.below(10) {
+        0 => disturb(random, &mut tokens),
+        1 => replace_alike(random, &mut tokens),
+        _ => {}
+    }
+    text(random, &tokens)
 }
 
 /// A few bytes only.

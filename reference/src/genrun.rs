@@ -94,7 +94,8 @@ fn translated(random: &mut Random) -> Vec<u8> {
 
 fn made(random: &mut Random) -> Vec<u8> {
     let segments = segments(random);
-    let program = match random.below(20) {
+    let program = match random.below(22) {
+        20..=21 => tabled(random, &segments),
         0..=7 => straight(random, &segments),
         8..=13 => looping(random, &segments),
         14..=16 => calling(random, &segments),
@@ -237,6 +238,41 @@ fn calling(random: &mut Random, segments: &[DataSegment]) -> Vec<u8> {
         if random.chance(1, 2) {
             program.push(plain(random, segments));
         }
+    }
+    finish(random, &mut program);
+    program.concat()
+}
+
+/// A branch by an index into a table of branches, as a CASE becomes, behind its tests or without them.
+fn tabled(random: &mut Random, segments: &[DataSegment]) -> Vec<u8> {
+    let register = random.range(8, 11) as u8;
+    let list: Vec<Vec<Vec<u8>>> =
+        (0..random.range(0, 5)).map(|_| (0..random.below(3)).map(|_| plain(random, segments)).collect()).collect();
+    let by_number = random.chance(1, 2);
+    let before: u16 = if by_number { 18 } else { 4 };
+    let mut starts = vec![before + 4 * list.len() as u16];
+    for statement in &list {
+        starts.push(starts[starts.len() - 1] + size(statement) + 4);
+    }
+    let end = starts[list.len()];
+    let mut program = Vec::new();
+    if by_number {
+        // Most indexes are multiples of 4: a quarter of one is a number.
+        program.push(four(0x88, register, 0, 0, 2));
+        program.push(two(0x12, register, register));
+        program.push(four(BRANCH, *random.of(&[12, 12, 12, 4, 10, 8]), 0, 15, end));
+        program.push(four(0x89, register, 0, 0, 2));
+    }
+    let displacement = if random.chance(1, 6) { before } else { before - 4 };
+    program.push(match random.below(8) {
+        0 => four(BRANCH, 15, 15, register, displacement),
+        1 => four(CALL, LINK, register, 15, displacement),
+        _ => four(BRANCH, 15, register, 15, displacement),
+    });
+    program.extend(starts[..list.len()].iter().map(|&start| four(BRANCH, 15, 0, 15, start)));
+    for statement in list {
+        program.extend(statement);
+        program.push(four(BRANCH, 15, 0, 15, end));
     }
     finish(random, &mut program);
     program.concat()

@@ -82,6 +82,7 @@ pub enum Statement {
     Block(Block),
     Goto(TokenNo),
     Null,
+    Case(Case),
     If { opening: TokenNo, condition: Condition, then: Box<Statement>, otherwise: Option<Box<Statement>> },
     While { opening: TokenNo, condition: Condition, body: Box<Statement> },
     For { opening: TokenNo, assignment: Assignment, step: TokenNo, limit: Operand, body: Box<Statement> },
@@ -91,6 +92,13 @@ pub enum Statement {
 pub struct Use {
     pub name: TokenNo,
     pub arguments: Vec<Operand>,
+}
+
+/// "CASE register OF BEGIN {statement `;`} END"
+pub struct Case {
+    pub opening: TokenNo,
+    pub register: TokenNo,
+    pub statements: Vec<Statement>,
 }
 
 pub struct Assignment {
@@ -185,7 +193,7 @@ impl Reader<'_> {
         Err(Refusal { number: 4, spot: self.tokens[self.at].spot })
     }
 
-    /// "BEGIN, IF, WHILE, FOR or PROCEDURE inside 64 such constructs"
+    /// "BEGIN, IF, WHILE, FOR or PROCEDURE inside 64 such constructs"; CASE is "one nesting level for refusal 5".
     fn open(&mut self, kind: Kind) -> Read<TokenNo> {
         let opening = self.expect(kind)?;
         if self.inside == self.limit {
@@ -330,7 +338,7 @@ impl Reader<'_> {
         Ok(Declaration::Procedure(Procedure { opening, name, register, body }))
     }
 
-    /// "simple = assignment, name (a call), block, GOTO name, NULL.", and the uses of functions.
+    /// "simple = assignment, name (a call), block, GOTO name, NULL.", the uses of functions, and CASE.
     fn simple(&mut self) -> Read<Statement> {
         match self.kind() {
             Kind::Name => match self.next_kind() {
@@ -346,8 +354,25 @@ impl Reader<'_> {
                 self.take();
                 Ok(Statement::Null)
             }
+            Kind::Case => self.case(),
             _ => self.unexpected(),
         }
+    }
+
+    /// "CASE register OF BEGIN {statement `;`} END as a simple statement, one nesting level": its BEGIN opens no block and is none.
+    fn case(&mut self) -> Read<Statement> {
+        let opening = self.open(Kind::Case)?;
+        let register = self.expect(Kind::Name)?;
+        self.expect(Kind::Of)?;
+        self.expect(Kind::Begin)?;
+        let mut statements = Vec::new();
+        while self.kind() != Kind::End {
+            statements.push(self.statement()?);
+            self.expect(Kind::Semicolon)?;
+        }
+        self.take();
+        self.close();
+        Ok(Statement::Case(Case { opening, register, statements }))
     }
 
     /// "A use is a simple statement: the name, then each argument in its own parentheses." Up to a `:=` it may still become

@@ -10,6 +10,9 @@ use crate::spell::text;
 /// How deep procedures and blocks may stand inside each other.
 const DEPTH: usize = 9;
 
+/// How many CASE statements may stand inside each other.
+const CASES: usize = 4;
+
 /// What a name in force stands for.
 #[derive(Clone, Copy)]
 enum Thing {
@@ -39,6 +42,8 @@ struct Hunter<'a> {
     fresh: usize,
     /// Statements that may still be written.
     statements: usize,
+    /// CASE statements that are open.
+    cases: usize,
     slip: Slip,
 }
 
@@ -50,8 +55,8 @@ pub fn hunted(random: &mut Random, slip: Slip) -> Vec<u8> {
     pool.truncate(registers);
     let statements = random.range(10, 60);
     let tokens = Vec::new();
-    let mut hunter =
-        Hunter { random, tokens, scopes: Vec::new(), written: vec![0], pool, bases: 0, fresh: 0, statements, slip };
+    let (scopes, written) = (Vec::new(), vec![0]);
+    let mut hunter = Hunter { random, tokens, scopes, written, pool, bases: 0, fresh: 0, statements, cases: 0, slip };
     hunter.block(true);
     hunter.put("@");
     let tokens = hunter.tokens;
@@ -228,6 +233,10 @@ impl Hunter<'_> {
         if self.random.chance(1, often) {
             return self.function();
         }
+        let often = if self.slip == Slip::CasesForgotten { 4 } else { 10 };
+        if self.cases < CASES && self.statements > 0 && self.random.chance(1, often) {
+            return self.case();
+        }
         match self.random.below(20) {
             0..=5 => self.call(),
             6..=8 => self.load(),
@@ -305,6 +314,41 @@ impl Hunter<'_> {
         if let (Some(target), true) = (target, self.slip != Slip::FunctionsForgotten) {
             self.write(only(target));
         }
+    }
+
+    /// A CASE, its register mostly set just before to a number near the count; a translator that does not count it as written lets any
+    /// register stand there.
+    fn case(&mut self) {
+        let target = match self.slip {
+            Slip::CasesForgotten => Some(*self.random.of(&self.pool)),
+            _ => self.target(),
+        };
+        let register = match target {
+            Some(register) => register,
+            None => return self.put("NULL"),
+        };
+        let count = self.random.below(5);
+        let value = if self.random.chance(1, 5) {
+            self.random.below(count + 2)
+        } else {
+            self.random.range(count.min(1), count)
+        };
+        let set_before = self.protected() & only(register) == 0 && self.random.chance(2, 3);
+        if set_before {
+            self.put(&format!("BEGIN R{register:X} := {value} ;"));
+            self.write(only(register));
+        }
+        self.put(&format!("CASE R{register:X} OF BEGIN"));
+        if self.slip != Slip::CasesForgotten {
+            self.write(only(register));
+        }
+        self.cases += 1;
+        for _ in 0..count {
+            self.statement(true);
+            self.put(";");
+        }
+        self.cases -= 1;
+        self.put(if set_before { "END ; END" } else { "END" });
     }
 
     /// A cell in force, mostly as it is; a byte cell only where one may stand.

@@ -131,7 +131,7 @@ impl Judge<'_, '_> {
         }
     }
 
-    /// "0 as base, return, index, shift"
+    /// "0 as base, return, index, shift"; under CASE "Register 0 is refusal 9" too.
     fn register_but_zero(&mut self, name: TokenNo) -> u8 {
         let register = self.register(name);
         self.violations.add_if(self.meaning(name) == Meaning::Register(0), 9, name);
@@ -184,6 +184,7 @@ impl Judge<'_, '_> {
             Statement::Use(used) => self.used(used, protected),
             Statement::Block(block) => self.block(block, protected),
             Statement::Goto(_) | Statement::Null => {}
+            Statement::Case(case) => self.case(case, protected),
             Statement::If { condition, then, otherwise, .. } => {
                 self.condition(condition);
                 self.statement(then, protected);
@@ -202,6 +203,17 @@ impl Judge<'_, '_> {
                 self.statement(body, protected);
             }
         }
+    }
+
+    /// "Register 0 is refusal 9. The case register counts as written, refusal 10 at its name."
+    fn case(&mut self, case: &Case, protected: RegisterSet) {
+        self.register_but_zero(case.register);
+        if let Meaning::Register(register) = self.meaning(case.register) {
+            if self.slip != Slip::CasesForgotten {
+                self.writes(only(register), case.register, protected);
+            }
+        }
+        case.statements.iter().for_each(|statement| self.statement(statement, protected));
     }
 
     /// A call, or the use of a function. What else has arguments does not fit, nor has what has none and is no procedure.

@@ -71,6 +71,7 @@ impl Search<'_, '_> {
             Statement::Goto(name) => self.goto(*name),
             Statement::Block(block) => self.block(block),
             Statement::Assignment(_) | Statement::Use(_) | Statement::Null => {}
+            Statement::Case(case) => case.statements.iter().for_each(|statement| self.statement(statement)),
             Statement::If { then, otherwise, .. } => {
                 self.statement(then);
                 if let Some(otherwise) = otherwise {

@@ -112,6 +112,7 @@ impl Layer<'_, '_> {
                 }
             }
             Statement::While { body, .. } | Statement::For { body, .. } => self.statement(body, segment),
+            Statement::Case(case) => case.statements.iter().for_each(|statement| self.statement(statement, segment)),
             Statement::Assignment(_) | Statement::Use(_) | Statement::Goto(_) | Statement::Null => {}
         }
     }

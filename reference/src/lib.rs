@@ -12,13 +12,16 @@
 //! `watch` watches a run of an accepted text, by what `meant` reads in the text; `hunt` makes texts that aim at protection,
 //! `slips` has wrong translators, and `watching` runs and tries the watcher on many.
 //!
-//! Document 02: `functions` has the standard functions of 1/13, `spot` the lines and columns of 2/13.
+//! Document 02: `functions` has the standard functions of 1/13, `spot` the lines and columns of 2/13; `caseruns` makes programs with
+//! the CASE of 3/13 and says how their runs end.
 //!
 //! `examples` makes the results beside the examples, `refusals` the page on refusals, and `manual` reads the manual's texts.
 
 pub mod assemble;
 pub mod build;
 pub mod byte_points;
+pub mod case_points;
+pub mod caseruns;
 pub mod cmd_run;
 pub mod cmd_text;
 pub mod cmd_watch;

@@ -54,6 +54,19 @@ pub enum Does {
         unless: Codes,
         to: Option<usize>,
     },
+    /// Goes to a point where what the case register holds is above the count of the statements, or where it is below 1.
+    PassesOver {
+        register: u8,
+        above: Option<u32>,
+        to: usize,
+    },
+    /// Multiplies the case register, whose number is that of one of so many statements, by 4.
+    Chooses {
+        register: u8,
+        count: u32,
+    },
+    /// Goes to the entry of the branch table, which begins at this point, for the statement that was chosen.
+    EntersTable(usize),
     /// Calls the procedure of this number.
     Call(usize),
     /// Returns from the procedure of this number.
@@ -286,6 +299,7 @@ impl Reader<'_> {
                 self.add(4, Does::Branch { unless: &[], to }, 0);
             }
             Statement::Null => {}
+            Statement::Case(case) => self.case(case),
             Statement::If { condition, then, otherwise, .. } => {
                 let on_false = self.condition(condition);
                 self.statement(then);
@@ -308,6 +322,31 @@ impl Reader<'_> {
             }
             Statement::For { assignment, step, limit, body, .. } => self.for_statement(assignment, *step, limit, body),
         }
+    }
+
+    /// "compare with the count as a literal, branch mask 2 to the end; LTR, branch mask 12 to the end; SHLL by 2; `47 Fr` ...; the
+    /// table, one always-branch each; the statements, each followed by an always-branch to the end." None but the shift writes the
+    /// register, and where control goes is told by what the register holds: "Numbering starts at 1. Any other value executes nothing".
+    fn case(&mut self, case: &Case) {
+        let register = self.register(case.register);
+        let count = case.statements.len() as u32;
+        let end = self.point();
+        self.add(4, Does::WithOperand(whole(Named::Number(count))), 0);
+        self.add(4, Does::PassesOver { register, above: Some(count), to: end }, 0);
+        self.add(2, Does::OnRegisters, 0);
+        self.add(4, Does::PassesOver { register, above: None, to: end }, 0);
+        self.add(4, Does::Chooses { register, count }, only(register));
+        let table = self.point();
+        self.add(4, Does::EntersTable(table), 0);
+        self.set(table);
+        let entries: Vec<usize> = case.statements.iter().map(|_| self.point()).collect();
+        entries.iter().for_each(|&entry| self.go(entry));
+        for (statement, entry) in case.statements.iter().zip(entries) {
+            self.set(entry);
+            self.statement(statement);
+            self.go(end);
+        }
+        self.set(end);
     }
 
     /// "Call: `45 r0` to the body."

@@ -118,6 +118,10 @@ impl Search<'_, '_> {
             }
             Statement::Block(block) => self.block(block),
             Statement::Goto(_) | Statement::Null => {}
+            Statement::Case(Case { register, statements, .. }) => {
+                self.name(*register);
+                statements.iter().for_each(|statement| self.statement(statement));
+            }
             Statement::If { condition, then, otherwise, .. } => {
                 self.condition(condition);
                 self.statement(then);

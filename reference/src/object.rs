@@ -86,6 +86,7 @@ impl Values<'_> {
                 }
             }
             Statement::While { body, .. } | Statement::For { body, .. } => self.statement(body),
+            Statement::Case(case) => case.statements.iter().for_each(|statement| self.statement(statement)),
             Statement::Assignment(_) | Statement::Use(_) | Statement::Goto(_) | Statement::Null => {}
         }
     }

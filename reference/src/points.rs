@@ -1,8 +1,9 @@
 //! The points on which document 01 can be read in more than one way, decided in docs/DECISIONS.md: each with its letter
 //! and number, a text, the number and place that answer it, and the program's bytes where they tell the readings apart.
-//! Those of document 02 stand in `byte_points` and `line_points`.
+//! Those of document 02 stand in `byte_points`, `line_points` and `case_points`.
 
 use crate::byte_points::BYTE_POINTS;
+use crate::case_points::CASE_POINTS;
 use crate::line_points::LINE_POINTS;
 
 pub struct Point {
@@ -35,7 +36,7 @@ pub(crate) const fn point(
 
 /// All that are decided of the language in force.
 pub fn points() -> impl Iterator<Item = &'static Point> {
-    POINTS.iter().chain(BYTE_POINTS).chain(LINE_POINTS)
+    POINTS.iter().chain(BYTE_POINTS).chain(LINE_POINTS).chain(CASE_POINTS)
 }
 
 const POINTS: &[Point] = &[
@@ -66,7 +67,7 @@ const POINTS: &[Point] = &[
     point("T13", b"BEGIN R1 := 00000000000000000000000001; END @", 0, 0, ""),
     point("T13", b"BEGIN R1 := #000000000FF; END @", 0, 0, ""),
     point("T14", b"BEGIN INTEGER REGISTER Z(_0); R1 := R2 SHLL _0; END @", 0, 0, ""),
-    point("T15", b"BEGIN INTEGER CASE, OF, REAL; END @", 0, 0, ""),
+    point("T15", b"BEGIN INTEGER REAL, LONG, FUNCTION; END @", 0, 0, ""),
     point("T15", b"BEGIN F0 := 1; END @", 6, 6, ""),
     point("T16", b"END END 99999999999 @", 3, 8, ""),
     point("T17", b"BEGIN INTEGER ABCDEFGHIJK, ABCDEFGHIJL; END @", 7, 27, ""),

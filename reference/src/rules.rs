@@ -98,7 +98,10 @@ pub fn broken(tokens: &[Token]) -> BTreeSet<(usize, u32)> {
 
 /// The place of the first opening word inside 64 constructs: refusal 5.
 pub fn too_deep(tokens: &[Token]) -> Option<usize> {
-    let is_opening = |token: &TokenNo| matches!(tokens[*token].kind, Begin | If | While | For | Procedure);
+    let is_opening = |token: &TokenNo| match tokens[*token].kind {
+        Begin => opens_block(tokens, *token),
+        kind => matches!(kind, If | While | For | Procedure | Case),
+    };
     let openings: Vec<TokenNo> = (0..tokens.len()).filter(is_opening).collect();
     let constructs: Vec<Range> = openings.iter().map(|&first| construct(tokens, first)).collect();
     let deep = openings.iter().find(|&&token| {
@@ -107,7 +110,12 @@ pub fn too_deep(tokens: &[Token]) -> Option<usize> {
     deep.map(|&token| tokens[token].spot.place)
 }
 
-/// A BEGIN reaches to its END, a statement or procedure to the first `;` outside all blocks inside it.
+/// Does this BEGIN open a block? That of a CASE, behind OF, belongs to the CASE.
+fn opens_block(tokens: &[Token], begin: TokenNo) -> bool {
+    begin == 0 || tokens[begin - 1].kind != Of
+}
+
+/// A BEGIN reaches to its END, a CASE to that of its BEGIN, a statement or procedure to the first `;` outside all blocks inside it.
 fn construct(tokens: &[Token], first: TokenNo) -> Range {
     match tokens[first].kind {
         Begin => {
@@ -118,6 +126,7 @@ fn construct(tokens: &[Token], first: TokenNo) -> Range {
             });
             Range { first, last: last.expect("BEGIN has its END") }
         }
+        Case => Range { first, last: construct(tokens, first + 3).last },
         Procedure => Range { first, last: statement_end(tokens, first + 6) },
         _ => Range { first, last: statement_end(tokens, first) },
     }
@@ -158,7 +167,7 @@ impl<'a> Rules<'a> {
         };
         for at in 0..tokens.len() {
             match tokens[at].kind {
-                Begin => rules.blocks.push(construct(tokens, at)),
+                Begin if opens_block(tokens, at) => rules.blocks.push(construct(tokens, at)),
                 Procedure => {
                     let range = Range { first: at + 6, last: statement_end(tokens, at + 6) };
                     rules.bodies.push(Body { name: at + 1, register: at + 3, range });
@@ -347,6 +356,10 @@ impl<'a> Rules<'a> {
         self.is_use(at) && matches!(self.before(at), If | While)
     }
 
+    fn is_case_register(&self, at: TokenNo) -> bool {
+        self.is_use(at) && self.before(at) == Case
+    }
+
     fn is_for_target(&self, at: TokenNo) -> bool {
         self.is_use(at) && self.before(at) == For
     }
@@ -466,6 +479,7 @@ impl<'a> Rules<'a> {
             || self.is_index(at)
             || self.is_compared(at)
             || self.is_for_target(at)
+            || self.is_case_register(at)
             || is_shift(self.before(at))
             || matches!(argument, Some('R' | 'r'));
         let called = if self.is_call(at) { is_procedure || is_function } else { is_function };
@@ -493,7 +507,7 @@ impl<'a> Rules<'a> {
         wrong
     }
 
-    /// "register not 0 to 15; 0 as base, return, index, shift; even `*` target"
+    /// "register not 0 to 15; 0 as base, return, index, shift; even `*` target", and 0 as case register
     fn wrong_register(&self) -> Vec<TokenNo> {
         let mut wrong = Vec::new();
         for declared in &self.declared {
@@ -504,7 +518,11 @@ impl<'a> Rules<'a> {
             }
         }
         wrong.extend(self.all(|at| {
-            let no_zero = self.is_base(at) || self.is_return(at) || self.is_index(at) || is_shift(self.before(at));
+            let no_zero = self.is_base(at)
+                || self.is_return(at)
+                || self.is_index(at)
+                || self.is_case_register(at)
+                || is_shift(self.before(at));
             self.is_use(at) && no_zero && self.register(at) == Some(0)
         }));
         wrong.extend(self.products().into_iter().filter(|(_, target)| target % 2 == 0).map(|(times, _)| times));
@@ -536,7 +554,9 @@ impl<'a> Rules<'a> {
 
     /// Every token that writes a register, with the register; calls aside.
     fn writes(&self) -> Vec<(TokenNo, i32)> {
-        let names = self.all(|at| self.is_target(at) || self.is_base(at) || self.argument(at) == Some('R'));
+        let names = self.all(|at| {
+            self.is_target(at) || self.is_base(at) || self.is_case_register(at) || self.argument(at) == Some('R')
+        });
         let mut writes: Vec<(TokenNo, i32)> =
             names.into_iter().filter_map(|at| Some((at, self.register(at)?))).collect();
         writes.extend(self.products().into_iter().map(|(times, target)| (times, target - 1)));

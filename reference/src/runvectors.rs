@@ -2,10 +2,14 @@
 
 use crate::assemble::{data, four, text, two};
 use crate::byte_points::BYTE_RUNS;
+use crate::case_points::CASE_RUNS;
+use crate::caseruns;
 use crate::genrun;
 use crate::hercules;
+use crate::random::Random;
 use crate::runcase::{answer_line, Case};
 use crate::runner::STORAGE_NEEDED;
+use crate::translate::translate;
 use std::io::{self, Write};
 use std::path::Path;
 
@@ -13,6 +17,8 @@ const SEED: u64 = 1966;
 /// Generated cases, those with a longer object text left out.
 const GENERATED: usize = 3_600;
 const LONGEST: usize = 1_200;
+/// Generated programs that come to a CASE, from a third of the values near its edges.
+const PROGRAMS: u64 = 12;
 /// Generated cases with longer object texts.
 const LONG: usize = 20;
 
@@ -59,7 +65,8 @@ fn manifest(cases: usize, counts: &Counts, runs: usize, emulated: usize) -> Stri
          hercules-runs: {} single instructions, {emulated} bytes; the answers are Hercules' (outside/hercules/check compares them).\n\
          Each run is a case of `runbatch` (a line `length budget cc storage-length r0 … r15`, the object text, a newline)\n\
          and the line that answers it (`number place line column stop counter cc count r0 … r15 hash`).\n\
-         runs are the papers' cases 1, 6 and 8, the edges of storage and budget around them, and generated ones from seed {SEED}.\n\
+         runs are the papers' cases 1, 6 and 8, the edges of storage and budget around them, the runs that are decided, programs with CASE,\n\
+         and generated ones from seed {SEED}.\n\
          Made again by `reference runvectors DIR`.\n",
         hercules::stored()
     )
@@ -67,12 +74,25 @@ fn manifest(cases: usize, counts: &Counts, runs: usize, emulated: usize) -> Stri
 
 fn cases() -> Vec<Case> {
     let mut cases = papers_cases();
-    cases.extend(BYTE_RUNS.iter().flat_map(|run| [0, 1, 2, 10_000].map(|budget| run.case(budget))));
+    let decided = BYTE_RUNS.iter().chain(CASE_RUNS);
+    cases.extend(decided.flat_map(|run| [0, 1, 2, 10_000].map(|budget| run.case(budget))));
+    cases.extend(programs_with_case());
     let short = genrun::cases(SEED).filter(|case| case.object.len() <= LONGEST).take(GENERATED);
     cases.extend(short);
     let long = genrun::cases(SEED).filter(|case| case.object.len() > LONGEST).take(LONG);
     cases.extend(long);
     cases
+}
+
+/// Programs that come to a CASE, from the values near its edges.
+fn programs_with_case() -> impl Iterator<Item = Case> {
+    (0..PROGRAMS).flat_map(|number| {
+        let mut random = Random::new(SEED + 1, number);
+        let program = caseruns::program(&mut random);
+        let object = translate(&program.text, None).object;
+        let near = caseruns::near(program.count).into_iter().filter(|value| value % 3 == number as u32 % 3);
+        near.map(|value| program.case(object.clone(), value, &mut random)).collect::<Vec<_>>()
+    })
 }
 
 /// Document 01's cases 1, 6 and 8 at every budget up to their end, with each code, over storage of several lengths.

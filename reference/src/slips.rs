@@ -25,10 +25,17 @@ pub enum Slip {
     LessAsTen,
     /// "IC, LA and LTR write the first, so the protected rule counts it" left out.
     FunctionsForgotten,
+    /// "The case register counts as written" left out. Nothing can go wrong by it, only too much is accepted: what is protected holds a
+    /// base, 4,096 or more, or a link, which is negative, and a CASE leaves both.
+    CasesForgotten,
+    /// The branch table is entered one entry too far, as if "Numbering starts at 1" said 0.
+    CaseFromZero,
+    /// "LTR, branch mask 12" as mask 4, so that a case register of 0 goes on to the branch table.
+    CaseOfZero,
 }
 
 /// All that are wrong.
-pub const SLIPS: [Slip; 10] = [
+pub const SLIPS: [Slip; 13] = [
     Slip::ReturnsFree,
     Slip::BasesFreeInside,
     Slip::NestedForgotten,
@@ -39,4 +46,7 @@ pub const SLIPS: [Slip; 10] = [
     Slip::GotoToOuter,
     Slip::LessAsTen,
     Slip::FunctionsForgotten,
+    Slip::CasesForgotten,
+    Slip::CaseFromZero,
+    Slip::CaseOfZero,
 ];

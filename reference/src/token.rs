@@ -72,13 +72,15 @@ pub enum Kind {
     At,
     Byte,
     Character,
+    Case,
+    Of,
     /// Stands behind the last token of a text that has no `@`; it is no token of any program.
     TextEnd,
 }
 
 /// "Reserved, compared whole" (COMMENT, which opens a comment and is no token, aside): document 01's words, then "BYTE and
-/// CHARACTER" of document 02, 1/13.
-pub const RESERVED: [(&str, Kind); 32] = [
+/// CHARACTER" of document 02, 1/13, and "CASE register OF" of 3/13.
+pub const RESERVED: [(&str, Kind); 34] = [
     ("BEGIN", Kind::Begin),
     ("END", Kind::End),
     ("IF", Kind::If),
@@ -111,6 +113,8 @@ pub const RESERVED: [(&str, Kind); 32] = [
     ("OVERFLOW", Kind::Overflow),
     ("BYTE", Kind::Byte),
     ("CHARACTER", Kind::Character),
+    ("CASE", Kind::Case),
+    ("OF", Kind::Of),
 ];
 
 /// "Signs, longest first"

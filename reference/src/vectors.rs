@@ -1,5 +1,6 @@
 //! Stored texts with their answers and object texts, for others to be held against.
 
+use crate::case_points::LONG_CASE_POINTS;
 use crate::gen;
 use crate::line_points::long_line_points;
 use crate::points::points;
@@ -38,6 +39,8 @@ pub fn cases() -> Vec<Case> {
     let mut cases: Vec<Case> = papers_texts().into_iter().map(|text| case(text.into_bytes(), UNLIMITED)).collect();
     cases.extend(points().map(|point| case(point.text.to_vec(), UNLIMITED)));
     cases.extend(long_line_points().into_iter().map(|point| case(point.text, point.room.unwrap_or(UNLIMITED))));
+    let long = |parts: &[(&str, usize)]| parts.iter().map(|(part, times)| part.repeat(*times)).collect::<String>();
+    cases.extend(LONG_CASE_POINTS.iter().map(|(_, parts, ..)| case(long(parts).into_bytes(), UNLIMITED)));
     cases.extend(points().map(|point| case(point.in_lines(), UNLIMITED)));
     cases.extend(behind_many_lines().map(|text| case(text, UNLIMITED)));
     cases.extend([138, 137, 0].map(|room| case(CASE_1.into(), room)));

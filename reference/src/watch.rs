@@ -93,6 +93,9 @@ pub struct Watched {
     pub returns: u64,
     /// The most procedures under way at once.
     pub deepest: u64,
+    /// CASE statements of which one statement was chosen, and those of which none was.
+    pub chosen: u64,
+    pub passed_over: u64,
 }
 
 /// A text as the watcher knows it.
@@ -112,7 +115,8 @@ pub fn watch(
 ) -> Result<(Watched, RunAnswer), Cry> {
     let whole = run(given.budget);
     let mut now = run(0);
-    let mut watcher = Watcher { text, start: Vec::new(), calls: Vec::new(), after: 0, told: Watched::default() };
+    let (start, calls) = (Vec::new(), Vec::new());
+    let mut watcher = Watcher { text, start, calls, chosen: 0, after: 0, told: Watched::default() };
     watcher.loaded(object, given, &now)?;
     watcher.start = now.storage.clone();
     while watcher.after < whole.answer.count {
@@ -137,6 +141,8 @@ struct Watcher<'a> {
     start: Vec<u8>,
     /// The innermost last.
     calls: Vec<UnderWay>,
+    /// The number of the statement that the last CASE chose.
+    chosen: u32,
     /// How many instructions have been completed.
     after: u32,
     told: Watched,
@@ -211,10 +217,11 @@ impl Watcher<'_> {
                 }
             }
             Does::Address { operand, register } => self.address(before, after, one, operand, register)?,
+            Does::Chooses { register, count } => self.choice(before, after, one, register, count)?,
             _ => {}
         }
         self.same_bytes(before, one)?;
-        let next = self.next(one, before.answer.cc)?;
+        let next = self.next(one, before)?;
         let counter = after.answer.counter;
         let goes_on = counter == origin(0) + next as u32;
         self.ask(goes_on, Clause::Meant, || {
@@ -227,11 +234,18 @@ impl Watcher<'_> {
     }
 
     /// Where control goes, by the text.
-    fn next(&mut self, one: Written, cc: u64) -> Result<usize, Cry> {
+    fn next(&mut self, one: Written, before: &Seen) -> Result<usize, Cry> {
         let in_line = one.offset + one.length;
         match one.does {
-            Does::OnRegisters | Does::WithOperand(_) | Does::Address { .. } => Ok(in_line),
-            Does::Branch { unless, .. } if unless.contains(&cc) => {
+            Does::OnRegisters | Does::WithOperand(_) | Does::Address { .. } | Does::Chooses { .. } => Ok(in_line),
+            Does::PassesOver { register, above, to } => {
+                let value = before.answer.regs[usize::from(register)] as i32;
+                let passes_over = above.map_or(value < 1, |count| i64::from(value) > i64::from(count));
+                self.told.passed_over += u64::from(passes_over);
+                Ok(if passes_over { self.text.meant.points[to] } else { in_line })
+            }
+            Does::EntersTable(table) => Ok(self.text.meant.points[table] + 4 * (self.chosen as usize - 1)),
+            Does::Branch { unless, .. } if unless.contains(&before.answer.cc) => {
                 self.told.not_taken += 1;
                 Ok(in_line)
             }
@@ -283,6 +297,21 @@ impl Watcher<'_> {
         self.ask(found == address, Clause::Named, || {
             format!("register {register} holds {found} after {}, not {address}", one.offset)
         })
+    }
+
+    /// "Numbering starts at 1", and what is left in the register is four times the number.
+    fn choice(&mut self, before: &Seen, after: &Seen, one: Written, register: u8, count: u32) -> Result<(), Cry> {
+        let held = |state: &Seen| state.answer.regs[usize::from(register)];
+        self.chosen = held(before);
+        self.ask((1..=count).contains(&self.chosen), Clause::Meant, || {
+            format!("number {} of {count} at {}", self.chosen, one.offset)
+        })?;
+        let found = held(after);
+        self.ask(found == 4 * self.chosen, Clause::Meant, || {
+            format!("register {register} holds {found} after {}, not {}", one.offset, 4 * self.chosen)
+        })?;
+        self.told.chosen += 1;
+        Ok(())
     }
 
     /// The operand's address; what it is without an index has to be what the text names.

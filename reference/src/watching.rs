@@ -20,6 +20,8 @@ pub enum Texts {
     Generated,
     /// Those of `hunt`.
     Hunted,
+    /// Those of `gen` that are rich in CASE.
+    Cases,
 }
 
 impl Texts {
@@ -27,6 +29,7 @@ impl Texts {
         match word {
             "generated" => Some(Texts::Generated),
             "hunted" => Some(Texts::Hunted),
+            "cases" => Some(Texts::Cases),
             _ => None,
         }
     }
@@ -36,6 +39,7 @@ impl Texts {
         let mut random = Random::new(!seed, number);
         match self {
             Texts::Generated => (gen::case(seed, number), random),
+            Texts::Cases => (gen::right_cases(&mut Random::new(seed, number)), random),
             Texts::Hunted => {
                 let any = if random.chance(1, 2) { Slip::None } else { *random.of(&SLIPS) };
                 (hunted(&mut random, slip.unwrap_or(any)), random)
@@ -63,6 +67,9 @@ pub fn reference_runner(case: &Case) -> Seen {
 #[derive(Default)]
 pub struct Tally {
     pub programs: u64,
+    /// Programs in whose run a CASE was come to, and those of which it chose a statement.
+    pub with_case: u64,
+    pub with_choice: u64,
     /// Texts that were refused, by number.
     pub refused: BTreeMap<u64, u64>,
     /// Runs by stop.
@@ -79,6 +86,8 @@ impl Tally {
     fn add(&mut self, one: Watched) {
         *self.stops.entry(one.stop).or_insert(0) += 1;
         *self.depths.entry(one.deepest).or_insert(0) += 1;
+        self.with_case += u64::from(one.chosen + one.passed_over > 0);
+        self.with_choice += u64::from(one.chosen > 0);
         let sum = &mut self.sum;
         sum.instructions += one.instructions;
         sum.cells += one.cells;
@@ -89,12 +98,15 @@ impl Tally {
         sum.not_taken += one.not_taken;
         sum.calls += one.calls;
         sum.returns += one.returns;
+        sum.chosen += one.chosen;
+        sum.passed_over += one.passed_over;
         sum.deepest = sum.deepest.max(one.deepest);
     }
 
     pub fn report(&self) -> String {
         let Watched { instructions, cells, literals, entries, indexed, taken, not_taken, calls, returns, .. } =
             self.sum;
+        let Watched { chosen, passed_over, .. } = self.sum;
         let mut text = format!(
             "{} accepted programs, {instructions} instructions watched by {} runs: {} cries\n",
             self.programs,
@@ -104,6 +116,10 @@ impl Tally {
         text += &format!(
             "operands: {cells} cells, {literals} literals, {entries} table entries, {indexed} indexed\n\
              branches: {taken} taken, {not_taken} not taken; {calls} calls, {returns} returns\n"
+        );
+        text += &format!(
+            "cases: {chosen} statements chosen, {passed_over} passed over; programs that came to a CASE {}, that chose {}\n",
+            self.with_case, self.with_choice
         );
         for (title, counts) in [
             ("stop", self.stops.iter().map(|(stop, times)| (u64::from(*stop), *times)).collect::<Vec<_>>()),

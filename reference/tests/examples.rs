@@ -1,4 +1,4 @@
-//! The examples and the manual: what is said of them is so, and the datum program computes what a model of it does.
+//! The examples and the manual: what is said of them is so, and the datum program and the traverse compute what models of them do.
 
 use reference::examples::{files, finished};
 use reference::manual::{texts, wrong};
@@ -132,4 +132,73 @@ fn the_datum_program_computes_what_the_model_does() {
         answers[found.0 as usize] += 1;
     }
     assert!(answers.iter().all(|&times| times > 300), "{answers:?}");
+}
+
+/// The corners of the field.
+const CORNERS: [(i64, i64); 4] = [(0, 0), (60_000, 0), (60_000, 40_000), (0, 40_000)];
+
+/// The model of the traverse: where it ends, how many legs there were, and how many of them meant nothing.
+fn traverse(codes: &[i64], lengths: &[i64], first: usize) -> [i64; 4] {
+    let (mut east, mut north, mut legs, mut nothing) = (0, 0, 0, 0);
+    for (&code, &length) in codes.iter().zip(lengths).skip(first) {
+        legs += 1;
+        match code {
+            1 => north += length,
+            2 => east += length,
+            3 => north -= length,
+            4 => east -= length,
+            5 if (1..=4).contains(&length) => (east, north) = CORNERS[length as usize - 1],
+            6 => break,
+            _ => nothing += 1,
+        }
+    }
+    [east, north, legs, nothing].map(|number: i64| i64::from(number as i32))
+}
+
+/// The values of an array in the program's text, and the text with others in their place.
+fn values(text: &str, array: &str) -> Vec<i64> {
+    let list = text.split(array).nth(1).and_then(|rest| rest.split(';').next()).expect("the list");
+    let number = |word: &str| word.trim_matches(|c| c == '(' || c == ')').replace('_', "-").parse().expect("a number");
+    list.split_ascii_whitespace().map(number).collect()
+}
+
+fn with_values(text: &str, array: &str, values: &[i64]) -> String {
+    let at = text.find(array).expect("the array") + array.len();
+    let end = at + text[at..].find(';').expect("its end");
+    let list: String = values.iter().map(|value| format!(" ({})", value.to_string().replace('-', "_"))).collect();
+    format!("{}{list}{}", &text[..at], &text[end..])
+}
+
+#[test]
+fn the_traverse_ends_where_the_model_does() {
+    let text = read("legs.pl360");
+    let (codes, lengths) = (values(&text, "BYTE CODE"), values(&text, "INTEGER LENGTH"));
+    assert_eq!((codes.len(), lengths.len()), (14, 14));
+    let ended = |text: &str, first: usize| {
+        let end = finished(text.as_bytes(), &vec![("R3".to_string(), first as i64)]).expect("accepted");
+        assert_eq!(end.answer.stop, 1, "{text}");
+        ["EAST", "NORTH", "LEGS", "NOTHING"].map(|name| end.value(name).expect("declared"))
+    };
+    for first in 0..codes.len() {
+        assert_eq!(ended(&text, first), traverse(&codes, &lengths, first), "{first}");
+    }
+    let (mut random, mut nothing) = (Random::new(1966, 3), 0);
+    for _ in 0..300 {
+        let mut codes: Vec<i64> = (0..14).map(|_| *random.of(&[1, 2, 3, 4, 5, 5, 0, 7, 8, 255])).collect();
+        codes[random.range(3, 13)] = 6;
+        codes[13] = 6;
+        let lengths: Vec<i64> = codes
+            .iter()
+            .map(|code| match code {
+                5 => *random.of(&[1, 2, 3, 4, 0, 5, -1, 1 << 30, (1 << 30) + 1, -(1 << 31)]),
+                _ => i64::from(random.next() as i32),
+            })
+            .collect();
+        let other = with_values(&with_values(&text, "BYTE CODE", &codes), "INTEGER LENGTH", &lengths);
+        let first = random.below(3);
+        let expected = traverse(&codes, &lengths, first);
+        assert_eq!(ended(&other, first), expected, "{other}");
+        nothing += expected[3];
+    }
+    assert!(nothing > 300, "{nothing}");
 }

@@ -130,7 +130,7 @@ fn wrong_runners_are_cried_out_for() {
 fn a_text_is_read_as_it_is_translated() {
     let texts = (0..6_000).map(|number| gen::case(9, number));
     let hunts = (0..2_000).map(|number| hunted(&mut Random::new(9, number), Slip::None));
-    let (mut accepted, mut kinds) = (0, [0; 6]);
+    let (mut accepted, mut kinds) = (0, [0; 9]);
     for text in texts.chain(hunts) {
         let answer = translate(&text, None);
         if answer.number != 0 {
@@ -166,6 +166,14 @@ fn a_text_is_read_as_it_is_translated() {
                     (4 * usize::from(opcode == 0x41), 1)
                 }
                 Does::Branch { .. } => (4 * usize::from(opcode == 0x47), 2),
+                Does::PassesOver { above, .. } => {
+                    (4 * usize::from(bytes[..2] == [0x47, if above.is_some() { 0x20 } else { 0xC0 }]), 6)
+                }
+                Does::Chooses { register, .. } => (4 * usize::from(*bytes == [0x89, 16 * register, 0, 2]), 7),
+                Does::EntersTable(table) => {
+                    assert_eq!(usize::from(bytes[2] % 16) * 256 + usize::from(bytes[3]), meant.points[table] - 4);
+                    (4 * usize::from(opcode == 0x47 && bytes[1] / 16 == 15 && bytes[1] % 16 != 0), 8)
+                }
                 Does::Call(_) => (4 * usize::from(opcode == 0x45), 3),
                 Does::Return(_) => (2 * usize::from(opcode == 0x07), 4),
                 Does::End => (2 * usize::from(bytes == [0x0A, 0x00]), 5),
@@ -193,6 +201,8 @@ fn the_examples_are_watched_in_silence() {
     assert_eq!((magic.stop, magic.instructions, magic.calls), (1, 1153, 1));
     let search = run("search", &[(1, 34)]);
     assert_eq!((search.stop, search.instructions), (1, 40));
+    let legs = run("legs", &[(3, 5)]);
+    assert_eq!((legs.stop, legs.chosen, legs.passed_over), (1, 9, 3));
     let datum = run("datum", &[(1, 614_321), (3, 289_876)]);
     assert_eq!((datum.stop, datum.calls, datum.returns, datum.indexed), (1, 2, 2, 8));
 }
@@ -228,6 +238,7 @@ fn wrong_translators_are_cried_out_for_and_nothing_else_is() {
         let trial = try_slip(slip, Texts::Hunted, 17, 1_000);
         assert!(trial.false_cries.is_empty(), "{}", trial.report("slip"));
         assert!(trial.wrong > 0, "{slip:?}: {}", trial.report("slip"));
-        assert_eq!(trial.cried() == 0, slip == Slip::NestedForgotten, "{slip:?}: {}", trial.report("slip"));
+        let harmless = matches!(slip, Slip::NestedForgotten | Slip::CasesForgotten);
+        assert_eq!(trial.cried() == 0, harmless, "{slip:?}: {}", trial.report("slip"));
     }
 }

@@ -27,6 +27,8 @@ fn kind_number(kind: Kind) -> u8 {
         Kind::TextEnd => 0,
         Kind::Byte => 34,
         Kind::Character => 35,
+        Kind::Case => 36,
+        Kind::Of => 37,
         kind if (kind as u8) < Kind::Integer as u8 => kind as u8 + 1,
         kind if (kind as u8) < Kind::Assign as u8 => kind as u8 + 2,
         kind => kind as u8 - Kind::Assign as u8 + 64,

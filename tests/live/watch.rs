@@ -1,4 +1,4 @@
-//! Accepted texts, translated by the proved translator and run by the proved runner, each state watched: `generated|hunted SEED COUNT`.
+//! Accepted texts, translated by the proved translator and run by the proved runner, each state watched: `generated|hunted|cases SEED COUNT`.
 #![no_main]
 
 mod proved_runner;
@@ -30,7 +30,7 @@ fn answer(line: &str) -> RunAnswer {
 #[no_mangle]
 pub extern "C" fn main(_count: i32, _words: *const *const u8) -> i32 {
     let words: Vec<String> = std::env::args().skip(1).collect();
-    let texts = Texts::named(&words[0]).expect("generated or hunted");
+    let texts = Texts::named(&words[0]).expect("generated, hunted or cases");
     let (seed, count) = (words[1].parse().expect("a number"), words[2].parse().expect("a number"));
     let (mut buffer, mut text) = (vec![0; ROOM], Vec::new());
     let mut translate = |source: &[u8]| {

@@ -1,5 +1,5 @@
 // The pages of `tautgaff help`, each ended by `~`. Made of examples/refusals.data and command/usage by examples/make.
-pub const BELOW10: [u8; 7395] = *b"Stop 0: the budget is used up
+pub const BELOW10: [u8; 7475] = *b"Stop 0: the budget is used up
 
 As many instructions as were allowed have been completed, and the program is not at its end.
 
@@ -123,7 +123,7 @@ This object text runs and gets stop 1: `0A 00` ends a program.
     FF
 ~Refusal 5: constructs inside each other more than 64 deep
 
-BEGIN, IF, WHILE, FOR and PROCEDURE open a construct; one stands inside 64 others.
+BEGIN, IF, WHILE, FOR, PROCEDURE and CASE open a construct; one stands inside 64 others. The BEGIN of a CASE belongs to it and opens none.
 Place: that word.
 
 This gets refusal 5 at 384, line 65 column 1: the 65th BEGIN stands inside 64 blocks.
@@ -189,8 +189,8 @@ This is accepted: that of STC has.
     BEGIN ARRAY (4) BYTE B; R2 := #FF; STC(R2)(B(R1)); END @
 ~Refusal 9: a register that cannot be this one
 
-Register numbers are 0 to 15. Register 0 cannot be a base, a return register, an index or a shift amount, since the machine takes 0 there for no
-register. A product by a number, a register or an integer cell needs an odd target.
+Register numbers are 0 to 15. Register 0 cannot be a base, a return register, an index, a shift amount or the register of a CASE, since the machine takes
+0 there for no register. A product by a number, a register or an integer cell needs an odd target.
 Place: the number, the register's name or the `*`.
 
 This gets refusal 9 at 15, line 1 column 16: a product has 64 bits: the target must be the odd register of a pair.
@@ -202,12 +202,12 @@ This is accepted: R3 takes the lower half; the upper half goes to R2.
     BEGIN R3 := R1 * 10; END @
 ~";
 
-pub const FROM10: [u8; 4906] = *b"Refusal 10: a protected register is written
+pub const FROM10: [u8; 4949] = *b"Refusal 10: a protected register is written
 
 Protected are register 15, by which the program finds its own instructions; 14, the data base, by which it finds its cells; the bases of the enclosing
 blocks; and the return registers of the procedures around this place. A call writes the procedure's return register and all that its body writes,
-through calls too. IC, LA and LTR write their first register.
-Place: the target, the function's register, the call or the base's name; the `*` where it is the register below the target.
+through calls too. IC, LA and LTR write their first register, CASE the one that it goes by.
+Place: the target, the register of a function or a CASE, the call or the base's name; the `*` where it is the register below the target.
 
 This gets refusal 10 at 6, line 1 column 7: RE is register 14, the data base: cells without SEGMENT BASE belong to it.
 
