@@ -11,7 +11,7 @@ use Rattle.ledger.specs.Book.{Wide, Thin}
 use Rattle.emit.specs.declared.Emitted.{Emitted}
 use Rattle.emit.specs.declared.Writing.{Writing}
 use Rattle.emit.specs.Codes.{listOf, codeSizes}
-use Rattle.emit.specs.Events.{emittedIn}
+use Rattle.emit.specs.Events.{tableBytes, emittedIn}
 use Rattle.listing.specs.declared.Span.{Span}
 use Rattle.listing.specs.Operands.{spanOf, targetAfter, operandBy, spanAfter, Spanning, spanningOf, spanEvent}
 
@@ -20,7 +20,7 @@ module _
     {m : Emitted}
   where
     span-is :
-        m ≡ emittedIn kinds w b op t v → z ≡ codeSizes (listOf (m .codes)) → family ≡ familyAt op → form ≡ formAt op → own ≡ spanOf t form
+        m ≡ emittedIn kinds w b op t v → z ≡ codeSizes (listOf (m .codes)) + tableBytes (familyAt op) v → family ≡ familyAt op → form ≡ formAt op → own ≡ spanOf t form
         → operand ≡ operandBy family (v .aim) own target → span′ ≡ spanAfter address p (p + z) operand span → target′ ≡ targetAfter family own target
         → spanningOf (p + z) (m .writing) target′ span′ ≡ spanEvent address kinds w b op t (spanningOf p v target span)
     unfolding spanEvent
@@ -28,7 +28,7 @@ module _
 
     pub span-turn :
         (tape : List ℕ) (i : ℕ) {x : Spanning} → i < length tape → op ≡ getD tape i 0 % E.EVENTS → t ≡ getD tape i 0 / E.EVENTS
-        → m ≡ emittedIn kinds w b op t v → z ≡ codeSizes (listOf (m .codes)) → family ≡ familyAt op → form ≡ formAt op → own ≡ spanOf t form
+        → m ≡ emittedIn kinds w b op t v → z ≡ codeSizes (listOf (m .codes)) + tableBytes (familyAt op) v → family ≡ familyAt op → form ≡ formAt op → own ≡ spanOf t form
         → operand ≡ operandBy family (v .aim) own target → span′ ≡ spanAfter address p (p + z) operand span → target′ ≡ targetAfter family own target
         → pass (spanEvent address kinds w b) (spanningOf p v target span) (drop i tape) ≡ x
         → pass (spanEvent address kinds w b) (spanningOf (p + z) (m .writing) target′ span′) (drop (i + 1) tape) ≡ x

@@ -12,7 +12,7 @@ use Rattle.emit.specs.declared.Use.{Use}
 use Rattle.emit.specs.declared.Use.the-variants.{Absent, Held, Number, Stored}
 use Rattle.emit.specs.declared.Writing.{Writing}
 use Rattle.emit.specs.Codes.{listOf, codeSizes}
-use Rattle.emit.specs.Events.{noWriting, writingIn, codesIn}
+use Rattle.emit.specs.Events.{noWriting, tableBytes, writingIn, codesIn}
 use Rattle.listing.specs.declared.Span.{Span}
 
 -- from its first token to its last, by its shape: a name, name(number), name(name), name(number)(name), or a number

@@ -17,6 +17,7 @@ ghost use Rattle.listing.specs.Seeing.{sitedIn, sitesIn, Shows, LooksOn,
 use emit::Use;
 use emit::Writing;
 use emit::size;
+use emit::table_size;
 use ledger::mean;
 use ledger::offset;
 use ledger::under;
@@ -184,7 +185,7 @@ fn span_along(tape: &[u32], kinds: &[u8], wide: &[u64], thin: &[u16], address: u
         let t = tape::token(e);
         let made = emit::event(kinds, wide, thin, op, t, w);
         let codes = made.codes;
-        let q = p + size(codes);
+        let q = p + (size(codes) + table_size(op, w));
         let aim = w.aim;
         let family = tape::family(op);
         let own = span_at(t, tape::form(op));
