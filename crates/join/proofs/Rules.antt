@@ -594,7 +594,7 @@ module _ (kinds values found goes : List ℕ) (z : Meant) (l : Layout) where
               s .1 .1,
             )
         safe-statement (T.choose t n xs) k p ls gs i c (g, (h, hs)) =
-            let r = safe-choices t xs _ p ls gs i c hs in
+            let r = safe-choices n xs _ p ls gs i c hs in
             ((case-safe n (armCount (coreChoices f xs)) p h, r .0), r .1 .1)
 
         safe-body : (x : Body) (k : List Event) (b : Block) (p : Place) (ls : List ℕ) (gs : List Routine) → InForce (P.within b ∷ p) gs → Covers (labelsIn p) ls
