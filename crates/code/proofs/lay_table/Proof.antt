@@ -1,5 +1,5 @@
 -- The statements of a CASE are passed, and each that ends leaves a branch to its start. The invariant: what is laid, with the branches to those that are left, is the whole table. Assumes nothing.
-use Prim.Native.Nat.{ℕ, _+_, _-_, _*_, _%_, _≤_}
+use Prim.Native.Nat.{ℕ, _+_, _-_, _*_, _/_, _%_, _≤_}
 use mathlib.Core.Path.{_≡_, refl, sym, ap, ap₂, _∙_}
 use mathlib.Core.Bool.{true, false}
 use mathlib.Core.List.{List}
@@ -14,7 +14,7 @@ use Rattle.tape.specs.Numbers.{familyAt}
 use Rattle.ledger.specs.Book.{wideOf, thinOf}
 use Rattle.emit.specs.declared.Emitted.{Emitted}
 use Rattle.emit.specs.Along.{tableAlong}
-use Rattle.code.specs.Coding.{laidOf, layAll}
+use Rattle.code.specs.Coding.{Laid, laidOf, layAll, tableIn}
 use Rattle.code.proofs.Tables.{rest, table-turn, table-end, tape-over}
 use Rattle.code.proofs.lay_table.Statement.{statement}
 use Rattle.code.proofs.lay_table.Tie as tie
@@ -66,27 +66,37 @@ loop-holds c =
 same-length : tie.Need-same-length Inv-loop μ-loop
 same-length c = c .before .before .loop .inv .4
 
-returns-2 : tie.Need-returns-2 Inv-loop μ-loop
+-- where nothing of the table is left, what is laid is the table
+ended : (c : tie.At-loop Inv-loop μ-loop)
+    → let a = c .before .before .before .before .before .before .before .before .before .before .before .before .args in
+    let l = c .loop in
+    ((s whole : Laid) (k : ℕ) → layAll k (rest (a .kinds .now) (a .tape .now) (wideOf (a .wide .now)) (thinOf (a .thin .now)) (l .depth) (l .from) (l .p) (l .v) (drop (l .j) (a .tape .now))) s ≡ whole → s ≡ whole)
+    → ((k : ℕ) (seen : List ℕ) → laidOf (l .end) (l .image) seen
+    ≡ layAll k (tableIn (a .kinds .now) (wideOf (a .wide .now)) (thinOf (a .thin .now)) (getD (a .tape .now) (a .i) 0 % E.EVENTS) (getD (a .tape .now) (a .i) 0 / E.EVENTS) (a .w) (drop (a .i + 1) (a .tape .now)))
+    (laidOf (a .at) (a .image .now) seen)) × (l .end ≤ a .at + 4 * length (a .tape .now))
 unfolding tableAlong
-returns-2 c =
-    let at-loop = c .before .before in
-    let at-written = at-loop .before in
+ended c over =
+    let at-written = c .before in
     let at-token = at-written .before in
     let at-if1 = at-token .before in
     let at-family = at-if1 .before in
     let at-op = at-family .before in
-    let start = at-op .before .before .before .before .before .before .before in
-    let a = start .args in
-    let l = at-loop .loop in
+    let a = at-op .before .before .before .before .before .before .before .args in
+    let l = c .loop in
     let e : at-family .family .result ≡ familyAt (getD (a .tape .now) (a .i) 0 % E.EVENTS) = at-family .family .ensures ∙ ap familyAt (at-op .op .ensures .0) in
     let n : eqb (familyAt (getD (a .tape .now) (a .i) 0 % E.EVENTS)) E.CHOSEN ≡ true = eq-eqb _ _ (sym e ∙ at-if1 .if1 .left) in
     let end : (k : ℕ) (seen : List ℕ) → laidOf (l .end) (l .image) seen
     ≡ layAll k (rest (a .kinds .now) (a .tape .now) (wideOf (a .wide .now)) (thinOf (a .thin .now)) 1 (at-written .written .result) (at-written .written .result) (a .w) (drop (a .i + 1) (a .tape .now)))
     (laidOf (a .at) (a .image .now) seen) =
-    λ k seen. table-end (a .kinds .now) (a .tape .now) (wideOf (a .wide .now)) (thinOf (a .thin .now)) (l .j) (l .depth) (l .from) (l .p) (l .v) (laidOf (l .end) (l .image) seen) k (c .if2 .taken) (l .inv .5 k seen) in (
+    λ k seen. over (laidOf (l .end) (l .image) seen) _ k (l .inv .5 k seen) in (
       λ k seen. rw (n, ← (at-token .token .ensures .0), ← (at-written .written .ensures .0)) (end k seen),
       omega (arith, l .inv .3, l .inv .0),
     )
+
+returns-2 : tie.Need-returns-2 Inv-loop μ-loop
+returns-2 c =
+    let l = c .before .before .loop in
+    ended (c .before .before) (λ s whole k e. table-end _ _ _ _ (l .j) (l .depth) (l .from) (l .p) (l .v) s k (c .if2 .taken) e)
 
 mul-e-2 : tie.Need-mul-e-2 Inv-loop μ-loop
 mul-e-2 c = search needs
@@ -185,26 +195,9 @@ same-length-2 : tie.Need-same-length-2 Inv-loop μ-loop
 same-length-2 c = c .before .loop .inv .4
 
 returns-3 : tie.Need-returns-3 Inv-loop μ-loop
-unfolding tableAlong
 returns-3 c =
-    let at-loop = c .before in
-    let at-written = at-loop .before in
-    let at-token = at-written .before in
-    let at-if1 = at-token .before in
-    let at-family = at-if1 .before in
-    let at-op = at-family .before in
-    let start = at-op .before .before .before .before .before .before .before in
-    let a = start .args in
-    let l = at-loop .loop in
-    let e : at-family .family .result ≡ familyAt (getD (a .tape .now) (a .i) 0 % E.EVENTS) = at-family .family .ensures ∙ ap familyAt (at-op .op .ensures .0) in
-    let n : eqb (familyAt (getD (a .tape .now) (a .i) 0 % E.EVENTS)) E.CHOSEN ≡ true = eq-eqb _ _ (sym e ∙ at-if1 .if1 .left) in
-    let end : (k : ℕ) (seen : List ℕ) → laidOf (l .end) (l .image) seen
-    ≡ layAll k (rest (a .kinds .now) (a .tape .now) (wideOf (a .wide .now)) (thinOf (a .thin .now)) 1 (at-written .written .result) (at-written .written .result) (a .w) (drop (a .i + 1) (a .tape .now)))
-    (laidOf (a .at) (a .image .now) seen) =
-    λ k seen. tape-over (a .kinds .now) (a .tape .now) (wideOf (a .wide .now)) (thinOf (a .thin .now)) (l .j) (l .depth) (l .from) (l .p) (l .v) (laidOf (l .end) (l .image) seen) k (c .loop-test .left) (l .inv .5 k seen) in (
-      λ k seen. rw (n, ← (at-token .token .ensures .0), ← (at-written .written .ensures .0)) (end k seen),
-      omega (arith, l .inv .3, l .inv .0),
-    )
+    let l = c .before .loop in
+    ended (c .before) (λ s whole k e. tape-over _ _ _ _ (l .j) (l .depth) (l .from) (l .p) (l .v) s k (c .loop-test .left) e)
 
 pub lay-table-spec : {M : Type 1} → statement M
 lay-table-spec =
