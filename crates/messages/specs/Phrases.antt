@@ -45,7 +45,7 @@ notes =
     ++ bytes "\n no block around it declares it before this place"
     ++ bytes "\n the block has it already; the first 10 characters count"
     ++ bytes "\n see `tautgaff help 8` for what fits where"
-    ++ bytes "\n 0 to 15; not 0 as base, return, index or shift; a product needs an odd target"
+    ++ bytes "\n 0 to 15; not 0 as base, return, index, shift or in CASE; a product needs an odd target"
     ++ bytes "\n by this statement, call or base declaration"
     ++ bytes "\n see `tautgaff help 11` for the bounds"
     ++ bytes "\n a segment has 4,096 bytes; two base declarations are allowed"

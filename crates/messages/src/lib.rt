@@ -46,7 +46,7 @@ const HEADLINES: [u8; 901] = *b"\nthe source has more than 32,768 bytes\
     \nthe register below the target is protected here";
 
 // What stands behind the carets.
-const NOTES: [u8; 1026] = *b"\n\
+const NOTES: [u8; 1035] = *b"\n\
     \n\
     \n\
     \n the tokens up to this one begin no program\
@@ -54,7 +54,7 @@ const NOTES: [u8; 1026] = *b"\n\
     \n no block around it declares it before this place\
     \n the block has it already; the first 10 characters count\
     \n see `tautgaff help 8` for what fits where\
-    \n 0 to 15; not 0 as base, return, index or shift; a product needs an odd target\
+    \n 0 to 15; not 0 as base, return, index, shift or in CASE; a product needs an odd target\
     \n by this statement, call or base declaration\
     \n see `tautgaff help 11` for the bounds\
     \n a segment has 4,096 bytes; two base declarations are allowed\
