@@ -150,7 +150,10 @@ depth-after-requires c κs =
     omega (arith, l .1, n .1)
 
 add-j-2 : tie.Need-add-j-2 Inv-loop μ-loop
-add-j-2 c = let h = c .before .before .before .before .before .before .before .before .before .before .before .before .before .before .before .loop-test .taken in let n = c .before .before .before .before .before .before .before .before .before .before .before .before .before .before .before .before .before .before .before .before .before .before .before .before .before .before .before .before .pre in omega (arith, n .1)
+add-j-2 c =
+    let at-test = c .before .before .before .before .before .before .before .before .before .before .before .before .before .before .before in
+    let start = at-test .before .before .before .before .before .before .before .before .before .before .before .before .before in
+    omega (arith, at-test .loop-test .taken, start .pre .1)
 
 loop-less : tie.Need-loop-less Inv-loop μ-loop
 loop-less c = search needs

@@ -79,7 +79,10 @@ lay-table-requires c κs =
     (h, n .0, omega (arith, at-loop .loop .inv .1, at-lay-codes .lay-codes .ensures .3, n .0))
 
 add-i : tie.Need-add-i Inv-loop μ-loop
-add-i c = let h = c .before .before .before .before .before .before .before .before .before .before .before .before .before .before .before .before .loop-test .taken in let n = c .before .before .before .before .before .before .before .before .before .before .before .before .before .before .before .before .before .before .before .before .before .before .before .before .pre in omega (arith, n .0)
+add-i c =
+    let at-test = c .before .before .before .before .before .before .before .before .before .before .before .before .before .before .before .before in
+    let start = at-test .before .before .before .before .before .before .before .before in
+    omega (arith, at-test .loop-test .taken, start .pre .0)
 
 loop-less : tie.Need-loop-less Inv-loop μ-loop
 loop-less c = search needs
