@@ -1,4 +1,6 @@
 // 32-bit arithmetic with the condition code. Values wrap; codes are worked out from the signed and the unsigned readings.
+#![tactic(auto)]
+
 ghost use Rattle.std.specs.Prelude.{◌≡◌, ◌<◌, ◌≤◌, pos, neg_ℤ, bit_and, bit_or, bit_xor};
 ghost use Rattle.alu.specs.Biased.{biased as biased_of, code_by};
 ghost use Rattle.alu.specs.Word.{added, subtracted, complemented, made_positive, made_negative, compared_code, tested, compared_logical, inserted, added_logical, subtracted_logical, zero_code, bits_made, distance_of, low_bits, product as product_of, half_product, shifted_left_logical, shifted_right_logical, shifted_left, shifted_right};
@@ -6,7 +8,7 @@ ghost use Rattle.alu.specs.Word.{added, subtracted, complemented, made_positive,
 const TOP: u32 = 2147483648;
 
 // A value with its condition code. 16 bytes: a struct of 8 would be packed into one word and taken apart at each use.
-#[derive(Drop)]
+#[derive(Clone, Copy)]
 pub struct Made {
     pub value: u32,
     pub code: u64,

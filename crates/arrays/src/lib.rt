@@ -1,4 +1,6 @@
 // Lent arrays, read and written at any index: past the end 0 is read, and nothing is written.
+#![tactic(auto)]
+
 ghost use Rattle.std.specs.Prelude.{◌≡◌, get_or, set};
 
 // A name's key, by its token.

@@ -1,4 +1,6 @@
 // Small numbers; bytes, and cells of n bytes in lent storage, the most significant byte first, for every n up to 4.
+#![tactic(auto)]
+
 ghost use Rattle.std.specs.Prelude.{◌≡◌, ◌+◌, ◌-◌, ◌≤◌, ◌<◌, ◌^◌, min, length, set};
 ghost use Rattle.base.specs.Numbers.{value_at, stored};
 

@@ -1,5 +1,7 @@
 // The runner for C and Rust: an object text, a condition code, a budget, and lent memory: 16 registers, the storage, seven results. The number is
 // answered; place, line, column, stop, counter, code and count are left in the results.
+#![tactic(auto)]
+
 ghost use Rattle.std.specs.Prelude.{◌≡◌, ◌∷◌, []};
 ghost use Rattle.runner.specs.Numbers.{number_of as number_for, stop_of as stop_for};
 ghost use Rattle.runner.specs.Runner.{runner};

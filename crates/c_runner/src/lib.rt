@@ -1,4 +1,6 @@
 // The runner for C and Rust: a case as `runbatch` has it, run on the storage lent, and the line that answers it.
+#![tactic(auto)]
+
 ghost use Rattle.std.specs.Prelude.{◌≤◌, length};
 
 // How long the line is; 0 where there is no case that can be run in this storage.

@@ -1,5 +1,7 @@
 // The token reader and the grammar for C and Rust, on numbers and slices alone. The number is answered; place, line and column are left where the caller says,
 // for tokens also how many there are.
+#![tactic(auto)]
+
 ghost use Rattle.std.specs.Prelude.{◌≡◌};
 ghost use Rattle.token.specs.Answers.{lists, read_into, room, summary_of, tokens_into};
 ghost use Rattle.parse.specs.Programs.{judged};

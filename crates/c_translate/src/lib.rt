@@ -1,5 +1,7 @@
 // The translator for C and Rust: a source and a buffer, each as its first byte and its length. The number is answered; place, line, column and length are left
 // where the caller says.
+#![tactic(auto)]
+
 ghost use Rattle.std.specs.Prelude.{◌≡◌, ◌∷◌, []};
 ghost use Rattle.translate.specs.Answers.{number_of, spot_of, length_of};
 ghost use Rattle.c_translate.specs.Lent.{Lent, parts_of};

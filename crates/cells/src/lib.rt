@@ -1,5 +1,7 @@
 // What `--set` and `--show` say of the cells of a source: an element by its name, its value laid into storage when the program is loaded, and told when it has
 // run; and the address of the operand at which a run stopped.
+#![tactic(auto)]
+
 ghost use Rattle.std.specs.Prelude.{◌≡◌, List, ℕ, ◌+◌, ◌*◌, ◌/◌, ◌%◌, ◌<◌, ◌≤◌, length, get_or};
 ghost use Rattle.figures.specs.Writing.{Adds};
 ghost use Rattle.objtext.specs.Reader.{read_as, read_object};
@@ -30,7 +32,7 @@ const NOT_BYTE: u8 = 13;
 // ── elements ──
 
 // NAME or NAME(NUMBER).
-#[derive(Drop)]
+#[derive(Clone, Copy)]
 pub struct Asked {
     pub named: bool,
     pub numbered: bool,
@@ -73,7 +75,7 @@ fn asked_in(word: &[u8]) -> Asked
 }
 
 // Where an element lies in storage, and its size; or why there is none. There may be more cells of the name.
-#[derive(Drop)]
+#[derive(Clone, Copy)]
 pub struct Element {
     pub why: u8,
     pub address: u32,
@@ -160,7 +162,7 @@ pub fn element_named(source: &[u8], word: &[u8]) -> Element
 // ── set ──
 
 // Why a word is wrong, 0 where none is, and which.
-#[derive(Drop)]
+#[derive(Clone, Copy)]
 pub struct Fault {
     pub why: u8,
     pub word: usize,

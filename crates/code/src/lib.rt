@@ -1,4 +1,6 @@
 // Document 01, "Code": where branches go, then the program's bytes and the literals that it needs, each in one loop along the tape.
+#![tactic(auto)]
+
 ghost use Rattle.std.specs.Prelude.{◌≡◌, ℕ, ◌+◌, ◌-◌, ◌*◌, ◌/◌, ◌%◌, ◌≤◌, ◌<◌, List, map, length, get_or, take, drop, set};
 ghost use Rattle.tape.specs.Events.{EVENTS, TOKEN-LIMIT};
 ghost use Rattle.std.proofs.lemmas.List.Edits.{sets};
@@ -217,7 +219,7 @@ fn lay_code(
 }
 
 // How far a program goes, and how many literals it has, up to the room for them.
-#[derive(Drop)]
+#[derive(Clone, Copy)]
 pub struct Reached {
     pub length: usize,
     pub literals: usize,

@@ -1,4 +1,6 @@
 // What the command says of stored texts, compared with `stdout`: answers and messages, reports of runs, comparisons, pages of help.
+#![tactic(auto)]
+
 fn main() {
     tautgaff::tautgaff_main(
         b"check\0small.pl360\0cr.pl360\0tab.pl360\0mark.pl360\0comment.pl360\0number.pl360\0order.pl360\0end.pl360\0depth.pl360\0",

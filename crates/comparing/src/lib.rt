@@ -1,5 +1,7 @@
 // `tautgaff same`: a source translated again, and the result held against a stored object text.
 // A message with the names of two files.
+#![tactic(auto)]
+
 const SAME_ROOM: usize = 12288;
 
 fn tell_equal(source: &[u8], object: &[u8]) -> u8 {

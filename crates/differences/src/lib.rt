@@ -1,4 +1,6 @@
 // Where a stored object text differs from what its source becomes: the first line that does, and what it is.
+#![tactic(auto)]
+
 ghost use Rattle.std.specs.Prelude.{◌≡◌, ◌+◌, ◌≤◌, ◌<◌, ◌^◌, length, take, drop};
 ghost use Rattle.figures.specs.Writing.{Adds, Holds};
 ghost use Rattle.differences.specs.Differences.{caret_text, common as common_of, difference_at, difference_text, end_text, head_text, hint_text, kind_of, line_at, line_kind, lines_text, offset_text, about_text, shown_text};

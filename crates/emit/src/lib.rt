@@ -1,4 +1,6 @@
 // Document 01, "Code": the instructions of each event of a tape, by the tables of a text.
+#![tactic(auto)]
+
 ghost use Rattle.std.specs.Prelude.{◌≡◌, [], ◌∷◌, ℕ, ◌+◌, ◌-◌, ◌*◌, ◌≤◌, ◌<◌, length, get_or};
 ghost use Rattle.tape.specs.Events.{TOKEN-LIMIT};
 ghost use Rattle.base.specs.Lists.{member};
@@ -20,7 +22,7 @@ use ledger::{found, goes, meaning, offset, opens, under, value, written};
 use tables::{is_cell, is_register, is_routine, number, register};
 
 // What an operand is: nothing that fits; held in a register; a number; stored, by the number of its width, at an index register, a base register and a displacement.
-#[derive(Drop)]
+#[derive(Clone, Copy)]
 pub enum Use {
     Absent,
     Held(u64),
@@ -30,7 +32,7 @@ pub enum Use {
 
 // An instruction to be laid: of two bytes: opcode, r, s; of four: opcode, r, index, base, displacement; one that takes a number from storage: opcode, r, index,
 // the number. Where an opcode takes a number 0 to 255, it stands in place of r and the index, by its halves.
-#[derive(Drop)]
+#[derive(Clone, Copy)]
 pub enum Code {
     Two(u64, u64, u64),
     Four(u64, u64, u64, u64, u64),
@@ -39,7 +41,7 @@ pub enum Code {
 
 // The instructions of an event, in order. Who reads them counts them and takes one after the other, so that only `count` and `nth` know how many there can be.
 // Those of a CASE are made of its register, how many statements it has, the address that is indexed and where it ends.
-#[derive(Drop)]
+#[derive(Clone, Copy)]
 pub enum Codes {
     None,
     One(Code),
@@ -48,7 +50,7 @@ pub enum Codes {
 }
 
 // What an event names: a register, and where it leads: the segment of a base, the procedure of a call, the label of a GOTO.
-#[derive(Drop)]
+#[derive(Clone, Copy)]
 pub struct Named {
     pub register: u64,
     pub goal: usize,
@@ -56,7 +58,7 @@ pub struct Named {
 
 // The assignment or the use of a function that is written: the target or the last argument; an assignment's sign, by its event, 0 for none; how many arguments a use
 // has so far. Before the register of a CASE: how many statements it has.
-#[derive(Drop)]
+#[derive(Clone, Copy)]
 pub struct Writing {
     pub aim: Use,
     pub sign: u32,
@@ -64,14 +66,14 @@ pub struct Writing {
 }
 
 // What an event makes: its instructions, and what is written after it.
-#[derive(Drop)]
+#[derive(Clone, Copy)]
 pub struct Emitted {
     pub codes: Codes,
     pub writing: Writing,
 }
 
 // Past an event: the address behind all that it makes, and what is written after it.
-#[derive(Drop)]
+#[derive(Clone, Copy)]
 pub struct Past {
     pub at: usize,
     pub writing: Writing,

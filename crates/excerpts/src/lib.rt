@@ -1,4 +1,6 @@
 // A place in a text as it is shown: line and column, the line, and the word there.
+#![tactic(auto)]
+
 ghost use Rattle.std.specs.Prelude.{◌≡◌, take};
 ghost use Rattle.base.specs.Runs.{run_len};
 ghost use Rattle.figures.specs.Parts.{first_part};

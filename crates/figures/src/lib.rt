@@ -1,5 +1,7 @@
 // Texts that are put together in lent room, numbers in them, and parts of texts. What has no room is left out: a writer is handed where the text so far
 // ends, and answers where it ends then.
+#![tactic(auto)]
+
 ghost use Rattle.std.specs.Prelude.{◌≡◌, [], ◌∷◌, ◌+◌, ◌-◌, ◌≤◌, ◌<◌, ◌^◌, length, take, drop, get_or, replicate};
 ghost use Rattle.base.specs.Choose.{choose};
 ghost use Rattle.base.specs.Text.{same_bytes};
@@ -262,7 +264,7 @@ pub fn same(s: &[u8], t: &[u8]) -> bool
 
 // ── reading ──
 
-#[derive(Drop)]
+#[derive(Clone, Copy)]
 pub enum Reading {
     Number(u32),
     Nothing,

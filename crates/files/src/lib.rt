@@ -1,12 +1,14 @@
 // Files as the command reads and writes them. `-` is standard input, or standard output. What cannot be read or written is said on standard error, with the
 // file's name.
+#![tactic(auto)]
+
 ghost use Rattle.std.specs.Prelude.{◌+◌, ◌≤◌, ◌<◌, length, get_or, ◌≡◌};
 
 use libc::types::{stat, timespec};
 use libc::{STDERR_FILENO, STDIN_FILENO, STDOUT_FILENO};
 
 // How many bytes were read, and whether reading failed.
-#[derive(Drop)]
+#[derive(Clone, Copy)]
 pub struct Got {
     pub size: usize,
     pub failed: bool,

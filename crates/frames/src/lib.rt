@@ -1,4 +1,6 @@
 // The writer of the object text: the frames of a segment, and of a whole object. Nothing is touched behind what is laid.
+#![tactic(auto)]
+
 ghost use Rattle.std.specs.Prelude.{◌≡◌, ◌+◌, ◌*◌, ◌<◌, ◌≤◌, length};
 ghost use Rattle.std.proofs.lemmas.List.Edits.{sets};
 ghost use Rattle.objtext.specs.Object.{program, cells, hex_digit, hex, line, frame_bytes, content_frame, content_frames, frames_for, segment_frames, text_of, object_text, program_limit, data_limit, content_limit};

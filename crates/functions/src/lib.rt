@@ -1,4 +1,6 @@
 // Document 02, 1/13: the table of the standard functions, a function known by its place in it.
+#![tactic(auto)]
+
 ghost use Rattle.std.specs.Prelude.{◌≡◌, ◌<◌, get_or};
 ghost use Rattle.static_rules.specs.Functions.{function_at, arity as arity_of, argument_at, is_written};
 ghost use Rattle.functions.specs.Arguments.{argument_number, row_of, function_in};

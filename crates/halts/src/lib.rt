@@ -1,4 +1,6 @@
 // What is said of a stop 2 or 3 of a source's run: where it is, the line, the operand as it is written, and its address.
+#![tactic(auto)]
+
 ghost use Rattle.std.specs.Prelude.{◌≡◌, ◌++◌};
 ghost use Rattle.figures.specs.Writing.{Adds, Holds};
 ghost use Rattle.excerpts.specs.Lines.{line_text};

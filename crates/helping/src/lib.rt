@@ -1,4 +1,6 @@
 // `tautgaff help`: which page a word asks for, and the page.
+#![tactic(auto)]
+
 ghost use Rattle.std.specs.Prelude.{◌≡◌, ltb};
 ghost use Rattle.base.specs.Choose.{choose};
 ghost use Rattle.figures.specs.Writing.{Adds};

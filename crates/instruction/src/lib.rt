@@ -1,4 +1,6 @@
 // Document 01, "Runner", with the byte functions of document 02, 1/13: one instruction, from its bytes. Every opcode has an arm of its own that calls a shared function with a constant.
+#![tactic(auto)]
+
 ghost use Rattle.std.specs.Prelude.{◌≡◌, List, ℕ, ◌+◌, ◌*◌, ◌/◌, ◌%◌, ◌<◌, ◌≤◌, length};
 ghost use Rattle.machine.specs.Space.{room, needed, displacements, Space, space_by};
 ghost use Rattle.machine.specs.Step.{address as address_of, cpu, stepped, short_on, long_on, step as step_of};

@@ -1,4 +1,6 @@
 // Document 01, "Names, cells, protected registers": refusals 8 to 12 of a text but for the layout's, in one loop along the tape.
+#![tactic(auto)]
+
 ghost use Rattle.std.specs.Prelude.{◌≡◌, List, Bool, ℕ, ◌+◌, ◌-◌, ◌/◌, ◌≤◌, ◌<◌, length, get_or};
 ghost use Rattle.tape.specs.Pass.{pass};
 ghost use Rattle.ledger.specs.Book.{wide_of, thin_of};
@@ -26,7 +28,7 @@ use tables::{is_cell, is_register, number, register, top};
 use tape::{family, layer};
 
 // What the cells that follow are, how wide and of how many elements, and for how many more values the last has room.
-#[derive(Drop)]
+#[derive(Clone, Copy)]
 pub struct Cells {
     pub width: u32,
     pub elements: u64,
@@ -34,7 +36,7 @@ pub struct Cells {
 }
 
 // What stands open in a statement: the target of an assignment; the token of a use's name and how many arguments it has had.
-#[derive(Drop)]
+#[derive(Clone, Copy)]
 pub struct Open {
     pub target: usize,
     pub name: usize,
@@ -42,7 +44,7 @@ pub struct Open {
 }
 
 // How many registers are protected, how many of them are bases of the innermost block, and how many blocks are open.
-#[derive(Drop)]
+#[derive(Clone, Copy)]
 pub struct Depths {
     pub kept: usize,
     pub count: usize,

@@ -1,5 +1,7 @@
 // Document 01, "Names, cells, protected registers": where cells stand, refusal 12 of a cell, and the initial values in a segment's image, each in one loop
 // along the tape.
+#![tactic(auto)]
+
 ghost use Rattle.std.specs.Prelude.{◌≡◌, ◌+◌, ◌/◌, ◌≤◌, ◌<◌, length};
 ghost use Rattle.base.specs.Numbers.{stored};
 ghost use Rattle.scopes.specs.Broken.{unbroken};
@@ -86,7 +88,7 @@ pub fn layout(tape: &[u32], wide: &mut [u64], thin: &mut [u16]) -> Broken
 }
 
 // Where the next initial value goes, and how many bytes it takes.
-#[derive(Drop)]
+#[derive(Clone, Copy)]
 pub struct Filling {
     pub at: usize,
     pub size: usize,

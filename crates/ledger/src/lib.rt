@@ -1,4 +1,6 @@
 // The ledger: what is known of each token, in two slices of four columns. A row past the end reads as 0, and a put there changes nothing.
+#![tactic(auto)]
+
 ghost use Rattle.std.specs.Prelude.{◌≡◌, ◌<◌, get_or};
 ghost use Rattle.ledger.specs.Book.{wide_of, thin_of, wide_column, thin_column, on_wide, on_thin, put_in, zeros, put_value, put_mean, put_under, put_offset, put_found, put_goes, put_opens, put_written, thin_limit};
 

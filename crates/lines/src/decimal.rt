@@ -3,7 +3,7 @@ ghost use Rattle.std.specs.Prelude.{◌≡◌, ◌+◌, ◌-◌, ◌*◌, ◌^�
 ghost use Rattle.lines.specs.Decimal.{is_digit, digit_of, Numbered};
 
 // A number and the bytes that it takes; none where there is no number.
-#[derive(Drop)]
+#[derive(Clone, Copy)]
 pub struct Number {
     pub size: usize,
     pub value: u64,

@@ -23,7 +23,7 @@ pub fn refill(fd: i32, room: &mut [u8], from: usize, to: usize) -> usize
 }
 
 // Where what is still to be read begins and ends.
-#[derive(Drop)]
+#[derive(Clone, Copy)]
 pub struct Window {
     pub at: usize,
     pub to: usize,

@@ -1,4 +1,6 @@
 // A text's cells by their names, and the operand of an instruction by its address: what who runs a source asks for by name and is told of in its own words.
+#![tactic(auto)]
+
 ghost use Rattle.std.specs.Prelude.{◌≡◌, ℕ, ◌+◌, ◌*◌, ◌≤◌, ◌<◌, length};
 ghost use Rattle.std.proofs.Math.Option.{none};
 ghost use Rattle.token.specs.Text.{tokens_of, TEXT-LIMIT};
@@ -22,7 +24,7 @@ use token::Tokens;
 // ── cells ──
 
 // The first cell of a name, and whether there are more; its segment, its offset there, the size and the number of its elements, whether it is an array.
-#[derive(Drop)]
+#[derive(Clone, Copy)]
 pub struct Site {
     pub found: bool,
     pub more: bool,
@@ -81,7 +83,7 @@ fn sites(wide: &[u64], key: u64) -> Site
 // ── operands ──
 
 // An operand as it is written: its first and its last token; 0 and 0 for none.
-#[derive(Drop)]
+#[derive(Clone, Copy)]
 pub struct Span {
     pub token: usize,
     pub last: usize,
@@ -190,7 +192,7 @@ fn span_along(tape: &[u32], kinds: &[u8], wide: &[u64], thin: &[u16], address: u
 // ── both, of a text ──
 
 // The cell of a name, and the operand at an address of the program: the places of its first and its last token, 0 and 0 for none.
-#[derive(Drop)]
+#[derive(Clone, Copy)]
 pub struct Seen {
     pub site: Site,
     pub from: usize,

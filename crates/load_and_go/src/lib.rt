@@ -1,5 +1,7 @@
 // A source translated, its object text loaded and run, in one call: the answers of the translator and of the runner, by their definitions. Whatever is
 // refused is refused before any lent byte is written.
+#![tactic(auto)]
+
 ghost use Rattle.std.specs.Prelude.{◌≡◌, length};
 ghost use Rattle.machine.specs.Space.{needed};
 ghost use Rattle.translation.specs.Translate.{translate as translation};
@@ -14,7 +16,7 @@ const LAST_CODE: u64 = 3;
 
 const NEEDED: usize = machine::ROOM * machine::PAGES;
 
-#[derive(Drop)]
+#[derive(Clone, Copy)]
 pub struct Answer {
     pub number: usize,
     pub spot: Spot,
@@ -27,7 +29,7 @@ pub struct Answer {
 }
 
 // The translator's answer.
-#[derive(Drop)]
+#[derive(Clone, Copy)]
 struct Translated {
     number: usize,
     spot: Spot,

@@ -1,5 +1,7 @@
 // The machine of document 01, "Runner": what its instructions do. Registers, storage and the map of the segments are lent, so that no turn moves more
 // than what an instruction is given and what comes next.
+#![tactic(auto)]
+
 ghost use Rattle.std.specs.Prelude.{◌≡◌, true, ◌&&◌, List, ℕ, ◌+◌, ◌*◌, ◌/◌, ◌%◌, ◌^◌, ◌<◌, ◌≤◌, leb, length, get_or};
 ghost use Rattle.machine.specs.Space.{room, needed, displacements, space_by, readable, writable};
 ghost use Rattle.machine.specs.Step.{completed, went, stepped, applied, shifted_by, part as part_of, address as address_of, extended, executed, paired, asked, load_turn, store_step, compare_turn, multiply_turn, multiply_by_turn, branch_turn, branch_register_turn, link_turn, shift_turn, end_stop};
@@ -28,7 +30,7 @@ const ADDRESSES: usize = 16777216;
 pub const COMPLETED: u32 = 5;
 
 // What an instruction makes of its first register and its second operand.
-#[derive(Drop)]
+#[derive(Clone, Copy)]
 pub enum Fun {
     Load,
     Add,
@@ -47,7 +49,7 @@ pub enum Fun {
     Test,
 }
 
-#[derive(Drop)]
+#[derive(Clone, Copy)]
 pub enum Shift {
     RightLogical,
     LeftLogical,
@@ -56,7 +58,7 @@ pub enum Shift {
 }
 
 // Before an instruction: its register fields, its second operand (what a register holds, or an address), the condition code and the counter.
-#[derive(Drop)]
+#[derive(Clone, Copy)]
 pub struct Given {
     pub rx: u8,
     pub b: u32,
@@ -65,7 +67,7 @@ pub struct Given {
 }
 
 // After an instruction: the stop, 5 where there is none, the condition code and the counter. 16 bytes on purpose.
-#[derive(Drop)]
+#[derive(Clone, Copy)]
 pub struct Next {
     pub code: u64,
     pub at: u32,

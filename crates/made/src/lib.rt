@@ -1,5 +1,7 @@
 // Document 01, "Object text" and "Numbers answered": the object of a text that breaks no rule, laid in the buffer, or refusal 14, 15 or 16. Nothing is written before
 // these are decided.
+#![tactic(auto)]
+
 ghost use Rattle.std.specs.Prelude.{◌≡◌, List, ℕ, ◌+◌, ◌*◌, ◌≤◌, length};
 ghost use Rattle.std.proofs.lemmas.List.Edits.{sets};
 ghost use Rattle.ledger.specs.Book.{wide_of, thin_of, thin_limit};
@@ -16,7 +18,7 @@ use layout::SEGMENT_LIMIT;
 use settled::Judged;
 
 // The bytes written; or a refusal's number and place.
-#[derive(Drop)]
+#[derive(Clone, Copy)]
 pub enum Answer {
     Accepted(usize),
     Refused(usize, usize),

@@ -1,4 +1,6 @@
 // Document 01, "Names, cells, protected registers": what names mean and which registers each procedure's text writes, in one loop along the tape.
+#![tactic(auto)]
+
 ghost use Rattle.std.specs.Prelude.{◌≡◌, List, ℕ, suc, ◌+◌, ◌-◌, ◌≤◌, ◌<◌, length, get_or};
 ghost use Rattle.tape.specs.Pass.{pass};
 ghost use Rattle.static_rules.specs.Registers.{add_register};
@@ -18,7 +20,7 @@ use tables::{is_long, is_register, is_routine, number, packed, register, top};
 use tape::family;
 
 // The innermost open procedure and how many are around it; the base in force, its register times 2^32 and its segment, and how many blocks are open.
-#[derive(Drop)]
+#[derive(Clone, Copy)]
 pub struct Scope {
     pub own: usize,
     pub owners: usize,

@@ -1,4 +1,6 @@
 // What is said of a refusal: where it is, the line that it stands in, and why.
+#![tactic(auto)]
+
 ghost use Rattle.std.specs.Prelude.{◌≡◌, ◌+◌, ◌-◌, ◌≤◌, ◌<◌, length, take, drop, get_or, eqb};
 ghost use Rattle.figures.specs.Writing.{Holds, Adds};
 ghost use Rattle.base.specs.Runs.{run_len};

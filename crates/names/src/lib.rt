@@ -1,5 +1,7 @@
 // Document 01, "Names, cells, protected registers": which declaration each name means, refusals 6, 7 and 13 of names, in one loop along the tape. Two columns of
 // the ledger are worked in: `opens` has the tokens that declare names, oldest first, and `written` for each open block where it begins there. Labels have a module of their own.
+#![tactic(auto)]
+
 pub mod labels;
 
 ghost use Rattle.std.specs.Prelude.{◌≡◌, true, List, [], ◌∷◌, ℕ, ◌+◌, ◌-◌, ◌*◌, ◌/◌, ◌≤◌, ◌<◌, length};
@@ -20,7 +22,7 @@ use scopes::{Broken, Noted, join, rule};
 const MOST_NAMES: usize = 256;
 
 // How many blocks are open, and how many names are declared in them.
-#[derive(Drop)]
+#[derive(Clone, Copy)]
 pub struct Blocks {
     pub depth: usize,
     pub count: usize,

@@ -1,4 +1,6 @@
 // The reader of the object text: how many segments it has, and where their bytes stand. A place past the text's end reads as no digit.
+#![tactic(auto)]
+
 ghost use Rattle.std.specs.Prelude.{◌≡◌, true, ◌+◌, ◌*◌, ◌/◌, ◌%◌, ◌<◌, ◌≤◌, length, get_or, drop};
 ghost use Rattle.std.proofs.lemmas.List.Edits.{sets};
 ghost use Rattle.objtext.specs.Object.{frames_for, program_limit, data_limit, content_limit};

@@ -1,5 +1,7 @@
 // Programs: document 01, "Grammar", the rules that hold a statement. A text that is a program is written out as a tape of events in the order of reading
 // (crate `tape`); one that is none is refused, 4 or 5, at a token.
+#![tactic(auto)]
+
 ghost use Rattle.std.specs.Prelude.{◌≡◌, ◌≤◌, ◌<◌, length};
 ghost use Rattle.token.specs.Text.{TEXT-LIMIT};
 ghost use Rattle.tape.specs.Events.{TOKEN-LIMIT};
@@ -34,7 +36,7 @@ pub fn program(kinds: &[u8], first: usize, tape: &mut [u32]) -> Answer
 }
 
 // What is said of a text: it is a program, or why not and where.
-#[derive(Drop)]
+#[derive(Clone, Copy)]
 pub enum Verdict {
     Program,
     TooLong,

@@ -7,7 +7,7 @@ use token::kinds;
 
 // Number 0: `at` is the next token, and `value` what was made on the way, where the next event of the tape goes or the shape of a designator. Else the
 // refusal of that number, at the token `at`.
-#[derive(Drop)]
+#[derive(Clone, Copy)]
 pub struct Answer {
     pub number: u8,
     pub at: usize,

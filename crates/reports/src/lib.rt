@@ -1,4 +1,6 @@
 // The report of a run: why it stopped, how far it came, what it left in the registers; and a value by its name.
+#![tactic(auto)]
+
 ghost use Rattle.std.specs.Prelude.{◌+◌, ◌≤◌, length};
 ghost use Rattle.base.specs.Text.{bytes};
 ghost use Rattle.figures.specs.Writing.{Adds, Holds};

@@ -1,4 +1,6 @@
 // Document 01, "Names, cells, protected registers": the rules on kinds, registers and values, refusals 8 to 12, one function each.
+#![tactic(auto)]
+
 ghost use Rattle.std.specs.Prelude.{◌≡◌, not, ℕ, ◌+◌, ◌-◌, ◌<◌, get_or};
 ghost use Rattle.base.specs.Lists.{member};
 ghost use Rattle.ledger.specs.Book.{wide_of, thin_of};

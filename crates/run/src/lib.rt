@@ -1,4 +1,6 @@
 // Document 01, "Runner": a run of at most a budget of instructions.
+#![tactic(auto)]
+
 ghost use Rattle.std.specs.Prelude.{◌≡◌, ◌≤◌, length};
 ghost use Rattle.machine.specs.Space.{room, needed, space_by};
 ghost use Rattle.machine.specs.Step.{cpu};
@@ -8,7 +10,7 @@ ghost use Rattle.run.specs.Lent.{ran};
 use instruction::step;
 use machine::{COMPLETED, MAP};
 
-#[derive(Drop)]
+#[derive(Clone, Copy)]
 pub struct Ran {
     pub stop: u32,
     pub at: u32,

@@ -1,5 +1,7 @@
 // A case for the runner as `runbatch` has it (a line `length budget cc storage-length r0 … r15`, the object text, a newline), run on storage of 165s, and the
 // line that answers it (`number place line column stop counter cc count r0 … r15 hash`).
+#![tactic(auto)]
+
 ghost use Rattle.std.specs.Prelude.{◌≡◌, ◌+◌, ◌≤◌, ◌<◌, length};
 
 use lines::{checksum, decimal, output};
@@ -63,7 +65,7 @@ fn fits(fields: [u64; FIELDS]) -> bool {
 }
 
 // How much of the input the case takes, 0 where there is none that can be run in the storage lent, and how long the line is that answers it.
-#[derive(Drop)]
+#[derive(Clone, Copy)]
 pub struct Told {
     pub used: usize,
     pub size: usize,

@@ -1,4 +1,6 @@
 // Every stored run through the proved runner: the line that it answers against the stored line.
+#![tactic(auto)]
+
 ghost use Rattle.std.specs.Prelude.{◌+◌, ◌≤◌, length};
 
 use lines::{tally, window};
@@ -7,7 +9,7 @@ use lines::{tally, window};
 const VECTOR: usize = 32768;
 
 // How many bytes a vector has, 0 where there is none, and whether the answer is the stored one.
-#[derive(Drop)]
+#[derive(Clone, Copy)]
 struct Compared {
     used: usize,
     is_equal: bool,

@@ -1,4 +1,6 @@
 // Document 01, "Runner": refusals 17 to 19, loading, the run. Nothing is written before every refusal is decided.
+#![tactic(auto)]
+
 ghost use Rattle.std.specs.Prelude.{◌≡◌, ◌++◌, ◌+◌, ◌-◌, ◌*◌, ◌<◌, ◌≤◌, length, drop, replicate};
 ghost use Rattle.objtext.specs.Reader.{after_program, segment_list, read_as, read_object};
 ghost use Rattle.machine.specs.Space.{needed};
@@ -21,7 +23,7 @@ const PROGRAM_ORIGIN: u32 = ROOM as u32;
 
 const DATA_ORIGIN: u32 = 2 * PROGRAM_ORIGIN;
 
-#[derive(Drop)]
+#[derive(Clone, Copy)]
 pub enum Verdict {
     Ran,
     NoObject,
@@ -29,7 +31,7 @@ pub enum Verdict {
     SmallStorage,
 }
 
-#[derive(Drop)]
+#[derive(Clone, Copy)]
 pub enum Stop {
     BudgetUsed,
     AtEnd,
@@ -39,7 +41,7 @@ pub enum Stop {
 }
 
 // Place, line and column are 0 in every answer.
-#[derive(Drop)]
+#[derive(Clone, Copy)]
 pub struct Answer {
     pub verdict: Verdict,
     pub spot: Spot,

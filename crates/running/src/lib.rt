@@ -1,5 +1,7 @@
 // `tautgaff run`: an object text, or a source that is translated first, run from the registers and, of a source, the cells that `--set`
 // gives; the report, and what `--show` asks for; and of a source where in it a stop at an operand is.
+#![tactic(auto)]
+
 ghost use Rattle.std.specs.Prelude.{◌≡◌};
 ghost use Rattle.runner.specs.Numbers.{stop_of};
 

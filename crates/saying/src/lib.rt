@@ -1,5 +1,7 @@
 // What the command says of a refusal and of a wrong word, and its exit status: 0 accepted, ended, same; 1 refused or different; 2 wrong use, or a file that
 // cannot be read or written; 3 the budget is used up; 4 stopped by 2, 3 or 4.
+#![tactic(auto)]
+
 ghost use Rattle.std.specs.Prelude.{◌≡◌};
 ghost use Rattle.saying.specs.Statuses.{status_of};
 

@@ -1,4 +1,6 @@
 // The next token of what remains of a text: document 01, "Text and tokens", and refusals 2 and 3.
+#![tactic(auto)]
+
 mod entries;
 
 ghost use Rattle.std.specs.Prelude.{◌≡◌, true, ◌+◌, ◌≤◌, ◌<◌, ◌^◌, min, length, take, get_or};
@@ -13,7 +15,7 @@ use spots::{Spot, spot_at};
 use token::{Lexeme, Next, Token, kinds};
 
 // The classes of bytes that runs are made of.
-#[derive(Drop)]
+#[derive(Clone, Copy)]
 enum Class {
     Blank,
     Separator,
@@ -74,7 +76,7 @@ fn cap(x: u64) -> u64
 }
 
 // How many digits or characters, and the number or the key that they make.
-#[derive(Drop)]
+#[derive(Clone, Copy)]
 struct Spelled {
     size: usize,
     value: u64,

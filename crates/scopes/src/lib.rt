@@ -1,16 +1,18 @@
 // Names and labels: which declaration each name means, refusals 6, 7 and 13.
+#![tactic(auto)]
+
 ghost use Rattle.std.specs.Prelude.{◌≡◌};
 ghost use Rattle.scopes.specs.Broken.{rule as rule_of, ◌⊕◌};
 
 // Of the broken rules the one that is answered: its refusal's number, 0 for none, and its token.
-#[derive(Drop)]
+#[derive(Clone, Copy)]
 pub struct Broken {
     pub number: usize,
     pub at: usize,
 }
 
 // How many names were declared, or labels set, and the broken rules.
-#[derive(Drop)]
+#[derive(Clone, Copy)]
 pub struct Noted {
     pub count: usize,
     pub broken: Broken,

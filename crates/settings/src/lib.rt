@@ -1,4 +1,6 @@
 // What `--set` and `--show` say of registers. Of a source other names may be cells, and are left to who knows them.
+#![tactic(auto)]
+
 ghost use Rattle.std.specs.Prelude.{◌≡◌, ◌-◌, ◌<◌, ◌≤◌, length};
 ghost use Rattle.settings.specs.Setting.{wrong_at, with_register, valued as valued_of, other as other_of, set_by, shown_by, said_by, none as none_of, start_of};
 
@@ -6,7 +8,7 @@ use figures::Reading;
 use words::{SET, SHOW};
 
 // The registers that a run begins with; why a word is wrong, and which.
-#[derive(Drop)]
+#[derive(Clone, Copy)]
 pub struct Registers {
     pub values: [u32; 16],
     pub why: u8,

@@ -1,5 +1,7 @@
 // Document 01, "Numbers answered": what is known of a text before code is made of it. Its tokens behind the standard names; which declaration each name and which
 // label each GOTO means; what names mean, which rules are broken, where cells stand. And where a token stands in the text.
+#![tactic(auto)]
+
 ghost use Rattle.std.specs.Prelude.{◌≡◌, List, ◌+◌, ◌*◌, ◌/◌, ◌≤◌, ◌<◌, length, get_or};
 ghost use Rattle.std.proofs.lemmas.List.Edits.{sets};
 ghost use Rattle.token.specs.declared.Token.{Token};
@@ -118,7 +120,7 @@ pub fn bind(tape: &[u32], wide: &[u64], thin: &mut [u16]) -> Broken
 }
 
 // The broken rule that is answered, how many base declarations there are, and where the cells of segments 1 to 3 end.
-#[derive(Drop)]
+#[derive(Clone, Copy)]
 pub struct Judged {
     pub broken: Broken,
     pub bases: usize,

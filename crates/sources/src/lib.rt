@@ -1,4 +1,6 @@
 // A source and the translator: its object text, or the refusal said; `tautgaff check`.
+#![tactic(auto)]
+
 use translate::Answer;
 
 // How long the object text is that is now at the front of the room. 0 says that the source is refused, which has been said on standard error.

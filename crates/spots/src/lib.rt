@@ -1,10 +1,12 @@
 // Document 02, 2/13: where a byte of a text stands, by place, line and column.
+#![tactic(auto)]
+
 ghost use Rattle.std.specs.Prelude.{◌≡◌, ◌+◌, ◌-◌, ◌≤◌, ◌<◌, length};
 ghost use Rattle.spots.specs.Spots.{spot, spot_at, next_line, line_from, column_from, unplaced as unplaced_at, first as first_of};
 ghost use Rattle.spots.specs.Going.{Near, onward as onward_by, along as along_by};
 
 // "A place is the offset of the first byte of what is named"; "line and column, both from 1".
-#[derive(Drop)]
+#[derive(Clone, Copy)]
 pub struct Spot {
     pub place: usize,
     pub line: usize,

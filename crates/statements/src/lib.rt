@@ -1,4 +1,6 @@
 // Document 01, "Grammar": "statement", "block", and procedures, the rules that hold statements.
+#![tactic(auto)]
+
 ghost use Rattle.std.specs.Prelude.{◌+◌, ◌<◌, length};
 ghost use Rattle.grammar.specs.Grammar as G;
 ghost use Rattle.tape.specs.Tape.{tape_statement, tape_body, tape_items};

@@ -1,4 +1,6 @@
 // What names mean and which registers procedures write, in arrays of numbers by token.
+#![tactic(auto)]
+
 ghost use Rattle.std.specs.Prelude.{◌≡◌, ◌+◌, ◌-◌, ◌≤◌, ◌<◌};
 ghost use Rattle.static_rules.specs.Meaning.{element_size};
 ghost use Rattle.static_rules.specs.Registers.{has as has_of};

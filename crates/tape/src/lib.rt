@@ -1,4 +1,6 @@
 // The events of a tape, as specs/Events.antt numbers them. To those of designators and operands their shape is added.
+#![tactic(auto)]
+
 ghost use Rattle.std.specs.Prelude.{◌≡◌, ◌/◌, ◌%◌, ◌<◌, ◌≤◌};
 ghost use Rattle.tape.specs.Events.{EVENTS, TOKEN-LIMIT};
 ghost use Rattle.tape.specs.Numbers.{layer_at, form_at, family_at};

@@ -1,4 +1,5 @@
 // The command: its words to an exit status.
+#![tactic(auto)]
 
 // ── translate ──
 

@@ -1,5 +1,7 @@
 // A text among others, after a line of numbers the first of which is its length, and what the grammar says of it: number, place, line and column,
 // refusals 1 to 5.
+#![tactic(auto)]
+
 ghost use Rattle.std.specs.Prelude.{◌≡◌, ◌+◌, ◌≤◌, ◌<◌, length};
 ghost use Rattle.parse.specs.Programs.{says, judged};
 
@@ -9,7 +11,7 @@ use spots::{Spot, unplaced};
 use token_lists::TEXT_LIMIT;
 
 // Number and place of the paper, with line and column.
-#[derive(Drop)]
+#[derive(Clone, Copy)]
 pub struct Said {
     pub number: u64,
     pub spot: Spot,
@@ -36,7 +38,7 @@ pub fn judge(text: &[u8]) -> Said
 }
 
 // Where the text stands behind its line of numbers, which are put into `fields`: from `from` to `to`, or 0 and 0 where no whole case with its newline is there.
-#[derive(Drop)]
+#[derive(Clone, Copy)]
 pub struct Span {
     pub from: usize,
     pub to: usize,

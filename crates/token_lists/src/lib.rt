@@ -1,4 +1,6 @@
 // All tokens of a text, into lent lists: document 01, "Text and tokens", and refusals 1 to 3.
+#![tactic(auto)]
+
 ghost use Rattle.std.specs.Prelude.{◌≡◌, ◌≤◌, ◌<◌, length, get_or, [], ◌∷◌, map};
 ghost use Rattle.spots.specs.Spots.{unplaced as unplaced_at};
 ghost use Rattle.spots.specs.Going.{Near};

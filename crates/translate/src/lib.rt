@@ -1,5 +1,7 @@
 // Document 01, "Numbers answered": the translation of a text into a buffer, the groups of refusals in order. Nothing is written to the buffer before every
 // refusal is decided.
+#![tactic(auto)]
+
 ghost use Rattle.std.specs.Prelude.{◌≡◌, ◌+◌, ◌*◌, ◌≤◌, length, take};
 ghost use Rattle.token.specs.Text.{tokens_of, TEXT-LIMIT};
 ghost use Rattle.grammar.specs.Grammar.{nesting};
@@ -19,7 +21,7 @@ use spots::{Spot, spot_at, unplaced};
 use token::Tokens;
 
 // The bytes written; or a refusal's number and where it stands.
-#[derive(Drop)]
+#[derive(Clone, Copy)]
 pub enum Answer {
     Accepted(usize),
     Refused(usize, Spot),

@@ -1,4 +1,6 @@
 // Every stored text through the proved translator: number, place, line, column, every byte of the object text, and every other byte of the buffer as it was.
+#![tactic(auto)]
+
 ghost use Rattle.std.specs.Prelude.{◌≡◌, ◌+◌, ◌≤◌, length};
 
 use lines::{checksum, output, tally, window};
@@ -15,7 +17,7 @@ const LENGTH: usize = 6;
 const BEFORE: u8 = 165;
 
 // How many bytes a vector has, 0 where there is none, and whether the answer is the stored one.
-#[derive(Drop)]
+#[derive(Clone, Copy)]
 struct Compared {
     used: usize,
     is_equal: bool,

@@ -1,4 +1,6 @@
 // The words of a command line, each ended by a zero byte, and what they wish for.
+#![tactic(auto)]
+
 ghost use Rattle.std.specs.Prelude.{◌≡◌, ◌-◌, ◌≤◌, ◌<◌};
 ghost use Rattle.figures.specs.Numbers.{digit_of};
 ghost use Rattle.words.specs.Wishes.{command_of, is_option, run_option, option_of, most_names, naming as naming_of, asking as asking_of, wrong_at};
@@ -43,7 +45,7 @@ pub const NO_VALUE: u8 = 5;
 pub const NO_NAME: u8 = 6;
 
 // How many names there are, and the words that are the file's and the other's.
-#[derive(Drop)]
+#[derive(Clone, Copy)]
 pub struct Names {
     pub count: u8,
     pub file: usize,
@@ -51,7 +53,7 @@ pub struct Names {
 }
 
 // What is waited for; the budget and the code.
-#[derive(Drop)]
+#[derive(Clone, Copy)]
 pub struct Options {
     pub waiting: u8,
     pub budget: u32,
@@ -59,13 +61,13 @@ pub struct Options {
 }
 
 // Why a word is wrong, 0 if none is, and which.
-#[derive(Drop)]
+#[derive(Clone, Copy)]
 pub struct Fault {
     pub why: u8,
     pub word: usize,
 }
 
-#[derive(Drop)]
+#[derive(Clone, Copy)]
 pub struct Wish {
     pub command: u8,
     pub names: Names,
