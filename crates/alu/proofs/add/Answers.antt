@@ -1,0 +1,9 @@
+-- `add` is the sum of the signed readings: the code from the biased readings' sum, the value wrapped. Assumes nothing.
+use Rattle.std.proofs.Common.{rules}
+use Rattle.alu.proofs.Signed.{add-made}
+use Rattle.alu.proofs.add.Goals as goal
+
+pub returns : goal.returns
+returns c =
+    add-made (search rules) (search rules) c.biased.ensures.0 c.biased-2.ensures.0
+    c.wrapping_add_u32.ensures c.settled_code.ensures

@@ -1,0 +1,12 @@
+-- `positive` keeps a word that is not below zero and takes the complement of any other. Assumes nothing.
+use Rattle.std.proofs.Common.{rules}
+use Rattle.alu.proofs.Signed.{signs}
+use Rattle.alu.proofs.positive.Goals as goal
+
+pub returns-then-b-lt-TOP : goal.returns-then-b-lt-TOP
+returns-then-b-lt-TOP c =
+    search (signs, rules)
+
+pub returns : goal.returns
+returns c =
+    search (signs, rules)

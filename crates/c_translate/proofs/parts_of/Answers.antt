@@ -1,0 +1,10 @@
+-- The four numbers by the case of the answer. Assumes nothing.
+use Rattle.c_translate.proofs.parts_of.Goals as goal
+
+pub returns-in-Accepted : goal.returns-in-Accepted
+returns-in-Accepted c =
+    rw c.in-Accepted.is
+
+pub returns-in-Refused : goal.returns-in-Refused
+returns-in-Refused c =
+    rw c.in-Refused.is

@@ -1,0 +1,31 @@
+-- Refused as the runner does, or loaded, laid and run. Assumes nothing.
+use Rattle.cells.specs.Setting.{Laying}
+use borrow.Author.Rules.{rules}
+use native.Mathlib.Omega.{arith}
+use mathlib.Core.Path.{ap, ◌∙◌}
+use Rattle.cells.proofs.Running.{set-none, set-18, set-19, set_runs}
+use Rattle.cells.proofs.run_set.Goals as goal
+
+pub returns-then-count-eq0 : goal.returns-then-count-eq0
+returns-then-count-eq0 c =
+    c.run_object.ensures ∙ set-none c.args.source.now c.args.words.now _ _ _ _ _ _ c.read-count.ensures c.if-count-eq0.true
+
+pub returns-then-code-gt3 : goal.returns-then-code-gt3
+returns-then-code-gt3 c =
+    c.run_object-then-code-gt3.ensures ∙ set-18 c.args.source.now c.args.words.now _ _ _ _ _ _ c.read-count.ensures c.if-count-eq0.false (omega (arith, c.if-code-gt3.true))
+
+pub returns-then-store-lt-NEEDED : goal.returns-then-store-lt-NEEDED
+returns-then-store-lt-NEEDED c =
+    c.run_object-then-store-lt-NEEDED.ensures ∙ set-19 c.args.source.now c.args.words.now _ _ _ _ _ _ c.read-count.ensures c.if-count-eq0.false (omega (arith, c.if-code-gt3.false)) (omega (arith, c.if-store-lt-NEEDED.true))
+
+pub load-requires : goal.load-requires
+load-requires c =
+    (search rules, search rules, omega (arith, c.if-store-lt-NEEDED.false))
+
+pub started-requires : goal.started-requires
+started-requires c =
+    (search rules, search rules, omega (arith, c.lay.auto.1.1.0, c.load.auto.1.1.0, c.if-store-lt-NEEDED.false))
+
+pub returns : goal.returns
+returns c =
+    c.started.ensures ∙ rw (ap (λ (l : Laying). l.store) c.lay.ensures, c.load.ensures) (set_runs c.args.source.now c.args.words.now _ _ _ _ _ _ c.read-count.ensures c.if-count-eq0.false (omega (arith, c.if-code-gt3.false)) (omega (arith, c.if-store-lt-NEEDED.false)))

@@ -1,0 +1,19 @@
+-- `places` is the pass. The invariant: the pass over what is left makes the whole, the other columns are as they were, and an event takes so many bytes at most. Assumes nothing.
+use Rattle.code.proofs.Placing.{Same}
+use Rattle.code.specs.Places.{placing_of, place_step, places_in}
+use Rattle.emit.specs.Along.{most_bytes}
+use Rattle.ledger.specs.Book.{wide_of, thin_of}
+use Rattle.tape.specs.Pass.{pass}
+use lib.ListN.{length, drop}
+use mathlib.Core.Path.{◌≡◌}
+use Prim.Native.Nat.{◌≤◌, ◌-◌, ◌*◌}
+use Rattle.code.proofs.places.Given as goal
+
+abbrev pub invariant-loop-i : goal.invariant-loop-i
+invariant-loop-i l =
+    (l.i ≤ length l.tape) × (l.p ≤ most_bytes * l.i) × (length l.thin ≡ length l.initial.thin) × Same (thin_of l.initial.thin) (thin_of l.thin)
+    × (pass (place_step l.kinds (wide_of l.wide) (thin_of l.initial.thin)) (placing_of l.p l.w (thin_of l.thin).written) (drop l.i l.tape) ≡ places_in l.kinds (wide_of l.wide) (thin_of l.initial.thin) l.tape)
+
+abbrev pub decreases-loop-i : goal.decreases-loop-i
+decreases-loop-i l =
+    length l.tape - l.i

@@ -1,0 +1,20 @@
+-- By the column. Assumes nothing.
+use native.Mathlib.Omega.{arith}
+use borrow.Author.Tests.{ne_eqb}
+use Rattle.emit.proofs.opcode.Goals as goal
+
+pub returns-in-0 : goal.returns-in-0
+returns-in-0 c =
+    (rw c.in-0.is, omega arith)
+
+pub returns-in-1 : goal.returns-in-1
+returns-in-1 c =
+    (rw c.in-1.is, omega arith)
+
+pub returns-in-2 : goal.returns-in-2
+returns-in-2 c =
+    (rw c.in-2.is, omega arith)
+
+pub returns-in_default : goal.returns-in_default
+returns-in_default c =
+    let q = c.in_default.rest in (rw (ne_eqb _ 0 q.0.0.1, ne_eqb _ 1 q.0.1, ne_eqb _ 2 q.1), omega arith)

@@ -1,0 +1,13 @@
+-- The table holds the digits. Assumes nothing.
+use mathlib.Core.Path.{refl}
+use borrow.Author.Rules.{rules}
+use Rattle.objtext.specs.Object.{hex_digit}
+use Rattle.frames.proofs.digit.Goals as goal
+
+-- LEFT array-read-result : tie.Need-array-read-result
+-- LEFT array-read-result c = search rules
+
+pub returns : goal.returns
+unfolding hex_digit
+returns c =
+    refl

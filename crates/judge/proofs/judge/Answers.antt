@@ -1,0 +1,65 @@
+use Rattle.judge.proofs.Along.{kept-fits, few-fit, opened-fits, going, going_on, going_end}
+use Prim.Native.Nat.{◌-◌}
+use mathlib.Core.Path.{refl, ◌∙◌}
+use native.Mathlib.Omega.{arith}
+use Rattle.judge.proofs.judge.Goals as goal
+
+pub loop-i-init : goal.loop-i-init
+loop-i-init c =
+    let first = c.put_offset in
+    let second = c.put_offset-2 in
+    let asked = c.requires in (
+      going _ _ _ _ _ c.args.wide.now _ _
+          first.ensures second.ensures first.auto.0 second.auto.0 asked.0 asked.1.0 asked.1.1,
+      (refl, refl),
+    )
+
+pub event_rule-r-requires : goal.event_rule-r-requires
+event_rule-r-requires c =
+    omega (arith, c.token-t.ensures.1)
+
+pub held_after-d-requires : goal.held_after-d-requires
+held_after-d-requires c =
+    let g = c.loop-i.invariant.0 in
+    let h = c.loop-i-test.true in
+    let (deep, (small, few)) = kept-fits _ _ _ _ _ g h in (
+      omega (arith, c.token-t.ensures.1),
+      (deep, (small, (few, opened-fits _ _ _ _ _ g h _ c.op-op.ensures.0))),
+    )
+
+pub open_after-o-requires : goal.open_after-o-requires
+open_after-o-requires c =
+    few-fit _ _ _ _ _ c.loop-i.invariant.0 c.loop-i-test.true
+
+pub overflow_add-i : goal.overflow_add-i
+overflow_add-i c =
+    let g = c.loop-i.invariant.0 in let h = c.loop-i-test.true in omega (arith, g.small, h)
+
+pub loop-i-smaller : goal.loop-i-smaller
+loop-i-smaller c =
+    let h = c.loop-i-test.true in omega (arith, h)
+
+pub loop-i-preserved : goal.loop-i-preserved
+loop-i-preserved c =
+    let before = c.loop-i.invariant in let held = c.held_after-d in let wides = held.auto.1.1.0 in let countings = held.auto.1.1.1.1.0 in (
+      going_on _ _ _ _ _ before.0 c.loop-i-test.true _ _ c.op-op.ensures.0 c.token-t.ensures.0
+          c.event_rule-r.ensures c.join-least.ensures held.ensures.0 held.ensures.1 c.cells_after-c.ensures
+          c.open_after-o.ensures wides countings,
+      (wides ∙ before.1.0, countings ∙ before.1.1),
+    )
+
+pub shape_of-wide : goal.shape_of-wide
+shape_of-wide c =
+    c.loop-i.invariant.1.0 ∙ (c.put_offset-2.auto.0
+    ∙ c.put_offset.auto.0)
+
+pub shape_of-counts : goal.shape_of-counts
+shape_of-counts c =
+    c.loop-i.invariant.1.1
+
+pub returns : goal.returns
+returns c =
+    going_end _ _ _ _ _
+    c.args.wide.now _
+    c.put_offset.ensures c.put_offset-2.ensures
+    c.loop-i.invariant.0 c.loop-i-test.false

@@ -1,0 +1,72 @@
+use Rattle.meanings.specs.Along.{mean_event, beginning}
+use Rattle.tape.specs.Pass.{pass}
+use Rattle.meanings.specs.Flat.{view_of, changed}
+use Rattle.ledger.specs.Book.{Wide, thin_of}
+use Rattle.meanings.proofs.Along.{going, going_on, going_end, room-for-one}
+use Rattle.tables.specs.Packed.{based_in}
+use Prim.Native.Nat.{◌-◌}
+use mathlib.Core.Path.{refl, ap, ◌∙◌}
+use native.Mathlib.Omega.{arith}
+use Rattle.meanings.proofs.meanings.Goals as goal
+
+pub loop-i-init : goal.loop-i-init
+unfolding based_in
+loop-i-init c = (
+  going _ _ _ _ _ _ _ _ refl refl c.requires,
+  record { same-wide = refl; same-thin = refl; same-owners = refl; same-outer = refl },
+)
+
+pub within_after-s-requires : goal.within_after-s-requires
+within_after-s-requires c =
+    (let g = c.loop-i.invariant.0 in let (a, b) = room-for-one _ _ _ g in (a, (b, omega (arith, g.few, g.room.small, c.loop-i-test.true))))
+
+pub declared_after-bases-requires : goal.declared_after-bases-requires
+declared_after-bases-requires c =
+    (let g = c.loop-i.invariant.0 in let r = g.room in let h = c.loop-i-test.true in (omega (arith, c.token-t.ensures.1), omega (arith, g.few, r.small, h)))
+
+pub overflow_add-i : goal.overflow_add-i
+overflow_add-i c =
+    omega (arith, c.loop-i.inv.0.room.small, c.loop-i-test.taken)
+
+pub loop-i-smaller : goal.loop-i-smaller
+loop-i-smaller c =
+    omega (arith, c.loop-i-test.taken)
+
+pub loop-i-preserved : goal.loop-i-preserved
+loop-i-preserved c = (
+  going_on _ _ _ c.loop-i.invariant.0 _ _ _ c.loop-i-test.true c.op-op.ensures.0 c.token-t.ensures.0
+      c.within_after-s.ensures c.form_after-form.ensures c.target_after-target.ensures c.first_after-first.ensures
+      c.declared_after-bases.ensures.0 c.declared_after-bases.ensures.1 c.written_after.ensures
+      c.within_after-s.auto.1.1.1.1.1.0 c.within_after-s.auto.1.1.1.1.1.1.0,
+  (let s = c.loop-i.invariant.1 in record {
+    same-wide = c.declared_after-bases.auto.1.1.0 ∙ s.same-wide;
+    same-thin = c.written_after.auto.1.1.1.1.0 ∙ (c.declared_after-bases.auto.1.1.1.0 ∙ s.same-thin);
+    same-owners = c.within_after-s.auto.1.1.1.1.1.0 ∙ s.same-owners;
+    same-outer = c.within_after-s.auto.1.1.1.1.1.1.0 ∙ s.same-outer;
+  }),
+)
+
+pub shape_of-wide : goal.shape_of-wide
+shape_of-wide c =
+    c.loop-i.invariant.1.same-wide ∙ c.name_standard.auto.0
+
+pub shape_of-thin : goal.shape_of-thin
+shape_of-thin c =
+    c.loop-i.invariant.1.same-thin
+
+pub shape_of-owners : goal.shape_of-owners
+shape_of-owners c =
+    c.loop-i.invariant.1.same-owners
+
+pub shape_of-outer : goal.shape_of-outer
+shape_of-outer c =
+    c.loop-i.invariant.1.same-outer
+
+pub returns : goal.returns
+returns c =
+    going_end _ _ _ c.loop-i.invariant.0 c.loop-i-test.false
+    ∙ ap (λ (w : Wide). changed (λ s. (pass (mean_event c.args.kinds.now w.values
+    (thin_of c.args.thin.now).found) (beginning s)
+    c.args.tape.now).meant)
+    (view_of w (thin_of c.args.thin.now) 0))
+    c.name_standard.ensures

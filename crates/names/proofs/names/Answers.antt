@@ -1,0 +1,73 @@
+use Rattle.names.proofs.Along.{going, roomy, going_on, going_end}
+use Rattle.ledger.proofs.Bounds.{narrow_at}
+use native.Mathlib.Omega.{arith}
+use mathlib.Core.Path.{◌∙◌}
+use Prim.Native.Nat.{◌-◌}
+use Rattle.names.proofs.names.Goals as goal
+
+pub open_around-b-requires : goal.open_around-b-requires
+open_around-b-requires c =
+    omega (arith, c.requires.1.0)
+
+pub loop-i-init : goal.loop-i-init
+loop-i-init c =
+    going _ _ _ _ c.open_around-b.ensures.0
+
+pub declare_at-n-requires : goal.declare_at-n-requires
+declare_at-n-requires c =
+    (let f = c.loop-i.invariant.few in omega (arith, c.loop-i-test.true, c.requires.1.0, c.requires.1.1))
+
+pub blocks_after-b-requires : goal.blocks_after-b-requires
+blocks_after-b-requires c = (
+  roomy _ _ _ _ _ _ _ c.loop-i.invariant
+      c.loop-i-test.true (omega (
+        arith,
+        c.open_around-b.auto.0,
+        c.requires.1.0,
+      )) (omega (
+        arith,
+        c.open_around-b.auto.0,
+        c.requires.1.1,
+      )),
+  narrow_at c.args.tape.now _ _
+      c.loop-i.i
+      c.requires.0
+      c.op-op.ensures.0 c.token-t.ensures.0,
+)
+
+pub use_at-n-requires : goal.use_at-n-requires
+use_at-n-requires c =
+    omega (arith, c.token-t.ensures.1)
+
+pub overflow_add-i : goal.overflow_add-i
+overflow_add-i c =
+    omega (
+      arith,
+      c.loop-i-test.true,
+      c.requires.1.0,
+      c.requires.1.1,
+    )
+
+pub loop-i-smaller : goal.loop-i-smaller
+loop-i-smaller c =
+    omega (arith, c.loop-i-test.true)
+
+pub loop-i-preserved : goal.loop-i-preserved
+loop-i-preserved c =
+    going_on c.loop-i.invariant _ _ _
+    c.loop-i-test.true
+    c.op-op.ensures.0
+    c.token-t.ensures.0
+    c.declare_at-n.ensures
+    c.blocks_after-b.ensures.0 c.blocks_after-b.ensures.1
+    c.use_at-n.ensures c.blocks_after-b.auto.1.1.0
+    c.use_at-n.auto.1.1.1.0
+
+pub shape_of-thin : goal.shape_of-thin
+shape_of-thin c =
+    c.loop-i.invariant.same ∙ c.open_around-b.auto.0
+
+pub returns : goal.returns
+returns c =
+    going_end c.loop-i.invariant c.args.thin.now
+    c.open_around-b.ensures.1 c.loop-i-test.false

@@ -1,0 +1,8 @@
+-- `char_at` reads a place, and past the end what `get_or` gives there. Assumes nothing.
+use mathlib.Core.Path.{sym}
+use lib.ListN.{get_or-eq_default}
+use Rattle.objtext.proofs.char_at.Goals as goal
+
+pub returns-else-i-t : goal.returns-else-i-t
+returns-else-i-t c =
+    sym (get_or-eq_default c.args.t.now 0 c.if-i-t.false)

@@ -1,0 +1,91 @@
+use Prim.Native.Nat.{ℕ, ◌-◌}
+use mathlib.Core.Path.{◌≡◌, refl, ◌∙◌, sym, ap}
+use mathlib.Core.Bool.{true}
+use lib.Dec.{eqb}
+use native.Mathlib.Omega.{arith}
+use lib.ListN.{length-drop}
+use borrow.Author.Rules.{rules}
+use Rattle.base.proofs.Parts.{to_end}
+use Rattle.base.proofs.Runs.{run-within}
+use Rattle.token.proofs.Gaps.{from-separators, at-end, some, fits, past, found, no-token, out_of_range}
+use Rattle.token.proofs.Sizes.{size_of, run-one-line}
+use Rattle.token.specs.Text.{separates}
+use Rattle.scanner.specs.Inner.{in_class}
+use Rattle.scanner.specs.declared.Class.TheVariants.{Blank}
+use Rattle.scanner.proofs.next_token.Goals as goal
+
+blank-separates : (b : ℕ) → eqb b 32 ≡ true → separates b ≡ true
+blank-separates b e = rw e
+
+pub loop-at-init : goal.loop-at-init
+loop-at-init c =
+    let s = c.args.s.now in
+    let e = c.run-blanks.ensures.is in
+    (search rules, rw e (from-separators s _ (run-within (in_class Blank) separates blank-separates s)), search rules, rw e (run-one-line (in_class Blank) refl s))
+
+pub front-l-requires : goal.front-l-requires
+front-l-requires c =
+    let s = c.args.s.now in rw (to_end s c.loop-at.at) (omega (arith, length-drop c.loop-at.at s))
+
+pub overflow_add-at : goal.overflow_add-at
+overflow_add-at c =
+    omega (
+      arith,
+      fits c.args.s.now
+          c.loop-at.at c.front-l.result
+          c.loop-at-test.true c.front-l.ensures,
+      ap size_of c.in-Gap.is,
+    )
+
+pub loop-at-smaller : goal.loop-at-smaller
+loop-at-smaller c =
+    omega (
+      arith,
+      some c.args.s.now
+          c.loop-at.at c.front-l.result
+          c.loop-at-test.true c.front-l.ensures,
+      ap size_of c.in-Gap.is,
+    )
+
+pub loop-at-preserved : goal.loop-at-preserved
+loop-at-preserved c =
+    let s = c.args.s.now in
+    let l = c.front-l in
+    let at = c.loop-at.at in
+    let h = c.loop-at-test.true in (
+      omega (arith, fits s at l.result h l.ensures, ap size_of c.in-Gap.is),
+      c.loop-at.invariant.1
+          ∙ past s at l.result h l.ensures _ c.in-Gap.is,
+      search rules,
+      search rules,
+    )
+
+pub overflow_add-result : goal.overflow_add-result
+overflow_add-result c =
+    omega (
+      arith,
+      fits c.args.s.now c.loop-at.at c.front-l.result c.loop-at-test.true c.front-l.ensures,
+      ap size_of c.in-Token.is,
+    )
+
+pub returns-in-Token : goal.returns-in-Token
+returns-in-Token c =
+    rw c.stands-spot.ensures
+    (sym (c.loop-at.invariant.1 ∙ found c.args.s.now c.loop-at.at c.front-l.result c.loop-at-test.true
+    c.front-l.ensures _ _ _ c.in-Token.is))
+
+pub returns-in-NoToken : goal.returns-in-NoToken
+returns-in-NoToken c =
+    rw c.stands.ensures
+    (sym (c.loop-at.invariant.1 ∙ no-token c.args.s.now c.loop-at.at c.front-l.result c.loop-at-test.true
+    c.front-l.ensures c.in-NoToken.is))
+
+pub returns-in-OutOfRange : goal.returns-in-OutOfRange
+returns-in-OutOfRange c =
+    rw c.stands-in-OutOfRange.ensures
+    (sym (c.loop-at.invariant.1 ∙ out_of_range c.args.s.now c.loop-at.at c.front-l.result c.loop-at-test.true
+    c.front-l.ensures c.in-OutOfRange.is))
+
+pub returns : goal.returns
+returns c =
+    rw c.stands-spot-2.ensures (sym (c.loop-at.invariant.1 ∙ at-end _ _ c.loop-at-test.false))

@@ -1,0 +1,35 @@
+use Rattle.settled.proofs.Laying.{lay-turn, lay-end, values-turn, values-end, front-key}
+use Rattle.translation.specs.Translate.{kinds_of, values_of}
+use Rattle.scopes.specs.Search.{in_front}
+use mathlib.Core.Path.{refl, ◌∙◌}
+use Prim.Native.Nat.{◌-◌}
+use borrow.Author.Rules.{rules}
+use Rattle.settled.proofs.put_front.Goals as goal
+
+pub loop-t-init : goal.loop-t-init
+loop-t-init c =
+    (search rules, refl, refl, refl, refl)
+
+-- LEFT array-read-kinds : tie.Need-array-read-kinds invariant-loop decreases-loop
+-- LEFT array-read-kinds c = search rules
+
+-- LEFT array-read-put-value : tie.Need-array-read-put-value invariant-loop decreases-loop
+-- LEFT array-read-put-value c = search rules
+
+pub loop-t-preserved : goal.loop-t-preserved
+loop-t-preserved c = (
+  search rules,
+  search rules,
+  c.put_value.auto.0 ∙ c.loop-t.invariant.2,
+  lay-turn (kinds_of in_front) _ _ _ c.loop-t-test.true
+      refl c.loop-t.invariant.3,
+  values-turn (values_of in_front) _ _ _ _ c.loop-t-test.true (front-key c.loop-t.t) c.put_value.ensures c.loop-t.invariant.4,
+)
+
+pub shape_of-wide : goal.shape_of-wide
+shape_of-wide c =
+    c.loop-t.invariant.2
+
+pub returns : goal.returns
+returns c =
+    (lay-end (kinds_of in_front) _ _ c.loop-t-test.false c.loop-t.invariant.3, values-end (values_of in_front) _ _ c.loop-t-test.false c.loop-t.invariant.4)

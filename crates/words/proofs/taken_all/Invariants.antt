@@ -1,0 +1,13 @@
+-- `taken_all` takes word by word. The invariant: the whole is what the words that are left make of the wish so far. Assumes nothing.
+use Rattle.words.specs.Wishes.{taken_all, start_of}
+use mathlib.Core.Path.{◌≡◌}
+use Prim.Native.Nat.{◌-◌}
+use Rattle.words.proofs.taken_all.Given as goal
+
+abbrev pub invariant-loop-n : goal.invariant-loop-n
+invariant-loop-n l =
+    taken_all l.words (l.count - 1) 1 (start_of l.command) ≡ taken_all l.words (l.count - l.n) l.n l.w
+
+abbrev pub decreases-loop-n : goal.decreases-loop-n
+decreases-loop-n l =
+    l.count - l.n
