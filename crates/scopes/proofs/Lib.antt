@@ -1,7 +1,7 @@
 -- The files of this crate's proofs.
 pub mod Joins
 pub mod Least
-pub mod Hides
+pub mod Hiding
 pub mod Numbers
 pub mod Finding
 pub mod Bound
