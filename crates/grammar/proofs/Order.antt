@@ -47,10 +47,18 @@ module _ (kinds : List ℕ) where
   after-edge (closed t) (within b ∷ p) i j l f h (a, c, d) = earlier-later p l d
   after-edge (entered n r) (within b ∷ p) i j l f h (a, c, d) = (omega arith, omega arith, ((omega arith, still b.names l a), still b.bases l c, earlier-later p l d))
   after-edge (left n) (body m r ∷ p) i j l f h (a, c, d) = earlier-later p l d
+  after-edge (closed t) [] i j l f h a = elim f [ ]
+  after-edge (closed t) (body m r ∷ p) i j l f h a = elim f [ ]
+  after-edge (entered n r) [] i j l f h a = elim f [ ]
+  after-edge (entered n r) (body m return ∷ p) i j l f h a = elim f [ ]
+  after-edge (left n) [] i j l f h a = elim f [ ]
+  after-edge (left n) (within b ∷ p) i j l f h a = elim f [ ]
 
   after-route : (x : Route) (p : Place) (i j : ℕ) → i ≤ j → RouteFits x p → Earlier i p → Earlier j (after (route x) p)
   after-route (labelled t) (within b ∷ p) i j l f (a, c, d) = (still b.names l a, still b.bases l c, earlier-later p l d)
   after-route (sent t n) p i j l f a = earlier-later p l a
+  after-route (labelled t) [] i j l f a = elim f [ ]
+  after-route (labelled t) (body name return ∷ p) i j l f a = elim f [ ]
 
   after-entry : (x : Entry) (p : Place) (i j : ℕ) → i ≤ j → InBlock p → is_event kinds (entry x) i j → Earlier i p → Earlier j (after (entry x) p)
   unfolding is_register
@@ -59,6 +67,16 @@ module _ (kinds : List ℕ) where
   after-entry (itemed n w x) (within b ∷ p) i j l f h (a, c, d) = ((omega arith, still b.names l a), still b.bases l c, earlier-later p l d)
   after-entry (valued t) (within b ∷ p) i j l f h (a, c, d) = (still b.names l a, still b.bases l c, earlier-later p l d)
   after-entry (based n) (within b ∷ p) i j l f h (a, c, d) = (still b.names l a, (omega arith, still b.bases l c), earlier-later p l d)
+  after-entry (named r) [] i j l f h _ = elim f [ ]
+  after-entry (named r) (body name return ∷ p) i j l f h _ = elim f [ ]
+  after-entry (celled n w) [] i j l f h _ = elim f [ ]
+  after-entry (celled n w) (body name return ∷ p) i j l f h _ = elim f [ ]
+  after-entry (itemed n w x) [] i j l f h _ = elim f [ ]
+  after-entry (itemed n w x) (body name return ∷ p) i j l f h _ = elim f [ ]
+  after-entry (valued t) [] i j l f h _ = elim f [ ]
+  after-entry (valued t) (body name return ∷ p) i j l f h _ = elim f [ ]
+  after-entry (based n) [] i j l f h _ = elim f [ ]
+  after-entry (based n) (body name return ∷ p) i j l f h _ = elim f [ ]
 
   pub earlier-after : (e : Event) (p : Place) (i : ℕ) (x : Stands kinds e p i) → Earlier i p → Earlier x.to (after e p)
   earlier-after (edge y) p i x a = after-edge y p x.from x.to x.rises x.fits x.is (earlier-later p x.later a)

@@ -8,7 +8,7 @@ returns-then-not-is_content_frame c =
     frame-stop c.args.t.now c.args.k
     c.loop-frames.at c.loop-frames.o c.loop-frames.left
     c.loop-frames.frames c.loop-frames-test.true
-    (rw c.least-b.ensures at (told c.is_content_frame.ensures (not-true _ c.if-not-is_content_frame.true)))
+    (rw c.least-b.ensures at (told c.is_content_frame.ensures c.if-not-is_content_frame.true))
     c.loop-frames.invariant.3
 
 pub loop-frames-preserved : goal.loop-frames-preserved
@@ -19,7 +19,7 @@ loop-frames-preserved c = (
   rw c.least-b.ensures (frame_on c.args.t.now
       c.args.k c.loop-frames.at c.loop-frames.o
       c.loop-frames.left c.loop-frames.frames c.loop-frames-test.true
-      (rw c.least-b.ensures at (told c.is_content_frame.ensures (not-false _ c.if-not-is_content_frame.false)))
+      (rw c.least-b.ensures at (told c.is_content_frame.ensures c.if-not-is_content_frame.false))
       c.loop-frames.invariant.3),
 )
 

@@ -7,22 +7,22 @@ use Rattle.objtext.proofs.read.Goals as goal
 
 pub returns-then-not-is_program : goal.returns-then-not-is_program
 returns-then-not-is_program c =
-    no_program c.args.t.now (told c.is_program.ensures.0 (not-true _ c.if-not-is_program.true))
+    no_program c.args.t.now (told c.is_program.ensures.0 c.if-not-is_program.true)
 
 pub after_program-at-requires : goal.after_program-at-requires
 after_program-at-requires c =
-    c.is_program.ensures.1 (not-false _ c.if-not-is_program.false)
+    c.is_program.ensures.1 c.if-not-is_program.false
 
 pub returns-then-not-is_data : goal.returns-then-not-is_data
 returns-then-not-is_data c =
     no-data c.args.t.now c.after_program-at.result
-    (told c.is_program.ensures.0 (not-false _ c.if-not-is_program.false))
+    (told c.is_program.ensures.0 c.if-not-is_program.false)
     (rw c.after_program-at.ensures.0 (after-program-place c.args.t.now))
-    (told c.is_data.ensures.0 (not-true _ c.if-not-is_data.true))
+    (told c.is_data.ensures.0 c.if-not-is_data.true)
 
 pub after_data-at-requires : goal.after_data-at-requires
 after_data-at-requires c =
-    (search rules, c.is_data.ensures.1 (not-false _ c.if-not-is_data.false))
+    (search rules, c.is_data.ensures.1 c.if-not-is_data.false)
 
 pub loop-k-init : goal.loop-k-init
 loop-k-init c = (
@@ -30,9 +30,9 @@ loop-k-init c = (
   search rules,
   search rules,
   rw c.after_data-at.ensures.0 (first-data c.args.t.now c.after_program-at.result
-      (told c.is_program.ensures.0 (not-false _ c.if-not-is_program.false))
+      (told c.is_program.ensures.0 c.if-not-is_program.false)
       (rw c.after_program-at.ensures.0 (after-program-place c.args.t.now))
-      (told c.is_data.ensures.0 (not-false _ c.if-not-is_data.false))),
+      (told c.is_data.ensures.0 c.if-not-is_data.false)),
 )
 
 pub returns-then-is_last : goal.returns-then-is_last
@@ -46,11 +46,11 @@ returns-then-not-is_data-2 c =
     no_more c.args.t.now
     c.loop-k.k c.loop-k.at (search rules)
     c.loop-k.invariant.3 c.loop-k-test.true
-    (told c.is_last.ensures c.if-is_last.false) (told c.is_data-in-loop-k.ensures.0 (not-true _ c.if-not-is_data-2.true))
+    (told c.is_last.ensures c.if-is_last.false) (told c.is_data-in-loop-k.ensures.0 c.if-not-is_data-2.true)
 
 pub after_data-at-requires-in-loop-k : goal.after_data-at-requires-in-loop-k
 after_data-at-requires-in-loop-k c =
-    (search rules, c.is_data-in-loop-k.ensures.1 (not-false _ c.if-not-is_data-2.false))
+    (search rules, c.is_data-in-loop-k.ensures.1 c.if-not-is_data-2.false)
 
 pub loop-k-preserved : goal.loop-k-preserved
 loop-k-preserved c = (
@@ -59,7 +59,7 @@ loop-k-preserved c = (
   search rules,
   rw c.after_data-at-in-loop-k.ensures.0 (one_more c.args.t.now c.loop-k.k c.loop-k.at (search rules) c.loop-k.invariant.3
       c.loop-k-test.true (told c.is_last.ensures c.if-is_last.false)
-      (told c.is_data-in-loop-k.ensures.0 (not-false _ c.if-not-is_data-2.false))),
+      (told c.is_data-in-loop-k.ensures.0 c.if-not-is_data-2.false)),
 )
 
 pub returns-then-is_last-2 : goal.returns-then-is_last-2

@@ -74,6 +74,6 @@ returns-in-94 c =
 
 pub returns-in_default : goal.returns-in_default
 returns-in_default c =
-    let q = c.in_default.rest in none c.args.s.now (search rules) q.0.0.0.0.0.0.0.0.0.0.0.0.1 q.0.0.0.0.0.0.0.0.0.0.0.1
+    let q = c.in_default.in_default-own.rest in none c.args.s.now (search rules) q.0.0.0.0.0.0.0.0.0.0.0.0.1 q.0.0.0.0.0.0.0.0.0.0.0.1
     q.0.0.0.0.0.0.0.0.0.0.1 q.0.0.0.0.0.0.0.0.0.1 q.0.0.0.0.0.0.0.0.1 q.0.0.0.0.0.0.0.1
     q.0.0.0.0.0.0.1 q.0.0.0.0.0.1 q.0.0.0.0.1 q.0.0.0.1 q.0.0.1 q.0.1 q.1

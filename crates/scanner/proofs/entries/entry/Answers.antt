@@ -182,4 +182,4 @@ returns-in-59 c =
 pub returns-in_default : goal.returns-in_default
 unfolding entries
 returns-in_default c =
-    none-at _ entries _ c.in_default.rest
+    none-at _ entries _ c.in_default.in_default-own.rest
