@@ -79,6 +79,8 @@ module _ (kinds keys : List ℕ) where
       let c = earlier-later kinds (within b ∷ p) (let q = h.1.2.1.0 in let e = h.1.0 in let z : i ≤ r = omega arith in z) a in
       ((omega arith, ((omega arith, c.0), names-upto p r (omega arith) c.2)), tt)
   edge-uses (left n) p i j f h l a = tt
+  edge-uses (entered n r) [] i j f h l a = elim f [ ]
+  edge-uses (entered n r) (body name return ∷ p) i j f h l a = elim f [ ]
 
   entry-uses : (x : Entry) (p : Place) (i j : ℕ) → InBlock p → is_event kinds (entry x) i j → first_token ≤ i → Earlier kinds i p → Uses (entry x) p
   entry-uses (named r) p i j f h l a = tt
@@ -88,6 +90,8 @@ module _ (kinds keys : List ℕ) where
   entry-uses (based n) (within b ∷ p) i j f h l a =
       let c = earlier-later kinds (within b ∷ p) (let z : i ≤ n = omega arith in z) a in
       ((omega arith, (c.0, names-upto p n (omega arith) c.2)), tt)
+  entry-uses (based n) [] i j f h l a = elim f [ ]
+  entry-uses (based n) (body name return ∷ p) i j f h l a = elim f [ ]
 
   event-uses : (e : Event) (p : Place) (i : ℕ) → Stands kinds e p i → first_token ≤ i → Earlier kinds i p → Uses e p
   event-uses (edge x) p i s l a = edge-uses x p s.from s.to s.fits s.is (omega arith) (earlier-later kinds p s.later a)

@@ -85,6 +85,13 @@ module _ (f : Tables) where
   counted-entry (itemed n w i) p (declaring m v ts) q u h = subst (λ (k : Option ℕ). 1 ≤ count_of f.values k) u.0 h
   counted-entry (valued t) p (declaring m v (x ∷ ts)) q u h = h
   counted-entry (based n) p c q u h = tt
+  counted-entry (itemed n w i) p nowhere q u h = elim u [ ]
+  counted-entry (itemed n w i) p (aiming _) q u h = elim u [ ]
+  counted-entry (itemed n w i) p (applying name position) q u h = elim u [ ]
+  counted-entry (valued t) p nowhere q u h = elim u [ ]
+  counted-entry (valued t) p (aiming _) q u h = elim u [ ]
+  counted-entry (valued t) p (applying name position) q u h = elim u [ ]
+  counted-entry (valued t) p (declaring m v []) q u h = elim u [ ]
 
   counted-phrase : (x : Phrase) (c : Context) → Counted c → Counted (phrase_context x c)
   counted-phrase (aimed d) c h = tt

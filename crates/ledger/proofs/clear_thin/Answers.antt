@@ -25,7 +25,7 @@ loop-t-preserved c = (
   thin-turns c.args.thin.now c.loop-t.t
       c.args.column c.loop-t.invariant.0
       c.put_thin.ensures,
-  c.put_thin.auto.0 ∙ c.loop-t.invariant.1,
+  c.put_thin.auto.thin ∙ c.loop-t.invariant.1,
 )
 
 pub shape_of-thin : goal.shape_of-thin

@@ -25,7 +25,7 @@ loop-t-preserved c = (
   wide-turns c.args.wide.now c.loop-t.t
       c.args.column c.loop-t.invariant.0
       c.put_wide.ensures,
-  c.put_wide.auto.0 ∙ c.loop-t.invariant.1,
+  c.put_wide.auto.wide ∙ c.loop-t.invariant.1,
 )
 
 pub shape_of-wide : goal.shape_of-wide

@@ -222,6 +222,12 @@ module _ (kinds : List ℕ) (j : ℕ) where
         wide-links = g.wide-links;
         wide-outer = g.wide-outer;
       }
+  step-edge (closed t) [] lo m s f w g = elim f [ ]
+  step-edge (closed t) (body k r ∷ p) lo m s f w g = elim f [ ]
+  step-edge (entered n r) [] lo m s f w g = elim f [ ]
+  step-edge (entered n r) (body k return ∷ p) lo m s f w g = elim f [ ]
+  step-edge (left n) [] lo m s f w g = elim f [ ]
+  step-edge (left n) (within b ∷ p) lo m s f w g = elim f [ ]
 
   step-route : (r : Route) (p : Place) (lo : ℕ) (m : Linking) (s : Stands kinds (route r) p lo) → RouteFits r p → s.to ≤ j → Going p lo m
       → Going (after (route r) p) s.to (link_event (route r) m)
@@ -256,6 +262,8 @@ module _ (kinds : List ℕ) (j : ℕ) where
         wide-outer = g.wide-outer;
       }
   step-route (sent t n) p lo m s f w g = on s.to (omega arith) g
+  step-route (labelled l) [] lo m s f w g = elim f [ ]
+  step-route (labelled l) (body name return ∷ p) lo m s f w g = elim f [ ]
 
   pub step : (e : Event) (p : Place) (lo : ℕ) (m : Linking) (s : Stands kinds e p lo) → s.to ≤ j → Going p lo m → Going (after e p) s.to (link_event e m)
   unfolding link_event
@@ -294,6 +302,8 @@ module _ (kinds : List ℕ) (j : ℕ) where
       let newest = get_or m.links m.block 0 in
       record { link = λ a. get_or-set_other (set m.links l newest) m.block u l 0 (λ q. a.0 (q ∙ g.block)) ∙ get_or-set_other m.links l u newest 0 (λ q. omega arith); out = refl }
   route-stays (sent t n) p lo m s f g u h = record { link = λ a. refl; out = refl }
+  route-stays (labelled l) [] lo m s f g u h = elim f [ ]
+  route-stays (labelled l) (body name return ∷ p) lo m s f g u h = elim f [ ]
 
   event-stays : (e : Event) (p : Place) (lo : ℕ) (m : Linking) → Stands kinds e p lo → Going p lo m → (u : ℕ) → u < lo → Stays p u m (link_event e m)
   unfolding link_event
@@ -308,13 +318,23 @@ module _ (kinds : List ℕ) (j : ℕ) where
   apart-edge (closed t) (within b ∷ p) lo u s f h a = a.1
   apart-edge (entered n r) (within b ∷ p) lo u s f h a = a
   apart-edge (left n) (body k r ∷ p) lo u s f h a = a
+  apart-edge (closed t) [] lo u s f h a = elim f [ ]
+  apart-edge (closed t) (body k r ∷ p) lo u s f h a = elim f [ ]
+  apart-edge (entered n r) [] lo u s f h a = elim f [ ]
+  apart-edge (entered n r) (body k return ∷ p) lo u s f h a = elim f [ ]
+  apart-edge (left n) [] lo u s f h a = elim f [ ]
+  apart-edge (left n) (within b ∷ p) lo u s f h a = elim f [ ]
 
   apart_route : (r : Route) (p : Place) (u : ℕ) → RouteFits r p → Apart p u → Apart (after (route r) p) u
   apart_route (labelled l) (within b ∷ p) u f a = a
   apart_route (sent t n) p u f a = a
+  apart_route (labelled l) [] u f a = elim f [ ]
+  apart_route (labelled l) (body name return ∷ p) u f a = elim f [ ]
 
   apart-entry : (d : Entry) (p : Place) (u : ℕ) → InBlock p → Apart p u → Apart (enter_entry d p) u
   apart-entry d (within b ∷ p) u f a = a
+  apart-entry d [] u f a = elim f [ ]
+  apart-entry d (body name return ∷ p) u f a = elim f [ ]
 
   apart-on : (e : Event) (p : Place) (lo u : ℕ) → Stands kinds e p lo → u < lo → Apart p u → Apart (after e p) u
   apart-on (edge x) p lo u s h a = apart-edge x p lo u s s.fits h a

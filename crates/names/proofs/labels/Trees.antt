@@ -79,11 +79,19 @@ module _ (kinds keys links outer : List ℕ) where
   turn-edge (closed t) (within b ∷ p) s f g = rw (← f.0, g.0.around)
   turn-edge (entered n r) (within b ∷ p) s f g = refl
   turn-edge (left n) (body k r ∷ p) s f g = rw (← f, g.0)
+  turn-edge (closed t) [] s f g = elim f [ ]
+  turn-edge (closed t) (body k r ∷ p) s f g = elim f [ ]
+  turn-edge (entered n r) [] s f g = elim f [ ]
+  turn-edge (entered n r) (body k return ∷ p) s f g = elim f [ ]
+  turn-edge (left n) [] s f g = elim f [ ]
+  turn-edge (left n) (within b ∷ p) s f g = elim f [ ]
 
   turn-route : (r : Route) (p : Place) (s : Labelled) → RouteFits r p → Final p → Chained r p → Turned (route r) p s
   unfolding label_event label_op label_at block_after
   turn-route (labelled l) (within b ∷ p) s f g c = rw c
   turn-route (sent t n) p s f g c = rw (labels_in_lem p g)
+  turn-route (labelled l) [] s f g c = elim f [ ]
+  turn-route (labelled l) (body name return ∷ p) s f g c = elim f [ ]
 
   -- only edges and routes are heeded
   quiet : (e : Event) (m : Labelling) → eqb (layer_of e) EDGE ≡ false → eqb (layer_of e) ROUTE ≡ false → label_op keys links outer (op_of e) (token_of e) m ≡ m
@@ -100,6 +108,8 @@ module _ (kinds keys links outer : List ℕ) where
 
   block-entry : (d : Entry) (p : Place) → InBlock p → block_of p ≡ block_of (enter_entry d p)
   block-entry d (within b ∷ p) f = refl
+  block-entry d [] f = elim f [ ]
+  block-entry d (body name return ∷ p) f = elim f [ ]
 
   turn : (e : Event) (p : Place) (s : Labelled) (m : Labelling) → Good e p → At p s m → At (after e p) (label_event keys e p s) (label_op keys links outer (op_of e) (token_of e) m)
   unfolding label_event
@@ -152,6 +162,12 @@ module _ (kinds keys links outer : List ℕ) where
       finish-edge (entered q r) (within b ∷ p) s f g h g' e n = n.1
       finish-edge (left q) (body k r ∷ p) s f g h g' e n =
           (out-is es p s.to _ h g' e k (omega arith) ∙ g.held.1, n)
+      finish-edge (closed t) [] s f g h g' e n = elim f [ ]
+      finish-edge (closed t) (body k r ∷ p) s f g h g' e n = elim f [ ]
+      finish-edge (entered q r) [] s f g h g' e n = elim f [ ]
+      finish-edge (entered q r) (body k return ∷ p) s f g h g' e n = elim f [ ]
+      finish-edge (left q) [] s f g h g' e n = elim f [ ]
+      finish-edge (left q) (within b ∷ p) s f g h g' e n = elim f [ ]
 
       finish-route : (r : Route) (p : Place) (s : Stands kinds (route r) p lo) → RouteFits r p → Going kinds j p lo m → Text kinds es (after (route r) p) s.to j
           → Going kinds j (after (route r) p) s.to (link_event (route r) m) → Ends es (link_event (route r) m) → Final (after (route r) p) → Final p × Chained r p
@@ -172,6 +188,8 @@ module _ (kinds keys links outer : List ℕ) where
                 ∙ (get_or-set_other (set m.links l old) m.block u l 0 (λ q. omega (arith, g.block)) ∙ get_or-set_other m.links l u old 0 (λ q. omega arith))) o.apart),
           )
       finish-route (sent t q) p s f g h g' e n = (n, tt)
+      finish-route (labelled l) [] s f g h g' e n = elim f [ ]
+      finish-route (labelled l) (body name return ∷ p) s f g h g' e n = elim f [ ]
 
       finish : (e : Event) (p : Place) (s : Stands kinds e p lo) → Going kinds j p lo m → Text kinds es (after e p) s.to j
           → Going kinds j (after e p) s.to (link_event e m) → Ends es (link_event e m) → Final (after e p)

@@ -22,11 +22,11 @@ blocks_after-b-requires c = (
   roomy _ _ _ _ _ _ _ c.loop-i.invariant
       c.loop-i-test.true (omega (
         arith,
-        c.open_around-b.auto.0,
+        c.open_around-b.auto.thin,
         c.requires.1.0,
       )) (omega (
         arith,
-        c.open_around-b.auto.0,
+        c.open_around-b.auto.thin,
         c.requires.1.1,
       )),
   narrow_at c.args.tape.now _ _
@@ -60,12 +60,12 @@ loop-i-preserved c =
     c.token-t.ensures.0
     c.declare_at-n.ensures
     c.blocks_after-b.ensures.0 c.blocks_after-b.ensures.1
-    c.use_at-n.ensures c.blocks_after-b.auto.1.1.0
-    c.use_at-n.auto.1.1.1.0
+    c.use_at-n.ensures c.blocks_after-b.auto.b.1.0
+    c.use_at-n.auto.b.1.1.0
 
 pub shape_of-thin : goal.shape_of-thin
 shape_of-thin c =
-    c.loop-i.invariant.same ∙ c.open_around-b.auto.0
+    c.loop-i.invariant.same ∙ c.open_around-b.auto.thin
 
 pub returns : goal.returns
 returns c =

@@ -23,7 +23,7 @@ enter_name-b-requires c =
     (let k = c.loop-t.invariant.0.count in (
       c.loop-t.invariant.0.rising,
       (
-        omega (arith, thin-length 2 c.loop-t.thin, c.loop-t.invariant.1, c.open_block-b.auto.0, c.requires),
+        omega (arith, thin-length 2 c.loop-t.thin, c.loop-t.invariant.1, c.open_block-b.auto.thin, c.requires),
         (omega arith, omega arith),
       ),
     ))
@@ -41,12 +41,12 @@ loop-t-preserved c = (
   entering-on c.loop-t.invariant.0 c.loop-t-test.true
       c.enter_name-b.ensures.0 c.enter_name-b.ensures.1 c.enter_name-b.ensures.2.0
       c.enter_name-b.ensures.2.1,
-  c.enter_name-b.auto.0 ∙ c.loop-t.invariant.1,
+  c.enter_name-b.auto.thin ∙ c.loop-t.invariant.1,
 )
 
 pub shape_of-thin : goal.shape_of-thin
 shape_of-thin c =
-    c.loop-t.invariant.1 ∙ c.open_block-b.auto.0
+    c.loop-t.invariant.1 ∙ c.open_block-b.auto.thin
 
 pub returns : goal.returns
 returns c =

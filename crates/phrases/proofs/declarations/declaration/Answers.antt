@@ -35,6 +35,6 @@ returns c =
             c.if-k-eq-SEGMENT.false),
         ne_eqb _ _ (other c.kind_at-k.ensures.is c.if-k-eq-ARRAY.false),
       )
-          c.type-inv.ensures.read;
+          c.typed.ensures.read;
       low = search rules;
     }
