@@ -59,9 +59,15 @@ complete-none (declaring n w ts) h = h
 
 aims-none : (d : Designator) (c : Context) → Aims d c → values_in c ≡ []
 aims-none d (aiming x) h = refl
+aims-none d nowhere h = elim h [ ]
+aims-none d (applying name position) h = elim h [ ]
+aims-none d (declaring count _ values) h = elim h [ ]
 
 applies-none : (n k : ℕ) (c : Context) → Applies n k c → values_in c ≡ []
 applies-none n k (applying m p) h = refl
+applies-none n k nowhere h = elim h [ ]
+applies-none n k (aiming _) h = elim h [ ]
+applies-none n k (declaring count _ values) h = elim h [ ]
 
 -- no values stand before or after a phrase
 phrase-none : (y : Phrase) (c : Context) → PhraseSuits y c → (values_in c ≡ []) × (values_in (phrase_context y c) ≡ [])
@@ -121,6 +127,13 @@ module _ (kinds values found : List ℕ) where
           ap (on_item f i) before ∙ one i (record { cell = cell_of values n w (base_in found s p) i; values = map (λ (t : ℕ). get_or values t 0) i.numbers }) s.cells refl refl r.0
       turn-entry (valued t) p (declaring n w (u ∷ ts)) s m q k = λ r. ap (λ (v : ℕ). on_values f ts (f E.VALUE v m)) (sym q) ∙ k r
       turn-entry (based n) p c s m q k = apart (entry (based n)) p c s m (refl, refl) (complete-none c q) refl k
+      turn-entry (itemed n w i) p nowhere s m q k = elim q [ ]
+      turn-entry (itemed n w i) p (aiming _) s m q k = elim q [ ]
+      turn-entry (itemed n w i) p (applying name position) s m q k = elim q [ ]
+      turn-entry (valued t) p nowhere s m q k = elim q [ ]
+      turn-entry (valued t) p (aiming _) s m q k = elim q [ ]
+      turn-entry (valued t) p (applying name position) s m q k = elim q [ ]
+      turn-entry (valued t) p (declaring n w []) s m q k = elim q [ ]
 
       turn : (e : Event) (p : Place) (c : Context) (s : Meant) (m : S) → Stands kinds e p 0 → Suits e c → Made p c s m
           → Made (after e p) (context_after e c) (step e p s) (f (op_of e) (token_of e) m)

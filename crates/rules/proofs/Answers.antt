@@ -201,7 +201,7 @@ module _ {f : Tables} {w : Wide} {l : Thin} (s : Listed f w l) (kept : List ℕ)
       → a ≡ write_rule kept r t → b ≡ rule y 10 t → c ≡ a ⊕ b → c ≡ call_rules f kept t
   unfolding call_rules
   called {r} {u} h i j k a b c =
-      rw (meant-at s t m packed-is, as-routine (get_or l.found t 0) m (base_at s t) h, s.written-is, s.found-is, ← e, sets-at l.written p, ← j, ← k, ← i) (c ∙ ap₂ (λ (v z : Broken). v ⊕ z) a b)
+      rw (meant-at s t m packed-is, as-routine (get_or l.found t 0) m (base_at s t) h, s.written_is, s.found-is, ← e, sets-at l.written p, ← j, ← k, ← i) (c ∙ ap₂ (λ (v z : Broken). v ⊕ z) a b)
 
   pub no-routine : {x : Broken} → is_routine_in m ≡ false → x ≡ broken 8 t → x ≡ call_rules f kept t
   unfolding call_rules

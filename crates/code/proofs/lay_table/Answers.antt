@@ -105,7 +105,7 @@ loop-j-preserved c =
       omega (arith, l.invariant.1, c.depth_after-depth.ensures.1),
       omega (arith, l.invariant.2, c.passed-behind.ensures.1),
       omega (arith, l.invariant.3, c.lay_entry-end.ensures.1),
-      c.lay_entry-end.auto.0 ∙ l.invariant.4,
+      c.lay_entry-end.auto.image ∙ l.invariant.4,
       λ k seen.
           rw (depth, from)
           (table-turn a.kinds.now a.tape.now (wide_of a.wide.now) (thin_of a.thin.now) l.j c.op-op.result c.token-in-loop-j.result l.depth l.from l.p _ l.end _

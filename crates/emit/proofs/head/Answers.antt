@@ -39,4 +39,4 @@ returns-in-5 c =
 pub returns-in_default : goal.returns-in_default
 unfolding list_of
 returns-in_default c =
-    let q = c.in_default.rest in c.blank.ensures ∙ past-six _ _ _ _ _ _ _ q.0.0.0.0.0.1 q.0.0.0.0.1 q.0.0.0.1 q.0.0.1 q.0.1 q.1
+    let q = c.in_default.in_default-own.rest in c.blank.ensures ∙ past-six _ _ _ _ _ _ _ q.0.0.0.0.0.1 q.0.0.0.0.1 q.0.0.0.1 q.0.0.1 q.0.1 q.1

@@ -17,4 +17,4 @@ returns-in-2 c =
 
 pub returns-in_default : goal.returns-in_default
 returns-in_default c =
-    let q = c.in_default.rest in (rw (ne_eqb _ 0 q.0.0.1, ne_eqb _ 1 q.0.1, ne_eqb _ 2 q.1), omega arith)
+    let q = c.in_default.in_default-own.rest in (rw (ne_eqb _ 0 q.0.0.1, ne_eqb _ 1 q.0.1, ne_eqb _ 2 q.1), omega arith)

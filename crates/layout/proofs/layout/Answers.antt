@@ -23,9 +23,9 @@ loop-i-preserved c = (
       c.loop-i-test.true
       c.op.ensures.0
       c.token.ensures.0 c.layout_event-broken.ensures,
-  c.layout_event-broken.auto.1.1.0
+  c.layout_event-broken.auto.wide
       ∙ c.loop-i.invariant.1,
-  c.layout_event-broken.auto.1.1.1.0
+  c.layout_event-broken.auto.thin
       ∙ c.loop-i.invariant.2,
 )
 
@@ -35,7 +35,7 @@ shape_of-wide c =
 
 pub shape_of-thin : goal.shape_of-thin
 shape_of-thin c =
-    c.loop-i.invariant.2 ∙ (c.put_written.auto.0 ∙ c.clear_written.auto.0)
+    c.loop-i.invariant.2 ∙ (c.put_written.auto.thin ∙ c.clear_written.auto.thin)
 
 pub returns : goal.returns
 returns c =

@@ -273,6 +273,8 @@ module _ (kinds : List ℕ) (j : ℕ) where
     where
       step-entry : (p : Place) → InBlock p → Going p s.to m → Going (enter_entry d p) s.to m
       step-entry (within b ∷ p) f g = record { block = g.block; held = g.held; real = g.real; wide-links = g.wide-links; wide-outer = g.wide-outer }
+      step-entry [] f g = elim f [ ]
+      step-entry (body name return ∷ p) f g = elim f [ ]
   step (phrase f) p lo m s w g = on s.to (omega arith) g
   step (mark k) p lo m s w g = on s.to (omega arith) g
 

@@ -60,8 +60,8 @@ loop-i-preserved c =
     c.token-t.ensures.0
     c.declare_at-n.ensures
     c.blocks_after-b.ensures.0 c.blocks_after-b.ensures.1
-    c.use_at-n.ensures c.blocks_after-b.auto.b.1.0
-    c.use_at-n.auto.b.1.1.0
+    c.use_at-n.ensures c.blocks_after-b.auto.thin
+    c.use_at-n.auto.thin
 
 pub shape_of-thin : goal.shape_of-thin
 shape_of-thin c =

@@ -12,4 +12,4 @@ returns-then-shape-eq-SUBSCRIPTED_INDEXED c =
 
 pub returns : goal.returns
 returns c =
-    λ f s. answers.no_index f _ _ (answers.index-none _ _ c.if-shape-eq-INDEXED.false c.if-shape-eq-SUBSCRIPTED_INDEXED.false) c.none.ensures
+    λ f s. answers.no_index_lem f _ _ (answers.index-none _ _ c.if-shape-eq-INDEXED.false c.if-shape-eq-SUBSCRIPTED_INDEXED.false) c.none.ensures

@@ -34,7 +34,7 @@ loop-i-preserved c =
     c.loop-i-test.true
     c.op-op.ensures.0 c.token-t.ensures.0
     c.label_at-n.ensures c.block_after-block.ensures.0 c.block_after-block.ensures.1
-    c.label_at-n.auto.n.1.1.0
+    c.label_at-n.auto.thin
 
 pub shape_of-thin : goal.shape_of-thin
 shape_of-thin c =

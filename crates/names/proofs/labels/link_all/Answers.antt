@@ -41,7 +41,7 @@ loop-i-preserved c =
     c.block_after-next.ensures.0
     c.link.ensures c.enclose.ensures
     c.block_after-next.ensures.1
-    c.link.auto.1.1.1.0 c.enclose.auto.1.1.1.0
+    c.link.auto.thin c.enclose.auto.thin
 
 pub shape_of-thin : goal.shape_of-thin
 shape_of-thin c =
