@@ -1,5 +1,5 @@
 -- Products of signed readings, from their distances from zero. Assumes nothing.
-use Rattle.std.proofs.Common.{◌≡◌, ℕ, zero, suc, ◌+◌, ◌-◌, ◌*◌, ◌%◌, ◌^◌, ◌<◌, ◌≤◌, ℤ, pos, negsuc, ◌*ℤ◌, neg_ℤ, sym, refl, ap, ◌∙◌, mul-le-mul, arith, w64, Fits}
+use Rattle.std.proofs.Common.{◌≡◌, ℕ, zero, suc, ◌+◌, ◌-◌, ◌*◌, ◌%◌, ◌^◌, ◌<◌, ◌≤◌, ℤ, pos, negsuc, ◌*ℤ◌, neg_ℤ, refl, ◌∙◌, mul-le-mul, arith, w64, Fits}
 use Rattle.alu.specs.Word.{signed, low_bits, distance_of, product, half_product}
 use Rattle.alu.proofs.Signed.{low, high}
 

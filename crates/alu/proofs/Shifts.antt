@@ -1,8 +1,8 @@
 -- Shifts of words and of their signed readings. Assumes nothing.
-use Rattle.std.proofs.Common.{◌≡◌, ℕ, zero, suc, ◌+◌, ◌-◌, ◌*◌, ◌/◌, ◌%◌, ◌^◌, ◌<◌, ◌≤◌, Bool, true, false, ℤ, pos, negsuc, ◌+ℤ◌, ◌*ℤ◌, neg_ℤ, sym, refl, ap, ◌∙◌, subst, mul_assoc, mul-le-mul, mul-le-mul_left, zero-mul, mul-one, arith, pow_pos, pow_mono, pow-add, shl_exact, le-ltb, lt-ltb}
+use Rattle.std.proofs.Common.{◌≡◌, ℕ, zero, suc, ◌+◌, ◌-◌, ◌*◌, ◌/◌, ◌%◌, ◌^◌, ◌<◌, ◌≤◌, pos, neg_ℤ, sym, ap, ◌∙◌, subst, mul_assoc, mul-le-mul, mul-le-mul_left, zero-mul, mul-one, arith, pow_pos, pow_mono, pow-add, shl_exact, le-ltb, lt-ltb}
 use native.Mathlib.Nat.{mul-mod_left, mod-le}
 use lib.Pow.{shr_le}
-use Rattle.alu.specs.Word.{signed, result_code, distance_of, settled, shifted_left_logical, shifted_left, shifted_right}
+use Rattle.alu.specs.Word.{result_code, distance_of, settled, shifted_left_logical, shifted_left, shifted_right}
 use Rattle.alu.specs.Biased.{code_by}
 use Rattle.alu.specs.declared.Made.{Made}
 use Rattle.alu.proofs.Signed.{made, low, high, plain-made, plain_code}

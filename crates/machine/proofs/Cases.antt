@@ -1,5 +1,5 @@
 -- The instructions of the byte functions in cases by computation: what they leave, which is compared with which, what stops. Assumes nothing.
-use Prim.Native.Nat.{ℕ, ◌*◌, ◌+◌}
+use Prim.Native.Nat.{ℕ}
 use mathlib.Core.Path.{◌≡◌, refl}
 use mathlib.Core.List.{List, [], ◌∷◌, ◌++◌}
 use lib.ListN.{replicate}

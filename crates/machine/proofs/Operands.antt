@@ -1,6 +1,6 @@
 -- Operands and pages: an aligned operand that begins in storage ends in it, a page past the last holds nothing. Assumes nothing.
-use Prim.Native.Nat.{ℕ, zero, suc, ◌+◌, ◌-◌, ◌*◌, ◌/◌, ◌%◌, ◌^◌, ◌<◌, ◌≤◌}
-use mathlib.Core.Path.{◌≡◌, refl, sym, ap, ◌∙◌, subst}
+use Prim.Native.Nat.{ℕ, suc, ◌+◌, ◌*◌, ◌/◌, ◌%◌, ◌^◌, ◌<◌, ◌≤◌}
+use mathlib.Core.Path.{◌≡◌, refl, sym, ap, subst}
 use mathlib.Core.Bool.{Bool, true, false, ◌&&◌}
 use mathlib.Core.List.{List}
 use native.Mathlib.Omega.{arith}
@@ -8,7 +8,7 @@ use native.Mathlib.Nat.{div-add-mod', mul-le-mul_right, suc-mul}
 use native.Mathlib.Decide.{dec_le}
 use lib.Dec.{leb, eqb}
 use borrow.Author.Tests.{lt-leb, eq-eqb}
-use Rattle.machine.specs.Step.{Turn, Stepped, stepped}
+use Rattle.machine.specs.Step.{Turn, stepped}
 
 -- an answer beside storage that stays
 pub kept : {q a : Turn} {s : List ℕ} → q ≡ a → stepped q s ≡ stepped a s

@@ -1,14 +1,14 @@
 -- What an instruction, and so a run, leaves: every byte that is not writable (`step_keeps`, `run-keeps`). Assumes nothing.
 use Prim.Native.Nat.{ℕ, zero, suc, ◌+◌, ◌*◌, ◌/◌, ◌%◌, ◌<◌, ◌≤◌}
-use mathlib.Core.Path.{◌≡◌, refl, sym, ap, ap₂, ◌∙◌, subst}
+use mathlib.Core.Path.{◌≡◌, refl, sym, ap₂, ◌∙◌, subst}
 use mathlib.Core.Logic.{◌⊎◌, inl, inr}
 use mathlib.Core.Bool.{Bool, true, false, ◌&&◌}
-use mathlib.Core.List.{List, [], ◌∷◌}
+use mathlib.Core.List.{List}
 use native.Mathlib.Omega.{arith}
 use native.Mathlib.Decide.{dec_le}
 use lib.Dec.{T, eqb, ltb, leb, leb→le}
 use lib.ListN.{length, get_or}
-use borrow.Author.Tests.{le-leb, leb-true, eqb-true}
+use borrow.Author.Tests.{le-leb, eqb-true}
 use Rattle.base.specs.Choose.{choose}
 use Rattle.base.specs.Numbers.{stored, bytes_of}
 use Rattle.base.proofs.Tests.{by-test, never_true, and_left, and_right}
@@ -20,7 +20,7 @@ use Rattle.machine.specs.declared.Shift.{Shift}
 use Rattle.machine.specs.Space.{Space, room, origin, writable}
 use Rattle.machine.specs.Instructions.{Long, applies_to, multiplies_by, stores, branches_to, links, shifts, addresses, moves, compares, unlisted_long, halfword_rows, word_rows, storage_rows, plain_rows, long_kind}
 use Rattle.machine.specs.Step.{Cpu, Turn, Stepped, stepped, went, halted, moved, address, store_step, long_by, step}
-use Rattle.machine.specs.Run.{onward, after, run}
+use Rattle.machine.specs.Run.{onward, run}
 use Rattle.machine.proofs.Rows.{row_is}
 
 -- a byte outside the n bytes that are stored stays

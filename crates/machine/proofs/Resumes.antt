@@ -1,6 +1,6 @@
 -- A run of a and then of b instructions is a run of a + b, with counts added; a run that was stopped stays so. Assumes nothing.
 use Prim.Native.Nat.{ℕ, zero, suc, ◌+◌, ◌<◌}
-use mathlib.Core.Path.{◌≡◌, refl, sym, ap, ◌∙◌}
+use mathlib.Core.Path.{◌≡◌, refl, ap, ◌∙◌}
 use mathlib.Core.Bool.{Bool, true, false}
 use mathlib.Core.List.{List}
 use native.Mathlib.Omega.{arith}
@@ -8,7 +8,7 @@ use lib.Dec.{eqb}
 use borrow.Author.Tests.{ne_eqb}
 use Rattle.base.specs.Choose.{choose}
 use Rattle.machine.specs.Space.{Space}
-use Rattle.machine.specs.Step.{Cpu, Stepped, stepped, went, halted, step}
+use Rattle.machine.specs.Step.{Cpu, Stepped, step}
 use Rattle.machine.specs.Run.{Result, result, counted, onward, after, budget_used, run}
 use Rattle.machine.proofs.Runs.{with-count, counted-twice}
 use Rattle.machine.proofs.Stops.{Ends, on, off, step-ends}

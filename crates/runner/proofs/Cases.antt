@@ -1,11 +1,9 @@
 -- Whole runs of document 01's cases by computation of the definitions, from object text to answer. Assumes nothing.
-use Prim.Native.Nat.{ℕ, ◌+◌}
-use Prim.Native.String.{String}
+use Prim.Native.Nat.{ℕ}
 use mathlib.Core.Path.{◌≡◌, refl}
 use mathlib.Core.List.{List, [], ◌∷◌, ◌++◌}
 use lib.ListN.{get_or, replicate}
 use Rattle.base.specs.Numbers.{number_from, bytes_of, value_at}
-use Rattle.base.specs.Text.{bytes}
 use Rattle.objtext.specs.Object.{Segment, program, cells, object_text, hex_digit}
 use Rattle.objtext.specs.Reader.{read_object, read_data, at_last, on_segment, push, is_last, is_data, is_program, data_at, program_at, after_data, after_program, byte_of, two_of, digit_of, is_content_frame}
 use Rattle.objtext.proofs.Exact.{form}

@@ -1,12 +1,12 @@
 -- What stands in storage after loading: each segment's bytes at its origin (`loaded_bytes`), the segments' origins in the table (`loaded-table`). Assumes nothing.
 use Prim.Native.Nat.{ℕ, zero, suc, ◌+◌, ◌*◌, ◌%◌, ◌^◌, ◌<◌, ◌≤◌}
-use mathlib.Core.Path.{◌≡◌, refl, sym, ap, ◌∙◌, subst}
+use mathlib.Core.Path.{◌≡◌, refl, ap, ◌∙◌}
 use mathlib.Core.Logic.{◌⊎◌, inl, inr}
 use mathlib.Core.Bool.{Bool, true, false}
-use mathlib.Core.List.{List, [], ◌∷◌, ◌++◌}
+use mathlib.Core.List.{List, [], ◌∷◌}
 use native.Mathlib.Omega.{arith}
 use lib.Dec.{leb}
-use lib.ListN.{length, drop, get_or, replicate}
+use lib.ListN.{length, get_or}
 use lib.Seq.{sets, length-sets}
 use borrow.Author.Tests.{le-leb}
 use Rattle.base.specs.Choose.{choose}
@@ -15,7 +15,7 @@ use Rattle.base.specs.Numbers.{value_of, value_at, stored}
 use Rattle.base.proofs.Lists.{all_get_d}
 use Rattle.base.proofs.Parts.{sets-before, sets-there, same-part}
 use Rattle.base.proofs.Numbers.{value_at-stored}
-use Rattle.objtext.specs.Object.{Segment, program, cells, content_of, Data, Object, IsData, IsObject}
+use Rattle.objtext.specs.Object.{Segment, program, cells, content_of, Data, Object}
 use Rattle.machine.specs.Space.{room, origin, needed}
 use Rattle.machine.proofs.Outside.{byte-elsewhere}
 use Rattle.runner.specs.Load.{placed, table_word, tabled, table_length, cleared, loaded}

@@ -7,7 +7,7 @@ use mathlib.Core.List.{List, [], ◌∷◌, ◌++◌}
 use native.Mathlib.Omega.{arith}
 use native.Mathlib.Numerals.{add-one}
 use lib.Dec.{leb}
-use lib.ListN.{length, drop, set, length-set, replicate, length-append, length-drop, length-replicate}
+use lib.ListN.{length, drop, set, replicate, length-append, length-drop, length-replicate}
 use lib.Seq.{drop-drop, sets, length-sets}
 use borrow.Author.Fill.{fill_more}
 use borrow.Author.Tests.{le-leb, lt-leb}
@@ -17,8 +17,8 @@ use Rattle.objtext.specs.Object.{Segment, content_of, frames_for}
 use Rattle.objtext.specs.Reader.{two_of, content_at, content_length, head_length, is_data, data_at, after_data, program_at, after_program, data_list, segment_list}
 use Rattle.objtext.proofs.Places.{after-data-place}
 use Rattle.objtext.proofs.Walks.{Walked, walked_on}
-use Rattle.machine.specs.Space.{origin, needed, end_column, from_column, to_column}
-use Rattle.runner.specs.Load.{placed, table_word, tabled, cleared}
+use Rattle.machine.specs.Space.{origin, end_column, from_column, to_column}
+use Rattle.runner.specs.Load.{placed, table_word, tabled}
 use Rattle.runner.specs.Charted.{paged, charted}
 
 -- ── along the data segments ──

@@ -1,7 +1,6 @@
 -- What is read from the heads again is the segments': the map is their space, segment 1's length is the table's. Assumes nothing.
 use Prim.Native.Nat.{ℕ, zero, suc, ◌+◌, ◌-◌, ◌*◌, ◌<◌, ◌≤◌}
-use mathlib.Core.Path.{◌≡◌, refl, sym, ap, ap₂, ◌∙◌, subst}
-use mathlib.Core.Bool.{Bool, true, false}
+use mathlib.Core.Path.{◌≡◌, refl, sym, ap, ap₂, ◌∙◌}
 use mathlib.Core.List.{List, [], ◌∷◌, ◌++◌, map}
 use native.Mathlib.Omega.{arith}
 use lib.Dec.{ltb}
@@ -9,12 +8,12 @@ use lib.ListN.{length, take, drop, get_or, replicate, length-take, get_or-eq_def
 use lib.Seq.{get_or-take, get_or-drop}
 use borrow.Author.Tests.{ltb-true, ltb-false}
 use Rattle.base.proofs.Tests.{cases}
-use Rattle.objtext.specs.Object.{Segment, content_of, frames_for}
-use Rattle.objtext.specs.Reader.{two_of, head_length, head_from, head_to, content_at, data_at, after_data, program_at, after_program, data_list, segment_list}
+use Rattle.objtext.specs.Object.{Segment, content_of}
+use Rattle.objtext.specs.Reader.{two_of, head_length, data_at, after_data, program_at, after_program, data_list, segment_list}
 use Rattle.objtext.proofs.Places.{length-content, length-place}
 use Rattle.objtext.proofs.Walks.{length-list}
 use Rattle.machine.specs.Space.{pages, needed, end_column, from_column, to_column, entry, space_by}
-use Rattle.runner.specs.Load.{placed, tabled, loaded, end_of, from_of, to_of, by_page, program_length, space_of}
+use Rattle.runner.specs.Load.{placed, tabled, loaded, end_of, from_of, to_of, by_page, space_of}
 use Rattle.runner.specs.Charted.{charted}
 
 -- a column of the map

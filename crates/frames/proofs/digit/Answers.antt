@@ -1,6 +1,5 @@
 -- The table holds the digits. Assumes nothing.
 use mathlib.Core.Path.{refl}
-use borrow.Author.Rules.{rules}
 use Rattle.objtext.specs.Object.{hex_digit}
 use Rattle.frames.proofs.digit.Goals as goal
 

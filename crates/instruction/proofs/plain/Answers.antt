@@ -17,4 +17,4 @@ pub returns-in_default : goal.returns-in_default
 returns-in_default c =
     λ p.
     let a = c.args in
-    rw (row-rest a.op immediate_rows (shift_kind a.op) c.in_default.rest) (c.shift.ensures (space_by p a.map.now) a.s.now)
+    rw (row-rest a.op immediate_rows (shift_kind a.op) c.in_default.in_default-own.rest) (c.shift.ensures (space_by p a.map.now) a.s.now)

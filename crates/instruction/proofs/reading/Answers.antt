@@ -82,4 +82,4 @@ returns-in-95 c =
 
 pub returns-in_default : goal.returns-in_default
 returns-in_default c =
-    λ p. rw (row-rest c.args.op read_rows unlisted_long c.in_default.rest, c.halt.ensures)
+    λ p. rw (row-rest c.args.op read_rows unlisted_long c.in_default.in_default-own.rest, c.halt.ensures)

@@ -22,4 +22,4 @@ returns-in-139 c =
 
 pub returns-in_default : goal.returns-in_default
 returns-in_default c =
-    λ m s. rw (row-rest c.args.op shift_rows unlisted_long c.in_default.rest, c.halt.ensures)
+    λ m s. rw (row-rest c.args.op shift_rows unlisted_long c.in_default.in_default-own.rest, c.halt.ensures)

@@ -69,4 +69,4 @@ returns-in-31 c =
 
 pub returns-in_default : goal.returns-in_default
 returns-in_default c =
-    rw (row-rest c.args.op register_rows unlisted c.in_default.rest, c.halt.ensures)
+    rw (row-rest c.args.op register_rows unlisted c.in_default.in_default-own.rest, c.halt.ensures)

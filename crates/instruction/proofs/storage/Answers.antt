@@ -19,4 +19,4 @@ pub returns-in_default : goal.returns-in_default
 returns-in_default c =
     λ p.
     let op = c.args.op in
-    rw (row-rest op store_rows (read_kind op) c.in_default.rest) (c.reading.ensures p)
+    rw (row-rest op store_rows (read_kind op) c.in_default.in_default-own.rest) (c.reading.ensures p)

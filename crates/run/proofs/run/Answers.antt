@@ -1,4 +1,3 @@
-use Prim.Native.Nat.{◌-◌}
 use borrow.Author.Rules.{rules}
 use Rattle.machine.proofs.Runs.{run_on, run-stop, run_out, run-start}
 use Rattle.run.proofs.run.Goals as goal

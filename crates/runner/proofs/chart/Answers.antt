@@ -1,4 +1,3 @@
-use Prim.Native.Nat.{◌-◌}
 use lib.ListN.{drop}
 use borrow.Author.Rules.{rules}
 use Rattle.objtext.proofs.Places.{after-program-place}
