@@ -200,6 +200,8 @@ module _ (kinds keys links outer : List ℕ) where
         where
           final-entry : (d : Entry) (p : Place) → InBlock p → Final (enter_entry d p) → Final p
           final-entry d (within b ∷ p) f n = n
+          final-entry d [] f n = elim f [ ]
+          final-entry d (body name return ∷ p) f n = elim f [ ]
       finish (phrase k) p s g h g' f n = (tt, n)
       finish (mark k) p s g h g' f n = (tt, n)
 
