@@ -2,17 +2,19 @@ use Prim.Native.Nat.{ℕ, ◌-◌}
 use mathlib.Core.Path.{◌≡◌, refl, sym, ap, ◌∙◌}
 use mathlib.Core.List.{List}
 use native.Mathlib.Omega.{arith}
-use lib.ListN.{length, set, length-set}
+use lib.ListN.{drop, length, length-set, set, take}
+use Rattle.token.specs.Text as T
+use Rattle.token.specs.declared.Next.{Next}
 use Rattle.token.specs.Answers.{outcome_of, kind_of}
-use Rattle.token.proofs.Readings.{reads-start, Answered, ends-inside, some_bytes, reads_on, reads-last, laid_on, laid-last, refused-inside, reads-no, laid-no}
+use Rattle.token.proofs.Readings.{Reads, reads-start, Answered, ends-inside, some_bytes, reads_on, reads-last, laid_on, laid-last, refused-inside, reads-no, laid-no}
 use Rattle.token_lists.proofs.lay_kinds.Goals as goal
 
 kept : (l m : List ℕ) (i v : ℕ) → m ≡ set l i v → length m ≡ length l
 kept l m i v e = ap length e ∙ length-set l i v
 
--- LEFT answered : (c : tie.After-next-token invariant-loop decreases-loop)
--- LEFT     → Answered c.before.before.before.before.before.args.src.now c.before.before.loop.at c.before.before.loop.n c.next-token.result
--- LEFT answered c = record { reads = c.before.before.loop.invariant.0; next = c.next-token.ensures }
+-- what is known when the token reader has answered
+answered : {s : List ℕ} {at n : ℕ} (r : Next) → Reads s at n → outcome_of r ≡ T.next_token (take (length s - at) (drop at s)) → Answered s at n r
+answered r v e = record { reads = v; next = e }
 
 pub loop-t-init : goal.loop-t-init
 loop-t-init c =
@@ -24,24 +26,24 @@ shape_of-kinds-then-is_last c =
 
 pub returns-then-is_last : goal.returns-then-is_last
 returns-then-is_last c =
-    let a = answered c in
+    let a = answered c.next_token-next.result c.loop-t.invariant.0 c.next_token-next.ensures in
     let q = c.in-Token.is in
     let l = sym c.is_last.ensures ∙ c.if-is_last.true in
     record { is = reads-last a q l; are-laid = c.put_byte.ensures ∙ laid-last a q kind_of _ _ c.loop-t.invariant.1 l }
 
 pub overflow_add-at : goal.overflow_add-at
 overflow_add-at c =
-    omega (arith, ends-inside (answered c) c.in-Token.is)
+    omega (arith, ends-inside (answered c.next_token-next.result c.loop-t.invariant.0 c.next_token-next.ensures) c.in-Token.is)
 
 pub loop-t-smaller : goal.loop-t-smaller
 loop-t-smaller c =
-    let a = answered c in
+    let a = answered c.next_token-next.result c.loop-t.invariant.0 c.next_token-next.ensures in
     let q = c.in-Token.is in
     omega (arith, ends-inside a q, some_bytes a q (sym c.is_last.ensures ∙ c.if-is_last.false))
 
 pub loop-t-preserved : goal.loop-t-preserved
 loop-t-preserved c =
-    let a = answered c in
+    let a = answered c.next_token-next.result c.loop-t.invariant.0 c.next_token-next.ensures in
     let q = c.in-Token.is in
     let l = sym c.is_last.ensures ∙ c.if-is_last.false in
     let e = c.put_byte.ensures in
@@ -49,22 +51,22 @@ loop-t-preserved c =
 
 pub overflow_add-at-in-NoToken : goal.overflow_add-at-in-NoToken
 overflow_add-at-in-NoToken c =
-    omega (arith, refused-inside (answered c) (ap outcome_of c.in-NoToken.is))
+    omega (arith, refused-inside (answered c.next_token-next.result c.loop-t.invariant.0 c.next_token-next.ensures) (ap outcome_of c.in-NoToken.is))
 
 pub returns-in-NoToken : goal.returns-in-NoToken
 returns-in-NoToken c =
-    let a = answered c in
+    let a = answered c.next_token-next.result c.loop-t.invariant.0 c.next_token-next.ensures in
     let q = ap outcome_of c.in-NoToken.is in
     let w = c.loop-t.invariant.1 in
     record { is = rw c.spot_at.ensures (reads-no a q refl); are-laid = laid-no a q kind_of _ _ w }
 
 pub overflow_add-at-in-OutOfRange : goal.overflow_add-at-in-OutOfRange
 overflow_add-at-in-OutOfRange c =
-    omega (arith, refused-inside (answered c) (ap outcome_of c.in-OutOfRange.is))
+    omega (arith, refused-inside (answered c.next_token-next.result c.loop-t.invariant.0 c.next_token-next.ensures) (ap outcome_of c.in-OutOfRange.is))
 
 pub returns-in-OutOfRange : goal.returns-in-OutOfRange
 returns-in-OutOfRange c =
-    let a = answered c in
+    let a = answered c.next_token-next.result c.loop-t.invariant.0 c.next_token-next.ensures in
     let q = ap outcome_of c.in-OutOfRange.is in
     let w = c.loop-t.invariant.1 in
     record { is = rw c.spot_at-in-OutOfRange.ensures (reads-no a q refl); are-laid = laid-no a q kind_of _ _ w }
