@@ -108,6 +108,9 @@ module _ (kinds values found : List ℕ) where
   -- behind a target no argument follows
   aims-still : (d : Designator) (c : Context) (s : Meant) (form target : ℕ) (first : Bool) → Aims d c → Opens c s form target first → Opens c s form target false
   aims-still d (aiming x) s form target first q o = o
+  aims-still d nowhere s form target first q o = elim q [ ]
+  aims-still d (applying name position) s form target first q o = elim q [ ]
+  aims-still d (declaring count _ _) s form target first q o = elim q [ ]
 
   -- own, owners: the innermost procedure and those around it; s: the tables by which the bases at p are told
   abbrev walk_from : (own : ℕ) (owners : List ℕ) → Place → Meant → (form target : ℕ) → (first : Bool) → Meant → Meaning-walk
@@ -163,6 +166,12 @@ module _ (kinds values found : List ℕ) where
       let e : r ≡ n + 2 = omega (arith, h.1.0, h.1.2.1.0) in
       (form, target, false, settle n (own_in p ∷ owners_in p) (within b ∷ p) s (mean_at (edge (entered n r)) (within b ∷ p) s) form target _ g (rw e), tt)
   turn-edge (left n) (body k r ∷ p) c s form target first f g i j h = (form, target, false, settle (own_in p) (owners_in p) p s (mean_at (edge (left n)) (body k r ∷ p) s) form target _ g refl, tt)
+  turn-edge (closed t) [] c s form target first f g i j h = elim f [ ]
+  turn-edge (closed t) (body k r ∷ p) c s form target first f g i j h = elim f [ ]
+  turn-edge (entered n r) [] c s form target first f g i j h = elim f [ ]
+  turn-edge (entered n r) (body k return ∷ p) c s form target first f g i j h = elim f [ ]
+  turn-edge (left n) [] c s form target first f g i j h = elim f [ ]
+  turn-edge (left n) (within b ∷ p) c s form target first f g i j h = elim f [ ]
 
   turn-route : (x : Route) (p : Place) (c : Context) (s : Meant) (form target : ℕ) (first : Bool) → Stands kinds (route x) p 0 → Next (route x) p c s form target first
   unfolding D.mean_event mean_event within_after form_after target_after first_after declared_after written_after form_at
@@ -194,6 +203,25 @@ module _ (kinds values found : List ℕ) where
       by_width (λ n. step (E.SINGLE-FULL + n) 0 (walk (within b ∷ p) s form target first) ≡ walk (within b ∷ p) s (packed CELL n 1) target false) refl refl refl refl w,
       λ t u. packed-cell t 1 CELL (width_of w) u (omega arith, width_few w) refl
           ∙ ap (λ (x : Width). cell (record { name = t; base = u; width = x; elements = 1; array = false })) (width_is w),
+    turn-entry (named r) [] c s form target first f g i j h l q o = elim f [ ]
+    turn-entry (named r) (body name return ∷ p) c s form target first f g i j h l q o = elim f [ ]
+    turn-entry (celled none w) [] c s form target first f g i j h l q o = elim f [ ]
+    turn-entry (celled none w) (body name return ∷ p) c s form target first f g i j h l q o = elim f [ ]
+    turn-entry (celled (some n) w) [] c s form target first f g i j h l q o = elim f [ ]
+    turn-entry (celled (some n) w) (body name return ∷ p) c s form target first f g i j h l q o = elim f [ ]
+    turn-entry (itemed n w x) [] c s form target first f g i j h l q o = elim f [ ]
+    turn-entry (itemed n w x) (within b ∷ p) nowhere s form target first f g i j h l q o = elim q [ ]
+    turn-entry (itemed n w x) (within b ∷ p) (aiming _) s form target first f g i j h l q o = elim q [ ]
+    turn-entry (itemed n w x) (within b ∷ p) (applying name position) s form target first f g i j h l q o = elim q [ ]
+    turn-entry (itemed n w x) (body name return ∷ p) c s form target first f g i j h l q o = elim f [ ]
+    turn-entry (valued t) [] c s form target first f g i j h l q o = elim f [ ]
+    turn-entry (valued t) (within b ∷ p) nowhere s form target first f g i j h l q o = elim q [ ]
+    turn-entry (valued t) (within b ∷ p) (aiming _) s form target first f g i j h l q o = elim q [ ]
+    turn-entry (valued t) (within b ∷ p) (applying name position) s form target first f g i j h l q o = elim q [ ]
+    turn-entry (valued t) (within b ∷ p) (declaring m v []) s form target first f g i j h l q o = elim q [ ]
+    turn-entry (valued t) (body name return ∷ p) c s form target first f g i j h l q o = elim f [ ]
+    turn-entry (based n) [] c s form target first f g i j h l q o = elim f [ ]
+    turn-entry (based n) (body name return ∷ p) c s form target first f g i j h l q o = elim f [ ]
     )
     turn-entry (celled (some n) w) (within b ∷ p) c s form target first f g i j h l q o = (
       packed ARRAY (width_of w) (get_or values n 0),

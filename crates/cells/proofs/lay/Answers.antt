@@ -12,7 +12,7 @@ loop-n-init c =
 
 pub loop-n-preserved : goal.loop-n-preserved
 loop-n-preserved c =
-    (search rules, c.lay_word-x.auto.1.1.1.1.0 ∙ c.loop-n.invariant.1, rw (c.lay_word-x.ensures, c.part-in-loop-n.ensures, c.run_option-option.ensures, c.part.ensures) (word_on _ _ _ _ _ c.loop-n.invariant.2 c.loop-n-test.true))
+    (search rules, c.lay_word-x.auto.store ∙ c.loop-n.invariant.1, rw (c.lay_word-x.ensures, c.part-in-loop-n.ensures, c.run_option-option.ensures, c.part.ensures) (word_on _ _ _ _ _ c.loop-n.invariant.2 c.loop-n-test.true))
 
 pub returns : goal.returns
 returns c =

@@ -14,7 +14,7 @@ loop-n-init c =
 
 pub loop-n-preserved : goal.loop-n-preserved
 loop-n-preserved c =
-    (search rules, c.put_asked-end.auto.0 ∙ c.loop-n.invariant.1, _, two c.loop-n.invariant.3 c.put_asked-end.ensures, rw (c.part-in-loop-n.ensures, c.run_option-option.ensures, c.part.ensures) (word_on _ _ _ _ _ c.loop-n.invariant.4 c.loop-n-test.true))
+    (search rules, c.put_asked-end.auto.out ∙ c.loop-n.invariant.1, _, two c.loop-n.invariant.3 c.put_asked-end.ensures, rw (c.part-in-loop-n.ensures, c.run_option-option.ensures, c.part.ensures) (word_on _ _ _ _ _ c.loop-n.invariant.4 c.loop-n-test.true))
 
 pub shape_of-out : goal.shape_of-out
 shape_of-out c =

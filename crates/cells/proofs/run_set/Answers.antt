@@ -24,7 +24,7 @@ load-requires c =
 
 pub started-requires : goal.started-requires
 started-requires c =
-    (search rules, search rules, omega (arith, c.lay.auto.1.1.0, c.load.auto.1.1.0, c.if-store-lt-NEEDED.false))
+    (search rules, search rules, omega (arith, c.lay.auto.store, c.load.auto.s, c.if-store-lt-NEEDED.false))
 
 pub returns : goal.returns
 returns c =

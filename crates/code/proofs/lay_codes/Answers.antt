@@ -52,10 +52,10 @@ loop-k-preserved c =
       omega (arith, l.invariant.2, one),
       in-room l.n laid.result (length a.literals.now) l.invariant.3 (λ g. laid.ensures.1 (g ∙ sym len)) one,
       laid.auto.image ∙ l.invariant.4,
-      laid.auto.literals.0 ∙ len,
+      laid.auto.literals ∙ len,
       λ s h.
           event-turn a.start (length a.literals.now) l.k (list_of a.m) l.p l.n z.result laid.result l.image l.literals _ _
-          c.nth-c.result _ (laid.auto.literals.0 ∙ len)
+          c.nth-c.result _ (laid.auto.literals ∙ len)
           (omega (arith, c.count-last.ensures.0))
           c.nth-c.ensures z.ensures.0 (λ g. laid.ensures.0 (omega (arith, g, len)))
           (λ g. laid.ensures.1 (g ∙ sym len)) one (l.invariant.6 s h),

@@ -10,8 +10,9 @@ use borrow.Author.Tests.{eq-eqb, ne_eqb}
 use Rattle.base.specs.Walk.{fold}
 use Rattle.tape.specs.Events as E
 use Rattle.tape.specs.Numbers.{family_at}
-use Rattle.ledger.specs.Book.{wide_of, thin_of}
+use Rattle.ledger.specs.Book.{Wide, Thin, wide_of, thin_of}
 use Rattle.emit.specs.declared.Past.{Past}
+use Rattle.emit.specs.declared.Writing.{Writing}
 use Rattle.emit.specs.Along.{table_along}
 use Rattle.code.specs.Coding.{Laid, laid_of, lay_all, table_in}
 use Rattle.code.proofs.Tables.{rest, table-turn, table-end, tape-over}
@@ -35,36 +36,31 @@ shape_of-image-then-depth-eq0 c =
     c.loop-j.invariant.4
 
 -- where nothing of the table is left, what is laid is the table
--- LEFT ended : (c : tie.At-loop invariant-loop decreases-loop)
--- LEFT     → let a = c.before.before.before.before.before.before.before.before.before.before.before.before.args in
--- LEFT     let l = c.loop in
--- LEFT     ((s whole : Laid) (k : ℕ) → lay_all k (rest a.kinds.now a.tape.now (wide_of a.wide.now) (thin_of a.thin.now) l.depth l.from l.p l.v (drop l.j a.tape.now)) s ≡ whole → s ≡ whole)
--- LEFT     → ((k : ℕ) (seen : List ℕ) → laid_of l.end l.image seen
--- LEFT     ≡ lay_all k (table_in a.kinds.now (wide_of a.wide.now) (thin_of a.thin.now) (get_or a.tape.now a.i 0 % E.EVENTS) (get_or a.tape.now a.i 0 / E.EVENTS) a.w (drop (a.i + 1) a.tape.now))
--- LEFT     (laid_of a.at a.image.now seen)) × (l.end ≤ a.at + 4 * length a.tape.now)
--- LEFT unfolding table_along
--- LEFT ended c over =
--- LEFT     let at-written = c.before in
--- LEFT     let at-token = at-written.before in
--- LEFT     let at-if1 = at-token.before in
--- LEFT     let at-family = at-if1.before in
--- LEFT     let at_op = at-family.before in
--- LEFT     let a = at_op.before.before.before.before.before.before.before.args in
--- LEFT     let l = c.loop in
--- LEFT     let e : at-family.family.result ≡ family_at (get_or a.tape.now a.i 0 % E.EVENTS) = at-family.family.ensures ∙ ap family_at at_op.op.ensures.0 in
--- LEFT     let n : eqb (family_at (get_or a.tape.now a.i 0 % E.EVENTS)) E.CHOSEN ≡ true = eq-eqb _ _ (sym e ∙ at-if1.if1.false) in
--- LEFT     let end : (k : ℕ) (seen : List ℕ) → laid_of l.end l.image seen
--- LEFT     ≡ lay_all k (rest a.kinds.now a.tape.now (wide_of a.wide.now) (thin_of a.thin.now) 1 at-written.written.result at-written.written.result a.w (drop (a.i + 1) a.tape.now))
--- LEFT     (laid_of a.at a.image.now seen) =
--- LEFT     λ k seen. over (laid_of l.end l.image seen) _ k (l.invariant.5 k seen) in (
--- LEFT       λ k seen. rw (n, ← at-token.token.ensures.0, ← at-written.written.ensures.0) (end k seen),
--- LEFT       omega (arith, l.invariant.3, l.invariant.0),
--- LEFT     )
+ended :
+    (kinds tape : List ℕ) (w : Wide) (b : Thin) (i op t f start at end depth from p : ℕ) (a v : Writing) (image laid left : List ℕ)
+    → op ≡ get_or tape i 0 % E.EVENTS → t ≡ get_or tape i 0 / E.EVENTS → f ≡ family_at op → f ≡ E.CHOSEN → start ≡ get_or b.written t 0
+    → ((k : ℕ) (seen : List ℕ) → lay_all k (rest kinds tape w b depth from p v left) (laid_of end laid seen)
+    ≡ lay_all k (rest kinds tape w b 1 start start a (drop (i + 1) tape)) (laid_of at image seen))
+    → ((s whole : Laid) (k : ℕ) → lay_all k (rest kinds tape w b depth from p v left) s ≡ whole → s ≡ whole)
+    → (k : ℕ) (seen : List ℕ) → laid_of end laid seen
+    ≡ lay_all k (table_in kinds w b (get_or tape i 0 % E.EVENTS) (get_or tape i 0 / E.EVENTS) a (drop (i + 1) tape)) (laid_of at image seen)
+unfolding table_along
+ended kinds tape w b i op t f start at end depth from p a v image laid left o q g h u inv over k seen =
+    let e : f ≡ family_at (get_or tape i 0 % E.EVENTS) = g ∙ ap family_at o in
+    let n : eqb (family_at (get_or tape i 0 % E.EVENTS)) E.CHOSEN ≡ true = eq-eqb _ _ (sym e ∙ h) in
+    let whole : laid_of end laid seen ≡ lay_all k (rest kinds tape w b 1 start start a (drop (i + 1) tape)) (laid_of at image seen) =
+    over (laid_of end laid seen) _ k (inv k seen) in
+    rw (n, ← q, ← u) whole
 
 pub returns-then-depth-eq0 : goal.returns-then-depth-eq0
 returns-then-depth-eq0 c =
-    let l = c.loop-j in
-    ended c (λ s whole k e. table-end _ _ _ _ l.j l.depth l.from l.p l.v s k c.if-depth-eq0.true e)
+    let a = c.args in
+    let l = c.loop-j in (
+      ended a.kinds.now a.tape.now (wide_of a.wide.now) (thin_of a.thin.now) a.i c.op.result c.token.result c.family.result c.written-from.result
+          a.at l.end l.depth l.from l.p a.w l.v a.image.now l.image _ c.op.ensures.0 c.token.ensures.0 c.family.ensures
+          c.if-family-ne-CHOSEN.false c.written-from.ensures.0 l.invariant.5 (λ s whole k e. table-end _ _ _ _ l.j l.depth l.from l.p l.v s k c.if-depth-eq0.true e),
+      omega (arith, l.invariant.3, l.invariant.0),
+    )
 
 pub passed-behind-requires : goal.passed-behind-requires
 passed-behind-requires c =
@@ -119,5 +115,10 @@ shape_of-image c =
 
 pub returns : goal.returns
 returns c =
-    let l = c.loop-j in
-    ended c (λ s whole k e. tape-over _ _ _ _ l.j l.depth l.from l.p l.v s k c.loop-j-test.false e)
+    let a = c.args in
+    let l = c.loop-j in (
+      ended a.kinds.now a.tape.now (wide_of a.wide.now) (thin_of a.thin.now) a.i c.op.result c.token.result c.family.result c.written-from.result
+          a.at l.end l.depth l.from l.p a.w l.v a.image.now l.image _ c.op.ensures.0 c.token.ensures.0 c.family.ensures
+          c.if-family-ne-CHOSEN.false c.written-from.ensures.0 l.invariant.5 (λ s whole k e. tape-over _ _ _ _ l.j l.depth l.from l.p l.v s k c.loop-j-test.false e),
+      omega (arith, l.invariant.3, l.invariant.0),
+    )

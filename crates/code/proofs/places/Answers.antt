@@ -40,7 +40,7 @@ loop-i-preserved c =
     c.loop-i-test.true op.ensures.0 t.ensures.0 behind marked written l.invariant.4 in (
       omega arith,
       omega (arith, l.invariant.1, c.passed-behind.ensures.1),
-      c.mark_after.auto.thin.1.1.1.1.0 ∙ l.invariant.2,
+      c.mark_after.auto.thin ∙ l.invariant.2,
       turn.0,
       turn.1,
     )

@@ -63,8 +63,8 @@ loop-i-preserved c =
       omega (arith, l.invariant.1, laid.ensures.3, table.ensures.1, n.0),
       omega (arith, l.invariant.2, laid.ensures.1),
       omega (arith, len, laid.ensures.2),
-      table.auto.image.1.1.1.1.1.0 ∙ (laid.auto.w ∙ l.invariant.4),
-      laid.auto.image.0 ∙ len,
+      table.auto.image ∙ (laid.auto.image ∙ l.invariant.4),
+      laid.auto.literals ∙ len,
       tape-turn a.start (length a.literals.now) a.kinds.now (wide_of a.wide.now) (thin_of a.thin.now) a.tape.now l.i op.result t.result _ _ _ _ _ _ _ _ _ _
           c.event-made.result.codes l.w _ _ h op.ensures.0 t.ensures.0 codes written len laid.ensures.0 table.ensures.0 l.invariant.6,
     )
@@ -79,17 +79,17 @@ overflow_add-end c =
 
 pub shape_of-image : goal.shape_of-image
 shape_of-image c =
-    c.lay_code-n.auto.w ∙ c.loop-i.invariant.4
+    c.lay_code-n.auto.image ∙ c.loop-i.invariant.4
 
 pub shape_of-literals : goal.shape_of-literals
 shape_of-literals c =
-    c.lay_code-n.auto.image.0 ∙ c.loop-i.invariant.5
+    c.lay_code-n.auto.literals ∙ c.loop-i.invariant.5
 
 pub returns : goal.returns
 returns c =
     let a = c.args in let l = c.loop-i in let laid = c.lay_code-n in let len : length l.literals ≡ length a.literals.now = l.invariant.5
     in (
       tape-end a.start (length a.literals.now) a.kinds.now (wide_of a.wide.now) (thin_of a.thin.now) a.tape.now a.image.now l.i
-          l.at.length l.at.literals laid.result l.image l.literals _ _ l.w c.stop.result c.loop-i-test.false (laid.auto.image.0 ∙ len) c.stop.ensures (λ g. laid.ensures.0 (omega (arith, g, len))) (λ g. laid.ensures.1 (g ∙ sym len)) laid.ensures.2 l.invariant.6,
+          l.at.length l.at.literals laid.result l.image l.literals _ _ l.w c.stop.result c.loop-i-test.false (laid.auto.literals ∙ len) c.stop.ensures (λ g. laid.ensures.0 (omega (arith, g, len))) (λ g. laid.ensures.1 (g ∙ sym len)) laid.ensures.2 l.invariant.6,
       omega (arith, laid.ensures.2, l.invariant.2, l.invariant.0),
     )

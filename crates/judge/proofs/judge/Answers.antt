@@ -10,7 +10,7 @@ loop-i-init c =
     let second = c.put_offset-2 in
     let asked = c.requires in (
       going _ _ _ _ _ c.args.wide.now _ _
-          first.ensures second.ensures first.auto.0 second.auto.0 asked.0 asked.1.0 asked.1.1,
+          first.ensures second.ensures first.auto.wide second.auto.wide asked.0 asked.1.0 asked.1.1,
       (refl, refl),
     )
 
@@ -41,7 +41,7 @@ loop-i-smaller c =
 
 pub loop-i-preserved : goal.loop-i-preserved
 loop-i-preserved c =
-    let before = c.loop-i.invariant in let held = c.held_after-d in let wides = held.auto.1.1.0 in let countings = held.auto.1.1.1.1.0 in (
+    let before = c.loop-i.invariant in let held = c.held_after-d in let wides = held.auto.wide in let countings = held.auto.counts in (
       going_on _ _ _ _ _ before.0 c.loop-i-test.true _ _ c.op-op.ensures.0 c.token-t.ensures.0
           c.event_rule-r.ensures c.join-least.ensures held.ensures.0 held.ensures.1 c.cells_after-c.ensures
           c.open_after-o.ensures wides countings,
@@ -50,8 +50,8 @@ loop-i-preserved c =
 
 pub shape_of-wide : goal.shape_of-wide
 shape_of-wide c =
-    c.loop-i.invariant.1.0 ∙ (c.put_offset-2.auto.0
-    ∙ c.put_offset.auto.0)
+    c.loop-i.invariant.1.0 ∙ (c.put_offset-2.auto.wide
+    ∙ c.put_offset.auto.wide)
 
 pub shape_of-counts : goal.shape_of-counts
 shape_of-counts c =

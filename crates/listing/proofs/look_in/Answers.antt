@@ -24,7 +24,7 @@ overflow_mul-rows c =
 
 pub slice_bounds-look_tokens-end : goal.slice_bounds-look_tokens-end
 slice_bounds-look_tokens-end c =
-    omega (arith, few-read c.args.src.now _ c.read-tokens.ensures.0.is _ c.in-Read.is, c.requires.for-kinds, c.read-tokens.auto.1.0)
+    omega (arith, few-read c.args.src.now _ c.read-tokens.ensures.0.is _ c.in-Read.is, c.requires.for-kinds, c.read-tokens.auto.kinds)
 
 pub slice_bounds-look_tokens-end-in-Read : goal.slice_bounds-look_tokens-end-in-Read
 slice_bounds-look_tokens-end-in-Read c =
@@ -32,7 +32,7 @@ slice_bounds-look_tokens-end-in-Read c =
       arith,
       few-read c.args.src.now _ c.read-tokens.ensures.0.is _ c.in-Read.is,
       c.requires.for-kinds,
-      c.read-tokens.auto.1.0,
+      c.read-tokens.auto.kinds,
     )))
 
 pub slice_bounds-look_tokens-end-in-Read-2 : goal.slice_bounds-look_tokens-end-in-Read-2
@@ -45,7 +45,7 @@ slice_bounds-look_tokens-end-in-Read-3 c =
 
 pub slice_bounds-look_tokens-end-in-Read-4 : goal.slice_bounds-look_tokens-end-in-Read-4
 slice_bounds-look_tokens-end-in-Read-4 c =
-    omega (arith, few-read c.args.src.now _ c.read-tokens.ensures.0.is _ c.in-Read.is, c.requires.for-wide, c.read-tokens.auto.1.1.0)
+    omega (arith, few-read c.args.src.now _ c.read-tokens.ensures.0.is _ c.in-Read.is, c.requires.for-wide, c.read-tokens.auto.wide)
 
 pub slice_bounds-look_tokens-end-in-Read-5 : goal.slice_bounds-look_tokens-end-in-Read-5
 slice_bounds-look_tokens-end-in-Read-5 c =
@@ -53,7 +53,7 @@ slice_bounds-look_tokens-end-in-Read-5 c =
       arith,
       few-read c.args.src.now _ c.read-tokens.ensures.0.is _ c.in-Read.is,
       c.requires.for-wide,
-      c.read-tokens.auto.1.1.0,
+      c.read-tokens.auto.wide,
     )))
 
 pub slice_bounds-look_tokens-end-in-Read-6 : goal.slice_bounds-look_tokens-end-in-Read-6
@@ -68,35 +68,35 @@ pub look_tokens-requires : goal.look_tokens-requires
 look_tokens-requires c =
     let f = few-read c.args.src.now _ c.read-tokens.ensures.0.is _ c.in-Read.is in
     let l = cut-lent (first_token + c.in-Read.n) c.read-tokens.new.1.0 c.args.tape.now c.read-tokens.new.1.1.0 c.args.thin.now
-    (omega arith) (omega (arith, f, c.requires.short)) (omega (arith, f, c.requires.for-kinds, c.read-tokens.auto.1.0)) (omega (arith, f, c.requires.for-tape))
-    (omega (arith, f, c.requires.for-wide, c.read-tokens.auto.1.1.0)) (omega (arith, f, c.requires.for-thin)) in
+    (omega arith) (omega (arith, f, c.requires.short)) (omega (arith, f, c.requires.for-kinds, c.read-tokens.auto.kinds)) (omega (arith, f, c.requires.for-tape))
+    (omega (arith, f, c.requires.for-wide, c.read-tokens.auto.wide)) (omega (arith, f, c.requires.for-thin)) in
     (all_read c.args.src.now _ c.read-tokens.ensures.0.is _ c.in-Read.is, l.0, l.1, l.2)
 
 pub shape_of-kinds-in-Read : goal.shape_of-kinds-in-Read
 shape_of-kinds-in-Read c =
-    c.read-tokens.auto.1.0
+    c.read-tokens.auto.kinds
 
 pub shape_of-tape : goal.shape_of-tape
 shape_of-tape c =
-    length_front c.args.tape.now c.look_tokens.new.1.1.0 (first_token + c.in-Read.n) c.look_tokens.auto.1.1.0
+    length_front c.args.tape.now c.look_tokens.new.1.1.0 (first_token + c.in-Read.n) c.look_tokens.auto.tape
 
 pub shape_of-wide-in-Read : goal.shape_of-wide-in-Read
 shape_of-wide-in-Read c =
     length_front c.read-tokens.new.1.1.0 c.look_tokens.new.1.1.1.0 (4 * (first_token + c.in-Read.n))
-    c.look_tokens.auto.1.1.1.0 ∙ c.read-tokens.auto.1.1.0
+    c.look_tokens.auto.wide ∙ c.read-tokens.auto.wide
 
 pub shape_of-thin : goal.shape_of-thin
 shape_of-thin c =
     length_front c.args.thin.now c.look_tokens.new.1.1.1.1.0 (4 * (first_token + c.in-Read.n))
-    c.look_tokens.auto.1.1.1.1.0
+    c.look_tokens.auto.thin
 
 pub returns-in-Read : goal.returns-in-Read
 returns-in-Read c =
     let f = few-read c.args.src.now _ c.read-tokens.ensures.0.is _ c.in-Read.is in
     text-read _ c.args.key c.args.address _ _ _ _ c.read-tokens.ensures.0
-    _ c.in-Read.is _ _ (wide-take 0 (first_token + c.in-Read.n) c.read-tokens.new.1.1.0 (omega arith) (omega (arith, f, c.requires.for-wide, c.read-tokens.auto.1.1.0)))
+    _ c.in-Read.is _ _ (wide-take 0 (first_token + c.in-Read.n) c.read-tokens.new.1.1.0 (omega arith) (omega (arith, f, c.requires.for-wide, c.read-tokens.auto.wide)))
     (cut-blanks c.args.src.now _ c.read-tokens.ensures.0.is _ c.in-Read.is c.args.wide.now c.read-tokens.new.1.1.0
-    c.args.thin.now c.requires.no-wide c.requires.no-thin c.read-tokens.ensures.1 c.read-tokens.auto.1.1.0 (omega (arith, f, c.requires.for-wide))
+    c.args.thin.now c.requires.no-wide c.requires.no-thin c.read-tokens.ensures.1 c.read-tokens.auto.wide (omega (arith, f, c.requires.for-wide))
     (omega (arith, f, c.requires.for-thin)))
     c.look_tokens.ensures
 

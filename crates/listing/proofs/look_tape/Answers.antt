@@ -18,11 +18,11 @@ settle-s-requires c =
 
 pub shape_of-wide-then-number-ne0 : goal.shape_of-wide-then-number-ne0
 shape_of-wide-then-number-ne0 c =
-    c.settle-s.auto.1.1.0
+    c.settle-s.auto.wide
 
 pub shape_of-thin-then-number-ne0 : goal.shape_of-thin-then-number-ne0
 shape_of-thin-then-number-ne0 c =
-    c.settle-s.auto.1.1.1.0 ∙ c.bind-others.auto.1.1.0
+    c.settle-s.auto.thin ∙ c.bind-others.auto.thin
 
 pub returns-then-number-ne0 : goal.returns-then-number-ne0
 returns-then-number-ne0 c =
@@ -40,11 +40,11 @@ look_settled-requires c =
 
 pub shape_of-wide : goal.shape_of-wide
 shape_of-wide c =
-    c.settle-s.auto.1.1.0
+    c.settle-s.auto.wide
 
 pub shape_of-thin : goal.shape_of-thin
 shape_of-thin c =
-    c.settle-s.auto.1.1.1.0 ∙ c.bind-others.auto.1.1.0
+    c.settle-s.auto.thin ∙ c.bind-others.auto.thin
 
 pub returns : goal.returns
 returns c =

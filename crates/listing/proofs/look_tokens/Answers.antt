@@ -11,7 +11,7 @@ use Rattle.listing.proofs.look_tokens.Goals as goal
 
 pub shape_of-tape-then-number-ne0 : goal.shape_of-tape-then-number-ne0
 shape_of-tape-then-number-ne0 c =
-    c.program-p.auto.1.1.0
+    c.program-p.auto.tape
 
 pub returns-then-number-ne0 : goal.returns-then-number-ne0
 returns-then-number-ne0 c =
@@ -34,15 +34,15 @@ look_tape-requires c =
 
 pub shape_of-tape : goal.shape_of-tape
 shape_of-tape c =
-    c.program-p.auto.1.1.0
+    c.program-p.auto.tape
 
 pub shape_of-wide : goal.shape_of-wide
 shape_of-wide c =
-    c.look_tape.auto.1.1.1.0
+    c.look_tape.auto.wide
 
 pub shape_of-thin : goal.shape_of-thin
 shape_of-thin c =
-    c.look_tape.auto.1.1.1.1.0
+    c.look_tape.auto.thin
 
 pub returns : goal.returns
 returns c =

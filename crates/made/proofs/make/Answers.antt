@@ -14,7 +14,7 @@ pub returns-then-size-gt-SEGMENT_LIMIT : goal.returns-then-size-gt-SEGMENT_LIMIT
 returns-then-size-gt-SEGMENT_LIMIT c =
     λ ends w. long-program c.args.kinds.now (wide_of c.args.wide.now) (thin_of c.args.thin.now) _ ends c.args.tape.now _ _ _ _
     _ _ _ _ w.cells_is c.round_up-start.ensures.0 c.places.ensures.1 c.write_code-e.ensures.0 (length-replicate {A = ℕ}
-    literal_room 0) c.write_code-e.auto.1.1.1.1.1.1.0 _ c.if-size-gt-SEGMENT_LIMIT.true
+    literal_room 0) c.write_code-e.auto.literals _ c.if-size-gt-SEGMENT_LIMIT.true
 
 pub overflow_add-from : goal.overflow_add-from
 overflow_add-from c =
@@ -24,22 +24,22 @@ pub returns-then-from-count-gt-SEGMENT_LIMIT : goal.returns-then-from-count-gt-S
 returns-then-from-count-gt-SEGMENT_LIMIT c =
     λ ends w. long-literals c.args.kinds.now (wide_of c.args.wide.now) (thin_of c.args.thin.now) _ ends c.args.tape.now _ _ _
     _ _ _ _ _ w.cells_is c.round_up-start.ensures.0 c.places.ensures.1 c.write_code-e.ensures.0 (length-replicate {A =
-    ℕ} literal_room 0) c.write_code-e.auto.1.1.1.1.1.1.0 _ c.if-size-gt-SEGMENT_LIMIT.false c.if-from-count-gt-SEGMENT_LIMIT.true
+    ℕ} literal_room 0) c.write_code-e.auto.literals _ c.if-size-gt-SEGMENT_LIMIT.false c.if-from-count-gt-SEGMENT_LIMIT.true
 
 pub slice_bounds-deliver-end : goal.slice_bounds-deliver-end
 slice_bounds-deliver-end c =
-    cut-long _ segment_limit _ c.if-size-gt-SEGMENT_LIMIT.false (c.write_code-e.auto.1.1.1.1.1.0 ∙ zeros-long)
+    cut-long _ segment_limit _ c.if-size-gt-SEGMENT_LIMIT.false (c.write_code-e.auto.image ∙ zeros-long)
 
 pub slice_bounds-deliver-end-2 : goal.slice_bounds-deliver-end-2
 slice_bounds-deliver-end-2 c =
-    cut-long _ literal_room _ (omega (arith, c.write_code-e.ensures.0.inside, length-replicate {A = ℕ} literal_room 0)) (c.write_code-e.auto.1.1.1.1.1.1.0 ∙ length-replicate {A = ℕ} literal_room 0)
+    cut-long _ literal_room _ (omega (arith, c.write_code-e.ensures.0.inside, length-replicate {A = ℕ} literal_room 0)) (c.write_code-e.auto.literals ∙ length-replicate {A = ℕ} literal_room 0)
 
 pub deliver-requires : goal.deliver-requires
 deliver-requires c = (
   omega (
     arith,
     cut-long c.write_code-e.result.length segment_limit c.write_code-e.new.1.1.1.1.1.0 c.if-size-gt-SEGMENT_LIMIT.false
-        (c.write_code-e.auto.1.1.1.1.1.0 ∙ zeros-long),
+        (c.write_code-e.auto.image ∙ zeros-long),
     c.if-size-gt-SEGMENT_LIMIT.false,
   ),
   omega (
@@ -56,4 +56,4 @@ pub returns : goal.returns
 returns c =
     λ ends w. all_made c.args.kinds.now (wide_of c.args.wide.now) (thin_of c.args.thin.now) _ ends c.args.tape.now _ _ _ _ _ _
     _ _ w.cells_is c.round_up-start.ensures.0 c.places.ensures.1 c.write_code-e.ensures.0 (length-replicate {A = ℕ} literal_room
-    0) c.write_code-e.auto.1.1.1.1.1.1.0 _ _ _ c.if-size-gt-SEGMENT_LIMIT.false c.if-from-count-gt-SEGMENT_LIMIT.false (c.deliver.ensures ends w)
+    0) c.write_code-e.auto.literals _ _ _ c.if-size-gt-SEGMENT_LIMIT.false c.if-from-count-gt-SEGMENT_LIMIT.false (c.deliver.ensures ends w)

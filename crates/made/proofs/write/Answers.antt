@@ -8,37 +8,37 @@ use Rattle.made.proofs.write.Goals as goal
 
 pub slice_bounds-first-end : goal.slice_bounds-first-end
 slice_bounds-first-end c =
-    omega (arith, c.requires.2, (c.lay_literals.auto.0 ∙ (c.fill.auto.1.1.1.0 ∙ zeros-long)))
+    omega (arith, c.requires.2, (c.lay_literals.auto.image ∙ (c.fill.auto.image ∙ zeros-long)))
 
 pub slice_bounds-write_object-end : goal.slice_bounds-write_object-end
 slice_bounds-write_object-end c =
-    cut-long _ segment_limit _ c.requires.2 (c.lay_literals.auto.0 ∙ (c.fill.auto.1.1.1.0 ∙ zeros-long))
+    cut-long _ segment_limit _ c.requires.2 (c.lay_literals.auto.image ∙ (c.fill.auto.image ∙ zeros-long))
 
 pub slice_bounds-second-end : goal.slice_bounds-second-end
 slice_bounds-second-end c =
-    omega (arith, c.requires.3, (c.fill-2.auto.1.1.1.0 ∙ zeros-long))
+    omega (arith, c.requires.3, (c.fill-2.auto.image ∙ zeros-long))
 
 pub slice_bounds-write_object-end-2 : goal.slice_bounds-write_object-end-2
 slice_bounds-write_object-end-2 c =
-    cut-long _ segment_limit _ c.requires.3 (c.fill-2.auto.1.1.1.0 ∙ zeros-long)
+    cut-long _ segment_limit _ c.requires.3 (c.fill-2.auto.image ∙ zeros-long)
 
 pub slice_bounds-third-end : goal.slice_bounds-third-end
 slice_bounds-third-end c =
-    omega (arith, c.requires.4, (c.fill-3.auto.1.1.1.0 ∙ zeros-long))
+    omega (arith, c.requires.4, (c.fill-3.auto.image ∙ zeros-long))
 
 pub slice_bounds-write_object-end-3 : goal.slice_bounds-write_object-end-3
 slice_bounds-write_object-end-3 c =
-    cut-long _ segment_limit _ c.requires.4 (c.fill-3.auto.1.1.1.0 ∙ zeros-long)
+    cut-long _ segment_limit _ c.requires.4 (c.fill-3.auto.image ∙ zeros-long)
 
 pub write_object-requires : goal.write_object-requires
 write_object-requires c =
     write-fits c.args.code.now c.lay_literals.new.0 c.fill-2.new.1.1.1.0 c.fill-3.new.1.1.1.0 c.args.out.now c.args.s.bases c.args.last c.args.s.two c.args.s.three (
       c.requires.0,
       cut-long c.args.last
-          segment_limit _ c.requires.2 (c.lay_literals.auto.0 ∙ (c.fill.auto.1.1.1.0 ∙ zeros-long)),
+          segment_limit _ c.requires.2 (c.lay_literals.auto.image ∙ (c.fill.auto.image ∙ zeros-long)),
       cut-long c.args.s.two segment_limit _
-          c.requires.3 (c.fill-2.auto.1.1.1.0 ∙ zeros-long),
-      cut-long c.args.s.three segment_limit _ c.requires.4 (c.fill-3.auto.1.1.1.0
+          c.requires.3 (c.fill-2.auto.image ∙ zeros-long),
+      cut-long c.args.s.three segment_limit _ c.requires.4 (c.fill-3.auto.image
           ∙ zeros-long),
     ) (c.requires.2, c.requires.3, c.requires.4) c.requires.5
 

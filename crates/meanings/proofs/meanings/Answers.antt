@@ -37,18 +37,18 @@ loop-i-preserved c = (
   going_on _ _ _ c.loop-i.invariant.0 _ _ _ c.loop-i-test.true c.op-op.ensures.0 c.token-t.ensures.0
       c.within_after-s.ensures c.form_after-form.ensures c.target_after-target.ensures c.first_after-first.ensures
       c.declared_after-bases.ensures.0 c.declared_after-bases.ensures.1 c.written_after.ensures
-      c.within_after-s.auto.1.1.1.1.1.0 c.within_after-s.auto.1.1.1.1.1.1.0,
+      c.within_after-s.auto.owners c.within_after-s.auto.outer,
   (let s = c.loop-i.invariant.1 in record {
-    same-wide = c.declared_after-bases.auto.1.1.0 ∙ s.same-wide;
-    same-thin = c.written_after.auto.1.1.1.1.0 ∙ (c.declared_after-bases.auto.1.1.1.0 ∙ s.same-thin);
-    same-owners = c.within_after-s.auto.1.1.1.1.1.0 ∙ s.same-owners;
-    same-outer = c.within_after-s.auto.1.1.1.1.1.1.0 ∙ s.same-outer;
+    same-wide = c.declared_after-bases.auto.wide ∙ s.same-wide;
+    same-thin = c.written_after.auto.thin ∙ (c.declared_after-bases.auto.thin ∙ s.same-thin);
+    same-owners = c.within_after-s.auto.owners ∙ s.same-owners;
+    same-outer = c.within_after-s.auto.outer ∙ s.same-outer;
   }),
 )
 
 pub shape_of-wide : goal.shape_of-wide
 shape_of-wide c =
-    c.loop-i.invariant.1.same-wide ∙ c.name_standard.auto.0
+    c.loop-i.invariant.1.same-wide ∙ c.name_standard.auto.wide
 
 pub shape_of-thin : goal.shape_of-thin
 shape_of-thin c =

@@ -16,12 +16,12 @@ labels-l-requires c =
 
 pub shape_of-thin : goal.shape_of-thin
 shape_of-thin c =
-    c.clear_written.auto.0 ∙ (c.clear_opens.auto.0 ∙ (c.labels-l.auto.1.1.0 ∙ c.names-n.auto.1.1.0))
+    c.clear_written.auto.thin ∙ (c.clear_opens.auto.thin ∙ (c.labels-l.auto.thin ∙ c.names-n.auto.thin))
 
 pub returns : goal.returns
 returns c =
-    let after = c.clear_written.ensures ∙ ap (on_thin 3 zeros) c.clear_opens.ensures in let same = c.names-n.auto.1.1.0 in (
-      cleared c.args.thin.now c.labels-l.new.1.1.0 _ _ c.clear_opens.ensures c.clear_written.ensures (c.labels-l.auto.1.1.0 ∙ same),
+    let after = c.clear_written.ensures ∙ ap (on_thin 3 zeros) c.clear_opens.ensures in let same = c.names-n.auto.thin in (
+      cleared c.args.thin.now c.labels-l.new.1.1.0 _ _ c.clear_opens.ensures c.clear_written.ensures (c.labels-l.auto.thin ∙ same),
       λ ts x t bf bg. bound ts x _ _ t (thin_of c.args.thin.now) (thin_of c.names-n.new.1.1.0) (thin_of c.labels-l.new.1.1.0) (thin_of c.clear_written.new.0) _ _ _ (omega (
         arith,
         wide-length 0 c.args.wide.now,

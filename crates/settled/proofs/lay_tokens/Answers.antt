@@ -46,7 +46,7 @@ overflow_add-n-in-Token c =
 
 pub shape_of-wide-then-is_last : goal.shape_of-wide-then-is_last
 shape_of-wide-then-is_last c =
-    c.put_value.auto.0 ∙ c.loop-t.invariant.2
+    c.put_value.auto.wide ∙ c.loop-t.invariant.2
 
 pub returns-then-is_last : goal.returns-then-is_last
 returns-then-is_last c =
@@ -69,7 +69,7 @@ pub loop-t-preserved : goal.loop-t-preserved
 loop-t-preserved c = (
   underway-on c.loop-t.invariant.0 c.next_token-next.ensures c.in-Token.is _ c.put_value.ensures (sym c.is_last.ensures ∙ c.if-is_last.false),
   search rules,
-  c.put_value.auto.0 ∙ c.loop-t.invariant.2,
+  c.put_value.auto.wide ∙ c.loop-t.invariant.2,
 )
 
 pub overflow_add-at-in-NoToken : goal.overflow_add-at-in-NoToken

@@ -20,7 +20,7 @@ pub loop-t-preserved : goal.loop-t-preserved
 loop-t-preserved c = (
   search rules,
   search rules,
-  c.put_value.auto.0 ∙ c.loop-t.invariant.2,
+  c.put_value.auto.wide ∙ c.loop-t.invariant.2,
   lay-turn (kinds_of in_front) _ _ _ c.loop-t-test.true
       refl c.loop-t.invariant.3,
   values-turn (values_of in_front) _ _ _ _ c.loop-t-test.true (front-key c.loop-t.t) c.put_value.ensures c.loop-t.invariant.4,

@@ -8,15 +8,15 @@ use Rattle.settled.proofs.read.Goals as goal
 
 pub lay_tokens-requires : goal.lay_tokens-requires
 lay_tokens-requires c =
-    (c.requires.0, omega (arith, c.requires.1, c.put_front.auto.0))
+    (c.requires.0, omega (arith, c.requires.1, c.put_front.auto.kinds))
 
 pub shape_of-kinds : goal.shape_of-kinds
 shape_of-kinds c =
-    c.lay_tokens.auto.1.0 ∙ c.put_front.auto.0
+    c.lay_tokens.auto.kinds ∙ c.put_front.auto.kinds
 
 pub shape_of-wide : goal.shape_of-wide
 shape_of-wide c =
-    c.lay_tokens.auto.1.1.0 ∙ c.put_front.auto.1.0
+    c.lay_tokens.auto.wide ∙ c.put_front.auto.wide
 
 pub returns : goal.returns
 returns c =

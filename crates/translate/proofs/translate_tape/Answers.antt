@@ -41,11 +41,11 @@ place_of-requires c =
 
 pub shape_of-wide-then-number-ne0 : goal.shape_of-wide-then-number-ne0
 shape_of-wide-then-number-ne0 c =
-    c.settle-s.auto.1.1.0
+    c.settle-s.auto.wide
 
 pub shape_of-thin-then-number-ne0 : goal.shape_of-thin-then-number-ne0
 shape_of-thin-then-number-ne0 c =
-    c.settle-s.auto.1.1.1.0 ∙ c.bind-others.auto.1.1.0
+    c.settle-s.auto.thin ∙ c.bind-others.auto.thin
 
 pub returns-then-number-ne0 : goal.returns-then-number-ne0
 returns-then-number-ne0 c =
@@ -65,18 +65,18 @@ make-requires c =
 
 pub shape_of-wide : goal.shape_of-wide
 shape_of-wide c =
-    c.settle-s.auto.1.1.0
+    c.settle-s.auto.wide
 
 pub shape_of-thin : goal.shape_of-thin
 shape_of-thin c =
-    c.make.auto.1.1.1.0 ∙ (c.clear_written.auto.0 ∙ (c.settle-s.auto.1.1.1.0 ∙ c.bind-others.auto.1.1.0))
+    c.make.auto.thin ∙ (c.clear_written.auto.thin ∙ (c.settle-s.auto.thin ∙ c.bind-others.auto.thin))
 
 pub shape_of-out : goal.shape_of-out
 shape_of-out c =
-    c.make.auto.1.1.1.1.1.0
+    c.make.auto.out
 
 pub returns : goal.returns
 returns c =
     λ x t ek bs. let ts = all_tokens c.args.src.now in let b = c.bind-others.ensures.1 ts x t bs.no_found bs.no-goes in let many = rows_are ts _
     _ _ ek c.requires.4 in let rows = ap (λ (n : ℕ). replicate {A = ℕ} n 0) many.1 in let s = c.settle-s.ensures.2 ts x t ek b.found-is bs.no-means (c.bind-others.ensures.0.opens-are ∙ rows) (c.bind-others.ensures.0.written-are ∙ rows) many.0 in let long = thin-length 3 _ ∙ (ap (λ (n
-    : ℕ). n / 4) (c.settle-s.auto.1.1.1.0 ∙ c.bind-others.auto.1.1.0) ∙ many.1) in none-broken ts x _ _ _ _ _ _ _ t b c.settle-s.ensures.1 s c.args.kinds.now c.args.out.now _ _ _ ek c.clear_written.ensures long c.if-number-ne0.false (c.make.ensures _ c.settle-s.ensures.0)
+    : ℕ). n / 4) (c.settle-s.auto.thin ∙ c.bind-others.auto.thin) ∙ many.1) in none-broken ts x _ _ _ _ _ _ _ t b c.settle-s.ensures.1 s c.args.kinds.now c.args.out.now _ _ _ ek c.clear_written.ensures long c.if-number-ne0.false (c.make.ensures _ c.settle-s.ensures.0)

@@ -15,7 +15,7 @@ place_of-requires c =
 
 pub shape_of-tape-then-number-ne0 : goal.shape_of-tape-then-number-ne0
 shape_of-tape-then-number-ne0 c =
-    c.program-p.auto.1.1.0
+    c.program-p.auto.tape
 
 pub returns-then-number-ne0 : goal.returns-then-number-ne0
 returns-then-number-ne0 c =
@@ -42,19 +42,19 @@ translate_tape-requires c =
 
 pub shape_of-tape : goal.shape_of-tape
 shape_of-tape c =
-    c.program-p.auto.1.1.0
+    c.program-p.auto.tape
 
 pub shape_of-wide : goal.shape_of-wide
 shape_of-wide c =
-    c.translate_tape.auto.1.1.1.0
+    c.translate_tape.auto.wide
 
 pub shape_of-thin : goal.shape_of-thin
 shape_of-thin c =
-    c.translate_tape.auto.1.1.1.1.0
+    c.translate_tape.auto.thin
 
 pub shape_of-out : goal.shape_of-out
 shape_of-out c =
-    c.translate_tape.auto.1.1.1.1.1.0
+    c.translate_tape.auto.out
 
 pub returns : goal.returns
 returns c =
