@@ -179,6 +179,8 @@ module _ (kinds values found : List ℕ) where
     where
       labels : (p : Place) → InBlock p → Next (route (labelled l)) p c s form target first
       labels (within b ∷ p) f = (form, target, false, refl, tt)
+      labels [] f = elim f [ ]
+      labels (body name return ∷ p) f = elim f [ ]
   turn-route (sent t n) p c s form target first h = (form, target, false, refl, tt)
 
   -- ── entries ──
@@ -203,25 +205,6 @@ module _ (kinds values found : List ℕ) where
       by_width (λ n. step (E.SINGLE-FULL + n) 0 (walk (within b ∷ p) s form target first) ≡ walk (within b ∷ p) s (packed CELL n 1) target false) refl refl refl refl w,
       λ t u. packed-cell t 1 CELL (width_of w) u (omega arith, width_few w) refl
           ∙ ap (λ (x : Width). cell (record { name = t; base = u; width = x; elements = 1; array = false })) (width_is w),
-    turn-entry (named r) [] c s form target first f g i j h l q o = elim f [ ]
-    turn-entry (named r) (body name return ∷ p) c s form target first f g i j h l q o = elim f [ ]
-    turn-entry (celled none w) [] c s form target first f g i j h l q o = elim f [ ]
-    turn-entry (celled none w) (body name return ∷ p) c s form target first f g i j h l q o = elim f [ ]
-    turn-entry (celled (some n) w) [] c s form target first f g i j h l q o = elim f [ ]
-    turn-entry (celled (some n) w) (body name return ∷ p) c s form target first f g i j h l q o = elim f [ ]
-    turn-entry (itemed n w x) [] c s form target first f g i j h l q o = elim f [ ]
-    turn-entry (itemed n w x) (within b ∷ p) nowhere s form target first f g i j h l q o = elim q [ ]
-    turn-entry (itemed n w x) (within b ∷ p) (aiming _) s form target first f g i j h l q o = elim q [ ]
-    turn-entry (itemed n w x) (within b ∷ p) (applying name position) s form target first f g i j h l q o = elim q [ ]
-    turn-entry (itemed n w x) (body name return ∷ p) c s form target first f g i j h l q o = elim f [ ]
-    turn-entry (valued t) [] c s form target first f g i j h l q o = elim f [ ]
-    turn-entry (valued t) (within b ∷ p) nowhere s form target first f g i j h l q o = elim q [ ]
-    turn-entry (valued t) (within b ∷ p) (aiming _) s form target first f g i j h l q o = elim q [ ]
-    turn-entry (valued t) (within b ∷ p) (applying name position) s form target first f g i j h l q o = elim q [ ]
-    turn-entry (valued t) (within b ∷ p) (declaring m v []) s form target first f g i j h l q o = elim q [ ]
-    turn-entry (valued t) (body name return ∷ p) c s form target first f g i j h l q o = elim f [ ]
-    turn-entry (based n) [] c s form target first f g i j h l q o = elim f [ ]
-    turn-entry (based n) (body name return ∷ p) c s form target first f g i j h l q o = elim f [ ]
     )
     turn-entry (celled (some n) w) (within b ∷ p) c s form target first f g i j h l q o = (
       packed ARRAY (width_of w) (get_or values n 0),
@@ -242,6 +225,25 @@ module _ (kinds values found : List ℕ) where
     turn-entry (based n) (within b ∷ p) c s form target first f g i j h l q o =
         let e = get_or-set_same s.opens n (2 + s.bases) 0 (omega arith) in
         (form, target, false, rw (e, g.1), tt)
+    turn-entry (named r) [] c s form target first f g i j h l q o = elim f [ ]
+    turn-entry (named r) (body name return ∷ p) c s form target first f g i j h l q o = elim f [ ]
+    turn-entry (celled none w) [] c s form target first f g i j h l q o = elim f [ ]
+    turn-entry (celled none w) (body name return ∷ p) c s form target first f g i j h l q o = elim f [ ]
+    turn-entry (celled (some n) w) [] c s form target first f g i j h l q o = elim f [ ]
+    turn-entry (celled (some n) w) (body name return ∷ p) c s form target first f g i j h l q o = elim f [ ]
+    turn-entry (itemed n w x) [] c s form target first f g i j h l q o = elim f [ ]
+    turn-entry (itemed n w x) (within b ∷ p) nowhere s form target first f g i j h l q o = elim q [ ]
+    turn-entry (itemed n w x) (within b ∷ p) (aiming _) s form target first f g i j h l q o = elim q [ ]
+    turn-entry (itemed n w x) (within b ∷ p) (applying name position) s form target first f g i j h l q o = elim q [ ]
+    turn-entry (itemed n w x) (body name return ∷ p) c s form target first f g i j h l q o = elim f [ ]
+    turn-entry (valued t) [] c s form target first f g i j h l q o = elim f [ ]
+    turn-entry (valued t) (within b ∷ p) nowhere s form target first f g i j h l q o = elim q [ ]
+    turn-entry (valued t) (within b ∷ p) (aiming _) s form target first f g i j h l q o = elim q [ ]
+    turn-entry (valued t) (within b ∷ p) (applying name position) s form target first f g i j h l q o = elim q [ ]
+    turn-entry (valued t) (within b ∷ p) (declaring m v []) s form target first f g i j h l q o = elim q [ ]
+    turn-entry (valued t) (body name return ∷ p) c s form target first f g i j h l q o = elim f [ ]
+    turn-entry (based n) [] c s form target first f g i j h l q o = elim f [ ]
+    turn-entry (based n) (body name return ∷ p) c s form target first f g i j h l q o = elim f [ ]
 
   -- ── phrases ──
 
@@ -409,6 +411,12 @@ module _ (kinds values found : List ℕ) where
   turn-phrase (chosen n) p c s form target first g i j h q o =
       let (form', target', first', e, u) = aim-is n p s _ form _ refl g (phrase-alike kinds values found (chosen n) p s).of-means refl in
       (form', target', first', e, tt)
+  turn-phrase (joined d t) p nowhere s form target first g i j h q o = elim q [ ]
+  turn-phrase (joined d t) p (applying m r) s form target first g i j h q o = elim q [ ]
+  turn-phrase (joined d t) p (declaring count _ _) s form target first g i j h q o = elim q [ ]
+  turn-phrase (argued n z a) p nowhere s form target first g i j h q o = elim q [ ]
+  turn-phrase (argued n z a) p (aiming x) s form target first g i j h q o = elim q [ ]
+  turn-phrase (argued n z a) p (declaring count _ _) s form target first g i j h q o = elim q [ ]
 
   -- ── marks ──
 

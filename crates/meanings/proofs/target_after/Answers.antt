@@ -1,4 +1,5 @@
 -- A target, a control, the register of a CASE and an argument that is written name a new target, by what they mean; another argument is none; every other event leaves it.
+use borrow.Author.Tests.{ne_eqb}
 use Rattle.meanings.proofs.Changes as changes
 use Rattle.meanings.specs.Along.{target_after}
 use Rattle.ledger.specs.Book.{wide_of, thin_of}
@@ -19,4 +20,4 @@ returns-then-argued c =
 pub returns : goal.returns
 unfolding target_after
 returns c =
-    λ under. rw (← c.family-k.ensures, ← c.form-named.ensures.0, c.if-k-op.false, c.if-argued.false)
+    λ under. rw (← c.family-k.ensures, ← c.form-named.ensures.0, c.if-k-op.false, ne_eqb _ _ c.if-argued.false)
