@@ -94,6 +94,10 @@ starts_in kinds w b = starts kinds w.values b.found b.goes w.means w.under b.ope
 abbrev pub table_in : (kinds : List ℕ) → Wide → Thin → (op t : ℕ) → Writing → (later : List ℕ) → List Code
 table_in kinds w b = table_along kinds w.values b.found b.goes w.means w.under b.opens w.offsets b.written
 
+-- the addresses of a program's code stay below this, whatever tape there is
+abbrev pub code_limit : ℕ
+code_limit = 1152921504606846976
+
 abbrev pub code_in : (start : ℕ) (kinds : List ℕ) → Wide → Thin → (image tape : List ℕ) → Laid
 code_in start kinds w b image tape = code_along start kinds w.values b.found b.goes w.means w.under b.opens w.offsets b.written image tape
 

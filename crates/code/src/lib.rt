@@ -11,10 +11,10 @@ ghost use Rattle.translation.specs.Bytes.{two_bytes, four_bytes};
 ghost use Rattle.emit.specs.Codes.{list_of, code_size};
 ghost use Rattle.translation.specs.Instructions.{always};
 ghost use Rattle.emit.specs.Codes.{branch_code};
-ghost use Rattle.emit.specs.Along.{depth_after, ends_here, entry_of, start_after, code_limit};
+ghost use Rattle.emit.specs.Along.{depth_after, ends_here, entry_of, start_after};
 ghost use Rattle.ledger.specs.Book.{wide_of, thin_of, put_in, thin_limit};
 ghost use Rattle.code.specs.Places.{mark_limit, mark_closing, mark_after, on_marks, places_in};
-ghost use Rattle.code.specs.Coding.{bytes_in, Laid, laid_of, laid_by, lay_code, lay_all, code_in, table_in, Holds};
+ghost use Rattle.code.specs.Coding.{bytes_in, Laid, laid_of, laid_by, lay_code, lay_all, code_in, table_in, code_limit, Holds};
 
 use arrays::put_wide;
 use base::less;

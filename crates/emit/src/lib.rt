@@ -552,7 +552,7 @@ pub fn code_size(c: Code) -> usize
 }
 
 // Of all instructions of an event.
-fn size(m: Codes) -> usize
+pub fn size(m: Codes) -> usize
     ensures { (result ≡ code_sizes (list_of m)) × (result ≤ 24) }
 {
     let n = count(m);
@@ -867,7 +867,7 @@ fn chosen(thin: &[u16], r: u64, t: usize, w: Writing) -> Codes
 }
 
 // How many bytes the table of a CASE has.
-fn table_size(op: u32, w: Writing) -> usize
+pub fn table_size(op: u32, w: Writing) -> usize
     ensures { (result ≡ table_bytes (family_at op) w) × (result ≤ 17179869180) }
 {
     if tape::family(op) == tape::CHOSEN {

@@ -67,7 +67,7 @@ mark_at (m ∷ ms) n = if eqb m.name n then m.at else mark_at ms n
 -- ── document 02, 3/13: a CASE ──
 
 -- "compare with the count as a literal, branch mask 2 to the end; LTR, branch mask 12 to the end; SHLL by 2; `47 Fr` indexed by r at four bytes before the branch table": of n statements, from
--- p on, up to `end`; these six take 22 bytes, so the table stands at p + 22
+-- p on, up to `end`
 abbrev pub case_head : (r n p end : ℕ) → List Instruction
 case_head r n p end =
     rx (opcode compare_row 1) r (literal n) ∷ branch 2 end ∷ rr test_op r r ∷ branch 12 end ∷ shift (shift_code K.SHLL) r 0 2 ∷ indexed r (p + 18) ∷ []
