@@ -19,8 +19,6 @@ use Rattle.grammar.proofs.Places.{along-with}
 use Rattle.grammar.proofs.Texts.{program-text}
 use Rattle.grammar.proofs.Theorems.{read-is-program, program-inside}
 use Rattle.grammar.proofs.Contexts.{program-coherent}
-use Rattle.scopes.specs.declared.Broken.{Broken}
-use Rattle.scopes.specs.Broken.{unbroken}
 use Rattle.scopes.specs.Search.{in_front, first_token, find}
 use Rattle.scopes.specs.Names.{Named}
 use Rattle.scopes.specs.Labels.{Labelled, labels_in}
@@ -36,7 +34,7 @@ use Rattle.static_rules.specs.Meaning.{Meaning, nothing, register, cell, functio
 use Rattle.static_rules.specs.Meanings.{Filled, Meant, standard}
 use Rattle.static_rules.specs.Tables.{Tables, meaning_at}
 use Rattle.static_rules.proofs.Small.{Small, meant_small, standard-small}
-use Rattle.static_rules.proofs.Known.{Known, Held}
+use Rattle.static_rules.proofs.Known.{Held}
 use Rattle.static_rules.proofs.Stays.{stays-text}
 use Rattle.static_rules.proofs.Unbroken.{Unbroken}
 use Rattle.static_rules.proofs.Told.{Told, told_text}

@@ -1,11 +1,9 @@
 -- The runner's answer on the object text of an accepted source: what holds there, by the text's own instructions and layout.
 use mathlib.Core.Path.{◌≡◌, refl, sym, ap, subst, ◌∙◌}
 use mathlib.Core.Logic.{◌⊎◌, inl, inr}
-use mathlib.Core.List.{List, [], ◌∷◌, ◌++◌}
-use mathlib.Core.Option.{Option, none, some}
-use Prim.Native.Nat.{ℕ, zero, suc, ◌+◌, ◌%◌, ◌^◌, ◌≤◌, ◌<◌}
+use mathlib.Core.List.{List}
+use Prim.Native.Nat.{ℕ, ◌≤◌, ◌<◌}
 use native.Mathlib.Omega.{arith}
-use lib.Dec.{ltb}
 use lib.ListN.{length, get_or, set, length-append}
 use lib.Seq.{get_or-set_other}
 use borrow.Author.Tests.{le-ltb}
@@ -17,15 +15,15 @@ use Rattle.grammar.specs.Tree.{Statement, full}
 use Rattle.grammar.specs.Grammar as G
 use Rattle.grammar.proofs.Theorems.{read-is-program}
 use Rattle.scopes.specs.Search.{in_front, first_token}
-use Rattle.machine.specs.Space.{room, origin, needed}
-use Rattle.machine.specs.Step.{Cpu, cpu, at_end, no_instruction, forbidden, misaligned}
+use Rattle.machine.specs.Space.{origin, needed}
+use Rattle.machine.specs.Step.{Cpu, at_end, no_instruction}
 use Rattle.machine.specs.Run.{Result, budget_used, run}
 use Rattle.machine.proofs.Effects.{Changes}
 use Rattle.runner.specs.Load.{loaded, space_of, started}
 use Rattle.runner.specs.Runner as R
 use Rattle.runner.specs.Runner.{Outcome, runner}
 use Rattle.runner.proofs.Forms.{runner-read}
-use Rattle.translation.specs.Instructions.{Instruction, stop, sizes}
+use Rattle.translation.specs.Instructions.{Instruction, stop}
 use Rattle.translation.specs.Core.{Core, core_statement}
 use Rattle.translation.specs.Code.{instructions}
 use Rattle.translation.specs.Layout.{layout}
@@ -34,9 +32,9 @@ use Rattle.translation.proofs.Rooms.{round-up}
 use Rattle.translation.proofs.Answers.{Accepted}
 use Rattle.translation.proofs.Objects.{few, fitting, accepted-object, accepted-read}
 use Rattle.join.specs.Writes.{writes}
-use Rattle.join.specs.Points.{Within, Placed}
-use Rattle.join.specs.Operands.{Named, Indexed}
-use Rattle.join.specs.Programs.{tokens_in, tree_from, tree_of, made_of, instructions_of, layout_of, segments_of, placed_of, state_of, At, Fixed, Stops, CalledFrom}
+use Rattle.join.specs.Points.{Placed}
+use Rattle.join.specs.Operands.{Indexed}
+use Rattle.join.specs.Programs.{tokens_in, tree_from, tree_of, made_of, instructions_of, layout_of, segments_of, placed_of, state_of, Stops}
 use Rattle.join.proofs.Placement.{program-code}
 use Rattle.join.proofs.Accepted.{accepted-safe}
 use Rattle.join.proofs.Runs.{Ends}

@@ -7,7 +7,7 @@ use Rattle.base.specs.Lists.{◌∈◌}
 use Rattle.static_rules.specs.Meaning.{Based}
 use Rattle.machine.specs.Space.{origin}
 use Rattle.translation.specs.Instructions.{link}
-use Rattle.join.specs.Points.{Within, Point, Placed}
+use Rattle.join.specs.Points.{Point, Placed}
 use Rattle.join.proofs.Safe.{Guarded}
 use Rattle.join.proofs.Flows.{Calls}
 

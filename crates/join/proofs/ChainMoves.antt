@@ -1,16 +1,15 @@
 -- How the chain of calls moves: registers written that no point on it protects, another point of the same procedure, a call, a return.
-use mathlib.Core.Path.{◌≡◌, refl, sym, ap, subst, ◌∙◌}
-use mathlib.Core.Logic.{◌⊎◌, inl, inr}
-use mathlib.Core.List.{List, [], ◌∷◌}
-use mathlib.Core.Option.{Option, none, some}
-use Prim.Native.Nat.{ℕ, ◌+◌, ◌%◌, ◌^◌}
+use mathlib.Core.Path.{◌≡◌, sym, ap, subst, ◌∙◌}
+use mathlib.Core.Logic.{inl}
+use mathlib.Core.List.{List}
+use mathlib.Core.Option.{some}
+use Prim.Native.Nat.{ℕ, ◌%◌, ◌^◌}
 use Rattle.base.specs.Lists.{◌∈◌}
 use Rattle.base.proofs.Lists.{some_is, none-some}
-use Rattle.static_rules.specs.Meaning.{Based}
 use Rattle.translation.specs.Instructions.{link}
-use Rattle.join.specs.Points.{Within, Writes, Point, Placed}
+use Rattle.join.specs.Points.{Within, Point, Placed}
 use Rattle.join.proofs.Safe.{Spared, Counted, Guarded}
-use Rattle.join.proofs.Flows.{Under, Good, Enters, Calls}
+use Rattle.join.proofs.Flows.{Under, Calls}
 use Rattle.join.proofs.Chain.{Holds, after_call, Chain, outermost, called}
 
 module _ (n : ℕ) (w : List Placed) where

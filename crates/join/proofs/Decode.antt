@@ -1,12 +1,12 @@
 -- The machine finds in an instruction's bytes the fields that were put in: decoding undoes encoding.
-use mathlib.Core.Path.{◌≡◌, refl, sym, ap, subst, ◌∙◌}
+use mathlib.Core.Path.{◌≡◌, ◌∙◌}
 use mathlib.Core.List.{List, [], ◌∷◌}
-use Prim.Native.Nat.{ℕ, zero, suc, ◌+◌, ◌*◌, ◌/◌, ◌%◌, ◌≤◌, ◌<◌}
+use Prim.Native.Nat.{ℕ, ◌+◌, ◌*◌, ◌/◌, ◌%◌, ◌≤◌, ◌<◌}
 use native.Mathlib.Omega.{arith}
 use lib.ListN.{length, get_or}
 use Rattle.machine.specs.Space.{Space, origin, displacements}
 use Rattle.machine.specs.Instructions.{short_kind, long_kind}
-use Rattle.machine.specs.Step.{Cpu, Stepped, stepped, address, index_of, short_by, long_by, step}
+use Rattle.machine.specs.Step.{Cpu, stepped, address, index_of, short_by, long_by, step}
 use Rattle.machine.specs.Operands.{operand_address}
 use Rattle.machine.proofs.Effects.{step-short, step-long}
 use Rattle.translation.specs.Bytes.{two_bytes, four_bytes}

@@ -9,7 +9,7 @@ use lib.Dec.{leb}
 use lib.ListN.{length, get_or, replicate, length-replicate}
 use lib.Seq.{length-sets}
 use borrow.Author.Tests.{le-leb, lt-leb, ne_eqb}
-use Rattle.objtext.specs.Object.{Segment, program, cells}
+use Rattle.objtext.specs.Object.{Segment}
 use Rattle.machine.specs.Space.{Space, room, origin, readable, writable}
 use Rattle.runner.specs.Load.{end_of, from_of, to_of, space_of}
 use Rattle.translation.specs.Instructions.{Instruction}

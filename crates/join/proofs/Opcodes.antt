@@ -23,20 +23,34 @@ use Rattle.join.specs.Writes.{writes_by}
 
 pub writes-only : (f : Fun) (r x : ℕ) → x ∈ writes_by f r → x ≡ r
 writes-only Load r x (inl e) = e
+writes-only Load r x (inr h) = absurd h
 writes-only Add r x (inl e) = e
+writes-only Add r x (inr h) = absurd h
 writes-only Subtract r x (inl e) = e
+writes-only Subtract r x (inr h) = absurd h
 writes-only AddLogical r x (inl e) = e
+writes-only AddLogical r x (inr h) = absurd h
 writes-only SubtractLogical r x (inl e) = e
+writes-only SubtractLogical r x (inr h) = absurd h
 writes-only And r x (inl e) = e
+writes-only And r x (inr h) = absurd h
 writes-only Or r x (inl e) = e
+writes-only Or r x (inr h) = absurd h
 writes-only ExclusiveOr r x (inl e) = e
+writes-only ExclusiveOr r x (inr h) = absurd h
 writes-only Compare r x h = absurd h
 writes-only Positive r x (inl e) = e
+writes-only Positive r x (inr h) = absurd h
 writes-only Negative r x (inl e) = e
+writes-only Negative r x (inr h) = absurd h
 writes-only Complement r x (inl e) = e
+writes-only Complement r x (inr h) = absurd h
 writes-only MultiplyHalf r x (inl e) = e
+writes-only MultiplyHalf r x (inr h) = absurd h
 writes-only Insert r x (inl e) = e
+writes-only Insert r x (inr h) = absurd h
 writes-only Test r x (inl e) = e
+writes-only Test r x (inr h) = absurd h
 
 -- ── the place of a number in a table: where it stands, or the table's end ──
 
@@ -120,3 +134,4 @@ shift-kind kind (inl e) = rw e (omega arith, (LeftLogical, refl))
 shift-kind kind (inr (inl e)) = rw e (omega arith, (RightLogical, refl))
 shift-kind kind (inr (inr (inl e))) = rw e (omega arith, (Left, refl))
 shift-kind kind (inr (inr (inr (inl e)))) = rw e (omega arith, (Right, refl))
+shift-kind kind (inr (inr (inr (inr h)))) = absurd h

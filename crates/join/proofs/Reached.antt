@@ -2,13 +2,11 @@
 use mathlib.Core.Path.{◌≡◌, refl, sym, ap, ap₂, subst, ◌∙◌}
 use mathlib.Core.Logic.{◌⊎◌, inl, inr}
 use mathlib.Core.List.{List, [], ◌∷◌}
-use mathlib.Core.Option.{Option, none, some}
-use Prim.Native.Nat.{ℕ, zero, suc, ◌+◌, ◌-◌, ◌*◌, ◌%◌, ◌^◌, ◌≤◌, ◌<◌}
+use mathlib.Core.Option.{some}
+use Prim.Native.Nat.{ℕ, zero, suc, ◌+◌, ◌-◌, ◌%◌, ◌^◌, ◌≤◌, ◌<◌}
 use native.Mathlib.Omega.{arith}
-use lib.ListN.{length, get_or, set, take}
-use lib.Seq.{get_or-set_other}
-use Rattle.base.specs.Lists.{◌∈◌, All}
-use Rattle.base.proofs.Lists.{all_in}
+use lib.ListN.{length, get_or, take}
+use Rattle.base.specs.Lists.{◌∈◌}
 use Rattle.token.specs.declared.Token.{Token}
 use Rattle.grammar.specs.Tree.{Statement}
 use Rattle.static_rules.specs.Registers.{Registers}
@@ -16,14 +14,14 @@ use Rattle.static_rules.specs.Meanings.{data_base}
 use Rattle.objtext.specs.Object.{Segment, Object}
 use Rattle.objtext.specs.Reader.{read_object}
 use Rattle.machine.specs.Space.{Space, room, origin, needed, writable}
-use Rattle.machine.specs.Step.{Cpu, at_end, forbidden, misaligned}
+use Rattle.machine.specs.Step.{Cpu}
 use Rattle.machine.specs.Run.{Result, budget_used, run}
 use Rattle.machine.proofs.Effects.{Changes}
 use Rattle.runner.specs.Load.{loaded, space_of, started}
 use Rattle.translation.specs.Instructions.{Instruction, stop, size, sizes, link, indexed}
 use Rattle.translation.specs.Core.{Core, core_statement}
 use Rattle.translation.specs.Code.{size_of, instructions}
-use Rattle.translation.specs.Layout.{Layout, segment_limit, table_bytes, literals_from, literals_end}
+use Rattle.translation.specs.Layout.{Layout, segment_limit, literals_from}
 use Rattle.translation.specs.Image.{segments}
 use Rattle.translation.specs.Translate.{Made, make}
 use Rattle.translation.proofs.Sizes.{sizes-instructions}
@@ -33,14 +31,13 @@ use Rattle.join.specs.Points as P
 use Rattle.join.specs.Points.{Within, Point, Placed, start}
 use Rattle.join.specs.Operands.{Named, Indexed}
 use Rattle.join.specs.Programs.{At, Fixed, Stops, CalledFrom, Meets}
-use Rattle.join.proofs.Placement.{instructions_of, Laid, Stands, stands, laid-program, program-code}
+use Rattle.join.proofs.Placement.{Laid, Stands, stands, laid-program, program-code}
 use Rattle.join.proofs.Safe.{Safe}
 use Rattle.join.proofs.Chosen.{reg}
-use Rattle.join.proofs.Chain.{Chain}
-use Rattle.join.proofs.ChainMoves.{chain-holds, Back, chain-return}
+use Rattle.join.proofs.ChainMoves.{chain-holds, chain-return}
 use Rattle.join.proofs.Step.{InStorage, Inv, Allowed, guarded, operand-named, meets-table, stop-last, two-or-more}
 use Rattle.join.proofs.Runs.{Ends, run-fine}
-use Rattle.join.proofs.Start.{placed-in, in-storage, begins}
+use Rattle.join.proofs.Start.{in-storage, begins}
 
 -- ── places in a row of instructions ──
 

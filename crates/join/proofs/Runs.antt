@@ -1,17 +1,14 @@
 -- Any number of instructions: a run from a state that meets the invariant ends at one that does, and stops as it may.
-use mathlib.Core.Path.{◌≡◌, refl, sym, ap, subst, ◌∙◌}
+use mathlib.Core.Path.{◌≡◌, refl}
 use mathlib.Core.Logic.{◌⊎◌, inl, inr}
 use mathlib.Core.List.{List}
-use mathlib.Core.Bool.{Bool, true, false}
-use Prim.Native.Nat.{ℕ, zero, suc, ◌+◌, ◌<◌}
+use Prim.Native.Nat.{ℕ, zero, suc, ◌+◌}
 use native.Mathlib.Omega.{arith}
-use lib.Dec.{eqb}
-use lib.ListN.{get_or}
 use borrow.Author.Tests.{eq-eqb, ne_eqb}
 use Rattle.base.specs.Lists.{◌∈◌}
 use Rattle.machine.specs.Space.{Space}
 use Rattle.machine.specs.Step.{Cpu, completed, step}
-use Rattle.machine.specs.Run.{Result, result, budget_used, onward, after, run}
+use Rattle.machine.specs.Run.{Result, budget_used, onward, after, run}
 use Rattle.machine.proofs.Stops.{stopped-same}
 use Rattle.machine.proofs.Effects.{Changes}
 use Rattle.translation.specs.Instructions.{Instruction}

@@ -1,6 +1,6 @@
 -- A safe text's program as the runner loads it meets all that the invariant asks for (`in-storage`), and so does its start (`begins`).
 use mathlib.Core.Path.{◌≡◌, refl, sym, ap, subst, ◌∙◌}
-use mathlib.Core.Logic.{◌⊎◌, inl, inr}
+use mathlib.Core.Logic.{inl, inr}
 use mathlib.Core.List.{List, [], ◌∷◌}
 use Prim.Native.Nat.{ℕ, zero, suc, ◌+◌, ◌*◌, ◌%◌, ◌^◌, ◌≤◌, ◌<◌}
 use native.Mathlib.Omega.{arith}
@@ -13,30 +13,27 @@ use Rattle.base.proofs.Parts.{same-part, sets-there}
 use Rattle.base.proofs.Numbers.{length-bytes_of, value_at-stored}
 use Rattle.static_rules.specs.Registers.{Registers}
 use Rattle.static_rules.specs.Meaning.{Based}
-use Rattle.static_rules.specs.Meanings.{data_base}
-use Rattle.objtext.specs.Object.{Segment, program, cells, content_of, Object}
-use Rattle.machine.specs.Space.{Space, room, origin, needed}
-use Rattle.machine.specs.Step.{Cpu}
+use Rattle.objtext.specs.Object.{Segment, content_of, Object}
+use Rattle.machine.specs.Space.{origin, needed}
 use Rattle.machine.proofs.Outside.{keeps-all}
 use Rattle.runner.specs.Load.{table_length, loaded, space_of, started}
-use Rattle.runner.proofs.Loaded.{Short, segment_at, object-short, loaded_bytes, loaded-table, length-loaded}
+use Rattle.runner.proofs.Loaded.{segment_at, object-short, loaded_bytes, loaded-table, length-loaded}
 use Rattle.translation.specs.Instructions.{Instruction, rr, rx, address, immediate, shift, branch, link, indexed, stop, size, sizes}
 use Rattle.translation.specs.Core.{Core}
 use Rattle.translation.specs.Code.{size_of, instructions}
-use Rattle.translation.specs.Layout.{Layout, segment_limit, table_bytes, cells_end, literals_from}
-use Rattle.translation.specs.Bytes.{program_base, encode, encode_all}
-use Rattle.translation.specs.Image.{words, end_of_first, first_data, data_from, segments}
+use Rattle.translation.specs.Layout.{Layout, segment_limit, literals_from}
+use Rattle.translation.specs.Bytes.{encode_all}
+use Rattle.translation.specs.Image.{words, end_of_first, first_data, segments}
 use Rattle.translation.proofs.Sizes.{length-encode, length-encode_all, sizes-instructions}
-use Rattle.translation.proofs.Literals.{Takes, index-lt, index_at, literals-have}
+use Rattle.translation.proofs.Literals.{index-lt, index_at, literals-have}
 use Rattle.translation.proofs.Images.{Fitting, fill-length, end-first, length-data}
 use Rattle.join.specs.Points as P
 use Rattle.join.specs.Points.{Point, Knows, Placed, start, program_segment}
-use Rattle.join.proofs.Placement.{instructions_of, Stands, stands, program-code, laid-program, bytes-at}
-use Rattle.join.proofs.Safe.{Safe, Guarded}
+use Rattle.join.proofs.Placement.{instructions_of, stands, program-code, laid-program, bytes-at}
+use Rattle.join.proofs.Safe.{Safe}
 use Rattle.join.proofs.Chosen.{reg, Told}
-use Rattle.join.proofs.Flows.{Good}
 use Rattle.join.proofs.Flow.{program-flows, program-start, guarded-start}
-use Rattle.join.proofs.Chain.{Holds, Chain, outermost}
+use Rattle.join.proofs.Chain.{Holds, outermost}
 use Rattle.join.proofs.ChainMoves.{chain-under}
 use Rattle.join.proofs.Loading.{Mapped}
 use Rattle.join.proofs.Mapping.{mapped, end-first_data, with-literals}

@@ -2,15 +2,13 @@
 use mathlib.Core.Path.{◌≡◌, refl, sym, ap, subst, ◌∙◌}
 use mathlib.Core.Logic.{◌⊎◌, inl, inr}
 use mathlib.Core.List.{List, [], ◌∷◌}
-use mathlib.Core.Bool.{Bool, true, false}
-use mathlib.Core.Option.{Option, none, some}
+use mathlib.Core.Bool.{true, false}
+use mathlib.Core.Option.{some}
 use Prim.Native.Nat.{ℕ, zero, suc, ◌+◌, ◌*◌, ◌/◌, ◌%◌, ◌≤◌, ◌<◌, ◌^◌}
 use native.Mathlib.Omega.{arith}
-use lib.Dec.{eqb}
-use lib.ListN.{length, get_or, set, length-set}
-use lib.Seq.{get_or-set_same, get_or-set_other, set-get_or}
+use lib.ListN.{length, get_or, set}
+use lib.Seq.{get_or-set_same, set-get_or}
 use borrow.Author.Tests.{eq-eqb, ne_eqb}
-use Rattle.base.specs.Choose.{choose}
 use Rattle.base.specs.Lists.{◌∈◌, All}
 use Rattle.base.specs.Runs.{run_len, index_of}
 use Rattle.base.specs.Numbers.{value_of, value_at}
@@ -22,11 +20,10 @@ use Rattle.static_rules.specs.Meaning.{Based, Cell, element_size}
 use Rattle.static_rules.specs.Meanings.{data_base}
 use Rattle.static_rules.proofs.Elements.{size-positive}
 use Rattle.alu.specs.Word.{signed, sign_code, compared_code}
-use Rattle.machine.specs.declared.Shift.{Shift}
 use Rattle.machine.specs.declared.Shift.TheVariants.{LeftLogical}
 use Rattle.machine.specs.declared.Fun.TheVariants.{Load, Compare, Test}
 use Rattle.machine.specs.Space.{Space, room, origin, needed, displacements, readable, writable}
-use Rattle.machine.specs.Instructions.{Short, Long, applies_to, multiplies_by, stores, branches_to, links, shifts, addresses, moves, compares, unlisted_long, branches, ends, short_kind, long_kind}
+use Rattle.machine.specs.Instructions.{Long, applies_to, multiplies_by, stores, branches_to, links, shifts, addresses, moves, compares, unlisted_long, short_kind, long_kind}
 use Rattle.machine.specs.Operands.{operand_address, operand_bytes}
 use Rattle.machine.specs.Writes.{writes_short, writes_long}
 use Rattle.machine.specs.Step as M
@@ -37,19 +34,18 @@ use Rattle.machine.proofs.Effects.{Changes, short-changes, long-changes, PlainSh
 use Rattle.translation.specs.Instructions as I
 use Rattle.translation.specs.Instructions.{Datum, element, literal, entry, Instruction, rr, rx, immediate, shift, branch, link, indexed, stop, size, opcode, load_row, shift_code, address_op, branch_op, link_op, always}
 use Rattle.translation.specs.Layout.{Layout, offset_of, cells_end}
-use Rattle.translation.specs.Bytes.{program_base, index_register, displacement, two_bytes, four_bytes, encode}
+use Rattle.translation.specs.Bytes.{program_base, index_register, four_bytes, encode}
 use Rattle.translation.proofs.Sizes.{length-encode}
 use Rattle.translation.proofs.Literals.{Takes, index-lt}
-use Rattle.translation.proofs.Rooms.{start_of, CellAt}
 use Rattle.join.specs.Writes.{writes}
-use Rattle.join.specs.Points.{Within, Writes, Point, with_base, choices, first_of, statement_at, Knows, nothing, compared, at_most, tested, between, scaled, Placed}
+use Rattle.join.specs.Points.{Within, Point, choices, first_of, statement_at, Knows, nothing, compared, at_most, tested, between, scaled, Placed}
 use Rattle.join.specs.Operands.{named_from, named_bytes, named_at, Whole, Lies, Named, Indexed}
 use Rattle.join.specs.Programs.{Meets}
-use Rattle.join.proofs.Safe.{Spared, Counted, Guarded, InCell, Served, IsCell, TakesNumber, Fits, Plain, Basing}
+use Rattle.join.proofs.Safe.{Spared, Counted, Guarded, InCell, Served, IsCell, TakesNumber, Fits}
 use Rattle.join.proofs.Chosen.{reg, count_word, NotAbove, Told}
-use Rattle.join.proofs.Flows.{Under, Good, Enters, Calls, Gains, Onward, Opens, Returns, Branches, Entry, Chooses, Goes, Flows}
-use Rattle.join.proofs.Chain.{Holds, after_call, Chain, outermost, called}
-use Rattle.join.proofs.ChainMoves.{chain-holds, chain-kept, chain-at, chain-under, chain-call, Back, chain-return}
+use Rattle.join.proofs.Flows.{Good, Calls, Gains, Onward, Opens, Branches, Entry, Chooses, Goes, Flows}
+use Rattle.join.proofs.Chain.{Holds, after_call, Chain}
+use Rattle.join.proofs.ChainMoves.{chain-holds, chain-kept, chain-at, chain-under, chain-call, chain-return}
 use Rattle.join.proofs.Loading.{Mapped}
 use Rattle.join.proofs.Decode.{StandAt, first_field, second-field, decode-address, decode-opcode, decode-two, decode-four}
 

@@ -1,13 +1,11 @@
 -- From the translator's and the runner's contracts to the whole answer: a refusal (`refused-is`), a run of the object text in the buffer (`going-is`); and what was
 -- written fits the buffer (`written-fits`). Assumes nothing.
-use mathlib.Core.Path.{◌≡◌, refl, sym, ap, subst, ◌∙◌}
-use mathlib.Core.List.{List, ◌++◌}
-use Prim.Native.Nat.{ℕ, ◌+◌, ◌≤◌, min}
+use mathlib.Core.Path.{◌≡◌, refl, sym, ap, ◌∙◌}
+use mathlib.Core.List.{List}
+use Prim.Native.Nat.{ℕ, ◌≤◌}
 use native.Mathlib.Omega.{arith}
-use lib.Dec.{eqb}
 use lib.ListN.{length, take, drop, length-take, length-append}
 use borrow.Author.Tests.{eq-eqb, ne_eqb}
-use Rattle.base.specs.Choose.{choose}
 use Rattle.translation.specs.Translate as T
 use Rattle.translation.specs.Translate.{accepted, refused, length_of, leaves, translate}
 use Rattle.translate.specs.Answers as A
@@ -18,7 +16,7 @@ use Rattle.runner.specs.Runner as R
 use Rattle.runner.specs.Runner.{runner}
 use Rattle.load_and_go.specs.declared.Answer.{Answer}
 use Rattle.load_and_go.specs.declared.Translated.{Translated}
-use Rattle.load_and_go.specs.Going.{Outcome, Told, outcome, refusal, ran, gone, load_and_go}
+use Rattle.load_and_go.specs.Going.{Outcome, Told, outcome, refusal, ran, gone}
 
 -- ── the translator ──
 

@@ -2,13 +2,13 @@
 -- Assumes nothing.
 use Prim.Native.Nat.{ℕ, suc, ◌+◌, ◌-◌, ◌≤◌, ◌<◌}
 use mathlib.Core.Path.{◌≡◌, refl, sym, ap, ◌∙◌}
-use mathlib.Core.Bool.{Bool, true, false}
+use mathlib.Core.Bool.{false}
 use mathlib.Core.List.{List, [], ◌∷◌, ◌++◌}
 use native.Mathlib.Omega.{arith}
 use lib.Dec.{eqb}
 use lib.ListN.{length, get_or, take, drop, length-take, length-drop, take-append-drop}
 use lib.Seq.{drop-cons, take-add}
-use borrow.Author.Tests.{eq-eqb, ne_eqb, eqb-true, eqb-false}
+use borrow.Author.Tests.{eq-eqb, ne_eqb, eqb-true}
 use Rattle.base.specs.Choose.{choose}
 use Rattle.base.specs.Walk.{fold}
 use Rattle.base.proofs.Parts.{length_part}
@@ -16,7 +16,6 @@ use Rattle.base.proofs.Tests.{cases}
 use Rattle.base.proofs.Walk.{fold-append}
 use Rattle.spots.specs.Spots.{spot, next_line, next_column, line_from, column_from, spot_at, NoNewline}
 use Rattle.spots.specs.Going.{Near, onward, along}
-use Rattle.spots.specs.declared.Spot.{Spot}
 
 -- ── lines and columns from a number on ──
 

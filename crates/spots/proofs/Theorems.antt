@@ -1,14 +1,14 @@
 -- Document 02, 2/13, over the bytes of a text: line is one more than the bytes 10 before the place, column one more than the bytes since the last of them.
 -- Assumes nothing.
 use Prim.Native.Nat.{ℕ, ◌+◌}
-use mathlib.Core.Path.{◌≡◌, refl, sym, ◌∙◌}
+use mathlib.Core.Path.{◌≡◌}
 use mathlib.Core.List.{List, [], ◌∷◌, ◌++◌}
 use native.Mathlib.Omega.{arith}
 use lib.Dec.{eqb}
 use lib.ListN.{length, take}
 use Rattle.base.specs.Walk.{fold}
 use Rattle.base.proofs.Tests.{cases}
-use Rattle.spots.specs.Spots.{next_line, next_column, line_from, column_from, spot_at, newlines, NoNewline}
+use Rattle.spots.specs.Spots.{next_line, line_from, spot_at, newlines, NoNewline}
 use Rattle.spots.proofs.Going.{plain-column, since-last}
 
 line-counted : (n : ℕ) (l : List ℕ) → line_from n l ≡ n + newlines l

@@ -1,5 +1,5 @@
 -- `column_behind` looks for the last byte that ends a line. The invariant: none from here on does. Assumes nothing.
-use Prim.Native.Nat.{◌-◌, ◌≤◌}
+use Prim.Native.Nat.{◌≤◌}
 use lib.ListN.{length, drop}
 use Rattle.spots.specs.Spots.{NoNewline}
 use Rattle.spots.proofs.column_behind.Given as goal

@@ -1,4 +1,3 @@
-use Prim.Native.Nat.{◌-◌}
 use borrow.Author.Rules.{rules}
 use Rattle.base.proofs.Walk.{fold-turn, fold_end}
 use Rattle.spots.specs.Spots.{next_line}
