@@ -5,9 +5,8 @@ use mathlib.Core.List.{List, [], ◌∷◌}
 use Prim.Native.Nat.{ℕ, zero, suc, ◌+◌, ◌-◌, ◌/◌, ◌%◌, ◌≤◌, ◌<◌}
 use native.Mathlib.Omega.{arith}
 use lib.Dec.{eqb}
-use lib.ListN.{get_or, set, length, drop}
+use lib.ListN.{get_or, length, drop}
 use lib.Seq.{get_or-set_same, get_or-set_other}
-use Rattle.base.specs.Choose.{choose, if◌then◌else◌}
 use Rattle.base.specs.Lists.{All}
 use Rattle.base.proofs.Lists.{all_map}
 use Rattle.base.proofs.Tests.{by-test}
@@ -21,8 +20,7 @@ use Rattle.ledger.proofs.Bounds.{nested-here, nested-on}
 use Rattle.ledger.proofs.Columns.{wide-length}
 use Rattle.scopes.specs.declared.Broken.{Broken}
 use Rattle.scopes.specs.Broken.{◌⊕◌}
-use Rattle.static_rules.specs.Meaning.{register_of}
-use Rattle.static_rules.specs.Tables.{Tables, meaning_at}
+use Rattle.static_rules.specs.Tables.{Tables}
 use Rattle.static_rules.specs.Rules.{protected}
 use Rattle.tables.specs.Packed.{meanings_of, sets_of}
 use Rattle.tables.specs.Stacks.{stack_of, top, under}
@@ -30,7 +28,7 @@ use Rattle.rules.specs.Shows.{Listed, Shown}
 use Rattle.judge.specs.declared.Cells.{Cells}
 use Rattle.judge.specs.declared.Depths.{Depths}
 use Rattle.judge.specs.declared.Open.{Open}
-use Rattle.judge.specs.Along.{Held, enter_block, leave_block, keep_base, keep_return, leave_procedure, held_after, cells_after, cells_of, open_of, open_after, event_rule, Judging, judge_event, beginning, held_of, Moved, Stays}
+use Rattle.judge.specs.Along.{Held, held_after, cells_after, cells_of, open_of, open_after, event_rule, Judging, judge_event, beginning, held_of, Moved, Stays}
 use Rattle.judge.proofs.Moves.{stays_same, stays_on, offsets-put, put-stays}
 
 -- ── no block has more bases than there were events ──

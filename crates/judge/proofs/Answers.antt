@@ -1,23 +1,22 @@
 -- What each function of the walk answers, by what its callees answer.
 use mathlib.Core.Path.{◌≡◌, refl, sym, ap, ap₂, ◌∙◌}
-use mathlib.Core.Bool.{Bool, true, false}
-use mathlib.Core.List.{List, [], ◌∷◌}
+use mathlib.Core.Bool.{true, false}
+use mathlib.Core.List.{List}
 use Prim.Native.Nat.{ℕ, zero, suc, ◌+◌, ◌-◌}
 use native.Mathlib.Omega.{arith}
 use native.Mathlib.Numerals.{add-two}
-use lib.Dec.{eqb}
 use lib.ListN.{get_or}
 use Rattle.base.proofs.Tests.{never_true}
 use Rattle.ledger.specs.Book.{Wide, Thin}
 use Rattle.scopes.specs.declared.Broken.{Broken}
-use Rattle.scopes.specs.Broken.{unbroken, rule, broken, ◌⊕◌}
+use Rattle.scopes.specs.Broken.{unbroken, broken, ◌⊕◌}
 use Rattle.grammar.specs.Tree.{Operand}
-use Rattle.static_rules.specs.Meaning.{Meaning, nothing, register, cell, routine, Based, register_of}
+use Rattle.static_rules.specs.Meaning.{Meaning, cell, Based, register_of}
 use Rattle.static_rules.specs.Tables.{Tables, meaning_at}
-use Rattle.static_rules.specs.Rules.{is_bare, write_rule, place_by, no_byte, operand_rules, only_register, term_rules}
+use Rattle.static_rules.specs.Rules.{place_by, no_byte, operand_rules, term_rules}
 use Rattle.tables.specs.Packed.{number_in, is_register_in, is_cell_in, unpacked, cell_in, register_in, packed_at}
 use Rattle.tables.proofs.Meanings.{by-sort, as-register, as-cell, register-is}
-use Rattle.rules.specs.Parts.{subscript_at, index_at, designator_at, operand_at, term_at}
+use Rattle.rules.specs.Parts.{designator_at, term_at}
 use Rattle.rules.specs.Shows.{Listed}
 use Rattle.rules.proofs.Sorts.{base_at, meant-at}
 use Rattle.judge.specs.Along.{aim_of, register_target, aim_by, control_by, sign_rule, first_rules, chain_rule}

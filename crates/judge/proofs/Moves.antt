@@ -1,13 +1,13 @@
 -- The protected registers as arrays: what each move leaves.
-use mathlib.Core.Path.{◌≡◌, refl, sym, ap, ap₂, ◌∙◌}
-use mathlib.Core.List.{List, [], ◌∷◌}
-use Prim.Native.Nat.{ℕ, zero, suc, ◌+◌, ◌-◌, ◌≤◌, ◌<◌}
+use mathlib.Core.Path.{◌≡◌, refl, ap, ap₂, ◌∙◌}
+use mathlib.Core.List.{List}
+use Prim.Native.Nat.{ℕ, zero, suc, ◌+◌, ◌-◌, ◌<◌}
 use native.Mathlib.Omega.{arith}
 use native.Mathlib.Nat.{sub-zero}
 use native.Mathlib.Numerals.{add-one}
-use lib.ListN.{get_or, set, length, drop}
+use lib.ListN.{set, length, drop}
 use Rattle.ledger.specs.Book.{Wide, wide_of, put_offset}
-use Rattle.tables.specs.Stacks.{stack_of, top, under}
+use Rattle.tables.specs.Stacks.{stack_of, top}
 use Rattle.tables.proofs.Stacks.{pushed, popped}
 use Rattle.judge.specs.declared.Depths.{Depths}
 use Rattle.judge.specs.Along.{Held, enter_block, leave_block, keep_base, keep_return, leave_procedure, held_of, Moved, with_offsets, Stays}

@@ -10,7 +10,7 @@ use lib.Dec.{leb}
 use lib.ListN.{length, drop}
 use borrow.Author.Tests.{ne_eqb}
 use Rattle.base.specs.Lists.{member}
-use Rattle.grammar.specs.Tree.{Designator, Operand, number, Sign, abs, neg, neg_abs, Term, Condition, compared, bare, Item, Statement, Width, full, short, byte}
+use Rattle.grammar.specs.Tree.{Designator, Operand, Sign, plain, abs, neg, neg_abs, Term, Condition, compared, bare, Item, Statement, Width, full, short, byte}
 use Rattle.grammar.specs.Pinned.{head_of}
 use Rattle.grammar.proofs.Pinned.{pinned-designator, pinned-operand}
 use Rattle.grammar.specs.Derives.{is_designator, is_operand, is_condition, is_register, is_program}
@@ -106,6 +106,7 @@ module _ (f : Tables) where
   complete nowhere room b x d e = e ∙ join-right x
   complete (aiming d) room b x h e = e ∙ join-right x
   complete (declaring n w ts) room b x d e = e ∙ (ap (λ (l : List ℕ). x ⊕ R.value_rules f w room l) d ∙ join-right x)
+  complete (applying name position) room b x d e = elim d [ ]
 
   abbrev step : ℕ → ℕ → Judging → Judging
   step op t j = judge_event f op t j
@@ -136,12 +137,20 @@ module _ (f : Tables) where
     turn-edge (closed t) (within b ∷ p) s n room g y u i j h = rw (bases-dropped (λ (m : ℕ). register_of (meaning_at f m)) b.bases (kept_in f p))
     turn-edge (entered m r) (within b ∷ p) s n room g y u i j h = let e : r ≡ m + 2 = omega (arith, h.1.0, h.1.2.1.0) in rw e
     turn-edge (left m) (body k r ∷ p) s n room g y u i j h = refl
+    turn-edge (closed t) [] s n room g y u i j h = elim u [ ]
+    turn-edge (closed t) (body k r ∷ p) s n room g y u i j h = elim u [ ]
+    turn-edge (entered m r) [] s n room g y u i j h = elim u [ ]
+    turn-edge (entered m r) (body k return ∷ p) s n room g y u i j h = elim u [ ]
+    turn-edge (left m) [] s n room g y u i j h = elim u [ ]
+    turn-edge (left m) (within b ∷ p) s n room g y u i j h = elim u [ ]
 
     turn-route : (x : Route) (p : Place) (s n room : ℕ) (g : Open) (y : Broken) → RouteFits x p
         → step (op_of (route x)) (token_of (route x)) (at p s n room g y) ≡ at (after (route x) p) s n room g (y ⊕ rules_at f (route x) p)
     unfolding judge_event held_after cells_after open_after event_rule declaration_rule statement_rule assignment_rule layer_at form_at
     turn-route (labelled l) (within b ∷ p) s n room g y u = refl
     turn-route (sent t m) p s n room g y u = refl
+    turn-route (labelled l) [] s n room g y u = elim u [ ]
+    turn-route (labelled l) (body name return ∷ p) s n room g y u = elim u [ ]
 
     turn-mark : (x : Mark) (p : Place) (s n room : ℕ) (g : Open) (y : Broken) → step (op_of (mark x)) (token_of (mark x)) (at p s n room g y) ≡ at p s n room g (y ⊕ unbroken)
     unfolding judge_event held_after cells_after open_after event_rule declaration_rule layer_at form_at
@@ -175,6 +184,9 @@ module _ (f : Tables) where
           opens = (o.0 ∙ ap width_of q.1, v);
           all = ap₂ (λ (z : Broken) (l : ℕ). z ⊕ R.value_rules f w l y.numbers) (u ∙ sym (join-right x)) (sym v);
         }
+    turn-item m w y nowhere k p b s n room g x q o e = elim q [ ]
+    turn-item m w y (aiming _) k p b s n room g x q o e = elim q [ ]
+    turn-item m w y (applying name position) k p b s n room g x q o e = elim q [ ]
 
     value-judged : (w : Width) (s n room t : ℕ) (ts : List ℕ) (x : Broken) → s ≡ width_of w
         → x ⊕ R.value_rules f w room (t ∷ ts) ≡ (x ⊕ value_rule (cells_of s n room) (value_at f t) t) ⊕ R.value_rules f w (room - 1) ts
@@ -198,6 +210,10 @@ module _ (f : Tables) where
       opens = o;
       all = join-right b ∙ (e ∙ (ap (λ (u : ℕ). x ⊕ R.value_rules f w room (u ∷ ts)) q ∙ value-judged w s n room t ts x o.0));
     }
+    turn-value t nowhere k p b s n room g x q o e = elim q [ ]
+    turn-value t (aiming _) k p b s n room g x q o e = elim q [ ]
+    turn-value t (applying name position) k p b s n room g x q o e = elim q [ ]
+    turn-value t (declaring m w []) k p b s n room g x q o e = elim q [ ]
 
     turn-entry : (d : Entry) (p : Place) (c : Context) (b : Broken) (s n room : ℕ) (g : Open) (x : Broken) → InBlock p → (i j : ℕ) → is_event kinds (entry d) i j → EntrySuits d c → Opens c s n g
         → b ≡ x ⊕ pending c room → At (after (entry d) p) (context_after (entry d) c) (rule_event f (entry d) p b) (step (op_of (entry d)) (token_of (entry d)) (at p s n room g x))
@@ -218,6 +234,18 @@ module _ (f : Tables) where
     turn-entry (valued t) (within k ∷ p) c b s n room g x u i j h q o e = turn-value t c k p b s n room g x q o e
     turn-entry (based t) (within k ∷ p) c b s n room g x u i j h q o e =
         judged (entry (based t)) (within k ∷ p) c b s n room g x s n room g (complete c room b x q e) tt join-right refl
+    turn-entry (named r) [] c b s n room g x u i j h q o e = elim u [ ]
+    turn-entry (named r) (body name return ∷ p) c b s n room g x u i j h q o e = elim u [ ]
+    turn-entry (celled none w) [] c b s n room g x u i j h q o e = elim u [ ]
+    turn-entry (celled none w) (body name return ∷ p) c b s n room g x u i j h q o e = elim u [ ]
+    turn-entry (celled (some t) w) [] c b s n room g x u i j h q o e = elim u [ ]
+    turn-entry (celled (some t) w) (body name return ∷ p) c b s n room g x u i j h q o e = elim u [ ]
+    turn-entry (itemed m w y) [] c b s n room g x u i j h q o e = elim u [ ]
+    turn-entry (itemed m w y) (body name return ∷ p) c b s n room g x u i j h q o e = elim u [ ]
+    turn-entry (valued t) [] c b s n room g x u i j h q o e = elim u [ ]
+    turn-entry (valued t) (body name return ∷ p) c b s n room g x u i j h q o e = elim u [ ]
+    turn-entry (based t) [] c b s n room g x u i j h q o e = elim u [ ]
+    turn-entry (based t) (body name return ∷ p) c b s n room g x u i j h q o e = elim u [ ]
 
     -- ── phrases ──
 
@@ -308,6 +336,7 @@ module _ (f : Tables) where
       signed_is m (abs t) q e = ap (judged_by g) (ap (λ (z : ℕ). sign_rule z t) e ∙ sign_same m t (abs t) refl)
       signed_is m (neg t) q e = ap (judged_by g) (ap (λ (z : ℕ). sign_rule z t) e ∙ sign_same m t (neg t) refl)
       signed_is m (neg_abs t) q e = ap (judged_by g) (ap (λ (z : ℕ). sign_rule z t) e ∙ sign_same m t (neg_abs t) refl)
+      signed_is m plain q e = elim q [ ]
 
       given_is : (m : Meaning) (a : Operand) (i j : ℕ) → is_operand kinds a i j → g.target ≡ aim_of m → step (E.FIRST + operand_shape a) (head_of a) here ≡ judged_by g (R.first_by f m a)
       unfolding judge_event held_after cells_after open_after event_rule statement_rule assignment_rule layer_at form_at
@@ -371,6 +400,9 @@ module _ (f : Tables) where
     turn_signed d y p (aiming z) b s n room g x q w o e =
         judged (phrase (signed d y)) p (aiming z) b s n room g x s n room g (complete (aiming z) room b x tt e) o join-right
         (signed_is p s n room g x (meaning_at f d.name) y w (o ∙ ap (λ (v : Designator). aim_of (meaning_at f v.name)) q))
+    turn_signed d y p nowhere b s n room g x q w o e = elim q [ ]
+    turn_signed d y p (applying name position) b s n room g x q w o e = elim q [ ]
+    turn_signed d y p (declaring count _ values) b s n room g x q w o e = elim q [ ]
 
     turn-phrase : (y : Phrase) (p : Place) (c : Context) (b : Broken) (s n room : ℕ) (g : Open) (x : Broken) (i j : ℕ) → is_event kinds (phrase y) i j → PhraseSuits y c → Opens c s n g
         → b ≡ x ⊕ pending c room → At p (context_after (phrase y) c) (rule_event f (phrase y) p b) (step (op_of (phrase y)) (token_of (phrase y)) (at p s n room g x))
@@ -404,6 +436,21 @@ module _ (f : Tables) where
         judged (phrase (counted t y)) p (applying m k) b s n room g x s n room g (e ∙ join-right x) tt join-right (counted_is p s n room g x t y (o.1 ∙ q.1))
     turn-phrase (chosen t) p c b s n room g x i j h q o e =
         judged (phrase (chosen t)) p c b s n room g x s n room g (complete c room b x q e) tt join-right (chosen_is p s n room g x t)
+    turn-phrase (given d a) p nowhere b s n room g x i j h q o e = elim q [ ]
+    turn-phrase (given d a) p (applying m k) b s n room g x i j h q o e = elim q [ ]
+    turn-phrase (given d a) p (declaring count _ values) b s n room g x i j h q o e = elim q [ ]
+    turn-phrase (joined d t) p nowhere b s n room g x i j h q o e = elim q [ ]
+    turn-phrase (joined d t) p (applying m k) b s n room g x i j h q o e = elim q [ ]
+    turn-phrase (joined d t) p (declaring count _ values) b s n room g x i j h q o e = elim q [ ]
+    turn-phrase (limited d v a) p nowhere b s n room g x i j h q o e = elim q [ ]
+    turn-phrase (limited d v a) p (applying m k) b s n room g x i j h q o e = elim q [ ]
+    turn-phrase (limited d v a) p (declaring count _ values) b s n room g x i j h q o e = elim q [ ]
+    turn-phrase (argued t y a) p nowhere b s n room g x i j h q o e = elim q [ ]
+    turn-phrase (argued t y a) p (aiming z) b s n room g x i j h q o e = elim q [ ]
+    turn-phrase (argued t y a) p (declaring count _ values) b s n room g x i j h q o e = elim q [ ]
+    turn-phrase (counted t y) p nowhere b s n room g x i j h q o e = elim q [ ]
+    turn-phrase (counted t y) p (aiming z) b s n room g x i j h q o e = elim q [ ]
+    turn-phrase (counted t y) p (declaring count _ values) b s n room g x i j h q o e = elim q [ ]
 
     -- ── along the tape ──
 

@@ -1,9 +1,9 @@
 -- A text looked at: the groups of refusals on the way, 1 to 13, and what is seen where no rule is broken. Assumes nothing.
 use mathlib.Core.Path.{◌≡◌, refl, sym, ap, subst, ◌∙◌}
 use mathlib.Core.List.{List, [], ◌∷◌}
-use mathlib.Core.Option.{Option, none, some}
+use mathlib.Core.Option.{none}
 use Prim.Native.Nat.{ℕ, zero, suc, ◌+◌, ◌<◌}
-use lib.ListN.{length, take, get_or}
+use lib.ListN.{length, take}
 use borrow.Author.Tests.{lt-ltb}
 use Rattle.token.specs.Text.{tokens_of, TEXT-LIMIT}
 use Rattle.token.specs.Answers.{Summary, summary_of}
@@ -19,8 +19,8 @@ use Rattle.ledger.specs.Book.{Wide, Thin}
 use Rattle.scopes.specs.declared.Broken.{Broken}
 use Rattle.scopes.specs.Search.{first_token}
 use Rattle.static_rules.specs.Meaning.{Meaning, nothing, register, cell, routine, function}
-use Rattle.translation.specs.Layout.{layout, offset_of}
-use Rattle.translation.specs.Translate.{kinds_of, values_of, place_at, make}
+use Rattle.translation.specs.Layout.{layout}
+use Rattle.translation.specs.Translate.{kinds_of, values_of, make}
 use Rattle.translation.proofs.Tokens.{small-text}
 use Rattle.parse.specs.Programs.{Told, told_of, Parsed}
 use Rattle.readers.specs.declared.tokens.Answer as P

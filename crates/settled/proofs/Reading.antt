@@ -2,11 +2,11 @@
 use mathlib.Core.Path.{◌≡◌, refl, sym, ap, ap₂, subst, ◌∙◌}
 use mathlib.Core.Bool.{true, false}
 use mathlib.Core.List.{List, [], ◌∷◌, ◌++◌, map}
-use Prim.Native.Nat.{ℕ, ◌+◌, ◌-◌, ◌*◌, ◌/◌, ◌≤◌, ◌<◌}
+use Prim.Native.Nat.{ℕ, ◌+◌, ◌-◌, ◌≤◌}
 use native.Mathlib.Omega.{arith}
 use lib.Dec.{eqb}
 use lib.ListN.{length, length-map, length-drop, take, drop, set}
-use lib.Seq.{sets, length-sets, take-add, take-set-le, drop-set-add, length-take-le}
+use lib.Seq.{sets, length-sets, take-add, take-set-le, drop-set-add}
 use borrow.Author.Tests.{le-ltb}
 use Rattle.base.proofs.Parts.{part-sets}
 use Rattle.spots.specs.declared.Spot.{Spot}
@@ -18,10 +18,10 @@ use Rattle.token.specs.declared.Next.{Next}
 use Rattle.token.specs.declared.Next.TheVariants as N
 use Rattle.token.specs.declared.Tokens.{Tokens}
 use Rattle.token.specs.declared.Tokens.TheVariants as S
-use Rattle.token.proofs.Readings.{few-tokens, not-too-long, all-read-from, Reads, reads-start, reads_on, reads-last, reads-no, LaidOn, Answered, laid_on, laid-last, refused-inside, laid-no}
+use Rattle.token.proofs.Readings.{few-tokens, all-read-from, Reads, reads-start, reads_on, reads-last, reads-no, LaidOn, Answered, laid_on, laid-last, refused-inside, laid-no}
 use Rattle.ledger.specs.Book.{Wide, on_wide, put_value}
 use Rattle.scopes.specs.Search.{in_front, first_token}
-use Rattle.settled.specs.Texts.{all_tokens, LaidBehind, ButValues, Behind, Fronted, rows_for}
+use Rattle.settled.specs.Texts.{LaidBehind, ButValues, Behind, Fronted, rows_for}
 
 -- a text that is not too long is read from its start
 pub read_whole : (s : List ℕ) → length s ≤ TEXT-LIMIT → tokens_of s ≡ read_from s 0 0 s

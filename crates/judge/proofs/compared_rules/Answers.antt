@@ -3,7 +3,6 @@ use Rattle.rules.proofs.Answers as rules
 use Rattle.scopes.specs.Broken.{◌⊕◌}
 use Rattle.scopes.specs.declared.Broken.{Broken}
 use mathlib.Core.Path.{ap₂, ◌∙◌}
-use borrow.Author.Rules.{rules}
 use Rattle.judge.proofs.compared_rules.Goals as goal
 
 pub returns : goal.returns

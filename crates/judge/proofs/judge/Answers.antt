@@ -1,5 +1,4 @@
 use Rattle.judge.proofs.Along.{kept-fits, few-fit, opened-fits, going, going_on, going_end}
-use Prim.Native.Nat.{◌-◌}
 use mathlib.Core.Path.{refl, ◌∙◌}
 use native.Mathlib.Omega.{arith}
 use Rattle.judge.proofs.judge.Goals as goal

@@ -67,7 +67,7 @@ slice_bounds-look_tokens-end-in-Read-7 c =
 pub look_tokens-requires : goal.look_tokens-requires
 look_tokens-requires c =
     let f = few-read c.args.src.now _ c.read-tokens.ensures.0.is _ c.in-Read.is in
-    let l = cut-lent (first_token + c.in-Read.n) c.read-tokens.new.1.0 c.args.tape.now c.read-tokens.new.1.1.0 c.args.thin.now
+    let l = cut-lent (first_token + c.in-Read.n) c.read-tokens.new.kinds c.args.tape.now c.read-tokens.new.wide c.args.thin.now
     (omega arith) (omega (arith, f, c.requires.short)) (omega (arith, f, c.requires.for-kinds, c.read-tokens.auto.kinds)) (omega (arith, f, c.requires.for-tape))
     (omega (arith, f, c.requires.for-wide, c.read-tokens.auto.wide)) (omega (arith, f, c.requires.for-thin)) in
     (all_read c.args.src.now _ c.read-tokens.ensures.0.is _ c.in-Read.is, l.0, l.1, l.2)
@@ -78,24 +78,24 @@ shape_of-kinds-in-Read c =
 
 pub shape_of-tape : goal.shape_of-tape
 shape_of-tape c =
-    length_front c.args.tape.now c.look_tokens.new.1.1.0 (first_token + c.in-Read.n) c.look_tokens.auto.tape
+    length_front c.args.tape.now c.look_tokens.new.tape (first_token + c.in-Read.n) c.look_tokens.auto.tape
 
 pub shape_of-wide-in-Read : goal.shape_of-wide-in-Read
 shape_of-wide-in-Read c =
-    length_front c.read-tokens.new.1.1.0 c.look_tokens.new.1.1.1.0 (4 * (first_token + c.in-Read.n))
+    length_front c.read-tokens.new.wide c.look_tokens.new.wide (4 * (first_token + c.in-Read.n))
     c.look_tokens.auto.wide ∙ c.read-tokens.auto.wide
 
 pub shape_of-thin : goal.shape_of-thin
 shape_of-thin c =
-    length_front c.args.thin.now c.look_tokens.new.1.1.1.1.0 (4 * (first_token + c.in-Read.n))
+    length_front c.args.thin.now c.look_tokens.new.thin (4 * (first_token + c.in-Read.n))
     c.look_tokens.auto.thin
 
 pub returns-in-Read : goal.returns-in-Read
 returns-in-Read c =
     let f = few-read c.args.src.now _ c.read-tokens.ensures.0.is _ c.in-Read.is in
     text-read _ c.args.key c.args.address _ _ _ _ c.read-tokens.ensures.0
-    _ c.in-Read.is _ _ (wide-take 0 (first_token + c.in-Read.n) c.read-tokens.new.1.1.0 (omega arith) (omega (arith, f, c.requires.for-wide, c.read-tokens.auto.wide)))
-    (cut-blanks c.args.src.now _ c.read-tokens.ensures.0.is _ c.in-Read.is c.args.wide.now c.read-tokens.new.1.1.0
+    _ c.in-Read.is _ _ (wide-take 0 (first_token + c.in-Read.n) c.read-tokens.new.wide (omega arith) (omega (arith, f, c.requires.for-wide, c.read-tokens.auto.wide)))
+    (cut-blanks c.args.src.now _ c.read-tokens.ensures.0.is _ c.in-Read.is c.args.wide.now c.read-tokens.new.wide
     c.args.thin.now c.requires.no-wide c.requires.no-thin c.read-tokens.ensures.1 c.read-tokens.auto.wide (omega (arith, f, c.requires.for-wide))
     (omega (arith, f, c.requires.for-thin)))
     c.look_tokens.ensures

@@ -26,7 +26,7 @@ pub look_tape-requires : goal.look_tape-requires
 look_tape-requires c =
     let f = tape-fits _ _ _ c.program-p.ensures c.if-number-ne0.false (omega (arith, c.requires.3.few)) in (
       c.requires.0,
-      omega (arith, length-take c.program-p.result.value c.program-p.new.1.1.0, c.program-p.ensures.few, c.requires.2),
+      omega (arith, length-take c.program-p.result.value c.program-p.new.tape, c.program-p.ensures.few, c.requires.2),
       f.0,
       f.1,
       c.requires.3,
@@ -47,5 +47,5 @@ shape_of-thin c =
 pub returns : goal.returns
 returns c =
     λ ek ev small bs. some-program _ c.args.key c.args.address (all_tokens c.args.src.now) c.args.kinds.now
-    c.program-p.new.1.1.0 c.program-p.result c.program-p.ensures c.if-number-ne0.false
+    c.program-p.new.tape c.program-p.result c.program-p.ensures c.if-number-ne0.false
     (wide_of c.args.wide.now).values ek ev small (λ x t. c.look_tape.ensures x t ek bs)

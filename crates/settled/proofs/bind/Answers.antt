@@ -21,17 +21,17 @@ shape_of-thin c =
 pub returns : goal.returns
 returns c =
     let after = c.clear_written.ensures ∙ ap (on_thin 3 zeros) c.clear_opens.ensures in let same = c.names-n.auto.thin in (
-      cleared c.args.thin.now c.labels-l.new.1.1.0 _ _ c.clear_opens.ensures c.clear_written.ensures (c.labels-l.auto.thin ∙ same),
-      λ ts x t bf bg. bound ts x _ _ t (thin_of c.args.thin.now) (thin_of c.names-n.new.1.1.0) (thin_of c.labels-l.new.1.1.0) (thin_of c.clear_written.new.0) _ _ _ (omega (
+      cleared c.args.thin.now c.labels-l.new.thin _ _ c.clear_opens.ensures c.clear_written.ensures (c.labels-l.auto.thin ∙ same),
+      λ ts x t bf bg. bound ts x _ _ t (thin_of c.args.thin.now) (thin_of c.names-n.new.thin) (thin_of c.labels-l.new.thin) (thin_of c.clear_written.new.thin) _ _ _ (omega (
         arith,
         wide-length 0 c.args.wide.now,
-        thin-length 2 c.names-n.new.1.1.0,
+        thin-length 2 c.names-n.new.thin,
         same,
         c.requires.3,
       )) (omega (
         arith,
         wide-length 0 c.args.wide.now,
-        thin-length 3 c.names-n.new.1.1.0,
+        thin-length 3 c.names-n.new.thin,
         same,
         c.requires.3,
       )) bf bg c.names-n.ensures c.labels-l.ensures (ap (λ (b : Thin). b.found) after) (ap (λ (b :

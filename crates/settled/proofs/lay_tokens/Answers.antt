@@ -2,7 +2,6 @@ use Rattle.settled.proofs.Reading.{underway-start, answered, underway-on, underw
 use Rattle.token.proofs.Readings.{few-tokens, ends-inside, some_bytes, has_room}
 use Rattle.token.specs.Answers.{outcome_of}
 use mathlib.Core.Path.{refl, sym, ap, ◌∙◌}
-use Prim.Native.Nat.{◌-◌}
 use native.Mathlib.Omega.{arith}
 use borrow.Author.Rules.{rules}
 use Rattle.settled.proofs.lay_tokens.Goals as goal

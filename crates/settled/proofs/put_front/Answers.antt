@@ -2,19 +2,12 @@ use Rattle.settled.proofs.Laying.{lay-turn, lay-end, values-turn, values-end, fr
 use Rattle.translation.specs.Translate.{kinds_of, values_of}
 use Rattle.scopes.specs.Search.{in_front}
 use mathlib.Core.Path.{refl, ◌∙◌}
-use Prim.Native.Nat.{◌-◌}
 use borrow.Author.Rules.{rules}
 use Rattle.settled.proofs.put_front.Goals as goal
 
 pub loop-t-init : goal.loop-t-init
 loop-t-init c =
     (search rules, refl, refl, refl, refl)
-
--- LEFT array-read-kinds : tie.Need-array-read-kinds invariant-loop decreases-loop
--- LEFT array-read-kinds c = search rules
-
--- LEFT array-read-put-value : tie.Need-array-read-put-value invariant-loop decreases-loop
--- LEFT array-read-put-value c = search rules
 
 pub loop-t-preserved : goal.loop-t-preserved
 loop-t-preserved c = (

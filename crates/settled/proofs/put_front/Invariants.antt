@@ -13,7 +13,7 @@ use Rattle.settled.proofs.put_front.Given as goal
 abbrev pub invariant-loop-t : goal.invariant-loop-t
 invariant-loop-t l =
     (l.t ≤ first_token) × (length l.kinds ≡ length l.initial.kinds) × (length l.wide ≡ length l.initial.wide) × (sets l.kinds l.t (drop l.t (kinds_of in_front)) ≡ sets l.initial.kinds 0 (kinds_of in_front))
-    × (on_wide 0 (λ (l : List ℕ). sets l l.t (drop l.t (values_of in_front))) (wide_of l.wide) ≡ on_wide 0 (λ (l : List ℕ). sets l 0 (values_of in_front)) (wide_of l.initial.wide))
+    × (on_wide 0 (λ (v : List ℕ). sets v l.t (drop l.t (values_of in_front))) (wide_of l.wide) ≡ on_wide 0 (λ (v : List ℕ). sets v 0 (values_of in_front)) (wide_of l.initial.wide))
 
 abbrev pub decreases-loop-t : goal.decreases-loop-t
 decreases-loop-t l =

@@ -33,10 +33,10 @@ returns c =
         two_is = c.end_of-2.ensures.0;
         three-is = c.end_of-3.ensures.0;
       },
-      stays c.args.kinds.now c.args.tape.now (wide_of c.args.wide.now) (wide_of c.meanings-bases.new.1.1.0)
-          (wide_of c.clear_offsets.new.0) (wide_of c.layout-placed.new.1.0) (thin_of c.args.thin.now) (thin_of c.meanings-bases.new.1.1.1.0) (thin_of c.layout-placed.new.1.1.0) c.meanings-bases.result (length c.meanings-bases.new.1.1.1.0
-          / 4) (zeros (wide_of c.judge-ruled.new.1.1.0).offsets) c.layout-placed.result c.meanings-bases.ensures cleared c.layout-placed.ensures,
-      λ ts x t ek ef bm bo bw rows. settled ts x c.args.kinds.now c.args.tape.now (wide_of c.args.wide.now) (thin_of c.args.thin.now) t ek ef (wide_of c.meanings-bases.new.1.1.0) (thin_of c.meanings-bases.new.1.1.1.0) c.meanings-bases.result bm bo bw c.meanings-bases.ensures (wide_of c.clear_offsets.new.0) (wide_of c.layout-placed.new.1.0) (thin_of
-          c.layout-placed.new.1.1.0) (zeros (wide_of c.judge-ruled.new.1.1.0).offsets) (length c.meanings-bases.new.1.1.1.0 / 4) c.args.others c.judge-ruled.result c.layout-placed.result _ (omega (arith, c.requires.3, c.meanings-bases.auto.thin)) c.judge-ruled.ensures.0 cleared (ap (λ (n : ℕ). replicate {A = ℕ} n 0) (wide-length 3 c.judge-ruled.new.1.1.0 ∙ (ap (λ (n : ℕ). n / 4) same ∙ rows)))
+      stays c.args.kinds.now c.args.tape.now (wide_of c.args.wide.now) (wide_of c.meanings-bases.new.wide)
+          (wide_of c.clear_offsets.new.wide) (wide_of c.layout-placed.new.wide) (thin_of c.args.thin.now) (thin_of c.meanings-bases.new.thin) (thin_of c.layout-placed.new.thin) c.meanings-bases.result (length c.meanings-bases.new.thin
+          / 4) (zeros (wide_of c.judge-ruled.new.wide).offsets) c.layout-placed.result c.meanings-bases.ensures cleared c.layout-placed.ensures,
+      λ ts x t ek ef bm bo bw rows. settled ts x c.args.kinds.now c.args.tape.now (wide_of c.args.wide.now) (thin_of c.args.thin.now) t ek ef (wide_of c.meanings-bases.new.wide) (thin_of c.meanings-bases.new.thin) c.meanings-bases.result bm bo bw c.meanings-bases.ensures (wide_of c.clear_offsets.new.wide) (wide_of c.layout-placed.new.wide) (thin_of
+          c.layout-placed.new.thin) (zeros (wide_of c.judge-ruled.new.wide).offsets) (length c.meanings-bases.new.thin / 4) c.args.others c.judge-ruled.result c.layout-placed.result _ (omega (arith, c.requires.3, c.meanings-bases.auto.thin)) c.judge-ruled.ensures.0 cleared (ap (λ (n : ℕ). replicate {A = ℕ} n 0) (wide-length 3 c.judge-ruled.new.wide ∙ (ap (λ (n : ℕ). n / 4) same ∙ rows)))
           c.layout-placed.ensures refl c.join.ensures,
     )
