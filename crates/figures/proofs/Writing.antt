@@ -1,6 +1,6 @@
 -- What a writer leaves: `one` for a byte put where there is room, `none` where there is not, `nothing` for no piece, `one_more` and `two` for pieces in turn,
 -- `from_start` for a text written into a room from its front. Assumes nothing.
-use Prim.Native.Nat.{ℕ, zero, suc, ◌+◌, ◌-◌, ◌≤◌, ◌<◌}
+use Prim.Native.Nat.{ℕ, zero, suc, ◌+◌, ◌≤◌, ◌<◌}
 use mathlib.Core.Path.{◌≡◌, refl, sym, ap, ◌∙◌}
 use mathlib.Core.List.{List, [], ◌∷◌, ◌++◌, append_assoc, append-nil}
 use native.Mathlib.Omega.{arith}

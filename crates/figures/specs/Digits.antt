@@ -1,5 +1,5 @@
 -- Numbers in digits: decimal, with a minus sign where they are read as signed, and hexadecimal in capitals.
-use Rattle.std.specs.Prelude.{ℕ, zero, suc, ◌+◌, ◌-◌, ◌/◌, ◌%◌, ◌^◌, true, false, ◌&&◌, List, [], ◌∷◌, ◌++◌, ltb, get_or}
+use Rattle.std.specs.Prelude.{ℕ, zero, suc, ◌-◌, ◌/◌, ◌%◌, ◌^◌, true, false, ◌&&◌, List, [], ◌∷◌, ◌++◌, ltb, get_or}
 use Rattle.base.specs.Choose.{choose}
 use Rattle.base.specs.Text.{bytes}
 

@@ -1,5 +1,6 @@
 -- The opcodes of the rows without an index have none, and any other has that of its field. Assumes nothing.
 use native.Mathlib.Omega.{arith}
+use borrow.Author.Rules.{rules}
 use Rattle.machine.proofs.Rows.{index_is}
 use Rattle.cells.proofs.index_of.Goals as goal
 
@@ -29,4 +30,4 @@ returns-in-139 c =
 
 pub returns-in_default : goal.returns-in_default
 returns-in_default c =
-    (index_is c.args.op c.args.x c.in_default.rest, omega arith)
+    search (index_is, rules)

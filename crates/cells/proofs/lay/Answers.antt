@@ -1,5 +1,5 @@
+-- `lay` goes word by word. Assumes nothing.
 use borrow.Author.Rules.{rules}
-use Prim.Native.Nat.{◌-◌}
 use mathlib.Core.Path.{refl, ◌∙◌}
 use Rattle.settings.proofs.Going.{word_on, words-end}
 use Rattle.cells.specs.Setting.{laid_by}

@@ -1,5 +1,5 @@
+-- `put_all_asked` goes word by word. Assumes nothing.
 use borrow.Author.Rules.{rules}
-use Prim.Native.Nat.{◌-◌}
 use mathlib.Core.List.{[]}
 use mathlib.Core.Path.{refl, ◌∙◌}
 use Rattle.figures.proofs.Writing.{two, nothing, called}

@@ -5,9 +5,9 @@ use Rattle.cells.proofs.set_number.Goals as goal
 pub returns-then-fits : goal.returns-then-fits
 unfolding set_number
 returns-then-fits c =
-    rw (← c.fits2.ensures, c.if-fits.true, c.put_cell.ensures)
+    rw (← c.fits.ensures, c.if-fits.true, c.put_cell.ensures)
 
 pub returns : goal.returns
 unfolding set_number
 returns c =
-    rw (← c.fits2.ensures, c.if-fits.false, c.faulted.ensures, c.unfit.ensures)
+    rw (← c.fits.ensures, c.if-fits.false, c.faulted.ensures, c.unfit.ensures)

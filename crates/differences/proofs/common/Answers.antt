@@ -1,4 +1,4 @@
-use Prim.Native.Nat.{◌-◌}
+-- Byte by byte. Assumes nothing.
 use native.Mathlib.Omega.{arith}
 use borrow.Author.Rules.{rules}
 use Rattle.differences.proofs.Prefix.{common-on, common-not, first_ends, second-ends}

@@ -1,3 +1,4 @@
+-- `put_visible` puts each byte as it is shown. Assumes nothing.
 use borrow.Author.Rules.{rules}
 use Rattle.excerpts.proofs.Going.{visibles-on}
 use Rattle.excerpts.specs.Lines.{visibles}
@@ -5,7 +6,7 @@ use Rattle.figures.proofs.Writing.{nothing, called, two}
 use lib.Seq.{take_all}
 use mathlib.Core.List.{[], ◌∷◌}
 use mathlib.Core.Path.{ap}
-use Prim.Native.Nat.{ℕ, ◌-◌}
+use Prim.Native.Nat.{ℕ}
 use Rattle.excerpts.proofs.put_visible.Goals as goal
 
 pub loop-i-init : goal.loop-i-init

@@ -1,8 +1,7 @@
+-- `word_length` counts the bytes of a word. Assumes nothing.
 use borrow.Author.Rules.{rules}
-use Rattle.excerpts.specs.Lines.{in_word}
 use Rattle.base.proofs.Tests.{told}
 use Rattle.base.proofs.Runs.{run_on, run-stop, run_end}
-use Prim.Native.Nat.{◌-◌}
 use Rattle.excerpts.proofs.word_length.Goals as goal
 
 pub loop-i-preserved : goal.loop-i-preserved

@@ -1,6 +1,6 @@
+-- `behind` passes over n separators. Assumes nothing.
 use borrow.Author.Rules.{rules}
 use Rattle.figures.proofs.Parts.{behind-on, behind-none, behind-end}
-use Prim.Native.Nat.{◌-◌}
 use Rattle.figures.proofs.behind.Goals as goal
 
 pub returns-then-s-i : goal.returns-then-s-i

@@ -1,8 +1,8 @@
+-- `digits` reads digit by digit. Assumes nothing.
 use Rattle.base.proofs.Tests.{tests}
 use borrow.Author.Rules.{rules}
 use Rattle.figures.proofs.Numbers.{digits-on, digits-none, digits-past, digits-end, below-product}
 use native.Mathlib.Omega.{arith}
-use Prim.Native.Nat.{◌-◌}
 use Rattle.figures.proofs.digits.Goals as goal
 
 pub returns-then-base-d : goal.returns-then-base-d

@@ -1,6 +1,6 @@
+-- `part_count` counts separators. Assumes nothing.
 use borrow.Author.Rules.{rules}
 use Rattle.figures.proofs.Parts.{count-on, count-end}
-use Prim.Native.Nat.{◌-◌}
 use Rattle.figures.proofs.part_count.Goals as goal
 
 pub loop-i-preserved : goal.loop-i-preserved

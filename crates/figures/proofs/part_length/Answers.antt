@@ -1,7 +1,7 @@
+-- `part_length` counts the bytes before the separator. Assumes nothing.
 use borrow.Author.Rules.{rules}
 use borrow.Author.Tests.{eq-eqb, ne_eqb}
 use Rattle.base.proofs.Runs.{run_on, run-stop, run_end}
-use Prim.Native.Nat.{◌-◌}
 use Rattle.figures.proofs.part_length.Goals as goal
 
 pub returns-then-s-i : goal.returns-then-s-i

@@ -1,6 +1,6 @@
+-- `put_all` puts a piece byte by byte. Assumes nothing.
 use borrow.Author.Rules.{rules}
 use Rattle.figures.proofs.Writing.{nothing, more, whole}
-use Prim.Native.Nat.{◌-◌}
 use Rattle.figures.proofs.put_all.Goals as goal
 
 pub loop-i-init : goal.loop-i-init

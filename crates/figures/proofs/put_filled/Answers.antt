@@ -1,10 +1,10 @@
+-- `put_filled` puts the number for each `%` and any other byte as it is. Assumes nothing.
 use mathlib.Core.Path.{ap}
 use borrow.Author.Rules.{rules}
 use Rattle.figures.proofs.Parts.{filled_on}
 use Rattle.figures.proofs.Writing.{nothing, called, two}
 use Rattle.figures.specs.Parts.{filled}
 use lib.Seq.{take_all}
-use Prim.Native.Nat.{◌-◌}
 use Rattle.figures.proofs.put_filled.Goals as goal
 
 pub loop-i-init : goal.loop-i-init

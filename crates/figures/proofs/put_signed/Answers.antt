@@ -1,5 +1,4 @@
 -- `put_signed` puts a minus sign in front where the number is negative. Assumes nothing.
--- `put_signed` puts a minus sign in front where the number is negative. Assumes nothing.
 use borrow.Author.Tests.{lt-ltb, le-ltb}
 use Rattle.figures.proofs.Writing.{called, two}
 use Rattle.figures.proofs.put_signed.Goals as goal

@@ -1,6 +1,6 @@
+-- `put_times` puts one byte again and again. Assumes nothing.
 use borrow.Author.Rules.{rules}
 use Rattle.figures.proofs.Writing.{nothing, again, counted}
-use Prim.Native.Nat.{◌-◌}
 use Rattle.figures.proofs.put_times.Goals as goal
 
 pub loop-i-init : goal.loop-i-init

@@ -1,6 +1,6 @@
+-- `same` compares byte by byte. Assumes nothing.
 use borrow.Author.Rules.{rules}
 use Rattle.figures.proofs.Bytes.{lengths_differ, same-on, same_not, same_end}
-use Prim.Native.Nat.{◌-◌}
 use Rattle.figures.proofs.same.Goals as goal
 
 pub returns-then-s-t : goal.returns-then-s-t

@@ -1,4 +1,4 @@
-use Prim.Native.Nat.{◌-◌}
+-- A line for each register. Assumes nothing.
 use mathlib.Core.Path.{ap}
 use lib.Seq.{take_all}
 use borrow.Author.Rules.{rules}

@@ -1,5 +1,5 @@
+-- `start` goes word by word. Assumes nothing.
 use Rattle.settings.proofs.Going.{word_on, words-end}
-use Prim.Native.Nat.{◌-◌}
 use borrow.Author.Rules.{rules}
 use Rattle.settings.proofs.start.Goals as goal
 

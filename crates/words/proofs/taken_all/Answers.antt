@@ -1,5 +1,5 @@
+-- `taken_all` takes word by word. Assumes nothing.
 use Rattle.words.proofs.Going.{word_on, words-end}
-use Prim.Native.Nat.{◌-◌}
 use Rattle.words.proofs.taken_all.Goals as goal
 
 pub loop-n-init : goal.loop-n-init
