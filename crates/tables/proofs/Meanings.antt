@@ -1,19 +1,18 @@
 -- Packed meanings: what was packed comes out, one name's meaning is read or set without the others, and what rules ask is told by the packed number.
 use mathlib.Core.Path.{◌≡◌, refl, sym, ap, ap₂, ◌∙◌}
-use mathlib.Core.Bool.{Bool, true, false, not, ◌&&◌, ◌||◌}
+use mathlib.Core.Bool.{true, false, ◌||◌}
 use mathlib.Core.List.{List, [], ◌∷◌}
-use Prim.Native.Nat.{ℕ, zero, suc, ◌+◌, ◌*◌, ◌/◌, ◌%◌, ◌≤◌, ◌<◌}
+use Prim.Native.Nat.{ℕ, zero, suc, ◌+◌, ◌*◌, ◌≤◌, ◌<◌}
 use native.Mathlib.Omega.{arith}
 use native.Mathlib.Nat.{add-zero, zero-add}
 use lib.Dec.{eqb, leb}
 use lib.ListN.{get_or, set, length}
 use lib.Seq.{get_or-set_same, get_or-set_other}
 use borrow.Author.Tests.{eqb-true, ne_eqb, le-leb}
-use Rattle.base.specs.Choose.{choose, if◌then◌else◌}
 use Rattle.base.proofs.Tests.{cases, by-test, never_true}
 use Rattle.grammar.specs.Tree.{Width, full, short, byte}
 use Rattle.static_rules.specs.Meaning.{Meaning, nothing, register, cell, routine, function, Based, register_of, is_full, is_half, is_byte, is_long}
-use Rattle.tables.specs.Packed.{REGISTER, ROUTINE, CELL, ARRAY, FUNCTION, SORTS, WIDTHS, low, packed, sort_in, number_in, is_register_in, is_routine_in, is_array_in, is_cell_in, is_function_in, width_number_in, is_full_in, width_by, based_in, cell_in, unpacked, meanings_from, meanings_of, register_in, long_in, packed_at}
+use Rattle.tables.specs.Packed.{REGISTER, ROUTINE, CELL, ARRAY, FUNCTION, SORTS, WIDTHS, low, packed, sort_in, number_in, is_register_in, is_routine_in, is_array_in, is_cell_in, is_function_in, width_number_in, width_by, based_in, cell_in, unpacked, meanings_from, meanings_of, register_in, long_in}
 
 pub low-low : (v : ℕ) → low (low v) ≡ low v
 unfolding low
