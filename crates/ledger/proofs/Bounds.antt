@@ -1,21 +1,20 @@
 -- A program's tape is one that there is room for (`program-narrow`, `program-nested`); what that says at an event of a loop.
-use mathlib.Core.Path.{◌≡◌, refl, sym, ap, subst, ◌∙◌}
+use mathlib.Core.Path.{◌≡◌, refl, sym, ap, ◌∙◌}
 use mathlib.Core.List.{List, [], ◌∷◌}
 use mathlib.Core.Bool.{Bool, true, false, ◌||◌}
 use mathlib.Core.Option.{Option, none, some}
-use Prim.Native.Nat.{ℕ, zero, suc, ◌+◌, ◌-◌, ◌/◌, ◌%◌, ◌≤◌, ◌<◌}
+use Prim.Native.Nat.{ℕ, suc, ◌+◌, ◌/◌, ◌%◌, ◌≤◌, ◌<◌}
 use native.Mathlib.Omega.{arith}
 use native.Mathlib.Numerals.{add-one}
 use lib.Dec.{eqb}
 use lib.ListN.{length, get_or, drop}
 use lib.Seq.{drop-cons}
-use Rattle.base.specs.Lists.{All}
 use Rattle.base.proofs.Lists.{all_get_d}
 use Rattle.base.proofs.Tests.{never_true}
 use Rattle.base.proofs.Numbers.{one_less}
-use Rattle.grammar.specs.Tree.{Designator, Operand, Sign, plain, abs, neg, neg_abs, Term, Assignment, Width, Register, Item, Declaration, registers, cells, base, Statement, assign, call, apply, block, goto, null, if_then, if_else, while, for, choose, Body, declare, procedure, items, Items, ended, label, item, Choices, over, choice}
+use Rattle.grammar.specs.Tree.{Designator, Operand, Sign, plain, abs, neg, neg_abs, Assignment, Width, Item, Declaration, registers, cells, base, Statement, assign, call, apply, block, goto, null, if_then, if_else, while, for, choose, Body, declare, procedure, items, Items, ended, label, item, Choices, over, choice}
 use Rattle.grammar.specs.Derives.{is_program, is_register, nesting_of, body_nesting, items_nesting, choices_nesting}
-use Rattle.grammar.specs.Events.{Edge, opened, closed, entered, left, Route, labelled, sent, Entry, named, celled, itemed, valued, based, Event, edge, route, entry, phrase, mark, aimed, driven, signed, given, joined, tested, limited, called, applied, argued, counted, chosen, looped, ended_if, otherwise, ended_else, ended_while, ended_for, listed, ended_choice, ended_case, each, events_value, events_item, events_register, events_declaration, events_sign, events_term, events_chain, events_arguments, choices_count, events_statement, events_body, events_items, events_choices, events_of}
+use Rattle.grammar.specs.Events.{opened, closed, entered, left, labelled, sent, named, celled, itemed, valued, based, Event, edge, route, entry, phrase, mark, aimed, driven, signed, given, joined, tested, limited, called, applied, argued, counted, chosen, looped, ended_if, otherwise, ended_else, ended_while, ended_for, listed, ended_choice, ended_case, each, events_value, events_item, events_register, events_declaration, events_sign, events_term, events_chain, events_arguments, choices_count, events_statement, events_body, events_items, events_choices, events_of}
 use Rattle.grammar.specs.Places.{Place, after}
 use Rattle.grammar.specs.Texts.{Stands, Text}
 use Rattle.grammar.proofs.Texts.{program-text, text-rises}

@@ -1,9 +1,9 @@
 -- The columns of the first rows, and of zeros. Assumes nothing.
-use mathlib.Core.Path.{◌≡◌, sym, ap, ◌∙◌}
+use mathlib.Core.Path.{◌≡◌, sym, ◌∙◌}
 use mathlib.Core.List.{List}
-use Prim.Native.Nat.{ℕ, zero, suc, ◌+◌, ◌*◌, ◌/◌, ◌≤◌, ◌<◌}
+use Prim.Native.Nat.{ℕ, ◌+◌, ◌*◌, ◌/◌, ◌≤◌, ◌<◌}
 use native.Mathlib.Omega.{arith}
-use lib.ListN.{get_or, take, length, replicate, length-take, length-replicate}
+use lib.ListN.{get_or, take, length, replicate, length-replicate}
 use lib.Seq.{length-take-le, get_or-take, ext_get_or}
 use Rattle.base.proofs.Lists.{zeros-at}
 use Rattle.ledger.specs.Book.{wide_of, thin_of, wide_column, thin_column}

@@ -8,9 +8,8 @@ use Rattle.ledger.specs.Book.{Wide, Thin}
 use Rattle.emit.specs.declared.Use.{Use}
 use Rattle.emit.specs.declared.Use.TheVariants.{Absent, Held, Number, Stored}
 use Rattle.emit.specs.declared.Writing.{Writing}
-use Rattle.emit.specs.declared.Past.{Past}
-use Rattle.emit.specs.Events.{no_writing}
-use Rattle.emit.specs.Along.{past_in}
+use Rattle.emit.specs.Codes.{list_of, code_sizes}
+use Rattle.emit.specs.Events.{no_writing, table_bytes, writing_in, codes_in}
 use Rattle.listing.specs.declared.Span.{Span}
 
 -- from its first token to its last, by its shape: a name, name(number), name(name), name(number)(name), or a number
@@ -53,12 +52,14 @@ abbrev pub spanning_of : ℕ → Writing → (target span : Span) → Spanning
 spanning_of at w target span = record { at = at; writing = w; target = target; span = span }
 
 module _ (address : ℕ) (kinds : List ℕ) (w : Wide) (b : Thin) where
+  abbrev pub behind : (op t : ℕ) → Spanning → ℕ
+  behind op t s = s.at + (code_sizes (list_of (codes_in kinds w b op t s.writing)) + table_bytes (family_at op) s.writing)
+
   unfoldable pub span_event : (op t : ℕ) → Spanning → Spanning
   span_event op t s =
-      let past : Past = past_in kinds w b op t s.at s.writing in
       let own : Span = span_of t (form_at op) in
-      spanning_of past.at past.writing (target_after (family_at op) own s.target)
-      (span_after address s.at past.at (operand_by (family_at op) s.writing.aim own s.target) s.span)
+      spanning_of (behind op t s) (writing_in w b op t s.writing) (target_after (family_at op) own s.target)
+      (span_after address s.at (behind op t s) (operand_by (family_at op) s.writing.aim own s.target) s.span)
 
   -- along a whole tape
   unfoldable pub span_along : List ℕ → Span

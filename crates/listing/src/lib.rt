@@ -15,7 +15,7 @@ ghost use Rattle.listing.specs.Cells.{nowhere as nowhere_of, site_named};
 ghost use Rattle.listing.specs.Operands.{no_span, span_of, stores as stores_of, target_after, operand_by, span_after, span_along, reach as reach_of};
 ghost use Rattle.listing.specs.Seeing.{sited_in, sites_in, Shows, LooksOn, LooksAt, Sees};
 
-use emit::{Use, Writing, passed};
+use emit::{Use, Writing, size, table_size};
 use ledger::{mean, offset, under, value};
 use settled::{FIRST_TOKEN, MORE_ROWS, TEXT_LIMIT, place_of};
 use tables::{element_size, is_array, is_cell, number};
@@ -174,14 +174,15 @@ fn span_along(tape: &[u32], kinds: &[u8], wide: &[u64], thin: &[u16], address: u
         let e = tape[i];
         let op = tape::op(e);
         let t = tape::token(e);
-        let behind = passed(kinds, wide, thin, op, t, p, w);
-        let q = behind.at;
+        let made = emit::event(kinds, wide, thin, op, t, w);
+        let codes = made.codes;
+        let q = p + (size(codes) + table_size(op, w));
         let aim = w.aim;
         let family = tape::family(op);
         let own = span_at(t, tape::form(op));
         span = span_after(address, p, q, operand_by(family, aim, own, target), span);
         target = target_after(family, own, target);
-        let next = behind.writing;
+        let next = made.writing;
         w = next;
         p = q;
         i += 1;

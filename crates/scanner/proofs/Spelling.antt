@@ -1,6 +1,6 @@
 -- Bytes as digits: the classes of bytes are the digits to the bases 10, 16 and 36, a name's key is
 -- never cut off, and what digits at the front make. Assumes nothing.
-use Prim.Native.Nat.{ℕ, ◌+◌, ◌-◌, ◌*◌, ◌^◌, ◌≤◌, ◌<◌, min}
+use Prim.Native.Nat.{ℕ, ◌+◌, ◌*◌, ◌^◌, ◌≤◌, ◌<◌, min}
 use mathlib.Core.Path.{◌≡◌, refl, sym, ap, ◌∙◌}
 use mathlib.Core.Bool.{Bool, true, false, and-false, beq}
 use mathlib.Core.List.{List}

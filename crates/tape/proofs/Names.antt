@@ -1,24 +1,22 @@
 -- The names at an event of a tape are those of the event that it is (`declares-at`, `uses-at`).
-use mathlib.Core.Path.{◌≡◌, refl, ap, sym, subst, ◌∙◌}
+use mathlib.Core.Path.{◌≡◌, refl, ◌∙◌}
 use mathlib.Core.List.{List, [], ◌∷◌, ◌++◌}
-use mathlib.Core.Bool.{Bool, true, false, ◌||◌}
+use mathlib.Core.Bool.{false}
 use mathlib.Core.Option.{Option, none, some}
-use Prim.Native.Nat.{ℕ, ◌+◌, ◌-◌, ◌%◌, ◌<◌}
+use Prim.Native.Nat.{ℕ, ◌+◌, ◌-◌}
 use native.Mathlib.Omega.{arith}
-use lib.Dec.{T, eqb}
-use borrow.Author.Tests.{eqb-true}
-use Rattle.base.proofs.Tests.{cases}
-use Rattle.grammar.specs.Tree.{Designator, Operand, number, place, Sign, plain, abs, neg, neg_abs, Condition, compared, bare}
-use Rattle.grammar.specs.Derives.{is_designator, is_operand, is_condition}
+use lib.Dec.{eqb}
+use Rattle.grammar.specs.Tree.{Operand, number, place, Sign, plain, abs, neg, neg_abs, Condition, compared, bare}
+use Rattle.grammar.specs.Derives.{is_operand, is_condition}
 use Rattle.grammar.specs.Pinned.{head_of, ShapePinned, DesignatorPinned}
 use Rattle.grammar.proofs.Pinned.{pinned-designator, pinned-operand}
-use Rattle.grammar.specs.Events.{Edge, opened, closed, entered, left, Route, labelled, sent, Entry, named, celled, itemed, valued, based, Phrase, aimed, driven, signed, given, joined, tested, limited, called, applied, argued, counted, chosen, Mark, looped, otherwise, ended_if, ended_else, ended_while, ended_for, listed, ended_choice, ended_case, Event, edge, route, entry, phrase, mark, index_names, operand_names, condition_names, phrase_uses, uses, declares}
+use Rattle.grammar.specs.Events.{opened, closed, entered, left, labelled, sent, named, celled, itemed, valued, based, Phrase, aimed, driven, signed, given, joined, tested, limited, called, applied, argued, counted, chosen, looped, otherwise, ended_if, ended_else, ended_while, ended_for, listed, ended_choice, ended_case, Event, edge, route, entry, phrase, mark, index_names, operand_names, condition_names, phrase_uses, uses, declares}
 use Rattle.grammar.specs.Texts.{is_event}
 use Rattle.tape.specs.Events as E
-use Rattle.tape.specs.Tape.{shape_by, shape, width_of}
+use Rattle.tape.specs.Tape.{shape_by}
 use Rattle.tape.specs.Written.{operand_shape, sign_code, condition_code, layer_of, op_of, token_of}
-use Rattle.tape.specs.Numbers.{layer_at, form_at, family_at}
-use Rattle.tape.specs.Names.{declaring, declares_at, shape_at, uses_at}
+use Rattle.tape.specs.Numbers.{layer_at, form_at}
+use Rattle.tape.specs.Names.{declares_at, shape_at, uses_at}
 use Rattle.tape.proofs.Numbers.{by_width, other-layer}
 
 -- ── declared names ──

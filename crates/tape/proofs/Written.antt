@@ -4,13 +4,13 @@ use mathlib.Core.List.{List, [], ◌∷◌}
 use mathlib.Core.Option.{Option, none, some}
 use Prim.Native.Nat.{ℕ, ◌+◌, ◌%◌}
 use native.Mathlib.Omega.{arith}
-use Rattle.grammar.specs.Tree.{Designator, Operand, number, place, Sign, plain, abs, neg, neg_abs, Term, Assignment, Condition, compared, bare, Register, Item, Width, Declaration, registers, cells, base, Statement, assign, call, apply, block, goto, null, if_then, if_else, while, for, choose, Body, declare, procedure, items, Items, ended, label, item, Choices, over, choice}
+use Rattle.grammar.specs.Tree.{Designator, Operand, number, place, Sign, plain, abs, neg, neg_abs, Term, Assignment, Condition, compared, bare, Item, Width, Declaration, registers, cells, base, Statement, assign, call, apply, block, goto, null, if_then, if_else, while, for, choose, Body, declare, procedure, items, Items, ended, label, item, Choices, over, choice}
 use Rattle.grammar.specs.Pinned.{head_of}
-use Rattle.grammar.specs.Events.{Phrase, tested, Event, phrase, mark, ended_if, otherwise, ended_else, ended_while, each, events_value, events_item, events_register, events_declaration, events_sign, events_term, events_chain, events_arguments, events_statement, events_body, events_items, events_choices, events_of}
+use Rattle.grammar.specs.Events.{tested, Event, phrase, mark, ended_if, otherwise, ended_else, ended_while, each, events_value, events_item, events_register, events_declaration, events_sign, events_term, events_chain, events_arguments, events_statement, events_body, events_items, events_choices, events_of}
 use Rattle.grammar.specs.Places.{Place, after, after_all, along, Along}
 use Rattle.grammar.specs.Contexts.{Context, context_after, Complete, Suits, Coherent}
 use Rattle.tape.specs.Events as E
-use Rattle.tape.specs.Tape.{event, shape, tape_designator, tape_operand, tape_condition, tape_sign, tape_each, tape_term, tape_assignment, tape_value, tape_item, tape_register, cells_event, tape_declaration, tape_argument, tape_statement, tape_body, tape_items, tape_choices}
+use Rattle.tape.specs.Tape.{event, tape_designator, tape_operand, tape_condition, tape_sign, tape_each, tape_term, tape_assignment, tape_value, tape_item, tape_register, tape_declaration, tape_argument, tape_statement, tape_body, tape_items, tape_choices}
 use Rattle.tape.specs.Pass.{pass}
 use Rattle.tape.specs.Written.{operand_shape, op_of, token_of, tape_of}
 use Rattle.tape.proofs.Pass.{pass-none, pass-event}

@@ -1,6 +1,5 @@
 use Rattle.ledger.proofs.Clearing.{thin-starts, thin-turns, thin-ends}
 use native.Mathlib.Omega.{arith}
-use Prim.Native.Nat.{◌-◌}
 use mathlib.Core.Path.{refl, ◌∙◌}
 use Rattle.ledger.proofs.clear_thin.Goals as goal
 

@@ -1,6 +1,5 @@
 use Rattle.ledger.proofs.Clearing.{wide-starts, wide-turns, wide-ends}
 use native.Mathlib.Omega.{arith}
-use Prim.Native.Nat.{◌-◌}
 use mathlib.Core.Path.{refl, ◌∙◌}
 use Rattle.ledger.proofs.clear_wide.Goals as goal
 

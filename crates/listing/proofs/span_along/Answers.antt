@@ -1,5 +1,6 @@
 use borrow.Author.Rules.{rules}
-use mathlib.Core.Path.{ap}
+use Prim.Native.Nat.{◌+◌, ◌-◌, ℕ}
+use mathlib.Core.Path.{ap, ap₂}
 use native.Mathlib.Omega.{arith}
 use Rattle.tape.proofs.Pass.{pass-end}
 use Rattle.ledger.specs.Book.{wide_of, thin_of}
@@ -11,12 +12,16 @@ pub loop-i-init : goal.loop-i-init
 loop-i-init c =
     (search rules, search rules, rw (c.no_span-target.ensures, c.no_span-span.ensures))
 
-pub passed-behind-requires : goal.passed-behind-requires
-passed-behind-requires c =
+pub overflow_add-q : goal.overflow_add-q
+overflow_add-q c =
+    omega (arith, c.table_size.ensures.1, c.size.ensures.1)
+
+pub overflow_add-q-in-loop-i : goal.overflow_add-q-in-loop-i
+overflow_add-q-in-loop-i c =
     let b = c.loop-i.invariant.1 in
     let h = c.loop-i-test.true in
     let n = c.requires in
-    (search rules, omega arith)
+    omega (arith, c.table_size.ensures.1, c.size.ensures.1)
 
 pub overflow_add-i : goal.overflow_add-i
 overflow_add-i c =
@@ -30,9 +35,9 @@ pub loop-i-preserved : goal.loop-i-preserved
 loop-i-preserved c =
     let a = c.args in let l = c.loop-i in let op = c.op-op in let t = c.token-t in (
       omega arith,
-      omega (arith, l.invariant.1, c.passed-behind.ensures.1),
+      omega (arith, l.invariant.1, c.size.ensures.1, c.table_size.ensures.1),
       span-turn a.address a.kinds.now (wide_of a.wide.now) (thin_of a.thin.now) op.result t.result l.p l.w l.target l.span a.tape.now
-          l.i c.loop-i-test.true op.ensures.0 t.ensures.0 c.passed-behind.ensures.0 c.family-family.ensures
+          l.i c.loop-i-test.true op.ensures.0 t.ensures.0 c.event-made.ensures (ap₂ (λ (x y : ℕ). x + y) c.size.ensures.0 c.table_size.ensures.0) c.family-family.ensures
           c.form.ensures.0 c.span_at-own.ensures c.operand_by.ensures c.span_after-span.ensures
           c.target_after-target.ensures l.invariant.2,
     )

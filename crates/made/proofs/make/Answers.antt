@@ -38,13 +38,13 @@ pub deliver-requires : goal.deliver-requires
 deliver-requires c = (
   omega (
     arith,
-    cut-long c.write_code-e.result.length segment_limit c.write_code-e.new.1.1.1.1.1.0 c.if-size-gt-SEGMENT_LIMIT.false
+    cut-long c.write_code-e.result.length segment_limit c.write_code-e.new.image c.if-size-gt-SEGMENT_LIMIT.false
         (c.write_code-e.auto.image ∙ zeros-long),
     c.if-size-gt-SEGMENT_LIMIT.false,
   ),
   omega (
     arith,
-    length-take c.write_code-e.result.literals c.write_code-e.new.1.1.1.1.1.1.0,
+    length-take c.write_code-e.result.literals c.write_code-e.new.literals,
     c.if-from-count-gt-SEGMENT_LIMIT.false,
   ),
   c.requires.1,

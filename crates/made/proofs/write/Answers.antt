@@ -32,7 +32,7 @@ slice_bounds-write_object-end-3 c =
 
 pub write_object-requires : goal.write_object-requires
 write_object-requires c =
-    write-fits c.args.code.now c.lay_literals.new.0 c.fill-2.new.1.1.1.0 c.fill-3.new.1.1.1.0 c.args.out.now c.args.s.bases c.args.last c.args.s.two c.args.s.three (
+    write-fits c.args.code.now c.lay_literals.new.image c.fill-2.new.image c.fill-3.new.image c.args.out.now c.args.s.bases c.args.last c.args.s.two c.args.s.three (
       c.requires.0,
       cut-long c.args.last
           segment_limit _ c.requires.2 (c.lay_literals.auto.image ∙ (c.fill.auto.image ∙ zeros-long)),

@@ -1,9 +1,7 @@
-use Prim.Native.Nat.{◌-◌}
 use mathlib.Core.Path.{sym, ◌∙◌}
 use native.Mathlib.Omega.{arith}
 use borrow.Author.Rules.{rules}
 use Rattle.base.proofs.Runs.{run_on, run-stop, run_end}
-use Rattle.scanner.specs.Inner.{in_class}
 use Rattle.scanner.proofs.run.Goals as goal
 
 pub loop-i-init : goal.loop-i-init

@@ -17,10 +17,10 @@ translate_read-requires c = (
 
 pub returns-in-Read : goal.returns-in-Read
 returns-in-Read c =
-    let f = read_fits {wide' = c.read-tokens.new.1.1.0} c.requires c.read-tokens.ensures.0 c.read-tokens.auto.kinds c.read-tokens.auto.wide c.in-Read.is in
+    let f = read_fits {wide' = c.read-tokens.new.wide} c.requires c.read-tokens.ensures.0 c.read-tokens.auto.kinds c.read-tokens.auto.wide c.in-Read.is in
     text-read _ _ _ _ c.read-tokens.ensures.0 _ c.in-Read.is _ _ _ _ _
-    (wide-take 0 (first_token + c.in-Read.n) c.read-tokens.new.1.1.0 (omega arith) f.for-wide)
-    (cut-blanks c.args.src.now _ c.read-tokens.ensures.0.is _ c.in-Read.is c.args.wide.now c.read-tokens.new.1.1.0 c.args.thin.now
+    (wide-take 0 (first_token + c.in-Read.n) c.read-tokens.new.wide (omega arith) f.for-wide)
+    (cut-blanks c.args.src.now _ c.read-tokens.ensures.0.is _ c.in-Read.is c.args.wide.now c.read-tokens.new.wide c.args.thin.now
     c.requires.no-wide c.requires.no-thin c.read-tokens.ensures.1 c.read-tokens.auto.wide (omega (arith, f.for-wide, c.read-tokens.auto.wide)) f.for-thin)
     c.translate_read.ensures
 

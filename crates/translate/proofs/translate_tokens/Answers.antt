@@ -31,7 +31,7 @@ translate_tape-requires c =
       c.requires.0,
       omega (
         arith,
-        length-take c.program-p.result.value c.program-p.new.1.1.0,
+        length-take c.program-p.result.value c.program-p.new.tape,
         c.program-p.ensures.few,
         c.requires.2,
       ),
@@ -58,5 +58,5 @@ shape_of-out c =
 
 pub returns : goal.returns
 returns c =
-    λ ek ev small bs. some-program (all_tokens c.args.src.now) c.args.kinds.now c.program-p.new.1.1.0 c.program-p.result c.program-p.ensures c.if-number-ne0.false (wide_of c.args.wide.now).values c.args.out.now _ _ ek ev small (λ x t.
+    λ ek ev small bs. some-program (all_tokens c.args.src.now) c.args.kinds.now c.program-p.new.tape c.program-p.result c.program-p.ensures c.if-number-ne0.false (wide_of c.args.wide.now).values c.args.out.now _ _ ek ev small (λ x t.
     c.translate_tape.ensures x t ek bs)
