@@ -2,14 +2,14 @@
 use mathlib.Core.Path.{◌≡◌, refl, ap, sym, ◌∙◌}
 use mathlib.Core.List.{List, [], ◌∷◌, ◌++◌}
 use mathlib.Core.Bool.{Bool, true, false}
-use mathlib.Core.Option.{Option, none, some}
-use Prim.Native.Nat.{ℕ, ◌+◌, ◌-◌, ◌%◌}
+use mathlib.Core.Option.{none, some}
+use Prim.Native.Nat.{ℕ}
 use lib.Dec.{eqb, ltb}
 use Rattle.base.specs.Choose.{choose}
 use Rattle.grammar.specs.Tree.{Statement, full, short, byte}
 use Rattle.grammar.specs.Derives.{is_program}
 use Rattle.grammar.specs.Events.{opened, closed, entered, left, labelled, sent, named, celled, itemed, valued, based, Event, edge, route, entry, phrase, mark, events_of}
-use Rattle.grammar.specs.Places.{within, body, Place, after, along}
+use Rattle.grammar.specs.Places.{within, body, Place, after}
 use Rattle.grammar.specs.Texts.{Fits, Stands}
 use Rattle.grammar.proofs.Texts.{program-text, text-stands}
 use Rattle.tape.specs.Events as E
@@ -17,7 +17,7 @@ use Rattle.tape.specs.Tape.{tape_statement}
 use Rattle.tape.specs.Pass.{pass}
 use Rattle.tape.specs.Numbers.{EDGE, ENTRY, layer_at, family_at}
 use Rattle.tape.specs.Written.{layer_of, op_of, token_of}
-use Rattle.tape.specs.Names.{declaring, declares_at, shape_at, index_after, place_at, register_at, uses_at}
+use Rattle.tape.specs.Names.{declaring, declares_at, shape_at, place_at, register_at, uses_at}
 use Rattle.tape.proofs.Numbers.{other-layer}
 use Rattle.tape.proofs.Names.{declares-at, uses-at}
 use Rattle.tape.proofs.Written.{tree-tape, follows}

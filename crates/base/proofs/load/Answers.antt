@@ -1,3 +1,4 @@
+-- `load` reads the number in n bytes. Assumes nothing.
 use native.Mathlib.Omega.{arith}
 use borrow.Author.Rules.{rules}
 use Rattle.base.proofs.Numbers.{load-turn, load-end, byte-on, some-room, fewer_bytes}

@@ -1,3 +1,4 @@
+-- `store` lays the low bytes of a number, the last first. Assumes nothing.
 use borrow.Author.Rules.{rules}
 use Rattle.base.proofs.Numbers.{store-turn, store-end}
 use Rattle.base.proofs.store.Goals as goal

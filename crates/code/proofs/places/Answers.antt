@@ -1,3 +1,4 @@
+-- `places` is the pass. Assumes nothing.
 use Rattle.code.proofs.Placing.{places-turn}
 use Rattle.code.specs.Places.{kept, Placing, placing_of, places_along, on_marks, place_step}
 use Rattle.emit.specs.declared.Past.{Past}

@@ -1,3 +1,4 @@
+-- `write_code` is the pass, and the last instruction. Assumes nothing.
 use Rattle.code.proofs.Holding.{holds-first, tape-turn, tape-end}
 use Rattle.code.specs.Coding.{laid_of}
 use Rattle.ledger.specs.Book.{wide_of, thin_of}

@@ -5,9 +5,6 @@ use Rattle.emit.proofs.Tables.{mask-past}
 use Rattle.translation.specs.Instructions.{false_mask}
 use Rattle.emit.proofs.false_mask.Goals as goal
 
--- LEFT array-read-wide : tie.Need-array-read-wide
--- LEFT array-read-wide c = search rules
-
 pub returns-then-i-lt7 : goal.returns-then-i-lt7
 unfolding false_mask
 returns-then-i-lt7 c =

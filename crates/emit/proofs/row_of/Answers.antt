@@ -7,9 +7,6 @@ use borrow.Author.Rules.{rules}
 use Rattle.emit.specs.Codes.{code_rows}
 use Rattle.emit.proofs.row_of.Goals as goal
 
--- LEFT array-read-result : tie.Need-array-read-result
--- LEFT array-read-result c = search rules
-
 pub returns : goal.returns
 returns c =
     let found = c.index_of-i.ensures in

@@ -5,9 +5,6 @@ use Rattle.emit.proofs.Tables.{shift_past}
 use Rattle.translation.specs.Instructions.{shift_code}
 use Rattle.emit.proofs.shift_code.Goals as goal
 
--- LEFT array-read-wide : tie.Need-array-read-wide
--- LEFT array-read-wide c = search rules
-
 pub returns-then-i-lt4 : goal.returns-then-i-lt4
 unfolding shift_code
 returns-then-i-lt4 c =

@@ -3,9 +3,6 @@ use mathlib.Core.Path.{refl}
 use Rattle.objtext.specs.Object.{hex_digit}
 use Rattle.frames.proofs.digit.Goals as goal
 
--- LEFT array-read-result : tie.Need-array-read-result
--- LEFT array-read-result c = search rules
-
 pub returns : goal.returns
 unfolding hex_digit
 returns c =

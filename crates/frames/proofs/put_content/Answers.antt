@@ -1,3 +1,4 @@
+-- `put_content` lays a frame after the other. Assumes nothing.
 use native.Mathlib.Omega.{arith}
 use lib.ListN.{length}
 use borrow.Author.Rules.{rules}

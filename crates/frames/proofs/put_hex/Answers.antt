@@ -1,3 +1,4 @@
+-- `put_hex` lays two digits a byte. Assumes nothing.
 use native.Mathlib.Omega.{arith}
 use lib.ListN.{length-set}
 use borrow.Author.Rules.{rules}

@@ -1,13 +1,6 @@
 -- A row of the table is the definition's; past it there is no function.
-use borrow.Author.Rules.{rules}
 use Rattle.functions.proofs.Table as table
 use Rattle.functions.proofs.column.Goals as goal
-
--- LEFT index-1-result : tie.Need-bounds-1-result
--- LEFT index-1-result c = search rules
-
--- LEFT index-2-result : tie.Need-bounds-2-result
--- LEFT index-2-result c = search rules
 
 pub returns-then-k-lt-FUNCTIONS : goal.returns-then-k-lt-FUNCTIONS
 returns-then-k-lt-FUNCTIONS c =

@@ -1,3 +1,4 @@
+-- The loop goes along the tape as the definition's pass does, with the protected registers in the column of offsets; `Going` says what stands after i events.
 use Rattle.judge.proofs.Along.{kept-fits, few-fit, opened-fits, going, going_on, going_end}
 use mathlib.Core.Path.{refl, ◌∙◌}
 use native.Mathlib.Omega.{arith}

@@ -1,3 +1,4 @@
+-- `fill` is the pass. Assumes nothing.
 use Rattle.layout.specs.Along.{imaging_of, image_in}
 use Rattle.tape.proofs.Pass.{pass-turn, pass-end}
 use Rattle.ledger.specs.Book.{wide_of}

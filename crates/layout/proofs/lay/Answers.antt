@@ -1,3 +1,4 @@
+-- `lay` stores the low bytes, the last first. Assumes nothing.
 use borrow.Author.Rules.{rules}
 use Rattle.base.proofs.Numbers.{store-turn, store-end}
 use Rattle.layout.proofs.lay.Goals as goal

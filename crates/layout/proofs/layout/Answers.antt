@@ -1,3 +1,4 @@
+-- `layout` is the pass. Assumes nothing.
 use Rattle.layout.proofs.Along.{going, going_on, going_end, begun}
 use Rattle.ledger.specs.Book.{wide_of}
 use native.Mathlib.Omega.{arith}

@@ -1,3 +1,4 @@
+-- `clear_thin` puts 0 in row after row. Assumes nothing.
 use Rattle.ledger.proofs.Clearing.{thin-starts, thin-turns, thin-ends}
 use native.Mathlib.Omega.{arith}
 use mathlib.Core.Path.{refl, ◌∙◌}

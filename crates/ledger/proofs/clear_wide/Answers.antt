@@ -1,3 +1,4 @@
+-- `clear_wide` puts 0 in row after row. Assumes nothing.
 use Rattle.ledger.proofs.Clearing.{wide-starts, wide-turns, wide-ends}
 use native.Mathlib.Omega.{arith}
 use mathlib.Core.Path.{refl, ◌∙◌}

@@ -1,3 +1,4 @@
+-- `look_apart` hands a text to the function whose lists have room for it. Assumes nothing.
 use native.Mathlib.Omega.{arith}
 use Rattle.listing.proofs.+look_apart.Goals as goal
 

@@ -1,3 +1,4 @@
+-- `sites` goes from the last token to the first. Assumes nothing.
 use borrow.Author.Rules.{rules}
 use native.Mathlib.Omega.{arith}
 use mathlib.Core.Path.{◌≡◌, ◌∙◌}

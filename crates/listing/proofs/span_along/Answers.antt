@@ -1,3 +1,4 @@
+-- `span_along` is the pass. Assumes nothing.
 use borrow.Author.Rules.{rules}
 use Prim.Native.Nat.{◌+◌, ◌-◌, ℕ}
 use mathlib.Core.Path.{ap, ap₂}

@@ -1,3 +1,4 @@
+-- `lay_literals` stores four bytes a literal. Assumes nothing.
 use borrow.Author.Rules.{rules}
 use Prim.Native.Nat.{◌-◌}
 use mathlib.Core.Path.{refl}

@@ -1,3 +1,4 @@
+-- `meanings` passes over the tape. Assumes nothing.
 use Rattle.meanings.specs.Along.{mean_event, beginning}
 use Rattle.tape.specs.Pass.{pass}
 use Rattle.meanings.specs.Flat.{view_of, changed}

@@ -1,3 +1,4 @@
+-- Tokens 1 to 25 mean the registers and the functions. Assumes nothing.
 use native.Mathlib.Omega.{arith}
 use mathlib.Core.Path.{refl, ap, ◌∙◌}
 use Rattle.meanings.proofs.Views as views

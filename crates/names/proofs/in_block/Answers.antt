@@ -1,3 +1,4 @@
+-- `in_block` finds the newest entry with a key. Assumes nothing.
 use Rattle.names.proofs.Search.{hit, miss, out}
 use native.Mathlib.Omega.{arith}
 use mathlib.Core.Path.{refl, sym}

@@ -2,17 +2,16 @@
 -- stands in them before the event's tokens stays, but for the newest labels of the open blocks (`kept`).
 use mathlib.Core.Path.{◌≡◌, refl, ap, sym, ◌∙◌}
 use mathlib.Core.List.{List, [], ◌∷◌}
-use mathlib.Core.Bool.{◌||◌, false}
-use Prim.Native.Nat.{ℕ, zero, suc, ◌+◌, ◌%◌, ◌≤◌, ◌<◌}
+use mathlib.Core.Bool.{false}
+use Prim.Native.Nat.{ℕ, zero, suc, ◌≤◌, ◌<◌}
 use native.Mathlib.Omega.{arith}
 use lib.Dec.{eqb}
 use lib.ListN.{length, get_or, set, length-set}
 use lib.Seq.{get_or-set_same, get_or-set_other}
 use borrow.Author.Tests.{lt-ltb}
 use Rattle.base.specs.Lists.{All}
-use Rattle.base.proofs.Tests.{by-test}
 use Rattle.grammar.specs.Events.{Edge, opened, closed, entered, left, Route, labelled, sent, Entry, Event, edge, route, entry, phrase, mark}
-use Rattle.grammar.specs.Places.{Block, within, body, Place, enter_entry, after}
+use Rattle.grammar.specs.Places.{within, body, Place, enter_entry, after}
 use Rattle.grammar.specs.Texts.{InBlock, EdgeFits, RouteFits, Stands, Text}
 use Rattle.grammar.proofs.Texts.{text-rises}
 use Rattle.tape.specs.Pass.{pass}

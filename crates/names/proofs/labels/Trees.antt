@@ -1,22 +1,20 @@
 -- On the tape of a program labelling is what the definition says of it. The finished chains hold, for each block that is open at an event, all its labels.
 use mathlib.Core.Path.{◌≡◌, refl, ap, sym, subst, ◌∙◌}
 use mathlib.Core.List.{List, [], ◌∷◌}
-use mathlib.Core.Bool.{Bool, false}
-use Prim.Native.Nat.{ℕ, ◌+◌, ◌%◌, ◌≤◌, ◌<◌}
+use mathlib.Core.Bool.{false}
+use Prim.Native.Nat.{ℕ, ◌≤◌, ◌<◌}
 use native.Mathlib.Omega.{arith}
 use lib.Dec.{eqb}
 use lib.ListN.{length, get_or, set}
 use lib.Seq.{get_or-set_same, get_or-set_other}
-use Rattle.base.specs.Lists.{All}
 use Rattle.grammar.specs.Tree.{Statement}
 use Rattle.grammar.specs.Derives.{is_program}
 use Rattle.grammar.specs.Events.{Edge, opened, closed, entered, left, Route, labelled, sent, Entry, Event, edge, route, entry, phrase, mark, events_of}
-use Rattle.grammar.specs.Places.{Block, within, body, Place, enter_entry, after, after_all, along, Along}
+use Rattle.grammar.specs.Places.{within, body, Place, enter_entry, after, after_all, Along}
 use Rattle.grammar.specs.Texts.{InBlock, EdgeFits, RouteFits, Stands, Text}
 use Rattle.grammar.proofs.Texts.{program-text, text-rises}
 use Rattle.grammar.proofs.Places.{after-statement}
 use Rattle.tape.specs.Tape.{tape_statement}
-use Rattle.tape.specs.Pass.{pass}
 use Rattle.tape.specs.Events as E
 use Rattle.tape.specs.Numbers.{EDGE, ROUTE, layer_at}
 use Rattle.tape.specs.Written.{layer_of, op_of, token_of}

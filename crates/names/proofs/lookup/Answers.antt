@@ -1,3 +1,4 @@
+-- `lookup` finds the declaration that a key means. Assumes nothing.
 use Rattle.names.proofs.Search.{hit, miss, out, find-in, find-end}
 use native.Mathlib.Omega.{arith}
 use mathlib.Core.Path.{refl, sym, ◌∙◌}

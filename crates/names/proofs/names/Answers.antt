@@ -1,8 +1,8 @@
+-- `names` passes over the tape. Assumes nothing.
 use Rattle.names.proofs.Along.{going, roomy, going_on, going_end}
 use Rattle.ledger.proofs.Bounds.{narrow_at}
 use native.Mathlib.Omega.{arith}
 use mathlib.Core.Path.{◌∙◌}
-use Prim.Native.Nat.{◌-◌}
 use Rattle.names.proofs.names.Goals as goal
 
 pub open_around-b-requires : goal.open_around-b-requires

@@ -1,3 +1,4 @@
+-- `open_around` enters the standard names. Assumes nothing.
 use Rattle.names.specs.Flat.{Rising}
 use Rattle.names.proofs.Changes.{stays_on, entering, entering-on, entering-end}
 use Rattle.ledger.proofs.Columns.{thin-length}

@@ -1,3 +1,4 @@
+-- `is_content` is the definition's content. Assumes nothing.
 use borrow.Author.Rules.{rules}
 use Rattle.base.proofs.Tests.{told, not-true, not-false}
 use Rattle.objtext.proofs.Places.{frame_on, frame-stop, frame-end}

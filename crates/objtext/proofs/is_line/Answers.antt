@@ -1,3 +1,4 @@
+-- `is_line` is the definition's line. Assumes nothing.
 use borrow.Author.Rules.{rules}
 use Rattle.objtext.proofs.Places.{line_on, line-stop, line-end}
 use Rattle.objtext.proofs.is_line.Goals as goal

@@ -1,3 +1,4 @@
+-- `read` counts the segments. Assumes nothing.
 use Prim.Native.Nat.{◌-◌}
 use borrow.Author.Rules.{rules}
 use Rattle.base.proofs.Tests.{told, not-true, not-false}

@@ -1,3 +1,4 @@
+-- The loop goes down the stack: none above is in the set.
 use Rattle.rules.proofs.Sorts as sorts
 use mathlib.Core.Path.{refl, sym}
 use native.Mathlib.Omega.{arith}

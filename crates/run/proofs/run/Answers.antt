@@ -1,3 +1,4 @@
+-- `run` is the definition's run. Assumes nothing.
 use borrow.Author.Rules.{rules}
 use Rattle.machine.proofs.Runs.{run_on, run-stop, run_out, run-start}
 use Rattle.run.proofs.run.Goals as goal

@@ -1,3 +1,4 @@
+-- `chart` lays the numbers of each data head over the map by page. Assumes nothing.
 use lib.ListN.{drop}
 use borrow.Author.Rules.{rules}
 use Rattle.objtext.proofs.Places.{after-program-place}

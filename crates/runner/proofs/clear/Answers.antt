@@ -1,3 +1,4 @@
+-- `clear` lays zeros from the front. Assumes nothing.
 use native.Mathlib.Omega.{arith}
 use lib.ListN.{length-set}
 use borrow.Author.Rules.{rules}

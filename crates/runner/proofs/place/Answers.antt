@@ -1,3 +1,4 @@
+-- `place` lays the program and then each data segment. Assumes nothing.
 use native.Mathlib.Omega.{arith}
 use lib.ListN.{drop}
 use lib.Seq.{length-sets}

@@ -1,3 +1,4 @@
+-- `table` enters each word. Assumes nothing.
 use mathlib.Core.Path.{◌∙◌}
 use borrow.Author.Rules.{rules}
 use Rattle.runner.proofs.Loads.{table_on, table-end, length-word, table-start}

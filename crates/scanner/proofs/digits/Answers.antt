@@ -1,3 +1,4 @@
+-- `digits` counts the digits at the front and gives their number, cut off. Assumes nothing.
 use native.Mathlib.Nat.{mul-le-mul_left}
 use native.Mathlib.Omega.{arith}
 use borrow.Author.Rules.{rules}

@@ -1,3 +1,4 @@
+-- `name` counts the characters of a name and makes its key. Assumes nothing.
 use Prim.Native.Nat.{ℕ}
 use mathlib.Core.Bool.{Bool}
 use mathlib.Core.List.{List}

@@ -1,3 +1,4 @@
+-- `next_token` passes over blanks, then over gaps, to a token, a refusal or the end. Assumes nothing.
 use Prim.Native.Nat.{ℕ}
 use mathlib.Core.Path.{◌≡◌, refl, ◌∙◌, sym, ap}
 use mathlib.Core.Bool.{true}

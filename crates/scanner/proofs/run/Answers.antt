@@ -1,3 +1,4 @@
+-- `run` counts the bytes of a class at the front. Assumes nothing.
 use mathlib.Core.Path.{sym, ◌∙◌}
 use native.Mathlib.Omega.{arith}
 use borrow.Author.Rules.{rules}

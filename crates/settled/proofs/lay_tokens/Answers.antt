@@ -1,3 +1,4 @@
+-- `lay_tokens` lays a text's tokens behind the names, to the last or to a refusal. Assumes nothing.
 use Rattle.settled.proofs.Reading.{underway-start, answered, underway-on, underway-last, underway-inside, underway-no}
 use Rattle.token.proofs.Readings.{few-tokens, ends-inside, some_bytes, has_room}
 use Rattle.token.specs.Answers.{outcome_of}

@@ -1,3 +1,4 @@
+-- `put_front` copies the names in front. Assumes nothing.
 use Rattle.settled.proofs.Laying.{lay-turn, lay-end, values-turn, values-end, front-key}
 use Rattle.translation.specs.Translate.{kinds_of, values_of}
 use Rattle.scopes.specs.Search.{in_front}

@@ -1,3 +1,4 @@
+-- `column_behind` looks for the last byte that ends a line. Assumes nothing.
 use mathlib.Core.Path.{◌≡◌, sym}
 use mathlib.Core.List.{[]}
 use native.Mathlib.Omega.{arith}

@@ -1,3 +1,4 @@
+-- `line_behind` counts along the bytes. Assumes nothing.
 use borrow.Author.Rules.{rules}
 use Rattle.base.proofs.Walk.{fold-turn, fold_end}
 use Rattle.spots.specs.Spots.{next_line}

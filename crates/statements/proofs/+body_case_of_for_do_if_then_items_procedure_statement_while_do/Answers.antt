@@ -1,3 +1,4 @@
+-- The rules that hold statements meet their contracts: one recursion, whose measure is the room for constructs. Assumes nothing.
 use Rattle.statements.proofs.Rules.{if-parts, while-parts, case-parts, for-parts, no-construct, too-deep, construct, procedure-too-deep, procedure-parts, label-kinds, label_inside, item-is, else-inside, count-over, count-one, case-name, count-all}
 use Rattle.readers.proofs.Choices.{among, is-token}
 use Rattle.phrases.specs.Parts.{tape_chosen}

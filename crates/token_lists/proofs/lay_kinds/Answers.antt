@@ -1,3 +1,4 @@
+-- `lay_kinds` lays the kinds of a text's tokens over a list, as far as there is room, as it reads them, to the last or to a refusal. Assumes nothing.
 use Prim.Native.Nat.{ℕ, ◌-◌}
 use mathlib.Core.Path.{◌≡◌, refl, sym, ap, ◌∙◌}
 use mathlib.Core.List.{List}

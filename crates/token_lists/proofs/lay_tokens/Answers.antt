@@ -1,3 +1,4 @@
+-- `lay_tokens` lays a text's tokens over five lists as it reads them, to the last or to a refusal, and counts its place along. Assumes nothing.
 use Prim.Native.Nat.{ℕ, ◌-◌, ◌≤◌}
 use mathlib.Core.Path.{◌≡◌, refl, sym, ap, ◌∙◌}
 use mathlib.Core.List.{List}

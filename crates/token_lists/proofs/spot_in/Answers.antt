@@ -1,3 +1,4 @@
+-- `spot_in` reads tokens until it comes to the one that is wanted, or to the last. Assumes nothing.
 use Prim.Native.Nat.{ℕ, ◌-◌}
 use mathlib.Core.Path.{◌≡◌, refl, sym, ap, ◌∙◌}
 use mathlib.Core.List.{List}

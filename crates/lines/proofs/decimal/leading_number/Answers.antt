@@ -1,3 +1,4 @@
+-- `leading_number` counts the digits at the front and gives their number, cut off. Assumes nothing.
 use Rattle.std.proofs.Common.{◌-◌, rules}
 use Rattle.base.proofs.Runs.{run_on, run-stop, run_end}
 use Rattle.base.proofs.Tests.{told}

@@ -1,3 +1,4 @@
+-- `in_chain` finds the first label of a chain with a key. Assumes nothing.
 use Rattle.names.proofs.labels.Chains.{after_less, hit, miss, out}
 use borrow.Author.Rules.{rules}
 use Rattle.ledger.specs.Book.{thin_of}

@@ -1,7 +1,7 @@
+-- `label_all` passes over the tape. Assumes nothing.
 use Rattle.names.proofs.labels.Along.{binding, binding-on, binding-end}
 use Rattle.ledger.proofs.Bounds.{narrow_at}
 use native.Mathlib.Omega.{arith}
-use Prim.Native.Nat.{◌-◌}
 use Rattle.names.proofs.labels.label_all.Goals as goal
 
 pub loop-i-init : goal.loop-i-init

@@ -1,7 +1,7 @@
+-- `link_all` passes over the tape. Assumes nothing.
 use Rattle.names.proofs.labels.Along.{linking, linking-on, linking-end}
 use Rattle.ledger.proofs.Bounds.{narrow_at}
 use native.Mathlib.Omega.{arith}
-use Prim.Native.Nat.{◌-◌}
 use Rattle.names.proofs.labels.link_all.Goals as goal
 
 pub loop-i-init : goal.loop-i-init

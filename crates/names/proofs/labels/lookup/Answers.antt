@@ -1,3 +1,4 @@
+-- `lookup` finds the label that a key means. Assumes nothing.
 use Rattle.names.proofs.labels.Chains.{after_less, found_in, not_in, find-end}
 use Rattle.ledger.specs.Book.{thin_of}
 use native.Mathlib.Omega.{arith}

@@ -1,6 +1,6 @@
+-- `terms` goes along the chain: whatever reads the rest reads the whole. Assumes nothing.
 use mathlib.Core.Path.{refl, ◌∙◌}
 use mathlib.Core.List.{◌∷◌}
-use Prim.Native.Nat.{◌-◌}
 use native.Mathlib.Omega.{arith}
 use borrow.Author.Rules.{rules}
 use Rattle.grammar.specs.Grammar.{terms, operators}

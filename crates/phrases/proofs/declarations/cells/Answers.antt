@@ -1,6 +1,6 @@
+-- `cells` goes along a list of items: whatever reads the rest reads the whole. Assumes nothing.
 use mathlib.Core.List.{◌∷◌}
 use mathlib.Core.Path.{refl, ◌∙◌}
-use Prim.Native.Nat.{◌-◌}
 use native.Mathlib.Omega.{arith}
 use borrow.Author.Tests.{eq-eqb, ne_eqb}
 use borrow.Author.Rules.{rules}

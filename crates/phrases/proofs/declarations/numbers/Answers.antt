@@ -1,6 +1,6 @@
+-- `numbers` goes along the initial values: whatever reads the rest reads the whole. Assumes nothing.
 use mathlib.Core.List.{◌∷◌}
 use mathlib.Core.Path.{refl, ◌∙◌}
-use Prim.Native.Nat.{◌-◌}
 use native.Mathlib.Omega.{arith}
 use borrow.Author.Tests.{eq-eqb, ne_eqb}
 use borrow.Author.Rules.{rules}

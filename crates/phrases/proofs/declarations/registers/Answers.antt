@@ -1,6 +1,6 @@
+-- `registers` goes along a list of registers: whatever reads the rest reads the whole. Assumes nothing.
 use mathlib.Core.List.{◌∷◌}
 use mathlib.Core.Path.{refl, ◌∙◌}
-use Prim.Native.Nat.{◌-◌}
 use native.Mathlib.Omega.{arith}
 use borrow.Author.Tests.{eq-eqb, ne_eqb}
 use borrow.Author.Rules.{rules}
