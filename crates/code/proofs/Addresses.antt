@@ -28,7 +28,7 @@ use Rattle.translation.specs.Code.{arm_count, head_size, size_of, arms_size}
 use Rattle.emit.specs.declared.Use.TheVariants.{Absent}
 use Rattle.emit.specs.declared.Writing.{Writing}
 use Rattle.emit.specs.Codes.{list_of, code_size, apply_code, is_absent, apply_then}
-use Rattle.emit.specs.Events.{register_at, goal_at, no_writing, written_after, step_codes, chosen_codes, other_codes, codes_of, writing_after, codes_by}
+use Rattle.emit.specs.Events.{no_writing, written_after, step_codes, chosen_codes, other_codes, codes_of, writing_after, codes_by}
 use Rattle.emit.specs.Along.{depth_after, entry_of, start_after, event_bytes, starts}
 use Rattle.code.specs.Places.{placing_of, mark_closing, mark_after, place_event}
 use Rattle.emit.proofs.Operands.{Small}

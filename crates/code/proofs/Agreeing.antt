@@ -15,12 +15,12 @@ use Rattle.base.specs.Lists.{◌∈◌, All}
 use Rattle.base.proofs.Lists.{all_in}
 use Rattle.grammar.specs.Tree.{Assignment, Condition, compared, bare, Declaration, registers, cells, base, Statement, assign, call, apply, block, goto, null, if_then, if_else, while, for, choose, Body, declare, procedure, items, Items, ended, label, item, Choices, over, choice}
 use Rattle.grammar.specs.Derives.{is_condition, is_register}
-use Rattle.grammar.specs.Events.{Route, labelled, sent, Entry, named, celled, itemed, valued, based, Phrase, aimed, driven, signed, given, joined, tested, limited, called, Event, edge, route, entry, phrase, mark, entry_declares, labels_onto, labels_of, events_declaration, events_chain, choices_count, events_statement, events_body, events_items, events_choices, events_of}
-use Rattle.grammar.specs.Places.{Block, within, Place, enter_name, enter_label, after, after_all, Along}
+use Rattle.grammar.specs.Events.{Entry, named, celled, itemed, valued, based, Event, edge, route, entry, phrase, mark, entry_declares, labels_onto, labels_of, events_declaration, events_chain, choices_count, events_statement, events_body, events_items, events_choices, events_of}
+use Rattle.grammar.specs.Places.{Block, within, Place, enter_name, enter_label, after_all, Along}
 use Rattle.grammar.specs.Texts.{Stands, Text}
 use Rattle.grammar.proofs.Kept.{keep-operand}
 use Rattle.grammar.proofs.Places.{Appends, append-chain, append-declaration, append-statement, append-body, append-choices, leave-chain, after-statement, after-choices, along-parts, IsEntry, block_after, after-entries, labels-stay, declaration-entries}
-use Rattle.grammar.proofs.Texts.{text-rises, text-parts, statement-text}
+use Rattle.grammar.proofs.Texts.{text-rises, text-parts}
 use Rattle.scopes.specs.Search.{innermost, enter, around, first_token}
 use Rattle.scopes.specs.Names.{names_in}
 use Rattle.scopes.specs.Labels.{labels_in}

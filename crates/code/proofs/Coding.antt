@@ -11,22 +11,15 @@ use lib.Seq.{sets, length-take-le, take-suc-set, get_or-take}
 use borrow.Author.Tests.{eqb-true, eqb-false, eq-eqb, ne_eqb}
 use Rattle.base.specs.Lists.{member}
 use Rattle.base.specs.Runs.{run_len, index_of}
-use Rattle.base.specs.Walk.{fold}
-use Rattle.base.proofs.Walk.{fold-turn, fold_end}
 use Rattle.base.proofs.Tests.{cases}
 use Rattle.translation.specs.Instructions.{literal}
 use Rattle.translation.specs.Layout.{needs}
 use Rattle.translation.specs.Bytes.{two_bytes, four_bytes}
 use Rattle.emit.specs.declared.Code.{Code}
 use Rattle.emit.specs.declared.Code.TheVariants.{Two, Four, Literal}
-use Rattle.emit.specs.declared.Codes.{Codes}
-use Rattle.emit.specs.declared.Writing.{Writing}
-use Rattle.emit.specs.Codes.{list_of, blank, code_size, stop_code}
-use Rattle.emit.specs.Events.{writing_after, codes_by}
+use Rattle.emit.specs.Codes.{code_size}
 use Rattle.emit.proofs.Tables.{index_on, index-stop, index-end}
-use Rattle.code.specs.Coding.{bytes_in, Laid, laid_of, code_bytes, literals_after, lay_code, lay_all, Coding, coding_of, code_event, code_along}
-use Rattle.code.specs.Places.{no_writing}
-use Rattle.tape.specs.Pass.{pass}
+use Rattle.code.specs.Coding.{bytes_in, laid_of, code_bytes, literals_after, lay_code}
 
 -- ── bytes ──
 

@@ -3,14 +3,12 @@
 use Prim.Native.Nat.{ℕ, ◌+◌, ◌/◌, ◌%◌, ◌<◌, ◌≤◌}
 use mathlib.Core.Path.{◌≡◌, refl, sym, ap, subst, ◌∙◌}
 use mathlib.Core.Logic.{◌⊎◌, inl, inr}
-use mathlib.Core.Bool.{true, false}
-use mathlib.Core.List.{List, [], ◌∷◌, ◌++◌}
+use mathlib.Core.List.{List, [], ◌∷◌}
 use native.Mathlib.Omega.{arith}
 use lib.Dec.{ltb}
 use lib.ListN.{length, length-append, take, drop, get_or, drop_of_length-le}
 use lib.Seq.{length-take-le}
 use borrow.Author.Tests.{ltb-true, ltb-false}
-use Rattle.base.specs.Choose.{if◌then◌else◌}
 use Rattle.base.specs.Lists.{member}
 use Rattle.base.specs.Walk.{fold}
 use Rattle.base.proofs.Tests.{cases}
@@ -25,7 +23,7 @@ use Rattle.emit.specs.declared.Codes.{Codes}
 use Rattle.emit.specs.declared.Writing.{Writing}
 use Rattle.emit.specs.Codes.{list_of, blank, code_size, stop_code}
 use Rattle.ledger.specs.Book.{Wide, Thin}
-use Rattle.emit.specs.Events.{writing_after, codes_by, writing_in, codes_in}
+use Rattle.emit.specs.Events.{writing_in, codes_in}
 use Rattle.code.specs.Places.{no_writing}
 use Rattle.code.specs.Coding.{Laid, laid_of, laid_by, literals_after, lay_code, lay_all, Coding, coding_of, code_event, code_from, code_along, code_rest, table_in, code_in, Holds}
 use Rattle.code.proofs.Kept.{laid-at}

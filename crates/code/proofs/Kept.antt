@@ -20,8 +20,8 @@ use Rattle.emit.specs.declared.Writing.{Writing}
 use Rattle.emit.specs.Codes.{list_of, code_size, code_sizes, apply_code, is_absent, apply_then, branch_code, stop_code}
 use Rattle.emit.specs.Events.{use_in, register_at, goal_at, compared_codes, bare_codes, limit_codes, step_codes, chosen_codes, table_bytes, other_codes, codes_of, writing_after, codes_by}
 use Rattle.emit.specs.Along.{ends_here, event_bytes, starts, table_along}
-use Rattle.code.specs.Places.{whole, kept, Placing, no_writing, place_event, places_along}
-use Rattle.code.specs.Coding.{Laid, laid_of, lay_code, lay_all, Coding, coding_of, code_event, code_from, code_along}
+use Rattle.code.specs.Places.{whole, kept, Placing, place_event, places_along}
+use Rattle.code.specs.Coding.{Laid, lay_code, lay_all, Coding, code_event, code_from, code_along}
 use Rattle.translation.specs.Instructions.{always}
 use Rattle.ledger.specs.Book.{thin_limit}
 

@@ -1,36 +1,30 @@
 -- What the code pass lays: along a tape, the instructions along it one behind the other (`laid-along`); of the definition's instructions their bytes and their
 -- literals (`laid-instructions`). Literals only grow at the end, so a place that was found among those so far is the place among all.
 use mathlib.Core.Path.{◌≡◌, refl, sym, ap, subst, ◌∙◌}
-use mathlib.Core.Logic.{◌⊎◌, inl, inr}
-use mathlib.Core.Bool.{Bool, true, false}
 use mathlib.Core.List.{List, [], ◌∷◌, ◌++◌, map}
-use Prim.Native.Nat.{ℕ, zero, suc, ◌+◌, ◌*◌, ◌/◌, ◌%◌}
+use Prim.Native.Nat.{ℕ, ◌+◌, ◌/◌, ◌%◌}
 use native.Mathlib.Omega.{arith}
-use lib.Dec.{eqb}
 use lib.ListN.{length, length-map}
 use lib.Seq.{sets}
 use Rattle.base.specs.Walk.{fold}
 use Rattle.base.proofs.Parts.{sets-append}
 use Rattle.base.proofs.Walk.{fold-append}
-use Rattle.base.specs.Choose.{if◌then◌else◌}
-use Rattle.base.specs.Lists.{◌∈◌, member}
-use Rattle.base.specs.Runs.{run_len, index_of}
+use Rattle.base.specs.Runs.{index_of}
 use Rattle.tape.specs.Events as E
-use Rattle.static_rules.specs.Meaning.{Cell, Based}
 use Rattle.translation.specs.Instructions.{Datum, element, literal, entry, Instruction, rr, rx, address, immediate, shift, branch, link, indexed, stop, size, sizes, address_op}
 use Rattle.translation.specs.Core.{Core}
 use Rattle.translation.specs.Code.{code, instructions}
 use Rattle.translation.specs.Layout.{Layout, offset_of, needs, literals_from}
 use Rattle.translation.specs.Bytes.{encode, encode_all, four_bytes, base_register, displacement, index_register}
 use Rattle.translation.proofs.Sizes.{length-encode}
-use Rattle.translation.proofs.Literals.{Grows, grows_same, literals-grow, literal-place}
+use Rattle.translation.proofs.Literals.{Grows, literals-grow, literal-place}
 use Rattle.emit.specs.declared.Code.{Code}
 use Rattle.emit.specs.declared.Writing.{Writing}
 use Rattle.emit.specs.Codes.{list_of, code_size}
 use Rattle.emit.specs.Events.{writing_after, codes_by}
 use Rattle.emit.specs.Along.{table_along, along, code_at, code_for}
 use Rattle.code.specs.Places.{no_writing}
-use Rattle.code.specs.Coding.{bytes_in, Laid, laid_of, code_bytes, literals_after, lay_code, lay_all, Coding, coding_of, code_event, code_from, code_along}
+use Rattle.code.specs.Coding.{bytes_in, Laid, laid_of, code_bytes, literals_after, lay_code, lay_all, coding_of, code_event, code_from, code_along}
 
 module _ (start : ℕ) where
   pub lay-append : (cs ds : List Code) (s : Laid) → lay_all start (cs ++ ds) s ≡ lay_all start ds (lay_all start cs s)

@@ -1,11 +1,9 @@
 -- The instructions along the tape of a tree: those of an assignment, of a condition, of a FOR's limit and of a use are the definition's with the places of cells.
 -- Assumes nothing.
 use mathlib.Core.Path.{◌≡◌, refl, sym, ap, ap₂, ◌∙◌}
-use mathlib.Core.Bool.{false}
 use mathlib.Core.List.{List, [], ◌∷◌, ◌++◌, map, append_assoc, append-nil}
 use Prim.Native.Nat.{ℕ, ◌+◌, ◌-◌, ◌%◌, ◌≤◌}
 use native.Mathlib.Omega.{arith}
-use lib.Dec.{eqb}
 use lib.ListN.{get_or}
 use Rattle.grammar.specs.Tree.{Operand, Assignment, Condition}
 use Rattle.grammar.specs.Derives.{is_operand, is_condition, is_assignment, are_arguments}

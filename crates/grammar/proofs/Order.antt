@@ -1,13 +1,13 @@
 -- Tokens rise along a text: what each event keeps, by the tokens that it stands at, is kept to the end (`text-keeps`); and what has been declared at a place stands
 -- before what stands there (`text-earlier`).
 use mathlib.Core.List.{List, [], ◌∷◌}
-use Prim.Native.Nat.{ℕ, ◌+◌, ◌<◌, ◌≤◌}
+use Prim.Native.Nat.{ℕ, ◌<◌, ◌≤◌}
 use native.Mathlib.Omega.{arith}
 use Rattle.base.specs.Lists.{All}
 use Rattle.base.proofs.Lists.{all_map}
 use Rattle.grammar.specs.Derives.{is_register}
 use Rattle.grammar.specs.Events.{Edge, opened, closed, entered, left, Route, labelled, sent, Entry, named, celled, itemed, valued, based, Event, edge, route, entry, phrase, mark}
-use Rattle.grammar.specs.Places.{Block, within, body, Place, after, along, Along}
+use Rattle.grammar.specs.Places.{within, body, Place, after, along, Along}
 use Rattle.grammar.specs.Texts.{EdgeFits, RouteFits, InBlock, Stands, Text, is_event}
 use Rattle.grammar.proofs.Texts.{text-rises}
 

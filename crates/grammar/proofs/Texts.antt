@@ -6,12 +6,11 @@ use mathlib.Core.Option.{Option, none, some}
 use Prim.Native.Nat.{ℕ, ◌+◌, ◌≤◌, ◌<◌}
 use native.Mathlib.Omega.{arith}
 use lib.ListN.{length, get_or}
-use Rattle.token.specs.Kinds as K
-use Rattle.grammar.specs.Tree.{Designator, Operand, number, place, Sign, plain, abs, neg, neg_abs, Term, Assignment, Condition, compared, bare, Width, Register, Item, Declaration, registers, cells, base, Statement, assign, call, apply, block, goto, null, if_then, if_else, while, for, choose, Body, declare, procedure, items, Items, ended, label, item, Choices, over, choice}
-use Rattle.grammar.specs.Derives.{Part, is_designator, is_operand, is_condition, is_sign, are_terms, is_assignment, are_numbers, is_item, is_register, are_more, are_some, is_type, is_declaration, are_arguments, is_statement, is_body, is_items, are_choices, is_program}
-use Rattle.grammar.specs.Events.{Edge, opened, closed, entered, left, Route, labelled, sent, Entry, named, celled, itemed, valued, based, Phrase, aimed, driven, signed, given, joined, tested, limited, called, applied, argued, counted, chosen, Mark, listed, ended_choice, ended_case, Event, edge, route, entry, phrase, mark, each, events_value, events_item, events_register, events_declaration, events_sign, events_term, events_chain, events_arguments, labels_onto, labels_of, choices_count, events_statement, events_body, events_items, events_choices, events_of}
-use Rattle.grammar.specs.Places.{Block, Frame, within, body, Place, after, after_all, along, Along}
-use Rattle.grammar.specs.Texts.{InBlock, Fits, is_entry, is_event, Stands, Text}
+use Rattle.grammar.specs.Tree.{Designator, Operand, Sign, plain, abs, neg, neg_abs, Term, Assignment, Condition, Width, Register, Item, Declaration, registers, cells, base, Statement, assign, call, apply, block, goto, null, if_then, if_else, while, for, choose, Body, declare, procedure, items, Items, ended, label, item, Choices, over, choice}
+use Rattle.grammar.specs.Derives.{Part, is_designator, is_condition, is_sign, are_terms, is_assignment, are_numbers, is_item, is_register, are_more, are_some, is_declaration, are_arguments, is_statement, is_body, is_items, are_choices, is_program}
+use Rattle.grammar.specs.Events.{opened, closed, entered, left, labelled, sent, named, celled, itemed, valued, based, Phrase, aimed, driven, signed, given, joined, tested, limited, called, applied, argued, counted, chosen, Mark, listed, ended_choice, Event, edge, route, entry, phrase, mark, each, events_value, events_item, events_register, events_declaration, events_sign, events_term, events_chain, events_arguments, labels_onto, labels_of, choices_count, events_statement, events_body, events_items, events_choices, events_of}
+use Rattle.grammar.specs.Places.{Block, within, Place, after, after_all, along, Along}
+use Rattle.grammar.specs.Texts.{Fits, is_entry, is_event, Stands, Text}
 use Rattle.grammar.proofs.Places.{Appends}
 use Rattle.grammar.proofs.Kept.{Kept, keep-designator, keep-operand, keep-condition, keep-sign, keep-register, keep-type}
 

@@ -1,12 +1,11 @@
 -- The names that an event uses stand at rising tokens, all its own.
-use mathlib.Core.Path.{◌≡◌}
 use mathlib.Core.List.{List, [], ◌∷◌}
 use mathlib.Core.Option.{Option, none, some}
 use Prim.Native.Nat.{ℕ, ◌+◌, ◌≤◌}
 use native.Mathlib.Omega.{arith}
-use Rattle.grammar.specs.Tree.{Designator, Operand, number, place, Sign, Condition, compared, bare}
-use Rattle.grammar.specs.Derives.{is_shape, is_designator, is_operand, is_condition, is_procedure}
-use Rattle.grammar.specs.Events.{Edge, opened, closed, entered, left, Entry, named, celled, itemed, valued, based, Phrase, aimed, driven, signed, given, joined, tested, limited, called, applied, argued, counted, chosen, Event, edge, route, entry, phrase, mark, index_names, designator_names, operand_names, condition_names, phrase_uses, edge_uses, entry_uses, uses}
+use Rattle.grammar.specs.Tree.{Designator, Operand, number, place, Condition, compared, bare}
+use Rattle.grammar.specs.Derives.{is_shape, is_designator, is_operand, is_condition}
+use Rattle.grammar.specs.Events.{opened, closed, entered, left, named, celled, itemed, valued, based, Phrase, aimed, driven, signed, given, joined, tested, limited, called, applied, argued, counted, chosen, Event, edge, route, entry, phrase, mark, index_names, designator_names, operand_names, condition_names, phrase_uses, uses}
 use Rattle.grammar.specs.Texts.{is_event}
 
 -- from token i on and before j

@@ -1,17 +1,16 @@
 -- Where the walk is, as arrays: what each move leaves.
 use mathlib.Core.Path.{◌≡◌, refl, sym, ap, ap₂, ◌∙◌}
-use mathlib.Core.Bool.{Bool, true, false}
 use mathlib.Core.List.{List, [], ◌∷◌, map}
-use Prim.Native.Nat.{ℕ, zero, suc, ◌+◌, ◌-◌, ◌*◌, ◌≤◌, ◌<◌}
+use Prim.Native.Nat.{ℕ, suc, ◌+◌, ◌-◌, ◌*◌, ◌<◌}
 use native.Mathlib.Omega.{arith}
 use lib.ListN.{get_or, set, length}
-use Rattle.static_rules.specs.Meaning.{Meaning, Based, meaning_of, register_of}
+use Rattle.static_rules.specs.Meaning.{Based, meaning_of, register_of}
 use Rattle.tables.specs.Packed.{based_in, meanings_of, register_in, packed_at}
 use Rattle.tables.specs.Stacks.{stack_of, top, under}
 use Rattle.tables.proofs.Stacks.{pushed, popped}
 use Rattle.tables.proofs.Meanings.{based-is, register-is, meaning-at}
 use Rattle.meanings.specs.declared.Scope.{Scope}
-use Rattle.meanings.specs.Along.{Within, first_base, later_bases, enter_block, leave_block, enter_procedure, leave_procedure, change_base}
+use Rattle.meanings.specs.Along.{first_base, later_bases, enter_block, leave_block, enter_procedure, leave_procedure, change_base}
 use Rattle.meanings.specs.Flat.{within_of, Moved}
 
 abbrev pub scope : (own owners base outer : ℕ) → Scope

@@ -1,10 +1,9 @@
 -- Arrays of zeros, with the names around the program, are the tables before a text; so on the tape of a program the walk makes the definition's tables of it.
-use mathlib.Core.Path.{◌≡◌, refl, ap, ap₂, sym, ◌∙◌}
+use mathlib.Core.Path.{◌≡◌, refl, ap, ap₂}
 use mathlib.Core.List.{List, [], ◌∷◌}
-use Prim.Native.Nat.{ℕ, zero, suc, ◌+◌, ◌%◌, ◌≤◌}
+use Prim.Native.Nat.{ℕ, zero, suc, ◌+◌, ◌≤◌}
 use native.Mathlib.Omega.{arith}
-use lib.ListN.{get_or, set, replicate, length-replicate}
-use Rattle.base.specs.Choose.{if◌then◌else◌}
+use lib.ListN.{replicate, length-replicate}
 use Rattle.scopes.specs.Search.{standard_names, first_token}
 use Rattle.scopes.proofs.Early.{Early}
 use Rattle.grammar.specs.Tree.{Statement}
@@ -13,8 +12,8 @@ use Rattle.tape.specs.Tape.{tape_statement}
 use Rattle.tape.specs.Pass.{pass}
 use Rattle.static_rules.specs.Registers.{Registers, no_registers}
 use Rattle.static_rules.specs.Meaning.{Meaning, nothing}
-use Rattle.static_rules.specs.Meanings.{Meant, mean_program, standard}
-use Rattle.tables.specs.Packed.{low, packed, number_in, is_register_in, is_routine_in, is_cell_in, is_function_in, unpacked, meanings_from, meanings_of, set_of, sets_of}
+use Rattle.static_rules.specs.Meanings.{mean_program, standard}
+use Rattle.tables.specs.Packed.{low, packed, number_in, is_register_in, is_routine_in, is_cell_in, is_function_in, unpacked, meanings_from, meanings_of, sets_of}
 use Rattle.tables.proofs.Sets.{set-none}
 use Rattle.meanings.specs.Along.{mean_event, beginning}
 use Rattle.meanings.specs.Flat.{meant_of, standard_meaning, standard_named}

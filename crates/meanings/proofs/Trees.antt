@@ -7,7 +7,7 @@ use mathlib.Core.Option.{Option, none, some}
 use Prim.Native.Nat.{ℕ, ◌+◌, ◌-◌, ◌≤◌, ◌<◌}
 use native.Mathlib.Omega.{arith}
 use lib.Dec.{eqb}
-use lib.ListN.{get_or, set, length}
+use lib.ListN.{get_or, length}
 use lib.Seq.{get_or-set_same}
 use Rattle.base.specs.Choose.{if◌then◌else◌}
 use Rattle.token.specs.Kinds as K

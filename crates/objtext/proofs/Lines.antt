@@ -1,17 +1,16 @@
 -- What is written is read back, on one line: digits, bytes, numbers of two bytes, frames. Assumes nothing.
-use Prim.Native.Nat.{ℕ, zero, suc, ◌+◌, ◌-◌, ◌*◌, ◌/◌, ◌%◌, ◌<◌, ◌≤◌}
-use mathlib.Core.Path.{◌≡◌, refl, sym, ap, ◌∙◌}
-use mathlib.Core.Bool.{Bool, true, false, ◌&&◌}
+use Prim.Native.Nat.{ℕ, ◌+◌, ◌*◌, ◌/◌, ◌%◌, ◌<◌}
+use mathlib.Core.Path.{◌≡◌, refl}
+use mathlib.Core.Bool.{true}
 use mathlib.Core.List.{List, [], ◌∷◌, ◌++◌, append_assoc}
 use native.Mathlib.Omega.{arith}
-use lib.Dec.{eqb, ltb, eqb→eq}
-use lib.ListN.{length, drop, get_or, length-append}
-use borrow.Author.Tests.{lt-ltb, eq-eqb}
-use Rattle.base.specs.Lists.{All}
+use lib.Dec.{eqb, eqb→eq}
+use lib.ListN.{length, length-append}
+use borrow.Author.Tests.{lt-ltb}
 use Rattle.base.specs.Numbers.{bytes_of}
 use Rattle.base.proofs.Tables.{all-below}
 use Rattle.objtext.specs.Object.{Bytes, hex_digit, hex, line, newline}
-use Rattle.objtext.specs.Reader.{digit_of, join_of, byte_of, front_bytes, two_of, is_line}
+use Rattle.objtext.specs.Reader.{digit_of, byte_of, front_bytes, two_of, is_line}
 
 pub digit-back : (n : ℕ) → n < 16 → digit_of (hex_digit n) ≡ n
 unfolding digit_of hex_digit

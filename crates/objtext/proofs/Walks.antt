@@ -1,6 +1,6 @@
 -- What is known along a text that is an object's: at each segment its head is right (`Walked`, `Walk`), so its length is at most 4,096. Assumes nothing.
 use Prim.Native.Nat.{ℕ, zero, suc, ◌+◌, ◌-◌, ◌<◌, ◌≤◌}
-use mathlib.Core.Path.{◌≡◌, refl, sym, ap, ◌∙◌, subst}
+use mathlib.Core.Path.{◌≡◌, refl, sym, ap, subst}
 use mathlib.Core.Bool.{Bool, true, false, ◌&&◌}
 use mathlib.Core.List.{List, [], ◌∷◌}
 use mathlib.Core.Option.{none, some}
@@ -8,10 +8,10 @@ use native.Mathlib.Omega.{arith}
 use lib.Dec.{T, leb, eqb}
 use lib.ListN.{length, drop}
 use borrow.Author.Tests.{leb-true}
-use Rattle.base.proofs.Tests.{cases, and_right, is_true}
+use Rattle.base.proofs.Tests.{cases}
 use Rattle.base.proofs.Lists.{none-some}
 use Rattle.objtext.specs.Object.{Segment, frames_for, program_limit, data_limit}
-use Rattle.objtext.specs.Reader.{byte_of, head_length, head_from, head_to, is_line, is_content, is_program_head, is_data_head, also, is_program, program_at, after_program, is_data, data_at, after_data, is_last, Read, push, on_segment, at_last, read_data, read_object, data_list, segment_list, read_as, data_line, program_line, program_head_bytes, data_head_bytes}
+use Rattle.objtext.specs.Reader.{byte_of, head_length, head_from, head_to, is_line, is_content, also, is_program, program_at, after_program, is_data, data_at, after_data, is_last, Read, push, on_segment, at_last, read_data, read_object, data_list, segment_list, read_as, data_line, program_line, program_head_bytes, data_head_bytes}
 
 -- n data segments, numbered from k on, stand at the front
 abbrev pub Walked : ℕ → ℕ → List ℕ → Type 0

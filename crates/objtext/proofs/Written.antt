@@ -1,20 +1,18 @@
 -- Reading what is written gives the same segments back: `read-written`. Contents frame by frame, then segments, then the object. Assumes nothing.
-use Prim.Native.Nat.{ℕ, zero, suc, ◌+◌, ◌-◌, ◌*◌, ◌/◌, ◌%◌, ◌<◌, ◌≤◌, min}
-use mathlib.Core.Path.{◌≡◌, refl, sym, ap, ap₂, ◌∙◌, subst}
-use mathlib.Core.Bool.{Bool, true, false, ◌&&◌}
+use Prim.Native.Nat.{ℕ, zero, suc, ◌+◌, ◌-◌, ◌*◌, ◌<◌, ◌≤◌, min}
+use mathlib.Core.Path.{◌≡◌, refl, sym, ap, ◌∙◌}
+use mathlib.Core.Bool.{true, false}
 use mathlib.Core.List.{List, [], ◌∷◌, ◌++◌, append_assoc}
-use mathlib.Core.Option.{Option, none, some}
+use mathlib.Core.Option.{some}
 use native.Mathlib.Omega.{arith}
-use lib.Dec.{eqb, ltb, leb}
-use lib.ListN.{length, take, drop, get_or, length-append, length-take, length-drop, take-append-drop}
+use lib.ListN.{length, take, drop, length-append, length-take, length-drop, take-append-drop}
 use lib.Seq.{drop_at}
 use borrow.Author.Tests.{le-leb, eq-eqb}
 use Rattle.base.specs.Lists.{All}
 use Rattle.base.specs.Numbers.{bytes_of}
 use Rattle.base.proofs.Lists.{all_take, all_drop}
-use Rattle.base.proofs.Numbers.{length-bytes_of, bytes_of-below}
-use Rattle.objtext.specs.Object.{Segment, program, cells, content_of, Bytes, content_frame, content_frames, frames_for, head_frame, segment_frames, object_frames, hex_digit, hex, line, text_of, newline, object_text, Data, IsData, Object, IsObject, program_limit, data_limit, content_limit}
-use Rattle.objtext.specs.Reader.{digit_of, byte_of, front_bytes, two_of, is_line, content_length, is_content_frame, is_content, content_at, head_length, head_from, head_to, is_program_head, is_data_head, also, is_program, program_at, after_program, is_data, data_at, after_data, is_last, Read, push, on_segment, at_last, read_data, read_object, frame_line, data_line, program_line, line_length, frame_head_bytes, bytes_place}
+use Rattle.objtext.specs.Object.{Segment, program, cells, content_of, Bytes, content_frame, content_frames, frames_for, head_frame, segment_frames, object_frames, hex_digit, line, text_of, newline, object_text, Data, IsData, Object, program_limit, data_limit, content_limit}
+use Rattle.objtext.specs.Reader.{digit_of, byte_of, front_bytes, two_of, is_line, content_length, is_content_frame, is_content, content_at, head_length, head_from, head_to, is_program_head, is_data_head, is_program, program_at, after_program, is_data, data_at, after_data, is_last, push, on_segment, at_last, read_data, read_object, frame_line, data_line, program_line, line_length, frame_head_bytes, bytes_place}
 use Rattle.objtext.proofs.Lines.{byte-back, two_back, before, line_before, line_of, front-back, length-line}
 
 abbrev Byte : ℕ → Type 0

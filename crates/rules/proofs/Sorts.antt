@@ -1,24 +1,24 @@
 -- What rules ask of a meaning, by its packed number.
-use mathlib.Core.Path.{◌≡◌, refl, sym, ap, ap₂, ◌∙◌}
+use mathlib.Core.Path.{◌≡◌, refl, sym, ◌∙◌}
 use mathlib.Core.Bool.{Bool, true, false, ◌&&◌, ◌||◌, not}
-use mathlib.Core.List.{List, [], ◌∷◌}
-use mathlib.Core.Option.{Option, none, some}
+use mathlib.Core.List.{List}
+use mathlib.Core.Option.{none, some}
 use Prim.Native.Nat.{ℕ, zero, suc, ◌+◌, ◌-◌, ◌*◌, ◌/◌, ◌%◌, ◌≤◌, ◌<◌}
 use native.Mathlib.Omega.{arith}
 use native.Mathlib.Nat.{mul-le-mul_right, div-add-mod'}
 use lib.Dec.{eqb, leb, ltb}
 use lib.ListN.{get_or}
 use borrow.Author.Tests.{eqb-true, eq-eqb, ne_eqb, le-leb, lt-leb, leb-true, leb-false, ltb-true, ltb-false, lt-ltb, le-ltb}
-use Rattle.base.specs.Choose.{choose, if◌then◌else◌}
+use Rattle.base.specs.Choose.{if◌then◌else◌}
 use Rattle.base.specs.Lists.{member}
 use Rattle.base.proofs.Tests.{cases}
 use Rattle.base.proofs.Numbers.{one_less}
 use Rattle.ledger.specs.Book.{Wide, Thin}
 use Rattle.static_rules.specs.Registers.{Registers, has, spares}
-use Rattle.static_rules.specs.Meaning.{Meaning, nothing, register, cell, routine, Based, Cell, element_size}
+use Rattle.static_rules.specs.Meaning.{Based, element_size}
 use Rattle.static_rules.specs.Tables.{Tables, meaning_at}
 use Rattle.static_rules.specs.Rules.{is_register, is_zero, is_short, is_cell, is_byte_cell, is_bare, inside}
-use Rattle.tables.specs.Packed.{number_in, is_register_in, is_cell_in, width_number_in, is_short_in, is_byte_in, based_in, cell_in, width_in, unpacked, meanings_of, packed_at}
+use Rattle.tables.specs.Packed.{number_in, is_register_in, is_cell_in, width_number_in, is_short_in, is_byte_in, based_in, cell_in, width_in, unpacked, packed_at}
 use Rattle.tables.specs.Stacks.{stack_of}
 use Rattle.tables.proofs.Meanings.{half_is, byte-is, by-sort, register-alone, routine-alone, meaning-at}
 use Rattle.rules.specs.Parts.{subscript_at, index_at}

@@ -1,6 +1,6 @@
 -- Each name is found, if at all, at a declaration before it ("For a name's earlier declaration the search goes outward"): all that is in force where it stands has
 -- been declared before it.
-use mathlib.Core.Path.{◌≡◌, sym, subst}
+use mathlib.Core.Path.{sym, subst}
 use mathlib.Core.List.{List, [], ◌∷◌}
 use Prim.Native.Nat.{ℕ, zero, suc, ◌+◌, ◌≤◌, ◌<◌}
 use native.Mathlib.Omega.{arith}

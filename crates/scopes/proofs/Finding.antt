@@ -1,15 +1,13 @@
 -- The tables that naming and labelling leave have, for each name and each GOTO, what the search found where it stands: each token is set once, since tokens rise
 -- along the text. They keep their lengths.
-use mathlib.Core.Path.{◌≡◌, refl, sym, ap, subst, ◌∙◌}
+use mathlib.Core.Path.{◌≡◌, refl, ap, ◌∙◌}
 use mathlib.Core.List.{List, [], ◌∷◌}
-use Prim.Native.Nat.{ℕ, suc, ◌+◌, ◌≤◌, ◌<◌}
+use Prim.Native.Nat.{ℕ, ◌+◌, ◌≤◌, ◌<◌}
 use native.Mathlib.Omega.{arith}
-use lib.ListN.{get_or, set, length, length-set}
+use lib.ListN.{get_or, length, length-set}
 use lib.Seq.{get_or-set_same, get_or-set_other}
 use Rattle.base.specs.Lists.{All}
-use Rattle.grammar.specs.Tree.{Statement}
-use Rattle.grammar.specs.Derives.{is_program}
-use Rattle.grammar.specs.Events.{Route, labelled, sent, Event, edge, route, entry, phrase, mark, uses, declares, events_of}
+use Rattle.grammar.specs.Events.{Route, labelled, sent, Event, edge, route, entry, phrase, mark, uses, declares}
 use Rattle.grammar.specs.Places.{Place, after, along, Along}
 use Rattle.grammar.specs.Texts.{Stands, Text}
 use Rattle.grammar.proofs.Texts.{size-along, settles}

@@ -1,7 +1,6 @@
 -- A label of the block that a GOTO stands in is found before those outside, whether it has been set or is still to come; and a block may declare again what blocks
 -- around it have. Assumes nothing.
-use mathlib.Core.Path.{◌≡◌, refl}
-use mathlib.Core.Bool.{Bool, true, false}
+use mathlib.Core.Path.{◌≡◌}
 use mathlib.Core.List.{List, [], ◌∷◌}
 use Prim.Native.Nat.{ℕ, suc, ◌<◌}
 use native.Mathlib.Omega.{arith}
@@ -9,7 +8,7 @@ use lib.Dec.{eqb, ltb}
 use lib.ListN.{get_or}
 use borrow.Author.Tests.{eq-eqb, lt-ltb}
 use Rattle.base.proofs.Tests.{cases}
-use Rattle.grammar.specs.Places.{Block, within, body, Place}
+use Rattle.grammar.specs.Places.{Block, within, Place}
 use Rattle.scopes.specs.Broken.{unbroken}
 use Rattle.scopes.specs.Search.{in_block, find, innermost}
 use Rattle.scopes.specs.Names.{Named, most_names, declare_name}

@@ -11,7 +11,6 @@ use Rattle.base.specs.Lists.{All}
 use Rattle.base.proofs.Lists.{all_map}
 use Rattle.grammar.specs.Events.{labelled, sent, Event, edge, route, entry, phrase, mark, uses}
 use Rattle.grammar.specs.Places.{body, Place, after, along, Along}
-use Rattle.scopes.specs.declared.Broken.{Broken}
 use Rattle.scopes.specs.Broken.{rule}
 use Rattle.scopes.specs.Search.{find}
 use Rattle.scopes.specs.Names.{names_in}

@@ -4,18 +4,17 @@ use mathlib.Core.Logic.{◌⊎◌, inl, inr}
 use mathlib.Core.List.{List, [], ◌∷◌}
 use mathlib.Core.Bool.{Bool, true, false, ◌&&◌}
 use Prim.Native.Nat.{ℕ, ◌≤◌}
-use lib.Dec.{T, leb, leb→le, eqb, ltb}
-use lib.ListN.{get_or}
+use lib.Dec.{T, leb, leb→le}
 use Rattle.base.proofs.Tests.{and_left, and_right}
 use Rattle.grammar.specs.Tree.{Statement}
 use Rattle.grammar.specs.Events.{Route, labelled, sent, Event, edge, route, entry, phrase, mark, uses, declares, events_of}
-use Rattle.grammar.specs.Places.{Place, after, along}
+use Rattle.grammar.specs.Places.{Place, after}
 use Rattle.grammar.proofs.Places.{along-keeps}
 use Rattle.scopes.specs.declared.Broken.{Broken}
 use Rattle.scopes.specs.Broken.{unbroken, broken, rule, ◌⊕◌}
-use Rattle.scopes.specs.Search.{in_block, find, innermost, enter}
+use Rattle.scopes.specs.Search.{enter}
 use Rattle.scopes.specs.Names.{Named, names_in, note_found, use_name, declare_name, declare_names, use_names, name_event, name_program}
-use Rattle.scopes.specs.Labels.{Labelled, labels_in, labels_set, note_label, set_label, label_route, label_event, label_program}
+use Rattle.scopes.specs.Labels.{Labelled, note_label, set_label, label_route, label_event, label_program}
 use Rattle.scopes.proofs.Least.{join-least}
 
 -- what is broken has a number from 6 to 13

@@ -16,7 +16,7 @@ use Rattle.scopes.proofs.Joins.{quiet-right, rule-holds}
 use Rattle.static_rules.specs.Meanings.{Meant, write, open_base, add_cell, mean_event}
 use Rattle.static_rules.specs.Tables.{Tables}
 use Rattle.static_rules.specs.Rules.{taken_rules, base_rules, last_segment}
-use Rattle.static_rules.proofs.Heeds.{Alike, Heeds, enters, names, adds, opens, other, heeds}
+use Rattle.static_rules.proofs.Heeds.{Heeds, enters, names, adds, opens, other, heeds}
 use Rattle.static_rules.proofs.Lengths.{event-long}
 use Rattle.static_rules.proofs.Stays.{stays-text}
 use Rattle.static_rules.proofs.Unbroken.{Unbroken}

@@ -8,7 +8,7 @@ use Prim.Native.Nat.{ℕ}
 use lib.ListN.{length, length-set, get_or}
 use Rattle.base.specs.Choose.{if◌then◌else◌}
 use Rattle.grammar.specs.Tree.{Register, Item, Width}
-use Rattle.grammar.specs.Events.{Edge, opened, closed, entered, left, Entry, named, celled, itemed, valued, based, Phrase, aimed, driven, signed, given, joined, tested, limited, called, applied, argued, counted, chosen, Event, edge, route, entry, phrase, mark}
+use Rattle.grammar.specs.Events.{opened, closed, entered, left, named, celled, itemed, valued, based, Phrase, aimed, driven, signed, given, joined, tested, limited, called, applied, argued, counted, chosen, Event, edge, route, entry, phrase, mark}
 use Rattle.grammar.specs.Places.{Place, outward}
 use Rattle.static_rules.specs.Registers.{Registers, no_registers, add_register, union}
 use Rattle.static_rules.specs.Functions.{is_written}

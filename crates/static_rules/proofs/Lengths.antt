@@ -8,7 +8,7 @@ use Rattle.grammar.specs.Places.{Place, along}
 use Rattle.grammar.proofs.Places.{along-keeps}
 use Rattle.static_rules.specs.Meaning.{Meaning}
 use Rattle.static_rules.specs.Meanings.{Meant, write, open_base, add_cell, mean_event}
-use Rattle.static_rules.proofs.Heeds.{Alike, Heeds, enters, names, adds, opens, other, heeds}
+use Rattle.static_rules.proofs.Heeds.{Heeds, enters, names, adds, opens, other, heeds}
 
 pub record AsLong (a b : Meant) : Type 0 where
   pub of-means : length a.means ≡ length b.means

@@ -9,10 +9,10 @@ use Rattle.base.specs.Lists.{member}
 use Rattle.token.specs.Kinds as K
 use Rattle.grammar.specs.Tree.{Designator, Operand, number, place, Sign, plain, abs, neg, neg_abs, Term, Condition, compared, bare, Width, Statement}
 use Rattle.grammar.specs.Events.{Edge, opened, closed, entered, left, Entry, named, celled, itemed, valued, based, Phrase, aimed, driven, signed, given, joined, tested, limited, called, applied, argued, counted, chosen, Event, edge, route, entry, phrase, mark, events_of}
-use Rattle.grammar.specs.Places.{Place, along}
+use Rattle.grammar.specs.Places.{Place}
 use Rattle.grammar.proofs.Places.{along-keeps}
 use Rattle.scopes.specs.declared.Broken.{Broken}
-use Rattle.scopes.specs.Broken.{unbroken, ◌⊕◌}
+use Rattle.scopes.specs.Broken.{unbroken}
 use Rattle.scopes.proofs.Numbers.{Ruled, ruled-none, ruled-at, ruled-rule, ruled-join}
 use Rattle.static_rules.specs.Functions.{Argument, written_register, read_register, byte_number, indexed_cell, plain_cell, surplus}
 use Rattle.static_rules.specs.Meaning.{Meaning, nothing, register, cell, routine, function, Cell, argument_of, long_operand}

@@ -21,7 +21,7 @@ use Rattle.static_rules.specs.Meanings.{Meant, write, open_base, add_cell, count
 use Rattle.static_rules.specs.Tables.{Tables, value_at}
 use Rattle.static_rules.specs.Rules.{in_range, most_elements}
 use Rattle.static_rules.proofs.Elements.{in-range}
-use Rattle.static_rules.proofs.Heeds.{Alike, Heeds, enters, names, adds, opens, other, heeds}
+use Rattle.static_rules.proofs.Heeds.{Heeds, enters, names, adds, opens, other, heeds}
 use Rattle.static_rules.proofs.Unbroken.{Unbroken}
 
 abbrev pub Small : Meaning → Type 0

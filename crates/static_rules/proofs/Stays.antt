@@ -12,7 +12,7 @@ use Rattle.grammar.specs.Texts.{Stands, Text}
 use Rattle.grammar.proofs.Order.{text-keeps}
 use Rattle.static_rules.specs.Meaning.{Meaning, nothing}
 use Rattle.static_rules.specs.Meanings.{Meant, write, open_base, add_cell, mean_event}
-use Rattle.static_rules.proofs.Heeds.{Alike, Heeds, enters, names, adds, opens, other, heeds}
+use Rattle.static_rules.proofs.Heeds.{Heeds, enters, names, adds, opens, other, heeds}
 
 -- of the tokens before i
 pub record Stays (i : ℕ) (s t : Meant) : Type 0 where

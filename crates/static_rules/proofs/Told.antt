@@ -23,13 +23,13 @@ use Rattle.grammar.proofs.Uses.{Rise, uses-rise}
 use Rattle.grammar.proofs.Order.{Earlier, earlier-after}
 use Rattle.token.specs.Kinds as K
 use Rattle.static_rules.specs.Registers.{Registers, no_registers, has, add_register, union}
-use Rattle.static_rules.specs.Functions.{Argument, is_written}
+use Rattle.static_rules.specs.Functions.{is_written}
 use Rattle.static_rules.specs.Meaning.{Meaning, nothing, register, cell, routine, function, Based, Cell, operand_meaning, register_of, argument_of, is_long, long_operand, is_product}
 use Rattle.static_rules.specs.Meanings.{Meant, grow_written, write, write_text, call_writes, target_writes, open_base, add_cell, cell_of, meaning_in, own_in, newest, base_in, mean_phrase, mean_event}
 use Rattle.static_rules.specs.Rules as R
 use Rattle.static_rules.proofs.Flags.{add-has, add-keeps, union_left, union_right}
-use Rattle.static_rules.proofs.Heeds.{Alike, phrase-alike, Heeds, enters, names, adds, opens, other, heeds}
-use Rattle.static_rules.proofs.Lengths.{AsLong, event-long}
+use Rattle.static_rules.proofs.Heeds.{phrase-alike, Heeds, enters, names, adds, opens, other, heeds}
+use Rattle.static_rules.proofs.Lengths.{event-long}
 use Rattle.static_rules.proofs.Stays.{Stays, stays-text}
 
 -- ── what is written ──

@@ -2,7 +2,7 @@
 use Prim.Native.Nat.{ℕ, zero, suc, pred, ◌+◌, ◌≤◌, ◌<◌}
 use Prim.Native.String.{String}
 use mathlib.Core.Path.{◌≡◌, refl}
-use mathlib.Core.Bool.{Bool, true, false, not}
+use mathlib.Core.Bool.{Bool, true, false}
 use mathlib.Core.List.{List, [], ◌∷◌, map}
 use native.Mathlib.Omega.{arith}
 use lib.Dec.{eqb, ltb}
@@ -15,7 +15,7 @@ use Rattle.base.specs.Numbers.{number_from}
 use Rattle.base.specs.Walk.{walk}
 use Rattle.base.proofs.Tests.{cases}
 use Rattle.token.specs.Kinds as K
-use Rattle.token.specs.Text.{separates, is_capital, is_digit, is_hexadecimal, in_name, digit_of, word_kind, key_of, comment, name_or_word, number, plain, negated, begins, sign, lexeme, token, Outcome, read, refused, next_step, next_token, is_last, read_by, read_from, TEXT-LIMIT, tokens_of, in_comment, most_decimal, most_negated, most_hexadecimal}
+use Rattle.token.specs.Text.{separates, is_capital, is_digit, is_hexadecimal, in_name, digit_of, word_kind, comment, name_or_word, number, plain, negated, begins, sign, lexeme, Outcome, read, refused, next_step, next_token, is_last, read_by, read_from, TEXT-LIMIT, tokens_of, in_comment, most_decimal, most_negated, most_hexadecimal}
 use Rattle.token.specs.Answers.{kind_of, value_of}
 use Rattle.token.specs.declared.Token.{Token}
 use Rattle.token.specs.declared.Lexeme.{Lexeme}

@@ -1,15 +1,15 @@
 -- What an acceptance says: each group let the text pass. The room counts for 16 only.
 use mathlib.Core.Path.{◌≡◌, refl, sym, ap, subst, ◌∙◌}
-use mathlib.Core.List.{List, [], ◌∷◌, ◌++◌}
+use mathlib.Core.List.{List, ◌++◌}
 use mathlib.Core.Bool.{Bool, true, false}
-use Prim.Native.Nat.{ℕ, zero, suc, ◌+◌, ◌<◌, ◌≤◌}
+use Prim.Native.Nat.{ℕ, zero, suc, ◌≤◌}
 use native.Mathlib.Omega.{arith}
 use lib.Dec.{ltb}
 use lib.ListN.{length}
-use borrow.Author.Tests.{ltb-true, ltb-false, le-ltb}
-use Rattle.base.specs.Choose.{choose, if◌then◌else◌}
+use borrow.Author.Tests.{ltb-false, le-ltb}
+use Rattle.base.specs.Choose.{if◌then◌else◌}
 use Rattle.token.specs.declared.Token.{Token}
-use Rattle.token.specs.Text.{Reading, tokens_of}
+use Rattle.token.specs.Text.{tokens_of}
 use Rattle.grammar.specs.Tree.{Statement}
 use Rattle.grammar.specs.Reader.{Result, ok, bad}
 use Rattle.grammar.specs.Grammar.{program}

@@ -3,26 +3,26 @@ use mathlib.Core.Path.{◌≡◌, refl, sym, ap, subst, ◌∙◌}
 use mathlib.Core.Logic.{◌⊎◌, inl, inr}
 use mathlib.Core.List.{List, [], ◌∷◌}
 use mathlib.Core.Bool.{Bool, true, false, ◌&&◌, ◌||◌}
-use Prim.Native.Nat.{ℕ, zero, suc, ◌<◌, ◌≤◌}
+use Prim.Native.Nat.{ℕ, ◌<◌, ◌≤◌}
 use native.Mathlib.Omega.{arith}
 use lib.Dec.{eqb, leb, ltb}
 use lib.ListN.{get_or}
-use borrow.Author.Tests.{ltb-true, ltb-false, eqb-true, eqb-false, leb-true, leb-false, le-ltb, lt-ltb, le-leb, eq-eqb, ne_eqb}
+use borrow.Author.Tests.{ltb-true, ltb-false, eqb-true, eqb-false, leb-true, leb-false, le-ltb, ne_eqb}
 use Rattle.base.specs.Lists.{◌∈◌}
 use Rattle.base.proofs.Tests.{cases, never_true}
 use Rattle.token.specs.declared.Token.{Token}
 use Rattle.grammar.specs.Tree.{Statement}
-use Rattle.grammar.specs.Events.{Edge, opened, closed, entered, left, Route, labelled, sent, Entry, named, celled, itemed, valued, based, Event, edge, route, entry, phrase, mark, uses, declares, events_of}
+use Rattle.grammar.specs.Events.{opened, closed, entered, left, Route, labelled, sent, named, celled, itemed, valued, based, Event, edge, route, entry, phrase, mark, uses, declares, events_of}
 use Rattle.grammar.specs.Places.{Place, after, along}
 use Rattle.scopes.specs.declared.Broken.{Broken}
 use Rattle.scopes.specs.Broken.{unbroken, broken, rule, before, ◌⊕◌}
-use Rattle.scopes.specs.Search.{in_block, find, innermost, enter}
+use Rattle.scopes.specs.Search.{in_block, find, innermost}
 use Rattle.scopes.specs.Names.{most_names, Named, names_in, note_found, use_name, declare_name, declare_names, use_names, name_event}
-use Rattle.scopes.specs.Labels.{most_labels, Labelled, labels_in, labels_set, note_label, set_label, label_route, label_event}
+use Rattle.scopes.specs.Labels.{most_labels, Labelled, labels_in, labels_set, note_label, set_label, label_event}
 use Rattle.scopes.proofs.Least.{LeastOf, join-least}
 use Rattle.static_rules.specs.Meanings.{Filled, Meant}
 use Rattle.static_rules.specs.Tables.{Tables}
-use Rattle.static_rules.specs.Kinds.{rules_at, rule_event, rules_of}
+use Rattle.static_rules.specs.Kinds.{rules_at, rule_event}
 use Rattle.translation.specs.Layout.{segment_limit, end_for, place_cell, place_cells, layout}
 use Rattle.translation.specs.Translate as T
 use Rattle.translation.specs.Translate.{values_of, make}

@@ -1,16 +1,13 @@
 -- Instructions that are ready, with their literals in place, are written as bytes.
-use mathlib.Core.Path.{◌≡◌, refl, sym, ap, subst, ◌∙◌}
-use mathlib.Core.Logic.{◌⊎◌, inl, inr}
-use mathlib.Core.List.{List, [], ◌∷◌, ◌++◌}
-use Prim.Native.Nat.{ℕ, zero, suc, ◌+◌, ◌*◌, ◌/◌, ◌%◌, ◌<◌, ◌≤◌}
+use mathlib.Core.Path.{refl}
+use mathlib.Core.Logic.{inl, inr}
+use mathlib.Core.List.{List, [], ◌∷◌}
+use Prim.Native.Nat.{ℕ, ◌/◌, ◌%◌, ◌<◌, ◌≤◌}
 use native.Mathlib.Omega.{arith}
-use lib.ListN.{length}
 use Rattle.base.specs.Lists.{◌∈◌, All}
-use Rattle.base.specs.Runs.{index_of}
 use Rattle.base.proofs.Lists.{all_both}
-use Rattle.static_rules.specs.Meaning.{Cell, Based}
 use Rattle.translation.specs.Instructions.{Datum, element, literal, entry, Instruction, rr, rx, address, immediate, shift, branch, link, indexed, stop, address_op}
-use Rattle.translation.specs.Layout.{Layout, segment_limit, offset_of, literals_end}
+use Rattle.translation.specs.Layout.{Layout, segment_limit, literals_end}
 use Rattle.translation.specs.Bytes.{base_register, displacement, index_register, four_bytes, two_bytes, encode, encode_all}
 use Rattle.translation.proofs.Literals.{IsNumber, Takes, index-lt}
 use Rattle.translation.proofs.Ready.{Ready, ReadyDatum}

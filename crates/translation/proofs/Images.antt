@@ -1,25 +1,23 @@
 -- The data segments that a layout gives are of the form that the object text has: bytes, within 4,096, writable where the cells are.
-use mathlib.Core.Path.{◌≡◌, refl, sym, ap, subst, ◌∙◌}
-use mathlib.Core.List.{List, [], ◌∷◌, ◌++◌}
+use mathlib.Core.Path.{◌≡◌, refl, ap, ◌∙◌}
+use mathlib.Core.List.{List, [], ◌∷◌}
 use mathlib.Core.Bool.{Bool, true, false}
-use Prim.Native.Nat.{ℕ, zero, suc, ◌+◌, ◌*◌, ◌<◌, ◌≤◌}
+use Prim.Native.Nat.{ℕ, zero, suc, ◌<◌, ◌≤◌}
 use native.Mathlib.Omega.{arith}
 use lib.Dec.{eqb}
-use lib.ListN.{length, get_or, replicate, length-replicate}
+use lib.ListN.{length, replicate, length-replicate}
 use lib.Seq.{sets, length-sets}
-use borrow.Author.Tests.{eqb-true, eqb-false}
-use Rattle.base.specs.Choose.{choose, if◌then◌else◌}
+use Rattle.base.specs.Choose.{if◌then◌else◌}
 use Rattle.base.specs.Lists.{All}
 use Rattle.base.specs.Numbers.{bytes_of}
 use Rattle.base.proofs.Lists.{all_both, all-sets, all_replicate}
 use Rattle.base.proofs.Numbers.{bytes_of-below}
-use Rattle.grammar.specs.Tree.{Width, full, short}
-use Rattle.static_rules.specs.Meaning.{Cell, Based, element_size}
+use Rattle.grammar.specs.Tree.{Width}
+use Rattle.static_rules.specs.Meaning.{element_size}
 use Rattle.static_rules.specs.Meanings.{Filled}
-use Rattle.objtext.specs.Object.{Segment, program, cells, Bytes, IsData, Data}
-use Rattle.translation.specs.Layout.{Layout, Placed, Room, segment_limit, table_bytes, round_up, value_bytes, place_cell, place_cells, literals_end, cells_end}
+use Rattle.objtext.specs.Object.{Bytes, Data}
+use Rattle.translation.specs.Layout.{Layout, Placed, segment_limit, table_bytes, value_bytes, place_cell, place_cells, literals_end, cells_end}
 use Rattle.translation.specs.Image.{fill, words, end_of_first, first_data, data_of, data_from}
-use Rattle.translation.proofs.Rooms.{round-up}
 
 -- ── bytes ──
 

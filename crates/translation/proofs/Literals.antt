@@ -2,17 +2,16 @@
 use mathlib.Core.Path.{◌≡◌, refl, sym, ap, subst, ◌∙◌}
 use mathlib.Core.Logic.{◌⊎◌, inl, inr}
 use mathlib.Core.List.{List, [], ◌∷◌, ◌++◌, append_assoc, append-nil}
-use mathlib.Core.Bool.{Bool, true, false, not, ◌||◌}
-use Prim.Native.Nat.{ℕ, zero, suc, ◌+◌, ◌<◌, ◌≤◌}
+use mathlib.Core.Bool.{Bool, true, false}
+use Prim.Native.Nat.{ℕ, suc, ◌<◌}
 use native.Mathlib.Omega.{arith}
 use lib.Dec.{eqb}
 use lib.ListN.{length, get_or}
-use borrow.Author.Tests.{eqb-true, eqb-false, eq-eqb, ne_eqb}
-use Rattle.base.specs.Choose.{choose, if◌then◌else◌}
+use borrow.Author.Tests.{eqb-true, eqb-false}
+use Rattle.base.specs.Choose.{if◌then◌else◌}
 use Rattle.base.specs.Lists.{◌∈◌, member}
 use Rattle.base.specs.Runs.{run_len, index_of}
-use Rattle.base.proofs.Tests.{cases, never_true}
-use Rattle.base.proofs.Lists.{in_left, in_right, in_either, member-in, in-member}
+use Rattle.base.proofs.Lists.{in_left, in_right, member-in}
 use Rattle.translation.specs.Instructions.{Datum, element, literal, entry, Instruction, rr, rx, address, immediate, shift, branch, link, indexed, stop}
 use Rattle.translation.specs.Layout.{needs, literals_from}
 

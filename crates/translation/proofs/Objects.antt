@@ -1,29 +1,25 @@
 -- What is accepted is an object: bytes in every segment, the program and one to three data segments within their limits.
 use mathlib.Core.Path.{◌≡◌, refl, sym, ap, subst, ◌∙◌}
 use mathlib.Core.List.{List, [], ◌∷◌, ◌++◌}
-use mathlib.Core.Bool.{Bool, true, false}
 use mathlib.Core.Option.{some}
-use Prim.Native.Nat.{ℕ, zero, suc, ◌+◌, ◌*◌, ◌-◌, ◌<◌, ◌≤◌}
+use Prim.Native.Nat.{ℕ, ◌+◌, ◌*◌, ◌-◌, ◌<◌, ◌≤◌}
 use native.Mathlib.Omega.{arith}
-use lib.ListN.{length, get_or, replicate, length-replicate, length-append}
+use lib.ListN.{length, get_or, length-replicate, length-append}
 use Rattle.base.specs.Lists.{◌∈◌, All}
 use Rattle.base.proofs.Lists.{all_both, all_get_d, all_in, map-in}
 use Rattle.token.specs.declared.Token.{Token}
 use Rattle.token.specs.Text.{tokens_of}
-use Rattle.grammar.specs.Tree.{Width, full, Statement}
+use Rattle.grammar.specs.Tree.{full, Statement}
 use Rattle.grammar.specs.Derives.{is_program}
 use Rattle.grammar.specs.Events.{events_of}
 use Rattle.grammar.specs.Places.{Along}
 use Rattle.grammar.specs.Texts.{Text}
 use Rattle.grammar.proofs.Texts.{program-text}
 use Rattle.grammar.proofs.Theorems.{read-is-program, program-inside}
-use Rattle.scopes.specs.declared.Broken.{Broken}
-use Rattle.scopes.specs.Broken.{◌⊕◌}
 use Rattle.scopes.specs.Search.{in_front, first_token}
 use Rattle.scopes.specs.Names.{Named}
-use Rattle.scopes.specs.Labels.{Labelled}
 use Rattle.scopes.proofs.Joins.{quiet-left, quiet-right}
-use Rattle.static_rules.specs.Meaning.{Meaning, nothing, register, cell, routine, Cell, Based, element_size, meaning_of}
+use Rattle.static_rules.specs.Meaning.{Meaning, nothing, cell, Cell, element_size}
 use Rattle.static_rules.specs.Meanings.{Filled, Meant, standard}
 use Rattle.static_rules.specs.Tables.{Tables, meaning_at}
 use Rattle.static_rules.specs.Kinds.{rules_of}
@@ -32,20 +28,20 @@ use Rattle.static_rules.proofs.Unbroken.{Unbroken, unbroken-program}
 use Rattle.static_rules.proofs.Small.{Small, meant_small, standard-small}
 use Rattle.static_rules.proofs.Known.{Known, Held, known-text, known-standard}
 use Rattle.static_rules.proofs.Bases.{few-bases}
-use Rattle.objtext.specs.Object.{Segment, program, cells, Object, IsObject, Data}
+use Rattle.objtext.specs.Object.{Object}
 use Rattle.objtext.specs.Reader.{read_object}
 use Rattle.objtext.proofs.Written.{read-written}
-use Rattle.translation.specs.Instructions.{Instruction, stop, sizes}
+use Rattle.translation.specs.Instructions.{stop, sizes}
 use Rattle.translation.specs.Core.{Core, core_statement}
 use Rattle.translation.specs.Code.{code, instructions, size_of}
-use Rattle.translation.specs.Layout.{Layout, layout, place_cells, offset_of, segment_limit, literals_end, literals_from, cells_end}
+use Rattle.translation.specs.Layout.{Layout, layout, place_cells, offset_of, segment_limit, literals_end}
 use Rattle.translation.specs.Bytes.{encode_all}
-use Rattle.translation.specs.Image.{segments, data_from}
-use Rattle.translation.specs.Translate.{kinds_of, values_of, named, labelled, meant, Made, tables_of, make}
+use Rattle.translation.specs.Image.{segments}
+use Rattle.translation.specs.Translate.{kinds_of, values_of, named, labelled, meant, tables_of, make}
 use Rattle.translation.proofs.Sizes.{length-encode_all, sizes-instructions}
-use Rattle.translation.proofs.Literals.{Takes, literals-have}
-use Rattle.translation.proofs.Rooms.{CellAt, cell_at, ends-fit, start_first, round-up}
-use Rattle.translation.proofs.Ready.{Ready, ReadyCore, ready-code}
+use Rattle.translation.proofs.Literals.{literals-have}
+use Rattle.translation.proofs.Rooms.{cell_at, ends-fit, start_first, round-up}
+use Rattle.translation.proofs.Ready.{Ready, ready-code}
 use Rattle.translation.proofs.Encoded.{bytes-encode_all}
 use Rattle.translation.proofs.Emitted.{core-ready}
 use Rattle.translation.proofs.Images.{Fitting, placed-bytes, first-data, data-from, length-data}

@@ -1,26 +1,20 @@
 -- Instructions whose fields have room in their bytes, and that the code of a text is made of such.
-use mathlib.Core.Path.{◌≡◌, refl, sym, ap, subst, ◌∙◌}
-use mathlib.Core.Logic.{◌⊎◌, inl, inr}
-use mathlib.Core.List.{List, [], ◌∷◌, ◌++◌, map}
+use mathlib.Core.List.{List, [], ◌∷◌, ◌++◌}
 use mathlib.Core.Bool.{Bool, true, false}
-use Prim.Native.Nat.{ℕ, zero, suc, ◌+◌, ◌*◌, ◌/◌, ◌%◌, ◌<◌, ◌≤◌}
+use Prim.Native.Nat.{ℕ, ◌+◌, ◌<◌, ◌≤◌}
 use native.Mathlib.Omega.{arith}
 use lib.Dec.{eqb}
-use lib.ListN.{length, get_or}
+use lib.ListN.{get_or}
 use Rattle.base.specs.Choose.{if◌then◌else◌}
-use Rattle.base.specs.Lists.{◌∈◌, All}
-use Rattle.base.proofs.Lists.{all_both, all_get_d, all_in}
-use Rattle.grammar.specs.Tree.{Width, full, short}
+use Rattle.base.specs.Lists.{All}
+use Rattle.base.proofs.Lists.{all_both, all_get_d}
 use Rattle.base.specs.Runs.{index_of}
-use Rattle.static_rules.specs.Meaning.{Cell, Based}
 use Rattle.static_rules.specs.Rules.{shifts}
 use Rattle.token.specs.Kinds as K
-use Rattle.translation.specs.Instructions.{Datum, element, literal, entry, Instruction, rr, rx, address, immediate, shift, branch, link, indexed, stop, size, sizes, code_table, opcode, column, shift_table, shift_code, condition_kinds, false_masks, false_mask, load_row, add_row, compare_row, always}
+use Rattle.translation.specs.Instructions.{Datum, element, literal, entry, Instruction, rr, rx, address, immediate, shift, branch, link, indexed, stop, sizes, code_table, opcode, shift_table, shift_code, condition_kinds, false_masks, false_mask, load_row, add_row, compare_row, always}
 use Rattle.translation.specs.Core.{Core, skip, run, seq, mark, scope, jump, call, procedure, base, when, either, loop, count, select, Arms, last, arm}
-use Rattle.translation.specs.Code.{Mark, arm_count, head_size, size_of, arms_size, own, mark_at, case_head, table, code, code_arms, instructions}
-use Rattle.translation.specs.Layout.{Layout, segment_limit, offset_of, literals_end}
-use Rattle.translation.specs.Bytes.{encode, encode_all, displacement}
-use Rattle.translation.proofs.Literals.{Takes, index-lt}
+use Rattle.translation.specs.Code.{Mark, arm_count, head_size, size_of, arms_size, own, mark_at, case_head, table, code, code_arms}
+use Rattle.translation.specs.Layout.{Layout, segment_limit, offset_of}
 
 -- ── the tables ──
 

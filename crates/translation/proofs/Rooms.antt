@@ -1,7 +1,7 @@
 -- Where no rule of layout is broken: ends only grow and stay within a segment, and every declared cell lies aligned between its segment's start and end.
 use mathlib.Core.Path.{◌≡◌, refl, sym, ap, subst, ◌∙◌}
 use mathlib.Core.Logic.{◌⊎◌, inl, inr}
-use mathlib.Core.List.{List, [], ◌∷◌, ◌++◌}
+use mathlib.Core.List.{List, [], ◌∷◌}
 use mathlib.Core.Bool.{Bool, true, false}
 use Prim.Native.Nat.{ℕ, zero, suc, ◌+◌, ◌*◌, ◌%◌, ◌<◌, ◌≤◌}
 use native.Mathlib.Omega.{arith}
@@ -12,16 +12,14 @@ use lib.ListN.{length, get_or, set, length-set, replicate, length-replicate}
 use lib.Seq.{get_or-set_same, get_or-set_other}
 use borrow.Author.Tests.{leb-true, eq-eqb, ne_eqb}
 use Rattle.base.specs.Choose.{if◌then◌else◌}
-use Rattle.base.specs.Lists.{◌∈◌, All}
+use Rattle.base.specs.Lists.{◌∈◌}
 use Rattle.base.proofs.Lists.{all_in}
 use Rattle.grammar.specs.Tree.{Width, full, short, byte}
-use Rattle.scopes.specs.declared.Broken.{Broken}
-use Rattle.scopes.specs.Broken.{◌⊕◌, rule}
 use Rattle.scopes.proofs.Joins.{quiet-left, quiet-right, rule-holds}
-use Rattle.static_rules.specs.Meaning.{Cell, Based, element_size}
+use Rattle.static_rules.specs.Meaning.{Cell, element_size}
 use Rattle.static_rules.specs.Meanings.{Filled}
 use Rattle.static_rules.proofs.Known.{Falling}
-use Rattle.translation.specs.Layout.{segment_limit, table_bytes, Placed, round_up, value_bytes, Room, offset_for, end_for, place_cell, empty_ends, place_cells, offset_of}
+use Rattle.translation.specs.Layout.{segment_limit, table_bytes, round_up, Room, offset_for, end_for, place_cell, place_cells, offset_of}
 
 -- ── "the next multiple" ──
 

@@ -27,7 +27,7 @@ use Rattle.translation.specs.Layout.{literals_end, segment_limit}
 use Rattle.translation.specs.Image.{segments}
 use Rattle.translation.specs.Translate.{Answer, accepted, refused, kinds_of, place_at, make, finish, on_rules, after_tokens, translated, in_room, translate}
 use Rattle.translation.specs.Broken.{Breaks, NotAfter}
-use Rattle.translation.specs.Rows.{Tokens, Program, Keeps, Fits, object_of, TokenAt, BrokenAt, ProgramLong, LiteralsLong, BufferShort, Accepts, Row, Given}
+use Rattle.translation.specs.Rows.{Tokens, Program, Keeps, Fits, object_of, TokenAt, BrokenAt, ProgramLong, LiteralsLong, BufferShort, Row, Given}
 use Rattle.translation.proofs.Answers.{read-grammar}
 use Rattle.translation.proofs.Numbers.{make-ruled}
 use Rattle.translation.proofs.Tokens.{place_inside}

@@ -1,12 +1,12 @@
 -- The bytes of instructions are as many as their sizes, and a text's code is as long as `size_of` says.
-use mathlib.Core.Path.{◌≡◌, refl, sym, ap, ◌∙◌}
+use mathlib.Core.Path.{◌≡◌, refl, ap, ◌∙◌}
 use mathlib.Core.List.{List, [], ◌∷◌, ◌++◌}
 use Prim.Native.Nat.{ℕ, ◌+◌, ◌*◌}
 use native.Mathlib.Omega.{arith}
 use lib.ListN.{length, length-append}
-use Rattle.translation.specs.Instructions.{Datum, element, literal, entry, Instruction, rr, rx, address, immediate, shift, branch, link, indexed, stop, size, sizes, opcode, add_row, always}
+use Rattle.translation.specs.Instructions.{literal, Instruction, rr, rx, address, immediate, shift, branch, link, indexed, stop, size, sizes, opcode, add_row, always}
 use Rattle.translation.specs.Core.{Core, skip, run, seq, mark, scope, jump, call, procedure, base, when, either, loop, count, select, Arms, last, arm}
-use Rattle.translation.specs.Code.{Mark, arm_count, head_size, size_of, arms_size, own, mark_at, case_head, table, code, code_arms, instructions}
+use Rattle.translation.specs.Code.{Mark, arm_count, head_size, size_of, arms_size, own, case_head, table, code, code_arms, instructions}
 use Rattle.translation.specs.Layout.{Layout}
 use Rattle.translation.specs.Bytes.{encode, encode_all}
 

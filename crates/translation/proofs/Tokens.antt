@@ -5,7 +5,6 @@ use mathlib.Core.List.{List, [], ◌∷◌, ◌++◌, map}
 use Prim.Native.Nat.{ℕ, zero, suc, ◌+◌, ◌-◌, ◌≤◌, ◌<◌}
 use native.Mathlib.Omega.{arith}
 use lib.ListN.{length, get_or, length-append}
-use Rattle.base.specs.Text.{bytes}
 use Rattle.base.specs.Lists.{All}
 use Rattle.base.proofs.Lists.{all_both}
 use Rattle.token.specs.Kinds as K

@@ -1,5 +1,5 @@
 -- Document 01, "Names, cells, protected registers": the bytes of the data segments, and the segments of a program in number order.
-use Rattle.std.specs.Prelude.{List, [], ◌∷◌, ◌++◌, ℕ, zero, suc, ◌+◌, eqb, length, replicate}
+use Rattle.std.specs.Prelude.{List, [], ◌∷◌, ◌++◌, ℕ, zero, suc, eqb, length, replicate}
 use Rattle.std.proofs.lemmas.List.Edits.{sets}
 use Rattle.base.specs.Choose.{if◌then◌else◌}
 use Rattle.base.specs.Numbers.{bytes_of}

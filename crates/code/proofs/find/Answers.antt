@@ -1,5 +1,4 @@
 -- `find` searches the first literals. Assumes nothing.
-use Prim.Native.Nat.{◌-◌}
 use borrow.Author.Rules.{rules}
 use Rattle.code.proofs.Coding.{find-on, find-stop, find-end}
 use Rattle.code.proofs.find.Goals as goal

@@ -1,6 +1,5 @@
 -- The mask at the kind's place, 0 past the table. Assumes nothing.
 use native.Mathlib.Omega.{arith}
-use borrow.Author.Rules.{rules}
 use Rattle.emit.proofs.Tables.{mask-past}
 use Rattle.translation.specs.Instructions.{false_mask}
 use Rattle.emit.proofs.false_mask.Goals as goal

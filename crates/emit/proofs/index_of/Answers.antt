@@ -1,5 +1,4 @@
 -- `index_of` searches the table. Assumes nothing.
-use Prim.Native.Nat.{◌-◌}
 use borrow.Author.Rules.{rules}
 use Rattle.emit.proofs.Tables.{index_on, index-stop, index-end}
 use Rattle.emit.proofs.index_of.Goals as goal

@@ -1,6 +1,5 @@
 -- The opcode at the kind's place, 0 past the table. Assumes nothing.
 use native.Mathlib.Omega.{arith}
-use borrow.Author.Rules.{rules}
 use Rattle.emit.proofs.Tables.{shift_past}
 use Rattle.translation.specs.Instructions.{shift_code}
 use Rattle.emit.proofs.shift_code.Goals as goal

@@ -1,6 +1,5 @@
 -- The sizes are summed. Assumes nothing.
 use borrow.Author.Rules.{rules}
-use Prim.Native.Nat.{◌-◌}
 use native.Mathlib.Omega.{arith}
 use Rattle.emit.specs.Codes.{list_of}
 use Rattle.emit.proofs.Lists.{sizes-turn, sizes-end}

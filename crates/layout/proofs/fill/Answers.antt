@@ -4,7 +4,6 @@ use Rattle.tape.proofs.Pass.{pass-turn, pass-end}
 use Rattle.ledger.specs.Book.{wide_of}
 use borrow.Author.Rules.{rules}
 use mathlib.Core.Path.{refl}
-use Prim.Native.Nat.{◌-◌}
 use Rattle.layout.proofs.fill.Goals as goal
 
 pub loop-i-init : goal.loop-i-init

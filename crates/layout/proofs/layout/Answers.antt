@@ -3,7 +3,6 @@ use Rattle.layout.proofs.Along.{going, going_on, going_end, begun}
 use Rattle.ledger.specs.Book.{wide_of}
 use native.Mathlib.Omega.{arith}
 use mathlib.Core.Path.{refl, ◌∙◌}
-use Prim.Native.Nat.{◌-◌}
 use Rattle.layout.proofs.layout.Goals as goal
 
 pub loop-i-init : goal.loop-i-init

@@ -5,7 +5,6 @@ use Rattle.meanings.specs.Flat.{view_of, changed}
 use Rattle.ledger.specs.Book.{Wide, thin_of}
 use Rattle.meanings.proofs.Along.{going, going_on, going_end, room-for-one}
 use Rattle.tables.specs.Packed.{based_in}
-use Prim.Native.Nat.{◌-◌}
 use mathlib.Core.Path.{refl, ap, ◌∙◌}
 use native.Mathlib.Omega.{arith}
 use Rattle.meanings.proofs.meanings.Goals as goal

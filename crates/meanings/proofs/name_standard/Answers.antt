@@ -5,7 +5,6 @@ use Rattle.meanings.proofs.Views as views
 use Rattle.ledger.specs.Book.{wide_of}
 use Rattle.meanings.specs.Flat.{standard_named, named_to}
 use borrow.Author.Rules.{rules}
-use Prim.Native.Nat.{◌-◌}
 use Prim.Native.Nat.{ℕ}
 use Rattle.meanings.proofs.name_standard.Goals as goal
 

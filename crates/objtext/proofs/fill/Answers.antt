@@ -1,5 +1,4 @@
 -- `fill` lays the content. Assumes nothing.
-use Prim.Native.Nat.{◌-◌}
 use borrow.Author.Rules.{rules}
 use Rattle.objtext.proofs.Places.{fill_start, fill_on, fill_end}
 use Rattle.objtext.proofs.fill.Goals as goal

@@ -1,6 +1,6 @@
 -- `is_content` is the definition's content. Assumes nothing.
 use borrow.Author.Rules.{rules}
-use Rattle.base.proofs.Tests.{told, not-true, not-false}
+use Rattle.base.proofs.Tests.{told}
 use Rattle.objtext.proofs.Places.{frame_on, frame-stop, frame-end}
 use Rattle.objtext.proofs.is_content.Goals as goal
 

@@ -1,7 +1,6 @@
 -- `read` counts the segments. Assumes nothing.
-use Prim.Native.Nat.{◌-◌}
 use borrow.Author.Rules.{rules}
-use Rattle.base.proofs.Tests.{told, not-true, not-false}
+use Rattle.base.proofs.Tests.{told}
 use Rattle.objtext.proofs.Places.{after-program-place}
 use Rattle.objtext.proofs.Segments.{no_program, no-data, first-data, at_last_lem, not_last, no_more, one_more}
 use Rattle.objtext.proofs.read.Goals as goal
