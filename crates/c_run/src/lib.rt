@@ -33,8 +33,7 @@ fn stop_of(stop: Stop) -> u64
 }
 
 // `runner::run_object`.
-#[unsafe(no_mangle)]
-pub extern "C" fn tautgaff_run(
+pub fn tautgaff_run(
     object: &[u8],
     code: u64,
     budget: u32,

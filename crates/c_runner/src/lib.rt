@@ -4,8 +4,7 @@
 ghost use Rattle.std.specs.Prelude.{◌≤◌, length};
 
 // How long the line is; 0 where there is no case that can be run in this storage.
-#[unsafe(no_mangle)]
-pub extern "C" fn tautgaff_run_case(case: &[u8], store: &mut [u8], out: &mut [u8]) -> usize
+pub fn tautgaff_run_case(case: &[u8], store: &mut [u8], out: &mut [u8]) -> usize
     ensures { result ≤ length out.old }
 {
     let told = run_cases::answer(case, store, out);

@@ -35,8 +35,7 @@ fn parts_of(read: Tokens) -> [usize; 4]
 }
 
 // `token_lists::tokens_of`.
-#[unsafe(no_mangle)]
-pub extern "C" fn tautgaff_tokens(
+pub fn tautgaff_tokens(
     text: &[u8],
     kinds: &mut [u8],
     values: &mut [u64],
@@ -55,8 +54,7 @@ pub extern "C" fn tautgaff_tokens(
 }
 
 // `token_lists::read_tokens`.
-#[unsafe(no_mangle)]
-pub extern "C" fn tautgaff_read_tokens(
+pub fn tautgaff_read_tokens(
     text: &[u8],
     kinds: &mut [u8],
     values: &mut [u64],
@@ -75,8 +73,7 @@ pub extern "C" fn tautgaff_read_tokens(
 }
 
 // `parse::grammatical`.
-#[unsafe(no_mangle)]
-pub extern "C" fn tautgaff_grammatical(text: &[u8], told: &mut [usize; 3]) -> u64
+pub fn tautgaff_grammatical(text: &[u8], told: &mut [usize; 3]) -> u64
     ensures { judged_in result told.new ≡ judged text.now }
 {
     let said = text_cases::judge(text);

@@ -27,12 +27,7 @@ fn parts_of(answer: Answer) -> [usize; 4]
 }
 
 // `translate::translate`.
-#[unsafe(no_mangle)]
-pub extern "C" fn tautgaff_translate(
-    source: &[u8],
-    buffer: &mut [u8],
-    answer: &mut [usize; 4],
-) -> u64
+pub fn tautgaff_translate(source: &[u8], buffer: &mut [u8], answer: &mut [usize; 4]) -> u64
     ensures { Lent source.now buffer.old buffer.new result answer.new }
 {
     let told = translate::translate(source, buffer);

@@ -1,11 +1,28 @@
 // Files as the command reads and writes them. `-` is standard input, or standard output. What cannot be read or written is said on standard error, with the
-// file's name.
+// file's name and the system's reason.
 #![tactic(auto)]
 
-ghost use Rattle.std.specs.Prelude.{◌+◌, ◌≤◌, ◌<◌, length, get_or, ◌≡◌};
+ghost use Rattle.std.specs.Prelude.{◌≤◌, length, ◌≡◌, IfOk, IfErr};
 
-use libc::types::{stat, timespec};
-use libc::{STDERR_FILENO, STDIN_FILENO, STDOUT_FILENO};
+use std::fmt::Write as _;
+use std::fs::{Metadata, OpenFile, OpenOptions, Permissions};
+use std::io::{Error, ErrorKind, Input, Print, Read, Write};
+use std::os::unix::fs::{MetadataExt, PermissionsExt};
+use std::random::RandomSource;
+use std::rt::Files;
+use std::{fmt, fs, io, str};
+
+// What the command needs of the system that it runs on: files, the standard streams, memory for the name behind a link, and bytes that nobody foresees.
+pub trait Host: Files + Input + Print + Alloc + RandomSource {
+    // To standard error: bytes that need not be text.
+    fn complain(&self, text: &[u8]) -> io::Result<()>;
+}
+
+impl Host for HostRuntime {
+    fn complain(&self, text: &[u8]) -> io::Result<()> {
+        Print::write_all(&self.stderr(), text)
+    }
+}
 
 // How many bytes were read, and whether reading failed.
 #[derive(Clone, Copy)]
@@ -32,22 +49,73 @@ fn nothing() -> Got
     }
 }
 
-// One read: no byte at the end of the file.
-fn read_some(fd: i32, room: &mut [u8]) -> Got
-    ensures { result.size ≤ length room.old }
-{
-    let n = libc::read(fd, room);
-    if n < 0 {
-        return nothing();
-    }
-    count(io::count(n, room))
-}
-
 // "source over 32,768 bytes": one byte more decides it.
 pub const SOURCE_ROOM: usize = 32769;
 
 // The longest object text has 44,095 bytes: one byte more decides that a file is none.
 pub const OBJECT_ROOM: usize = 44096;
+
+// ── what is said of a failure ──
+
+// The longest of the system's reasons has 49 bytes.
+const REASON_ROOM: usize = 256;
+
+// The words of an error.
+#[derive(Drop)]
+struct Reason {
+    text: [u8; REASON_ROOM],
+    size: usize,
+}
+
+impl fmt::Write for Reason {
+    fn write_str(&mut self, s: &str) -> fmt::Result {
+        self.size = figures::put_all(&mut self.text, self.size, s.as_bytes());
+        Ok(())
+    }
+}
+
+// What the library puts behind the system's reason: its number.
+const NUMBERED: &[u8] = b" (os error ";
+
+// Where the number of the system's error begins, or the length where there is none.
+fn reason_length(words: &[u8]) -> usize {
+    for n in 0..words.len() {
+        if figures::same(
+            figures::front(figures::rest(words, n), NUMBERED.len()),
+            NUMBERED,
+        ) {
+            return n;
+        }
+    }
+    words.len()
+}
+
+// The name, a colon and the reason.
+fn fail<R: Host>(rt: &R, name: &[u8], e: &Error) {
+    let mut reason = Reason {
+        text: [0u8; REASON_ROOM],
+        size: 0,
+    };
+    let _ = write!(reason, "{e}");
+    let words = figures::front(&reason.text, reason.size);
+    complain(rt, name);
+    complain(rt, b": ");
+    complain(rt, figures::front(words, reason_length(words)));
+    complain(rt, b"\n");
+}
+
+// Whether it was done; if not, that is said.
+fn told<R: Host>(rt: &R, name: &[u8], done: io::Result<()>) -> bool {
+    match done {
+        Ok(()) => true,
+        Err(e) => {
+            fail(rt, name, &e);
+            false
+        }
+    }
+}
+
+// ── reading ──
 
 fn first_end(size: usize) -> usize
     ensures { result ≤ size }
@@ -70,270 +138,270 @@ fn next_end(first: u8, n: usize, end: usize, size: usize) -> usize
 }
 
 // As much as there is room for.
-fn read_all(fd: i32, room: &mut [u8]) -> Got
-    ensures { result.size ≤ length room.old }
+fn read_all<F: Read>(file: &mut F, room: &mut [u8]) -> io::Result<usize>
+    ensures { IfOk result (λ n. n ≤ length room.old) }
 {
     let mut n: usize = 0;
     let mut end = first_end(room.len());
     while n < end {
-        let more = read_some(fd, &mut room[n..end]);
-        let size = more.size;
-        let broke = more.failed;
-        if broke {
-            return nothing();
-        }
+        let size = file.read(&mut room[n..end])?;
         if size == 0 {
-            return count(n);
+            return Ok(n);
         }
         n += size;
         end = next_end(figures::first(room), n, end, room.len());
     }
-    count(n)
+    Ok(n)
 }
 
 fn is_standard(name: &[u8]) -> bool {
     figures::same(name, b"-")
 }
 
+// The system's files have names of any bytes, the library's are text: another name is none that can be reached.
+fn path(name: &[u8]) -> io::Result<&str> {
+    match str::from_utf8(name) {
+        Ok(text) => Ok(text),
+        Err(_) => Err(Error::new(ErrorKind::InvalidFilename, "the name is not UTF-8")),
+    }
+}
+
+fn read_standard<R: Host>(rt: &R, room: &mut [u8]) -> io::Result<usize>
+    ensures { IfOk result (λ n. n ≤ length room.old) }
+{
+    let mut input = rt.reader();
+    read_all(&mut input, room)
+}
+
+fn read_named<R: Host>(rt: &R, name: &[u8], room: &mut [u8]) -> io::Result<usize>
+    ensures { IfOk result (λ n. n ≤ length room.old) }
+{
+    let mut file = fs::open(rt, path(name)?)?;
+    read_all(&mut file, room)
+}
+
+// What was read, or that it could not be, which is said.
+fn outcome<R: Host>(rt: &R, name: &[u8], read: io::Result<usize>) -> Got
+    ensures ok { IfOk read (λ n. result.size ≡ n) }
+    ensures err { IfErr read (λ _. result.size ≡ 0) }
+{
+    match read {
+        Ok(n) => count(n),
+        Err(e) => {
+            fail(rt, name, &e);
+            nothing()
+        }
+    }
+}
+
 // A file's first bytes, as many as there is room for.
-pub fn load(name: &[u8], room: &mut [u8]) -> Got
+pub fn load<R: Host>(rt: &R, name: &[u8], room: &mut [u8]) -> Got
     ensures { result.size ≤ length room.old }
 {
     if is_standard(name) {
-        let read = read_all(STDIN_FILENO, room);
-        if read.failed {
-            os::fail(b"standard input");
-        }
-        return read;
+        let read = read_standard(rt, room);
+        return outcome(rt, b"standard input", read);
     }
-    let fd = os::open_read(name);
-    if fd < 0 {
-        os::fail(name);
-        return nothing();
-    }
-    let read = read_all(fd, room);
-    if read.failed {
-        os::fail(name);
-    }
-    libc::close(fd);
-    read
+    let read = read_named(rt, name, room);
+    outcome(rt, name, read)
 }
 
+// ── the standard streams ──
+
 // To standard output.
-pub fn print(text: &[u8]) -> bool {
-    if io::write_all(STDOUT_FILENO, text) {
-        return true;
-    }
-    os::fail(b"standard output");
-    false
+pub fn print<R: Host>(rt: &R, text: &[u8]) -> bool {
+    told(rt, b"standard output", Print::write_all(rt, text))
 }
 
 // To standard error.
-pub fn complain(text: &[u8]) {
-    io::write_all(STDERR_FILENO, text);
+pub fn complain<R: Host>(rt: &R, text: &[u8]) {
+    let _ = rt.complain(text);
 }
 
-fn put_bytes(fd: i32, text: &[u8]) -> bool {
-    let whole = io::write_all(fd, text);
-    let closed = libc::close(fd);
-    whole & (closed == 0)
+// ── what is known of a file ──
+
+// What a file that is replaced keeps: who owns it, and its mode.
+#[derive(Clone, Copy)]
+struct Kept {
+    owner: u32,
+    group: u32,
+    mode: u32,
 }
+
+fn what_stays(about: &Metadata) -> Kept {
+    Kept {
+        owner: about.uid(),
+        group: about.gid(),
+        mode: about.mode(),
+    }
+}
+
+// Whether it is the file behind a name, which the system has for a standard stream.
+fn is_behind<R: Host>(rt: &R, about: &Metadata, name: &str) -> bool {
+    match fs::metadata(rt, name) {
+        Ok(other) => (about.dev() == other.dev()) & (about.ino() == other.ino()),
+        Err(_) => false,
+    }
+}
+
+// The file to which standard output or standard error goes, as `/dev/stdout` may be.
+fn is_standard_file<R: Host>(rt: &R, about: &Metadata) -> bool {
+    is_behind(rt, about, "/proc/self/fd/1") | is_behind(rt, about, "/proc/self/fd/2")
+}
+
+fn is_link<R: Host>(rt: &R, name: &str) -> bool {
+    match fs::symlink_metadata(rt, name) {
+        Ok(about) => about.is_symlink(),
+        Err(_) => false,
+    }
+}
+
+// ── a file replaced ──
 
 // Room for a name and what is put behind it.
 const NAME_ROOM: usize = 4200;
 
 // A name in the same folder that no other file has.
-fn put_other_name(room: &mut [u8], name: &[u8]) -> usize {
+fn put_other_name<R: Host>(rt: &R, room: &mut [u8], name: &str) -> usize {
     let mut chance = [0u8; 3];
-    let view: &mut [u8] = &mut chance;
-    libc::getentropy(view);
-    let named = figures::put_all(room, 0, name);
+    let _ = rt.fill_bytes(&mut chance);
+    let named = figures::put_all(room, 0, name.as_bytes());
     let marked = figures::put_all(room, named, b".new");
     let first = figures::put_decimal(room, marked, figures::byte(&chance, 0) as usize);
     let second = figures::put_decimal(room, first, figures::byte(&chance, 1) as usize);
     figures::put_decimal(room, second, figures::byte(&chance, 2) as usize)
 }
 
-// ── what is known of a file ──
-
-fn blank() -> stat {
-    let never = timespec {
-        tv_sec: 0,
-        tv_nsec: 0,
-    };
-    stat {
-        st_dev: 0,
-        st_ino: 0,
-        st_nlink: 0,
-        st_mode: 0,
-        st_uid: 0,
-        st_gid: 0,
-        __pad: 0,
-        st_rdev: 0,
-        st_size: 0,
-        st_blksize: 0,
-        st_blocks: 0,
-        st_atim: never,
-        st_mtim: never,
-        st_ctim: never,
-        __unused: [0, 0, 0],
-    }
-}
-
-fn asked(about: stat, fd: i32) -> stat {
-    let mut s = about;
-    libc::fstat(fd, &mut s);
-    s
-}
-
-// All zero where the system says nothing.
-fn known(fd: i32) -> stat {
-    asked(blank(), fd)
-}
-
-// A file as disks have them, by the kind in its mode.
-fn is_plain(about: stat) -> bool {
-    about.st_mode / 4096 == 8
-}
-
-fn is_same(a: stat, b: stat) -> bool {
-    (a.st_dev == b.st_dev) & (a.st_ino == b.st_ino)
-}
-
-// The file to which standard output or standard error goes, as `/dev/stdout` may be.
-fn is_standard_file(about: stat) -> bool {
-    is_same(about, known(STDOUT_FILENO)) | is_same(about, known(STDERR_FILENO))
-}
-
-// ── a file replaced ──
-
 // As the file was that is replaced: its mode, and owner and group where the system lets us.
-fn keep(fd: i32, about: stat) -> bool {
-    if about.st_mode == 0 {
-        return true;
+fn keep<R: Host>(rt: &R, file: &R::File, other: &str, was: Option<Kept>) -> io::Result<()> {
+    match was {
+        None => Ok(()),
+        Some(k) => {
+            let _ = rt.chown(other, Some(k.owner), Some(k.group));
+            file.set_permissions(Permissions::from_mode(k.mode % 512))
+        }
     }
-    libc::fchown(fd, about.st_uid, about.st_gid);
-    libc::fchmod(fd, about.st_mode % 512) == 0
 }
 
-fn put_as(fd: i32, about: stat, text: &[u8]) -> bool {
-    if keep(fd, about) {
-        return put_bytes(fd, text);
+fn put_as<R: Host>(
+    rt: &R,
+    file: R::File,
+    other: &str,
+    was: Option<Kept>,
+    text: &[u8],
+) -> io::Result<()> {
+    let mut opened = file;
+    keep(rt, &opened, other, was)?;
+    opened.write_all(text)
+}
+
+fn put_and_rename<R: Host>(
+    rt: &R,
+    file: R::File,
+    other: &str,
+    name: &str,
+    text: &[u8],
+    was: Option<Kept>,
+) -> io::Result<()> {
+    put_as(rt, file, other, was, text)?;
+    fs::rename(rt, other, name)
+}
+
+fn put_under<R: Host>(
+    rt: &R,
+    other: &str,
+    name: &str,
+    text: &[u8],
+    was: Option<Kept>,
+) -> io::Result<()> {
+    let file = OpenOptions::new()
+        .write(true)
+        .create_new(true)
+        .open(rt, other)?;
+    let done = put_and_rename(rt, file, other, name, text, was);
+    if done.is_err() {
+        let _ = fs::remove_file(rt, other);
     }
-    false
+    done
+}
+
+fn put_in_place<R: Host>(rt: &R, name: &str, text: &[u8], was: Option<Kept>) -> io::Result<()> {
+    let mut room = [0u8; NAME_ROOM];
+    let end = put_other_name(rt, &mut room, name);
+    put_under(rt, path(figures::front(&room, end))?, name, text, was)
 }
 
 // The whole text under another name in the same folder, which then takes the name's place.
-fn replace(name: &[u8], text: &[u8], about: stat) -> bool {
-    let mut room = [0u8; NAME_ROOM];
-    let end = put_other_name(&mut room, name);
-    let other = figures::front(&room, end);
-    let fd = os::create(other);
-    if fd < 0 {
-        os::fail(name);
-        return false;
-    }
-    if put_as(fd, about, text) {
-        if os::rename(other, name) == 0 {
-            return true;
+fn replace<R: Host>(rt: &R, name: &str, text: &[u8], was: Option<Kept>) -> bool {
+    told(rt, name.as_bytes(), put_in_place(rt, name, text, was))
+}
+
+// The file behind a link, by the name that the system has for it.
+fn replace_behind<R: Host>(rt: &R, name: &str, text: &[u8], was: Option<Kept>) -> bool {
+    match fs::canonicalize(rt, name) {
+        Ok(target) => replace(rt, target.as_str(), text, was),
+        Err(e) => {
+            fail(rt, name.as_bytes(), &e);
+            false
         }
     }
-    os::fail(name);
-    os::unlink(other);
-    false
-}
-
-// The name as the system takes it, ended by a zero byte.
-fn ended(name: &[u8]) -> [u8; 4096]
-    ensures { get_or result 4095 1 ≡ 0 }
-{
-    let mut path = [0u8; 4096];
-    let mut i: usize = 0;
-    while i < 4095 {
-        path[i] = figures::byte(name, i);
-        i += 1;
-    }
-    path
-}
-
-// What a link says, and no byte where there is none.
-fn read_link(name: &[u8], room: &mut [u8]) -> Got {
-    let path = ended(name);
-    let n = libc::readlink(&path, room);
-    if n < 0 {
-        return nothing();
-    }
-    count(io::count(n, room))
-}
-
-fn is_link(name: &[u8]) -> bool {
-    let mut target = [0u8; 8];
-    let view: &mut [u8] = &mut target;
-    let found = read_link(name, view);
-    !found.failed
-}
-
-fn number(fd: i32) -> usize {
-    if fd < 0 {
-        return 0;
-    }
-    fd as usize
-}
-
-// The file behind a link, by the name that the system has for what was opened.
-fn replace_behind(name: &[u8], fd: i32, text: &[u8], about: stat) -> bool {
-    let mut room = [0u8; 32];
-    let at = figures::put_all(&mut room, 0, b"/proc/self/fd/");
-    let end = figures::put_decimal(&mut room, at, number(fd));
-    let mut target = [0u8; 4096];
-    let view: &mut [u8] = &mut target;
-    let found = read_link(figures::front(&room, end), view);
-    if found.failed {
-        os::fail(name);
-        return false;
-    }
-    replace(figures::front(&target, found.size), text, about)
 }
 
 // ── writing ──
 
 // A pipe or a device, or where standard output goes, is written as it was opened.
-fn write_directly(name: &[u8], fd: i32, text: &[u8]) -> bool {
-    if put_bytes(fd, text) {
-        return true;
+fn write_directly<R: Host>(rt: &R, name: &str, file: R::File, text: &[u8]) -> bool {
+    let mut opened = file;
+    let done = opened.write_all(text);
+    told(rt, name.as_bytes(), done)
+}
+
+fn store_known<R: Host>(rt: &R, name: &str, file: R::File, about: &Metadata, text: &[u8]) -> bool {
+    if is_standard_file(rt, about) | !about.is_file() {
+        return write_directly(rt, name, file, text);
     }
-    os::fail(name);
+    drop(file);
+    if is_link(rt, name) {
+        return replace_behind(rt, name, text, Some(what_stays(about)));
+    }
+    replace(rt, name, text, Some(what_stays(about)))
+}
+
+fn store_over<R: Host>(rt: &R, name: &str, file: R::File, text: &[u8]) -> bool {
+    match file.metadata() {
+        Ok(about) => store_known(rt, name, file, &about, text),
+        Err(_) => write_directly(rt, name, file, text),
+    }
+}
+
+// A link that leads nowhere is not followed.
+fn store_new<R: Host>(rt: &R, name: &str, e: &Error, text: &[u8]) -> bool {
+    if e.kind() == ErrorKind::NotFound {
+        if !is_link(rt, name) {
+            return replace(rt, name, text, None);
+        }
+    }
+    fail(rt, name.as_bytes(), e);
     false
 }
 
-fn store_over(name: &[u8], fd: i32, text: &[u8]) -> bool {
-    let about = known(fd);
-    if is_standard_file(about) | !is_plain(about) {
-        return write_directly(name, fd, text);
+fn store_named<R: Host>(rt: &R, name: &str, text: &[u8]) -> bool {
+    match OpenOptions::new().append(true).open(rt, name) {
+        Ok(file) => store_over(rt, name, file, text),
+        Err(e) => store_new(rt, name, &e, text),
     }
-    if is_link(name) {
-        let done = replace_behind(name, fd, text, about);
-        libc::close(fd);
-        return done;
-    }
-    libc::close(fd);
-    replace(name, text, about)
 }
 
 // Writes a file whole or not at all. A link that leads nowhere is not followed.
-pub fn store(name: &[u8], text: &[u8]) -> bool {
+pub fn store<R: Host>(rt: &R, name: &[u8], text: &[u8]) -> bool {
     if is_standard(name) {
-        return print(text);
+        return print(rt, text);
     }
-    let fd = os::open_append(name);
-    if 0 <= fd {
-        return store_over(name, fd, text);
-    }
-    if os::errno() == libc::ENOENT {
-        if !is_link(name) {
-            return replace(name, text, blank());
+    match path(name) {
+        Ok(text_name) => store_named(rt, text_name, text),
+        Err(e) => {
+            fail(rt, name, &e);
+            false
         }
     }
-    os::fail(name);
-    false
 }

@@ -1,6 +1,8 @@
 // A window on an input that is longer than the room for it: what is still to be read stands between two places of the room.
 ghost use Rattle.std.specs.Prelude.{◌≤◌, length};
 
+use std::io::Read;
+
 // Moves what stands from `from` up to `to` to the front.
 fn shift(room: &mut [u8], from: usize, to: usize)
     requires { (from ≤ to) × (to ≤ length room.old) }
@@ -12,14 +14,32 @@ fn shift(room: &mut [u8], from: usize, to: usize)
     }
 }
 
+// Reads until the room is full, the input ends or a read fails: how many bytes.
+fn read_full<F: Read>(input: &mut F, room: &mut [u8]) -> usize
+    ensures { result ≤ length room.old }
+{
+    let mut done: usize = 0;
+    while done < room.len() {
+        let size = match input.read(&mut room[done..]) {
+            Ok(n) => n,
+            Err(_) => 0,
+        };
+        if size == 0 {
+            return done;
+        }
+        done += size;
+    }
+    done
+}
+
 // Moves what is still to be read to the front and reads on behind it: where it ends now.
-pub fn refill(fd: i32, room: &mut [u8], from: usize, to: usize) -> usize
+pub fn refill<F: Read>(input: &mut F, room: &mut [u8], from: usize, to: usize) -> usize
     requires { (from ≤ to) × (to ≤ length room.old) }
     ensures { result ≤ length room.old }
 {
     shift(room, from, to);
     let kept = to - from;
-    kept + io::read_full(fd, &mut room[kept..])
+    kept + read_full(input, &mut room[kept..])
 }
 
 // Where what is still to be read begins and ends.
@@ -30,12 +50,12 @@ pub struct Window {
 }
 
 // Reads on where fewer than `least` bytes are still to be read.
-pub fn keep(fd: i32, room: &mut [u8], at: usize, to: usize, least: usize) -> Window
+pub fn keep<F: Read>(input: &mut F, room: &mut [u8], at: usize, to: usize, least: usize) -> Window
     requires { (at ≤ to) × (to ≤ length room.old) }
     ensures { (result.at ≤ result.to) × (result.to ≤ length room.old) }
 {
     if to - at < least {
-        let end = refill(fd, room, at, to);
+        let end = refill(input, room, at, to);
         return Window { at: 0, to: end };
     }
     Window { at: at, to: to }

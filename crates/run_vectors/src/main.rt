@@ -4,6 +4,9 @@
 ghost use Rattle.std.specs.Prelude.{◌+◌, ◌≤◌, length};
 
 use lines::{tally, window};
+use std::io::Print;
+use std::rt::Files;
+use std::{fs, io};
 
 // No vector is longer.
 const VECTOR: usize = 32768;
@@ -40,10 +43,16 @@ fn compare_at(input: &[u8], at: usize, to: usize, store: &mut [u8], out: &mut [u
 }
 
 // A proved loop has to end, and nothing says that a file does: so the vectors are counted, up to a number that no file reaches.
-fn compare_all(name: &[u8], input: &mut [u8], store: &mut [u8], out: &mut [u8]) {
-    let fd = os::open_read(name);
+fn compare_all<R: Files + Print>(
+    rt: &R,
+    name: &str,
+    input: &mut [u8],
+    store: &mut [u8],
+    out: &mut [u8],
+) -> io::Result<()> {
+    let mut file = fs::open(rt, name)?;
     let mut at: usize = 0;
-    let mut to = window::refill(fd, input, 0, 0);
+    let mut to = window::refill(&mut file, input, 0, 0);
     let mut compared: u64 = 0;
     let mut equal: u64 = 0;
     while compared < 1000000 && at < to {
@@ -51,20 +60,20 @@ fn compare_all(name: &[u8], input: &mut [u8], store: &mut [u8], out: &mut [u8]) 
         let used = c.used;
         let is_equal = c.is_equal;
         compared += 1;
-        equal = tally::counted(is_equal, compared, equal);
-        let next = window::keep(fd, input, at + used, to, VECTOR);
+        equal = tally::counted(rt, is_equal, compared, equal);
+        let next = window::keep(&mut file, input, at + used, to, VECTOR);
         at = next.at;
         to = next.to;
     }
-    libc::close(fd);
-    tally::say(name, compared, equal);
+    tally::say(rt, name.as_bytes(), compared, equal);
+    Ok(())
 }
 
-fn main() {
-    let mut input = io::large_buffer();
-    let mut store = io::large_buffer();
-    let mut out = io::buffer();
-    compare_all(b"runs", &mut input, &mut store, &mut out);
-    compare_all(b"hercules-runs", &mut input, &mut store, &mut out);
-    compare_all(b"examples", &mut input, &mut store, &mut out);
+fn main(rt: HostRuntime) -> io::Result<()> {
+    let mut input = [0u8; 65536];
+    let mut store = [0u8; 65536];
+    let mut out = [0u8; 4096];
+    compare_all(&rt, "runs", &mut input, &mut store, &mut out)?;
+    compare_all(&rt, "hercules-runs", &mut input, &mut store, &mut out)?;
+    compare_all(&rt, "examples", &mut input, &mut store, &mut out)
 }

@@ -6,6 +6,7 @@ ghost use Rattle.std.specs.Prelude.{◌≡◌};
 ghost use Rattle.runner.specs.Numbers.{stop_of};
 
 use base::less;
+use files::Host;
 use runner::{Stop, Verdict};
 use spots::unplaced;
 
@@ -27,7 +28,8 @@ fn stop_number(stop: Stop) -> usize
 }
 
 // A stop at an operand, in the words of the source, if there is one.
-fn tell_stop(
+fn tell_stop<R: Host>(
+    rt: &R,
     name: &[u8],
     source: &[u8],
     stop: usize,
@@ -52,16 +54,23 @@ fn tell_stop(
         figures::byte(storage, at),
         source,
     );
-    files::complain(figures::front(&out, n));
+    files::complain(rt, figures::front(&out, n));
 }
 
-fn tell_run(words: &[u8], name: &[u8], source: &[u8], a: runner::Answer, storage: &[u8]) -> u8 {
+fn tell_run<R: Host>(
+    rt: &R,
+    words: &[u8],
+    name: &[u8],
+    source: &[u8],
+    a: runner::Answer,
+    storage: &[u8],
+) -> u8 {
     let mut out = [0u8; saying::MESSAGE_ROOM];
     let halted = a.stop;
     let stop = stop_number(halted);
     let regs = a.regs;
     if (stop == 2) | (stop == 3) {
-        tell_stop(name, source, stop, a.counter, &regs, storage);
+        tell_stop(rt, name, source, stop, a.counter, &regs, storage);
     }
     let n = reports::report(
         &mut out,
@@ -73,24 +82,31 @@ fn tell_run(words: &[u8], name: &[u8], source: &[u8], a: runner::Answer, storage
     );
     let end = cells::put_all_asked(&mut out, n, words, source, &regs, storage);
     saying::said(
-        files::print(figures::front(&out, end)),
+        files::print(rt, figures::front(&out, end)),
         saying::status(stop),
     )
 }
 
 // The object text of a source, or one of none.
-fn run_text(words: &[u8], w: words::Wish, name: &[u8], source: &[u8], object: &[u8]) -> u8 {
+fn run_text<R: Host>(
+    rt: &R,
+    words: &[u8],
+    w: words::Wish,
+    name: &[u8],
+    source: &[u8],
+    object: &[u8],
+) -> u8 {
     let begun = settings::start(words, 0 < source.len());
     let why = begun.why;
     if 0 < why {
-        return saying::complain(words, begun.word, why as usize);
+        return saying::complain(rt, words, begun.word, why as usize);
     }
     let regs = begun.values;
     let mut storage = [0u8; STORAGE];
     let wrong = cells::lay(source, words, &mut storage);
     let fault = wrong.why;
     if 0 < fault {
-        return saying::complain(words, wrong.word, fault as usize);
+        return saying::complain(rt, words, wrong.word, fault as usize);
     }
     let a = cells::run_set(
         source,
@@ -103,33 +119,33 @@ fn run_text(words: &[u8], w: words::Wish, name: &[u8], source: &[u8], object: &[
     );
     let verdict = a.verdict;
     match verdict {
-        Verdict::Ran => tell_run(words, name, source, a, &storage),
-        Verdict::NoObject => saying::refuse(name, 17, unplaced(0), object),
-        Verdict::BadCode => saying::refuse(name, 18, unplaced(w.options.code as usize), object),
-        Verdict::SmallStorage => saying::refuse(name, 19, unplaced(0), object),
+        Verdict::Ran => tell_run(rt, words, name, source, a, &storage),
+        Verdict::NoObject => saying::refuse(rt, name, 17, unplaced(0), object),
+        Verdict::BadCode => saying::refuse(rt, name, 18, unplaced(w.options.code as usize), object),
+        Verdict::SmallStorage => saying::refuse(rt, name, 19, unplaced(0), object),
     }
 }
 
-fn run_source(words: &[u8], w: words::Wish, name: &[u8], text: &[u8]) -> u8 {
+fn run_source<R: Host>(rt: &R, words: &[u8], w: words::Wish, name: &[u8], text: &[u8]) -> u8 {
     let mut out = [0u8; files::OBJECT_ROOM];
-    let n = sources::object(name, text, &mut out);
+    let n = sources::object(rt, name, text, &mut out);
     if n == 0 {
         return saying::REFUSED;
     }
-    run_text(words, w, name, text, figures::front(&out, n))
+    run_text(rt, words, w, name, text, figures::front(&out, n))
 }
 
 // An object text begins with a digit, as no program does.
-pub fn run_file(words: &[u8], w: words::Wish) -> u8 {
+pub fn run_file<R: Host>(rt: &R, words: &[u8], w: words::Wish) -> u8 {
     let name = figures::part(words, 0, w.names.file);
     let mut room = [0u8; files::OBJECT_ROOM];
-    let got = files::load(name, &mut room);
+    let got = files::load(rt, name, &mut room);
     if got.failed {
         return saying::WRONG;
     }
     let text = figures::front(&room, got.size);
     if figures::first(text) == b'0' {
-        return run_text(words, w, name, figures::front(text, 0), text);
+        return run_text(rt, words, w, name, figures::front(text, 0), text);
     }
-    run_source(words, w, name, text)
+    run_source(rt, words, w, name, text)
 }

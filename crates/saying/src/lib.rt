@@ -5,6 +5,7 @@
 ghost use Rattle.std.specs.Prelude.{◌≡◌};
 ghost use Rattle.saying.specs.Statuses.{status_of};
 
+use files::Host;
 use spots::Spot;
 
 pub const DONE: u8 = 0;
@@ -33,29 +34,29 @@ pub fn worse(a: u8, b: u8) -> u8 {
 }
 
 // A refusal, on standard error.
-pub fn refuse(name: &[u8], number: usize, spot: Spot, text: &[u8]) -> u8 {
+pub fn refuse<R: Host>(rt: &R, name: &[u8], number: usize, spot: Spot, text: &[u8]) -> u8 {
     let mut out = [0u8; MESSAGE_ROOM];
     let n = messages::message(&mut out, name, number, spot, text);
-    files::complain(figures::front(&out, n));
+    files::complain(rt, figures::front(&out, n));
     REFUSED
 }
 
 // On standard output, where it is what was asked for.
-pub fn tell_refusal(name: &[u8], number: usize, spot: Spot, text: &[u8]) -> u8 {
+pub fn tell_refusal<R: Host>(rt: &R, name: &[u8], number: usize, spot: Spot, text: &[u8]) -> u8 {
     let mut out = [0u8; MESSAGE_ROOM];
     let n = messages::message(&mut out, name, number, spot, text);
-    said(files::print(figures::front(&out, n)), REFUSED)
+    said(files::print(rt, figures::front(&out, n)), REFUSED)
 }
 
 // Of a word that is wrong so many bytes are shown.
 const WORD_SHOWN: usize = 4000;
 
 // A word that is wrong, on standard error.
-pub fn complain(words: &[u8], word: usize, why: usize) -> u8 {
+pub fn complain<R: Host>(rt: &R, words: &[u8], word: usize, why: usize) -> u8 {
     let mut out = [0u8; MESSAGE_ROOM];
     let shown = figures::front(figures::part(words, 0, word), WORD_SHOWN);
     let n = messages::fault(&mut out, shown, why);
-    files::complain(figures::front(&out, n));
+    files::complain(rt, figures::front(&out, n));
     WRONG
 }
 

@@ -5,10 +5,10 @@ use mathlib.Core.Path.{◌≡◌}
 use Rattle.run_vectors.proofs.compare_all.Given as goal
 
 abbrev pub invariant-loop-compared : goal.invariant-loop-compared
-invariant-loop-compared l =
+invariant-loop-compared g l =
     (l.at ≤ l.to) × (l.to ≤ length l.input)
     × (length l.input ≡ length l.initial.input) × (length l.store ≡ length l.initial.store) × (length l.out ≡ length l.initial.out) × (l.compared ≤ 1000000) × (l.equal ≤ l.compared)
 
 abbrev pub decreases-loop-compared : goal.decreases-loop-compared
-decreases-loop-compared l =
+decreases-loop-compared g l =
     1000000 - l.compared

@@ -1,5 +1,4 @@
--- `checksum` folds the bytes. Assumes nothing.
-use Rattle.std.proofs.Common.{◌-◌, arith, rules}
+use Rattle.std.proofs.Common.{arith, rules}
 use Rattle.base.proofs.Walk.{fold-turn, fold_end}
 use Rattle.lines.specs.Checksum.{mixed, checksum}
 use Rattle.lines.proofs.checksum.checksum.Goals as goal

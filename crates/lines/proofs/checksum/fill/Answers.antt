@@ -1,5 +1,4 @@
--- `fill` lays the byte from the front. Assumes nothing.
-use Rattle.std.proofs.Common.{◌-◌, arith, length-set, rules}
+use Rattle.std.proofs.Common.{arith, length-set, rules}
 use Rattle.lines.proofs.Fills.{filled_on, filled-whole}
 use Rattle.lines.proofs.checksum.fill.Goals as goal
 

@@ -5,4 +5,4 @@ use Rattle.lines.proofs.checksum.times_prime.Goals as goal
 
 pub returns : goal.returns
 returns c =
-    c.wrapping_add_u64-2.ensures ∙ rw c.wrapping_add_u64.ensures (product-wraps _)
+    c.wrapping_add_u64-2.ensures.value ∙ rw c.wrapping_add_u64.ensures.value (product-wraps _)

@@ -1,10 +1,8 @@
--- `leading_number` counts the digits at the front and gives their number, cut off. Assumes nothing.
-use Rattle.std.proofs.Common.{◌-◌, rules}
+use Rattle.std.proofs.Common.{rules}
 use Rattle.base.proofs.Runs.{run_on, run-stop, run_end}
 use Rattle.base.proofs.Tests.{told}
 use Rattle.base.specs.Numbers.{number_from}
 use Rattle.lines.proofs.Digits.{value_on}
-use Rattle.lines.specs.Decimal.{is_digit}
 use Rattle.lines.proofs.decimal.leading_number.Goals as goal
 
 pub loop-i-init : goal.loop-i-init

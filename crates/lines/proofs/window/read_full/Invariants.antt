@@ -1,0 +1,9 @@
+-- What was read lies in the room; each read that the loop goes on after takes up room.
+use Rattle.std.proofs.Common.{◌≤◌, ◌-◌, length}
+use Rattle.lines.proofs.window.read_full.Given as goal
+
+abbrev pub invariant-loop-done : goal.invariant-loop-done
+invariant-loop-done g l = l.done ≤ length l.room
+
+abbrev pub decreases-loop-done : goal.decreases-loop-done
+decreases-loop-done g l = length l.initial.room - l.done
