@@ -8,7 +8,7 @@ use native.Mathlib.Omega.{arith}
 use lib.Dec.{eqb}
 use lib.ListN.{set}
 use borrow.Author.Tests.{ne_eqb}
-use Rattle.base.specs.Choose.{if◌then◌else◌}
+use Rattle.base.specs.Choose.{whether◌then◌else◌}
 use Rattle.base.specs.Lists.{All}
 use Rattle.base.specs.Walk.{fold}
 use Rattle.base.proofs.Lists.{all_in, all_of}
@@ -105,7 +105,7 @@ abbrev seen_in : Listing → List ℕ
 seen_in (listing d from seen) = seen
 
 either : (F : Listing → List ℕ) (seen : List ℕ) (b : Bool) (g h : Listing) (k l : List ℕ) → (b ≡ true → F g ≡ seen ++ k) → (b ≡ false → F h ≡ seen ++ l)
-    → F (if b then g else h) ≡ seen ++ (if b then k else l)
+    → F (whether b then g else h) ≡ seen ++ (whether b then k else l)
 either F seen true g h k l e q = e refl
 either F seen false g h k l e q = q refl
 
@@ -116,7 +116,7 @@ gather_arms (arm c xs) p g = gather_arms xs (p + (size_of c + 4)) (gather E.END-
 
 -- of a CASE inside: nothing
 abbrev inner : Listing → Listing
-inner (listing d from seen) = if eqb d 0 then listing d from seen else listing (d + 1) from seen
+inner (listing d from seen) = whether eqb d 0 then listing d from seen else listing (d + 1) from seen
 
 inner-is : (to : ℕ) (g : Listing) → gather E.CHOSEN to g ≡ inner g
 inner-is to (listing d from seen) = rw (append-nil seen)

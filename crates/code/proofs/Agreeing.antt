@@ -10,7 +10,7 @@ use lib.Dec.{eqb}
 use lib.ListN.{length, get_or, set, length-set, replicate, length-replicate, get_or-replicate}
 use lib.Seq.{get_or-set_same, get_or-set_other}
 use borrow.Author.Tests.{eqb-true, eqb-false}
-use Rattle.base.specs.Choose.{if◌then◌else◌}
+use Rattle.base.specs.Choose.{whether◌then◌else◌}
 use Rattle.base.specs.Lists.{◌∈◌, All}
 use Rattle.base.proofs.Lists.{all_in}
 use Rattle.grammar.specs.Tree.{Assignment, Condition, compared, bare, Declaration, registers, cells, base, Statement, assign, call, apply, block, goto, null, if_then, if_else, while, for, choose, Body, declare, procedure, items, Items, ended, label, item, Choices, over, choice}
@@ -284,7 +284,7 @@ module _ (marks : List ℕ) where
   unfolding mark_at
   marked n q d ps e g = go (eqb n d) refl
     where
-      go : (b : Bool) → eqb n d ≡ b → get_or marks d 0 ≡ (if b then q else mark_at ps d)
+      go : (b : Bool) → eqb n d ≡ b → get_or marks d 0 ≡ (whether b then q else mark_at ps d)
       go true h = ap (λ (u : ℕ). get_or marks u 0) (sym (eqb-true n d h)) ∙ e
       go false h = g (eqb-false n d h)
 

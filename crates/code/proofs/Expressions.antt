@@ -7,7 +7,7 @@ use Prim.Native.Nat.{ℕ, ◌+◌, ◌-◌, ◌/◌, ◌%◌, ◌<◌}
 use native.Mathlib.Omega.{arith}
 use lib.Dec.{eqb}
 use lib.ListN.{get_or, set}
-use Rattle.base.specs.Choose.{if◌then◌else◌}
+use Rattle.base.specs.Choose.{whether◌then◌else◌}
 use Rattle.base.specs.Lists.{member}
 use Rattle.base.proofs.Lists.{each}
 use Rattle.grammar.specs.Tree.{Operand, Assignment, Condition}
@@ -62,7 +62,7 @@ pub data Listing : Type 0 where
 -- an event, with the address behind it
 abbrev pub gather : (family to : ℕ) → Listing → Listing
 gather family to (listing d from seen) =
-    if eqb d 0 then listing d from seen else listing (depth_after family d) (start_after family d from to) (seen ++ entry_of family d from)
+    whether eqb d 0 then listing d from seen else listing (depth_after family d) (start_after family d from to) (seen ++ entry_of family d from)
 
 -- families that are none of a CASE's
 abbrev pub Quiet : ℕ → Type 0
@@ -71,7 +71,7 @@ Quiet family = (eqb family E.CHOSEN ≡ false) × (eqb family E.END-CASE ≡ fal
 pub quiet-stays : (family to : ℕ) (g : Listing) → Quiet family → gather family to g ≡ g
 quiet-stays family to (listing d from seen) h = rw (h.0, h.1, h.2, append-nil seen) (go (eqb d 0))
   where
-    go : (b : Bool) → (if b then listing d from seen else listing d from seen) ≡ listing d from seen
+    go : (b : Bool) → (whether b then listing d from seen else listing d from seen) ≡ listing d from seen
     go true = refl
     go false = refl
 

@@ -7,7 +7,7 @@ use Prim.Native.Nat.{ℕ, suc, ◌+◌, ◌*◌, ◌/◌, ◌%◌, ◌<◌, ◌�
 use native.Mathlib.Omega.{arith}
 use lib.Dec.{eqb}
 use lib.ListN.{length, get_or}
-use Rattle.base.specs.Choose.{if◌then◌else◌}
+use Rattle.base.specs.Choose.{whether◌then◌else◌}
 use Rattle.base.specs.Walk.{fold}
 use Rattle.tape.specs.Events as E
 use Rattle.tape.specs.Pass.{on_event, pass}
@@ -68,7 +68,7 @@ module _ (kinds values found goes means under opens offsets : List ℕ) where
 abbrev bytes : Codes → ℕ
 bytes m = code_sizes (list_of m)
 
-either_same : (b : Bool) (m n m' n' : Codes) → bytes m ≡ bytes m' → bytes n ≡ bytes n' → bytes (if b then m else n) ≡ bytes (if b then m' else n')
+either_same : (b : Bool) (m n m' n' : Codes) → bytes m ≡ bytes m' → bytes n ≡ bytes n' → bytes (whether b then m else n) ≡ bytes (whether b then m' else n')
 either_same true m n m' n' e q = e
 either_same false m n m' n' e q = q
 
@@ -119,11 +119,11 @@ module _ (kinds values found goes means under opens offsets marks marks' : List 
   abbrev by : List ℕ → (depth from p : ℕ) → Writing → List ℕ → List ℕ
   by ms d from p w es = starts kinds values found goes means under opens offsets ms d from p w es
 
-  either-long : (b : Bool) (k l k' l' : List ℕ) → length k ≡ length k' → length l ≡ length l' → length (if b then k else l) ≡ length (if b then k' else l')
+  either-long : (b : Bool) (k l k' l' : List ℕ) → length k ≡ length k' → length l ≡ length l' → length (whether b then k else l) ≡ length (whether b then k' else l')
   either-long true k l k' l' e q = e
   either-long false k l k' l' e q = q
 
-  entry-long : (b : Bool) (from from' : ℕ) (k k' : List ℕ) → length k ≡ length k' → length ((if b then from ∷ [] else []) ++ k) ≡ length ((if b then from' ∷ [] else []) ++ k')
+  entry-long : (b : Bool) (from from' : ℕ) (k k' : List ℕ) → length k ≡ length k' → length ((whether b then from ∷ [] else []) ++ k) ≡ length ((whether b then from' ∷ [] else []) ++ k')
   entry-long true from from' k k' e = ap suc e
   entry-long false from from' k k' e = e
 
@@ -149,7 +149,7 @@ module _ (kinds values found goes means under opens offsets marks marks' : List 
       other : List ℕ
       other = by marks' 1 (get_or marks' t 0) (get_or marks' t 0) w es
 
-      go : (b : Bool) → code_sizes (if b then map (branch_code always) one else []) ≡ code_sizes (if b then map (branch_code always) other else [])
+      go : (b : Bool) → code_sizes (whether b then map (branch_code always) one else []) ≡ code_sizes (whether b then map (branch_code always) other else [])
       go true = table-long one ∙ (ap (λ (n : ℕ). 4 * n) (starts-same es 1 _ _ _ _ w) ∙ sym (table-long other))
       go false = refl
 

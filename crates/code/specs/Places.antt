@@ -1,7 +1,7 @@
 -- Addresses along a tape: where branches go, by token, as `emit` reads them. Each is set when its place is passed, from the addresses before and behind the
 -- event's instructions. The ledger keeps 16 bits of each: enough for a program that fits its segment.
 use Rattle.std.specs.Prelude.{List, ◌||◌, ℕ, ◌+◌, ◌-◌, ◌%◌, eqb, set}
-use Rattle.base.specs.Choose.{if◌then◌else◌}
+use Rattle.base.specs.Choose.{whether◌then◌else◌}
 use Rattle.tape.specs.Events as E
 use Rattle.tape.specs.Numbers.{family_at}
 use Rattle.tape.specs.Pass.{pass}
@@ -26,16 +26,16 @@ mark_limit t from aim marks = set (set marks (t - 2) from) (t - 1) (kept (held_i
 
 unfoldable pub mark_closing : (family t to : ℕ) → List ℕ → List ℕ
 mark_closing family t to marks =
-    if eqb family E.END-FOR then set marks (t - 1) to else
-    if eqb family E.END-PROCEDURE || (eqb family E.END-ELSE || eqb family E.END-CASE) then set marks (t + 1) to else
-    if (eqb family E.PROCEDURE || eqb family E.ELSE) || (eqb family E.END-IF || (eqb family E.END-WHILE || eqb family E.CHOSEN)) then set marks t to else
+    whether eqb family E.END-FOR then set marks (t - 1) to else
+    whether eqb family E.END-PROCEDURE || (eqb family E.END-ELSE || eqb family E.END-CASE) then set marks (t + 1) to else
+    whether (eqb family E.PROCEDURE || eqb family E.ELSE) || (eqb family E.END-IF || (eqb family E.END-WHILE || eqb family E.CHOSEN)) then set marks t to else
     marks
 
 unfoldable pub mark_after : (family t from to : ℕ) → Use → List ℕ → List ℕ
 mark_after family t from to aim marks =
-    if eqb family E.LABEL then set marks t from else
-    if eqb family E.LIMIT then mark_limit t from aim marks else
-    if eqb family E.WHILE then set marks (t + 1) from else
+    whether eqb family E.LABEL then set marks t from else
+    whether eqb family E.LIMIT then mark_limit t from aim marks else
+    whether eqb family E.WHILE then set marks (t + 1) from else
     mark_closing family t to marks
 
 -- the address, the assignment or use that is written, and the addresses by token

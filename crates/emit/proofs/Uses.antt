@@ -7,7 +7,7 @@ use Prim.Native.Nat.{ℕ, ◌+◌}
 use native.Mathlib.Omega.{arith}
 use lib.Dec.{eqb}
 use lib.ListN.{get_or}
-use Rattle.base.specs.Choose.{if◌then◌else◌}
+use Rattle.base.specs.Choose.{whether◌then◌else◌}
 use Rattle.base.proofs.Tests.{cases}
 use Rattle.token.specs.Kinds as K
 use Rattle.grammar.specs.Tree.{Operand, number, place}
@@ -61,7 +61,7 @@ module _ (f : Tables) (means under offsets : List ℕ) (table : f.means ≡ mean
       rw another
 
   place-first : (n t : ℕ) (s x : Option ℕ) (m : ℕ) → is_shape f.kinds t s x (n + 2) m → get_or f.kinds m 0 ≡ K.CLOSE → (op : ℕ) (u : Use)
-      → second n op u ≡ (if is_bare s x then function_codes op (register_of (meaning_at f t)) 0 u else None)
+      → second n op u ≡ (whether is_bare s x then function_codes op (register_of (meaning_at f t)) 0 u else None)
   unfolding second_codes
   place-first n t none none m (e, y, q) c op u =
       let p : m ≡ n + 3 = omega arith in
@@ -72,7 +72,7 @@ module _ (f : Tables) (means under offsets : List ℕ) (table : f.means ≡ mean
   place-first n t (some s) (some x) m (e, y, (o, q)) c op u = opened n op u o
 
   first-is : (a : Operand) (n m : ℕ) → is_operand f.kinds a (n + 2) m → get_or f.kinds m 0 ≡ K.CLOSE → (op : ℕ) (u : Use)
-      → second n op u ≡ (if is_token a then function_codes op (source_of f a) (number_of f a) u else None)
+      → second n op u ≡ (whether is_token a then function_codes op (source_of f a) (number_of f a) u else None)
   unfolding is_operand is_designator second_codes
   first-is (number t) n m (e, y, q) c op u =
       let p : m ≡ n + 3 = omega arith in
@@ -96,8 +96,8 @@ module _ (f : Tables) (means under offsets : List ℕ) (table : f.means ≡ mean
         cases (eqb 1 (arity (function_in m))) (λ e. rw e (function-is f means under offsets table small a i j h 0 (function_in m).number m)) (λ e. rw e)
 
     by_token : (t : Bool) (r v m : ℕ) (b : Operand) (i j : ℕ) → is_operand f.kinds b i j
-        → list_of (if t then function_codes (function_in m).op r v (used f means under offsets b) else None)
-        ≡ coded offsets (if t then function_on (function_in m) r v (use_of f b) else [])
+        → list_of (whether t then function_codes (function_in m).op r v (used f means under offsets b) else None)
+        ≡ coded offsets (whether t then function_on (function_in m) r v (use_of f b) else [])
     unfolding list_of
     by_token true r v m b i j h = function-is f means under offsets table small b i j h r v m
     by_token false r v m b i j h = refl

@@ -4,7 +4,7 @@ use mathlib.Core.Bool.{true, false}
 use mathlib.Core.List.{List, [], ◌∷◌, ◌++◌, map, map-append}
 use Prim.Native.Nat.{ℕ, ◌+◌, ◌-◌, ◌/◌, ◌%◌}
 use lib.Dec.{eqb}
-use Rattle.base.specs.Choose.{if◌then◌else◌}
+use Rattle.base.specs.Choose.{whether◌then◌else◌}
 use Rattle.base.specs.Lists.{member}
 use Rattle.base.proofs.Tests.{cases}
 use Rattle.token.specs.Kinds as K
@@ -116,13 +116,13 @@ module _ (f : Tables) (means under offsets : List ℕ) (table : f.means ≡ mean
     unfolding list_of apply_codes is_absent apply_code product_register is_long_use code_for
     product_is r =
         by-use f means under table offsets small
-        (λ s n l u v. list_of (apply_codes times_row (product_register r v) v) ≡ coded offsets (apply times_row (if l then (r - 1) else r) u)) refl (λ s. refl) (λ v. refl)
+        (λ s n l u v. list_of (apply_codes times_row (product_register r v) v) ≡ coded offsets (apply times_row (whether l then (r - 1) else r) u)) refl (λ s. refl) (λ v. refl)
         (λ c o x. by_width c.width x c.base.register (offset_at offsets c.name + o)) a i j h
       where
         by_width :
             (w : Width) (x b d : ℕ)
             → list_of (apply_codes times_row (product_register r (Stored (width_of w) x b d)) (Stored (width_of w) x b d))
-            ≡ Four (opcode times_row (column w)) (if is_full w then (r - 1) else r) x b d ∷ []
+            ≡ Four (opcode times_row (column w)) (whether is_full w then (r - 1) else r) x b d ∷ []
         by_width full x b d = refl
         by_width short x b d = refl
         by_width (byte false) x b d = refl

@@ -1,6 +1,6 @@
 -- The instructions along a tape, and how the definition's instructions are laid: with the places of cells, but for a literal, whose place is found then.
 use Rattle.std.specs.Prelude.{List, [], ◌∷◌, ◌++◌, map, Bool, ◌&&◌, ℕ, ◌+◌, ◌-◌, ◌*◌, ◌/◌, ◌%◌, eqb, get_or}
-use Rattle.base.specs.Choose.{if◌then◌else◌}
+use Rattle.base.specs.Choose.{whether◌then◌else◌}
 use Rattle.grammar.specs.Tree.{Sign, plain, abs, neg, neg_abs, Assignment}
 use Rattle.tape.specs.Events as E
 use Rattle.tape.specs.Numbers.{family_at}
@@ -21,7 +21,7 @@ use Rattle.emit.specs.Events.{place_in, table_bytes, writing_after, codes_by, wr
 -- ── the statements of a CASE, inside d CASEs counted from it: 1 in its own, 0 behind it ──
 
 abbrev pub depth_after : (family d : ℕ) → ℕ
-depth_after family d = if eqb family E.CHOSEN then d + 1 else if eqb family E.END-CASE then (d - 1) else d
+depth_after family d = whether eqb family E.CHOSEN then d + 1 else whether eqb family E.END-CASE then (d - 1) else d
 
 -- one of its own ends
 abbrev pub ends_here : (family d : ℕ) → Bool
@@ -29,10 +29,10 @@ ends_here family d = eqb family E.END-CHOICE && eqb d 1
 
 -- that starts at `from`; the next one starts behind the event
 abbrev pub entry_of : (family d from : ℕ) → List ℕ
-entry_of family d from = if ends_here family d then from ∷ [] else []
+entry_of family d from = whether ends_here family d then from ∷ [] else []
 
 abbrev pub start_after : (family d from to : ℕ) → ℕ
-start_after family d from to = if ends_here family d then to else from
+start_after family d from to = whether ends_here family d then to else from
 
 module _ (kinds values found goes means under opens offsets marks : List ℕ) where
   -- how many bytes an event makes, the table of a CASE among them
@@ -48,11 +48,11 @@ module _ (kinds values found goes means under opens offsets marks : List ℕ) wh
       let op = e % E.EVENTS in
       let q = p + event_bytes op (e / E.EVENTS) w in
       let v = writing_after values found means under offsets op (e / E.EVENTS) w in
-      if eqb d 0 then [] else (entry_of (family_at op) d from ++ starts (depth_after (family_at op) d) (start_after (family_at op) d from q) q v es)
+      whether eqb d 0 then [] else (entry_of (family_at op) d from ++ starts (depth_after (family_at op) d) (start_after (family_at op) d from q) q v es)
 
   -- "the table, one always-branch each"; the first statement starts behind it
   unfoldable pub table_along : (op t : ℕ) → Writing → List ℕ → List Code
-  table_along op t w es = if eqb (family_at op) E.CHOSEN then map (branch_code always) (starts 1 (get_or marks t 0) (get_or marks t 0) w es) else []
+  table_along op t w es = whether eqb (family_at op) E.CHOSEN then map (branch_code always) (starts 1 (get_or marks t 0) (get_or marks t 0) w es) else []
 
   -- along a tape, with the assignment or use that is written
   unfoldable pub along : Writing → List ℕ → List Code

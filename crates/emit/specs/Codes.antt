@@ -1,7 +1,7 @@
 -- Instructions as the code pass lays them: with their displacements, but for a literal, whose place is found when it is laid. Operands as instructions name them.
 -- The instructions of an event are a list.
 use Rattle.std.specs.Prelude.{Bool, true, false, List, [], ◌∷◌, ◌≡◌, ℕ, ◌+◌, ◌-◌, ◌*◌, ◌/◌, ◌%◌, ◌<◌, eqb, leb, get_or}
-use Rattle.base.specs.Choose.{if◌then◌else◌}
+use Rattle.base.specs.Choose.{whether◌then◌else◌}
 use Rattle.base.specs.Lists.{member}
 use Rattle.token.specs.Kinds as K
 use Rattle.tape.specs.Events as E
@@ -62,11 +62,11 @@ abbrev pub IsRow : (k row : ℕ) → Type 0
 IsRow k row = (k < 11) × (row ≡ get_or code_rows k 0)
 
 abbrev pub opcode_in : (row column : ℕ) → ℕ
-opcode_in row column = if eqb column 0 then row / 16777216 % 256 else if eqb column 1 then row / 65536 % 256 else if eqb column 2 then row / 256 % 256 else row % 256
+opcode_in row column = whether eqb column 0 then row / 16777216 % 256 else whether eqb column 1 then row / 65536 % 256 else whether eqb column 2 then row / 256 % 256 else row % 256
 
 -- by the number of a cell's width; a byte cell has no column
 abbrev pub column_of : (width : ℕ) → ℕ
-column_of w = if eqb w E.FULL then 1 else if eqb w E.SHORT then 2 else 3
+column_of w = whether eqb w E.FULL then 1 else whether eqb w E.SHORT then 2 else 3
 
 -- the instruction of a row of the code table at register r
 unfoldable pub apply_code : (row r : ℕ) → Use → Code
@@ -83,17 +83,17 @@ is_absent (Stored w x b d) = false
 
 -- none for an operand that there is not
 unfoldable pub apply_codes : (row r : ℕ) → Use → Codes
-apply_codes row r u = if is_absent u then None else One (apply_code row r u)
+apply_codes row r u = whether is_absent u then None else One (apply_code row r u)
 
 -- and another behind it
 unfoldable pub apply_then : (row r : ℕ) → Use → Code → Codes
-apply_then row r u c = if is_absent u then One c else Both (apply_code row r u) c
+apply_then row r u c = whether is_absent u then One c else Both (apply_code row r u) c
 
 -- ── assignments ──
 
 -- "ABS 10, NEG 13, NEG ABS 11", by the sign's event
 unfoldable pub sign_code : ℕ → ℕ
-sign_code sign = if eqb sign E.ABS then abs_op else if eqb sign E.NEG then neg_op else neg_abs_op
+sign_code sign = whether eqb sign E.ABS then abs_op else whether eqb sign E.NEG then neg_op else neg_abs_op
 
 -- "a cell or number is loaded first, then the instruction names the target twice."
 unfoldable pub signed_codes : (op r : ℕ) → Use → Codes
@@ -104,7 +104,7 @@ signed_codes op r (Stored w x b d) = apply_then load_row r (Stored w x b d) (Two
 
 -- no sign is 0
 unfoldable pub load_codes : (sign r : ℕ) → Use → Codes
-load_codes sign r u = if eqb sign 0 then apply_codes load_row r u else signed_codes (sign_code sign) r u
+load_codes sign r u = whether eqb sign 0 then apply_codes load_row r u else signed_codes (sign_code sign) r u
 
 -- the register that an operand is; 0 where it is none
 unfoldable pub held_in : Use → ℕ
@@ -128,13 +128,13 @@ is_long_use (Stored w x b d) = eqb w E.FULL
 
 -- "1C and 5C name the register below the target."
 unfoldable pub product_register : ℕ → Use → ℕ
-product_register r u = if is_long_use u then (r - 1) else r
+product_register r u = whether is_long_use u then (r - 1) else r
 
 -- "`89 r0 00 n`, or by register `89 r0 s0 00`"
 unfoldable pub term_codes : (kind r : ℕ) → Use → Codes
 term_codes kind r u =
-    if member kind shifts then One (Four (shift_code kind) r 0 (held_in u) (amount_in u)) else
-    if eqb kind K.TIMES then apply_codes times_row (product_register r u) u else
+    whether member kind shifts then One (Four (shift_code kind) r 0 (held_in u) (amount_in u)) else
+    whether eqb kind K.TIMES then apply_codes times_row (product_register r u) u else
     apply_codes (row_of kind) r u
 
 -- an assignment's first operand: loaded into a register target, or the register that is stored in a cell target
@@ -158,7 +158,7 @@ is_immediate op = leb 128 op
 
 -- a half of an instruction's second byte: the number's where the opcode takes one, else the register or the index
 abbrev pub half_of : (op nibble field : ℕ) → ℕ
-half_of op nibble field = if is_immediate op then nibble else field
+half_of op nibble field = whether is_immediate op then nibble else field
 
 -- with the last argument, by the register r or the number v before it
 unfoldable pub function_codes : (op r v : ℕ) → Use → Codes

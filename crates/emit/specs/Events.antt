@@ -3,7 +3,7 @@
 -- and at the token before it behind the loop, at the token after it the control register; a CASE's register, its first statement, and at the next token
 -- behind it all.
 use Rattle.std.specs.Prelude.{List, ◌||◌, ℕ, ◌+◌, ◌-◌, ◌*◌, ◌/◌, ◌%◌, eqb, ltb, get_or}
-use Rattle.base.specs.Choose.{if◌then◌else◌}
+use Rattle.base.specs.Choose.{whether◌then◌else◌}
 use Rattle.token.specs.Kinds as K
 use Rattle.tape.specs.Events as E
 use Rattle.tape.specs.Numbers.{family_at, form_at}
@@ -26,13 +26,13 @@ use Rattle.emit.specs.Codes.{apply_then, held_in, first_codes, next_codes, funct
 
 -- a subscript follows the name where the shape is odd: name(number), name(number)(name)
 unfoldable pub subscript_in : (values : List ℕ) (shape t : ℕ) → ℕ
-subscript_in values shape t = if eqb (shape % 2) 1 then get_or values (t + 2) 0 else 0
+subscript_in values shape t = whether eqb (shape % 2) 1 then get_or values (t + 2) 0 else 0
 
 -- an index, two or five tokens behind it: name(name), name(number)(name)
 unfoldable pub index_in : (found means : List ℕ) (shape t : ℕ) → ℕ
 index_in found means shape t =
-    if eqb shape E.INDEXED then register_in (packed_at found means (t + 2)) else
-    if eqb shape E.SUBSCRIPTED-INDEXED then register_in (packed_at found means (t + 5)) else
+    whether eqb shape E.INDEXED then register_in (packed_at found means (t + 2)) else
+    whether eqb shape E.SUBSCRIPTED-INDEXED then register_in (packed_at found means (t + 5)) else
     0
 
 -- an element of the cell that is declared at token d, with the packed meaning m
@@ -42,8 +42,8 @@ element_in under offsets d m subscript index = Stored (width_number_in m) index 
 -- what is declared at token d, by its packed meaning m
 unfoldable pub place_by : (under offsets : List ℕ) (d m subscript index : ℕ) → Use
 place_by under offsets d m subscript index =
-    if is_register_in m then Held (number_in m) else
-    if is_cell_in m then element_in under offsets d m subscript index else
+    whether is_register_in m then Held (number_in m) else
+    whether is_cell_in m then element_in under offsets d m subscript index else
     Absent
 
 module _ (values found means under offsets : List ℕ) where
@@ -51,27 +51,27 @@ module _ (values found means under offsets : List ℕ) where
   place_in shape t = place_by under offsets (get_or found t 0) (packed_at found means t) (subscript_in values shape t) (index_in found means shape t)
 
   unfoldable pub use_in : (shape t : ℕ) → Use
-  use_in shape t = if eqb shape E.NUMBER then Number (get_or values t 0) else place_in shape t
+  use_in shape t = whether eqb shape E.NUMBER then Number (get_or values t 0) else place_in shape t
 
 -- ── what an event names ──
 
 -- the return register of the procedure that is called
 unfoldable pub return_in : ℕ → ℕ
-return_in m = if is_routine_in m then number_in m else 0
+return_in m = whether is_routine_in m then number_in m else 0
 
 -- the register: of a procedure two tokens behind its name, of a compare two before its operand, of a call the procedure's; else what the name itself means
 unfoldable pub register_at : (found means : List ℕ) (family t : ℕ) → ℕ
 register_at found means family t =
-    if eqb family E.END-PROCEDURE then register_in (packed_at found means (t + 2)) else
-    if eqb family E.COMPARED then register_in (packed_at found means (t - 2)) else
-    if eqb family E.CALL then return_in (packed_at found means t) else
+    whether eqb family E.END-PROCEDURE then register_in (packed_at found means (t + 2)) else
+    whether eqb family E.COMPARED then register_in (packed_at found means (t - 2)) else
+    whether eqb family E.CALL then return_in (packed_at found means t) else
     register_in (packed_at found means t)
 
 -- where it leads: the segment of a base, the procedure of a call, the label of a GOTO
 unfoldable pub goal_at : (found goes opens : List ℕ) (family t : ℕ) → ℕ
 goal_at found goes opens family t =
-    if eqb family E.BASE then get_or opens t 0 else
-    if eqb family E.CALL then get_or found t 0 else
+    whether eqb family E.BASE then get_or opens t 0 else
+    whether eqb family E.CALL then get_or found t 0 else
     get_or goes t 0
 
 -- ── the assignment or use that is written ──
@@ -81,7 +81,7 @@ no_writing = record { aim = Absent; sign = 0; arguments = 0 }
 
 -- no function takes three
 abbrev pub more : ℕ → ℕ
-more n = if ltb n 3 then n + 1 else n
+more n = whether ltb n 3 then n + 1 else n
 
 abbrev pub signing : ℕ → Writing → Writing
 signing sign w = record { aim = w.aim; sign = sign; arguments = w.arguments }
@@ -89,12 +89,12 @@ signing sign w = record { aim = w.aim; sign = sign; arguments = w.arguments }
 -- before the register of a CASE stands how many statements there are, in place of a token
 unfoldable pub written_after : (family t : ℕ) → Writing → Use → (register : ℕ) → Writing
 written_after family t w u r =
-    if eqb family E.TARGET then record { aim = u; sign = 0; arguments = 0 } else
-    if eqb family E.CONTROL then record { aim = Held r; sign = 0; arguments = 0 } else
-    if eqb family E.ABS || (eqb family E.NEG || eqb family E.NEG-ABS) then signing family w else
-    if eqb family E.ARGUED then record { aim = u; sign = 0; arguments = more w.arguments } else
-    if eqb family E.APPLIED || (eqb family E.COUNTED || eqb family E.CHOSEN) then no_writing else
-    if eqb family E.LISTED then record { aim = Absent; sign = 0; arguments = t } else
+    whether eqb family E.TARGET then record { aim = u; sign = 0; arguments = 0 } else
+    whether eqb family E.CONTROL then record { aim = Held r; sign = 0; arguments = 0 } else
+    whether eqb family E.ABS || (eqb family E.NEG || eqb family E.NEG-ABS) then signing family w else
+    whether eqb family E.ARGUED then record { aim = u; sign = 0; arguments = more w.arguments } else
+    whether eqb family E.APPLIED || (eqb family E.COUNTED || eqb family E.CHOSEN) then no_writing else
+    whether eqb family E.LISTED then record { aim = Absent; sign = 0; arguments = t } else
     w
 
 -- ── the instructions ──
@@ -117,16 +117,16 @@ step_codes values marks t = apply_then add_row (get_or marks (t + 1) 0) (Number 
 -- by the first of two arguments, if it is one token: its parenthesis closes behind it
 unfoldable pub second_codes : (kinds values found means : List ℕ) (t op : ℕ) → Use → Codes
 second_codes kinds values found means t op u =
-    if eqb (get_or kinds (t + 3) 0) K.CLOSE then
-    (if eqb (get_or kinds (t + 2) 0) K.NUMBER then function_codes op 0 (get_or values (t + 2) 0) u else
+    whether eqb (get_or kinds (t + 3) 0) K.CLOSE then
+    (whether eqb (get_or kinds (t + 2) 0) K.NUMBER then function_codes op 0 (get_or values (t + 2) 0) u else
     function_codes op (register_in (packed_at found means (t + 2))) 0 u)
     else None
 
 -- of the function g, by its last argument and how many there are
 unfoldable pub used_codes : (kinds values found means : List ℕ) (t : ℕ) → Function → Writing → Codes
 used_codes kinds values found means t g w =
-    if eqb w.arguments (arity g) then
-    (if eqb w.arguments 1 then function_codes g.op 0 g.number w.aim else second_codes kinds values found means t g.op w.aim)
+    whether eqb w.arguments (arity g) then
+    (whether eqb w.arguments 1 then function_codes g.op 0 g.number w.aim else second_codes kinds values found means t g.op w.aim)
     else None
 
 -- ── a CASE ──
@@ -137,30 +137,30 @@ chosen_codes marks r t w = Head r w.arguments (get_or marks t 0 - (4 * w.argumen
 
 -- how many bytes its table has
 abbrev pub table_bytes : (family : ℕ) → Writing → ℕ
-table_bytes family w = if eqb family E.CHOSEN then 4 * w.arguments else 0
+table_bytes family w = whether eqb family E.CHOSEN then 4 * w.arguments else 0
 
 -- ── the others ──
 
 -- declarations, ends of statements, calls and GOTOs
 unfoldable pub other_codes : (marks : List ℕ) (family t : ℕ) → Named → Codes
 other_codes marks family t n =
-    if eqb family E.BASE then One (base_code n.register n.goal) else
-    if eqb family E.END-PROCEDURE then One (return_code n.register) else
-    if eqb family E.CALL then One (link_code n.register (get_or marks n.goal 0)) else
-    if eqb family E.GOTO then One (branch_code always (get_or marks n.goal 0)) else
-    if (eqb family E.PROCEDURE || eqb family E.ELSE) || (eqb family E.END-WHILE || eqb family E.END-CHOICE) then One (branch_code always (get_or marks (t + 1) 0)) else
+    whether eqb family E.BASE then One (base_code n.register n.goal) else
+    whether eqb family E.END-PROCEDURE then One (return_code n.register) else
+    whether eqb family E.CALL then One (link_code n.register (get_or marks n.goal 0)) else
+    whether eqb family E.GOTO then One (branch_code always (get_or marks n.goal 0)) else
+    whether (eqb family E.PROCEDURE || eqb family E.ELSE) || (eqb family E.END-WHILE || eqb family E.END-CHOICE) then One (branch_code always (get_or marks (t + 1) 0)) else
     None
 
 unfoldable pub codes_of : (kinds values found means marks : List ℕ) (family t : ℕ) → Writing → Use → Named → Codes
 codes_of kinds values found means marks family t w u n =
-    if eqb family E.FIRST then first_codes w.aim w.sign u else
-    if eqb family E.TERM then next_codes w.aim (get_or kinds (t - 1) 0) u else
-    if eqb family E.COMPARED then compared_codes kinds marks n.register t u else
-    if eqb family E.LIMIT then limit_codes values marks w.aim t u else
-    if eqb family E.BARE then bare_codes kinds marks t else
-    if eqb family E.END-FOR then step_codes values marks t else
-    if eqb family E.COUNTED then used_codes kinds values found means t (function_in (packed_at found means t)) w else
-    if eqb family E.CHOSEN then chosen_codes marks n.register t w else
+    whether eqb family E.FIRST then first_codes w.aim w.sign u else
+    whether eqb family E.TERM then next_codes w.aim (get_or kinds (t - 1) 0) u else
+    whether eqb family E.COMPARED then compared_codes kinds marks n.register t u else
+    whether eqb family E.LIMIT then limit_codes values marks w.aim t u else
+    whether eqb family E.BARE then bare_codes kinds marks t else
+    whether eqb family E.END-FOR then step_codes values marks t else
+    whether eqb family E.COUNTED then used_codes kinds values found means t (function_in (packed_at found means t)) w else
+    whether eqb family E.CHOSEN then chosen_codes marks n.register t w else
     other_codes marks family t n
 
 -- ── by the lists ──

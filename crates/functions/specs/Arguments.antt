@@ -1,6 +1,6 @@
 -- What a standard function takes in a parenthesis, by number; a function as a row of numbers; the function that a packed meaning is.
 use Rattle.std.specs.Prelude.{List, [], ◌∷◌, ℕ, eqb}
-use Rattle.base.specs.Choose.{if◌then◌else◌}
+use Rattle.base.specs.Choose.{whether◌then◌else◌}
 use Rattle.static_rules.specs.Functions.{Argument, written_register, read_register, byte_number, indexed_cell, plain_cell, surplus, Function, no_function, function_at, arity, argument_at}
 use Rattle.tables.specs.Packed.{number_in, is_function_in}
 
@@ -27,11 +27,11 @@ argument_number x = elim x [ written_register ↦ WRITTEN-REGISTER | read_regist
 
 unfoldable pub argument_by : ℕ → Argument
 argument_by a =
-    if eqb a WRITTEN-REGISTER then written_register else
-    if eqb a READ-REGISTER then read_register else
-    if eqb a BYTE-NUMBER then byte_number else
-    if eqb a INDEXED-CELL then indexed_cell else
-    if eqb a PLAIN-CELL then plain_cell else
+    whether eqb a WRITTEN-REGISTER then written_register else
+    whether eqb a READ-REGISTER then read_register else
+    whether eqb a BYTE-NUMBER then byte_number else
+    whether eqb a INDEXED-CELL then indexed_cell else
+    whether eqb a PLAIN-CELL then plain_cell else
     surplus
 
 -- what it takes in its first and in its second parenthesis, in how many, its opcode, its number
@@ -40,4 +40,4 @@ row_of g = argument_number (argument_at g 0) ∷ argument_number (argument_at g 
 
 -- of what means none, one that takes nothing
 unfoldable pub function_in : ℕ → Function
-function_in m = if is_function_in m then function_at (number_in m) else no_function
+function_in m = whether is_function_in m then function_at (number_in m) else no_function

@@ -11,7 +11,7 @@ use native.Mathlib.Decide.{dec_le}
 use lib.Dec.{eqb}
 use lib.ListN.{get_or, length}
 use borrow.Author.Tests.{eqb-true}
-use Rattle.base.specs.Choose.{if◌then◌else◌}
+use Rattle.base.specs.Choose.{whether◌then◌else◌}
 use Rattle.base.specs.Lists.{member}
 use Rattle.base.proofs.Tests.{cases}
 use Rattle.token.specs.Kinds as K
@@ -46,7 +46,7 @@ wanted : {B : Type 0} {Q : B → Type 0} (w : ℕ) (ks : List ℕ) (p : ℕ) (f 
 unfolding and_then want
 wanted w ks p f h = cases (eqb (get_or ks p 0) w) (λ e. rw e h) (λ e. rw e (record { given = tt }))
 
-either-gives : {A : Type 0} {P : A → Type 0} (t : Bool) (m n : Reader A) (ks : List ℕ) (p : ℕ) → Gives P (m ks p) → Gives P (n ks p) → Gives P ((if t then m else n) ks p)
+either-gives : {A : Type 0} {P : A → Type 0} (t : Bool) (m n : Reader A) (ks : List ℕ) (p : ℕ) → Gives P (m ks p) → Gives P (n ks p) → Gives P ((whether t then m else n) ks p)
 either-gives true m n ks p h g = h
 either-gives false m n ks p h g = g
 
@@ -119,40 +119,40 @@ module _ (kinds others : List ℕ) (k : ℕ) (same : SameBefore (k + 1) kinds ot
   either-two : {A : Type 0} {In : ℕ → A → Type 0} (t : ℕ → ℕ → Bool) (p q i : ℕ) (m n m' n' : Reader A) → p ≤ i → q ≤ i
       → (t (get_or kinds p 0) (get_or kinds q 0) ≡ true → Alike In i (m kinds i) (m' others i))
       → (t (get_or kinds p 0) (get_or kinds q 0) ≡ false → Alike In i (n kinds i) (n' others i))
-      → Alike In i ((if t (get_or kinds p 0) (get_or kinds q 0) then m else n) kinds i) ((if t (get_or others p 0) (get_or others q 0) then m' else n') others i)
+      → Alike In i ((whether t (get_or kinds p 0) (get_or kinds q 0) then m else n) kinds i) ((whether t (get_or others p 0) (get_or others q 0) then m' else n') others i)
   either-two {In} t p q i m n m' n' a b h g = go (kind-alike p) (kind-alike q)
     where
-      whole : Alike In i ((if t (get_or kinds p 0) (get_or kinds q 0) then m else n) kinds i) ((if t (get_or kinds p 0) (get_or kinds q 0) then m' else n') others i)
+      whole : Alike In i ((whether t (get_or kinds p 0) (get_or kinds q 0) then m else n) kinds i) ((whether t (get_or kinds p 0) (get_or kinds q 0) then m' else n') others i)
       whole = cases (t (get_or kinds p 0) (get_or kinds q 0)) (λ e. rw e (h e)) (λ e. rw e (g e))
 
       go : (get_or others p 0 ≡ get_or kinds p 0) ⊎ (k < p) → (get_or others q 0 ≡ get_or kinds q 0) ⊎ (k < q)
-          → Alike In i ((if t (get_or kinds p 0) (get_or kinds q 0) then m else n) kinds i) ((if t (get_or others p 0) (get_or others q 0) then m' else n') others i)
+          → Alike In i ((whether t (get_or kinds p 0) (get_or kinds q 0) then m else n) kinds i) ((whether t (get_or others p 0) (get_or others q 0) then m' else n') others i)
       go (inl e) (inl f) = rw (e, f) whole
       go (inl e) (inr l) = past (omega arith) whole.onward
       go (inr l) r = past (omega arith) whole.onward
 
   either : {A : Type 0} {In : ℕ → A → Type 0} (t : ℕ → Bool) (p i : ℕ) (m n m' n' : Reader A) → p ≤ i
       → (t (get_or kinds p 0) ≡ true → Alike In i (m kinds i) (m' others i)) → (t (get_or kinds p 0) ≡ false → Alike In i (n kinds i) (n' others i))
-      → Alike In i ((if t (get_or kinds p 0) then m else n) kinds i) ((if t (get_or others p 0) then m' else n') others i)
+      → Alike In i ((whether t (get_or kinds p 0) then m else n) kinds i) ((whether t (get_or others p 0) then m' else n') others i)
   either t p i m n m' n' a h g = either-two (λ x y. t x) p p i m n m' n' a a h g
 
   here : {A : Type 0} {In : ℕ → A → Type 0} (p : ℕ → Bool) (i : ℕ) (m n m' n' : Reader A) → (p (get_or kinds i 0) ≡ true → Alike In i (m kinds i) (m' others i))
       → (p (get_or kinds i 0) ≡ false → Alike In i (n kinds i) (n' others i))
-      → Alike In i ((if p (get_or kinds i 0) then m else n) kinds i) ((if p (get_or others i 0) then m' else n') others i)
+      → Alike In i ((whether p (get_or kinds i 0) then m else n) kinds i) ((whether p (get_or others i 0) then m' else n') others i)
   here p i m n m' n' h g = either p i i m n m' n' (omega arith) h g
 
   -- a token that is wanted
   takes : {A : Type 0} {In : ℕ → A → Type 0} (p : ℕ → Bool) (i : ℕ) (f f' : ℕ → ℕ → Result A)
       → (p (get_or kinds i 0) ≡ true → Alike In (i + 1) (f i (i + 1)) (f' i (i + 1)))
-      → Alike In i (and_then (if p (get_or kinds i 0) then ok i (i + 1) else bad 4 i) f) (and_then (if p (get_or others i 0) then ok i (i + 1) else bad 4 i) f')
+      → Alike In i (and_then (whether p (get_or kinds i 0) then ok i (i + 1) else bad 4 i) f) (and_then (whether p (get_or others i 0) then ok i (i + 1) else bad 4 i) f')
   unfolding and_then
   takes {In} p i f f' h = go (kind-alike i)
     where
-      whole : Alike In i (and_then (if p (get_or kinds i 0) then ok i (i + 1) else bad 4 i) f) (and_then (if p (get_or kinds i 0) then ok i (i + 1) else bad 4 i) f')
+      whole : Alike In i (and_then (whether p (get_or kinds i 0) then ok i (i + 1) else bad 4 i) f) (and_then (whether p (get_or kinds i 0) then ok i (i + 1) else bad 4 i) f')
       whole = cases (p (get_or kinds i 0)) (λ e. rw e (sooner (omega arith) (h e))) (λ e. rw e refuses)
 
-      go : (get_or others i 0 ≡ get_or kinds i 0) ⊎ (k < i) → Alike In i (and_then (if p (get_or kinds i 0) then ok i (i + 1) else bad 4 i) f)
-          (and_then (if p (get_or others i 0) then ok i (i + 1) else bad 4 i) f')
+      go : (get_or others i 0 ≡ get_or kinds i 0) ⊎ (k < i) → Alike In i (and_then (whether p (get_or kinds i 0) then ok i (i + 1) else bad 4 i) f)
+          (and_then (whether p (get_or others i 0) then ok i (i + 1) else bad 4 i) f')
       go (inl e) = rw e whole
       go (inr l) = past l whole.onward
 

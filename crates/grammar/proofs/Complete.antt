@@ -9,7 +9,7 @@ use Prim.Native.Nat.{ℕ, zero, suc, ◌+◌, ◌≤◌, ◌<◌}
 use native.Mathlib.Omega.{arith}
 use lib.Dec.{eqb}
 use lib.ListN.{get_or, length}
-use Rattle.base.specs.Choose.{if◌then◌else◌}
+use Rattle.base.specs.Choose.{whether◌then◌else◌}
 use Rattle.base.specs.Lists.{member}
 use Rattle.base.proofs.Tests.{never_true}
 use Rattle.token.specs.Kinds as K
@@ -25,7 +25,7 @@ use Rattle.grammar.proofs.Kept.{keep-operand, keep-item, keep-register, keep-dec
 abbrev pub program_in : ℕ → Reader Statement
 program_in room = do
   k ← look
-  if eqb k K.BEGIN then (do b ← statement room; want K.AT; give b) else refuse 4
+  whether eqb k K.BEGIN then (do b ← statement room; want K.AT; give b) else refuse 4
 
 -- a designator behind its name, as a row of arguments
 row_of : (subscript index : Option ℕ) → List Operand

@@ -7,7 +7,7 @@ use mathlib.Core.Option.{Option, none, some}
 use Prim.Native.Nat.{ℕ, suc, ◌+◌}
 use lib.ListN.{get_or, length}
 use borrow.Author.Tests.{eqb-true}
-use Rattle.base.specs.Choose.{if◌then◌else◌}
+use Rattle.base.specs.Choose.{whether◌then◌else◌}
 use Rattle.base.proofs.Tests.{cases, never_true}
 use Rattle.token.specs.Kinds as K
 use Rattle.grammar.specs.Tree.{Designator, Operand, Statement, assign}
@@ -35,6 +35,6 @@ module _ (kinds : List ℕ) (n : ℕ) (h : get_or kinds n 0 ≡ K.NAME) where
       taken s j (some d) t b = never_true (sym (never d j (complete-designator kinds d n j t (isnt kinds j K.OPEN (eqb-true _ _ b) refl))) ∙ b)
 
       go : (r : Result (List Operand)) → Right (always are_arguments) kinds (n + 1) r
-          → and_then r (λ xs j. (if has kinds j K.BECOMES then assign_or (target_of n xs) (use_of n xs) else give (use_of n xs)) kinds j) ≡ and_then r (λ xs j. ok (use_of n xs) j)
+          → and_then r (λ xs j. (whether has kinds j K.BECOMES then assign_or (target_of n xs) (use_of n xs) else give (use_of n xs)) kinds j) ≡ and_then r (λ xs j. ok (use_of n xs) j)
       go (bad m t) q = refl
       go (ok xs j) q = cases (has kinds j K.BECOMES) (λ b. rw b (taken (use_of n xs) j (target_of n xs) (row-targets kinds n j xs h q.right) b)) (λ b. rw b)

@@ -9,7 +9,7 @@ use native.Mathlib.Omega.{arith}
 use lib.Dec.{eqb}
 use lib.ListN.{get_or}
 use borrow.Author.Tests.{eqb-true}
-use Rattle.base.specs.Choose.{if◌then◌else◌}
+use Rattle.base.specs.Choose.{whether◌then◌else◌}
 use Rattle.base.specs.Lists.{member}
 use Rattle.base.proofs.Tests.{cases}
 use Rattle.token.specs.Kinds as K
@@ -275,6 +275,6 @@ module _ {A : Type 0} {is : (d : ℕ) → List ℕ → A → Part} {kinds : List
   reads {r = bad n t} f l h k = record { right = part-refused l h.right }
 
   -- a choice between readers
-  pub either : (t : Bool) (m n : Reader A) (p : ℕ) → (t ≡ true → Right is kinds i (m kinds p)) → (t ≡ false → Right is kinds i (n kinds p)) → Right is kinds i ((if t then m else n) kinds p)
+  pub either : (t : Bool) (m n : Reader A) (p : ℕ) → (t ≡ true → Right is kinds i (m kinds p)) → (t ≡ false → Right is kinds i (n kinds p)) → Right is kinds i ((whether t then m else n) kinds p)
   either true m n p h k = h refl
   either false m n p h k = k refl

@@ -2,7 +2,7 @@
 -- rule has there; "5: BEGIN, IF, WHILE, FOR or PROCEDURE inside 64 such constructs" where the room for them is used up. What the grammar lacks is left out.
 use Rattle.std.specs.Prelude.{List, [], ◌∷◌, true, false, ◌&&◌, not, ℕ, zero, suc, eqb, length}
 use Rattle.std.proofs.Math.Option.{Option, none, some}
-use Rattle.base.specs.Choose.{if◌then◌else◌}
+use Rattle.base.specs.Choose.{whether◌then◌else◌}
 use Rattle.base.specs.Lists.{member}
 use Rattle.token.specs.Kinds as K
 use Rattle.grammar.specs.Tree.{Designator, Operand, number, place, Sign, plain, abs, neg, neg_abs, Term, Assignment, Condition, compared, bare, Width, full, short, byte, Register, Item, Declaration, registers, cells, base, Statement, assign, call, apply, block, goto, null, if_then, if_else, while, for, choose, Body, declare, procedure, items, Items, ended, label, item, Choices, over, choice}
@@ -25,17 +25,17 @@ in_parens k = do
 unfoldable pub designator_of : ℕ → Reader Designator
 designator_of n = do
   k ← look
-  if eqb k K.OPEN
+  whether eqb k K.OPEN
       then (do
         next
         l ← look
         s ← want_one (K.NUMBER ∷ K.NAME ∷ [])
         want K.CLOSE
-        if eqb l K.NAME
+        whether eqb l K.NAME
             then give (record { name = n; subscript = none; index = some s })
             else (do
               m ← look
-              if eqb m K.OPEN
+              whether eqb m K.OPEN
                   then (do
                     x ← in_parens K.NAME
                     give (record { name = n; subscript = some s; index = some x }))
@@ -46,7 +46,7 @@ unfoldable pub operand : Reader Operand
 operand = do
   k ← look
   t ← want_one (K.NUMBER ∷ K.NAME ∷ [])
-  if eqb k K.NUMBER
+  whether eqb k K.NUMBER
       then give (number t)
       else (do
         d ← designator_of t
@@ -61,7 +61,7 @@ unfoldable pub condition : Reader Condition
 condition = do
   k ← look
   t ← want_one (K.NAME ∷ K.OVERFLOW ∷ relations)
-  if eqb k K.NAME
+  whether eqb k K.NAME
       then (do
         r ← want_one relations
         a ← operand
@@ -78,7 +78,7 @@ unfoldable pub terms : ℕ → Reader (List Term)
 terms zero = give []
 terms (suc fuel) = do
   k ← look
-  if member k operators
+  whether member k operators
       then (do
         o ← next
         a ← operand
@@ -89,12 +89,12 @@ terms (suc fuel) = do
 unfoldable pub sign_of : Reader Sign
 sign_of = do
   k ← look
-  if eqb k K.ABS then (do t ← next; give (abs t)) else
-      if eqb k K.NEG
+  whether eqb k K.ABS then (do t ← next; give (abs t)) else
+      whether eqb k K.NEG
       then (do
         t ← next
         l ← look
-        if eqb l K.ABS then (do next; give (neg_abs t)) else give (neg t))
+        whether eqb l K.ABS then (do next; give (neg_abs t)) else give (neg t))
       else give plain
 
 -- what follows an assignment's target
@@ -120,7 +120,7 @@ unfoldable pub numbers : ℕ → Reader (List ℕ)
 numbers zero = give []
 numbers (suc fuel) = do
   k ← look
-  if eqb k K.OPEN
+  whether eqb k K.OPEN
       then (do
         t ← in_parens K.NUMBER
         ts ← numbers fuel
@@ -145,7 +145,7 @@ list_of one zero = give []
 list_of one (suc fuel) = do
   a ← one
   k ← look
-  if eqb k K.COMMA
+  whether eqb k K.COMMA
       then (do
         next
         more ← list_of one fuel
@@ -160,9 +160,9 @@ unfoldable pub type_of : Reader Width
 type_of = do
   k ← look
   want_one type_words
-  if eqb k K.SHORT then (do want K.INTEGER; give short) else
-      if eqb k K.BYTE then give (byte false) else
-      if eqb k K.CHARACTER then give (byte true) else
+  whether eqb k K.SHORT then (do want K.INTEGER; give short) else
+      whether eqb k K.BYTE then give (byte false) else
+      whether eqb k K.CHARACTER then give (byte true) else
       give full
 
 unfoldable pub cells_of : Option ℕ → Width → Reader Declaration
@@ -176,7 +176,7 @@ after_type short = cells_of none short
 after_type (byte c) = cells_of none (byte c)
 after_type full = do
   k ← look
-  if eqb k K.REGISTER
+  whether eqb k K.REGISTER
       then (do
         next
         rs ← fuelled (list_of register_item)
@@ -186,13 +186,13 @@ after_type full = do
 unfoldable pub declaration : Reader Declaration
 declaration = do
   k ← look
-  if eqb k K.SEGMENT
+  whether eqb k K.SEGMENT
       then (do
         next
         want K.BASE
         n ← want K.NAME
         give (base n))
-      else if eqb k K.ARRAY
+      else whether eqb k K.ARRAY
       then (do
         next
         c ← in_parens K.NUMBER
@@ -209,7 +209,7 @@ unfoldable pub arguments : ℕ → Reader (List Operand)
 arguments zero = give []
 arguments (suc fuel) = do
   k ← look
-  if eqb k K.OPEN
+  whether eqb k K.OPEN
       then (do
         next
         a ← operand
@@ -252,7 +252,7 @@ unfoldable pub after_name : ℕ → Reader Statement
 after_name n = do
   xs ← fuelled arguments
   k ← look
-  if eqb k K.BECOMES then assign_or (target_of n xs) (use_of n xs) else give (use_of n xs)
+  whether eqb k K.BECOMES then assign_or (target_of n xs) (use_of n xs) else give (use_of n xs)
 
 abbrev pub openers : List ℕ
 openers = K.BEGIN ∷ K.IF ∷ K.WHILE ∷ K.CASE ∷ K.FOR ∷ []
@@ -261,10 +261,10 @@ openers = K.BEGIN ∷ K.IF ∷ K.WHILE ∷ K.CASE ∷ K.FOR ∷ []
 unfoldable pub statement_of : Reader Statement → Reader Statement
 statement_of construct = do
   k ← look
-  if member k openers then construct else
-      if eqb k K.NAME then (do n ← next; after_name n) else
-      if eqb k K.GOTO then (do t ← next; n ← want K.NAME; give (goto t n)) else
-      if eqb k K.NULL then (do next; give null) else
+  whether member k openers then construct else
+      whether eqb k K.NAME then (do n ← next; after_name n) else
+      whether eqb k K.GOTO then (do t ← next; n ← want K.NAME; give (goto t n)) else
+      whether eqb k K.NULL then (do next; give null) else
       refuse 4
 
 -- ── "block = BEGIN {declaration ;} {statement ; or name :} END." ──
@@ -274,12 +274,12 @@ unfoldable pub items_of : Reader Statement → ℕ → Reader Items
 items_of inner zero = refuse 4
 items_of inner (suc fuel) = do
   k ← look
-  if eqb k K.END then (do next; give ended) else
-      if eqb k K.NAME
+  whether eqb k K.END then (do next; give ended) else
+      whether eqb k K.NAME
       then (do
         n ← next
         l ← look
-        if eqb l K.COLON
+        whether eqb l K.COLON
             then (do next; is ← items_of inner fuel; give (label n is))
             else (do s ← after_name n; want K.SEMICOLON; is ← items_of inner fuel; give (item s is)))
       else (do s ← inner; want K.SEMICOLON; is ← items_of inner fuel; give (item s is))
@@ -291,7 +291,7 @@ unfoldable pub choices_of : Reader Statement → ℕ → Reader Choices
 choices_of inner zero = refuse 4
 choices_of inner (suc fuel) = do
   k ← look
-  if eqb k K.END then (do next; give over) else (do s ← inner; want K.SEMICOLON; xs ← choices_of inner fuel; give (choice s xs))
+  whether eqb k K.END then (do next; give over) else (do s ← inner; want K.SEMICOLON; xs ← choices_of inner fuel; give (choice s xs))
 
 -- a procedure's name, its return register's and its body
 pub record Procedure : Type 0 where
@@ -307,8 +307,8 @@ unfoldable pub body_of : Reader Statement → Reader Procedure → ℕ → Reade
 body_of inner proc zero = refuse 4
 body_of inner proc (suc fuel) = do
   k ← look
-  if member k declarators then (do d ← declaration; want K.SEMICOLON; b ← body_of inner proc fuel; give (declare d b)) else
-      if eqb k K.PROCEDURE then (do p ← proc; want K.SEMICOLON; b ← body_of inner proc fuel; give (procedure p.name p.return p.body b)) else
+  whether member k declarators then (do d ← declaration; want K.SEMICOLON; b ← body_of inner proc fuel; give (declare d b)) else
+      whether eqb k K.PROCEDURE then (do p ← proc; want K.SEMICOLON; b ← body_of inner proc fuel; give (procedure p.name p.return p.body b)) else
       (do is ← fuelled (items_of inner); give (items is))
 
 -- ── "statement = simple; IF condition THEN statement; IF condition THEN simple ELSE statement; WHILE condition DO statement; FOR assignment STEP number
@@ -324,7 +324,7 @@ if_of inner t c = do
   k ← look
   s ← inner
   e ← look
-  if eqb e K.ELSE && not (member k compounds)
+  whether eqb e K.ELSE && not (member k compounds)
       then (do e ← next; u ← inner; give (if_else t c s e u))
       else give (if_then t c s)
 
@@ -332,10 +332,10 @@ unfoldable pub construct_of : Reader Statement → Reader Procedure → Reader S
 construct_of inner proc = do
   k ← look
   t ← next
-  if eqb k K.BEGIN then (do b ← fuelled (body_of inner proc); give (block t b)) else
-      if eqb k K.IF then (do c ← condition; want K.THEN; if_of inner t c) else
-      if eqb k K.WHILE then (do c ← condition; want K.DO; s ← inner; give (while t c s)) else
-      if eqb k K.CASE then (do n ← want K.NAME; want K.OF; want K.BEGIN; xs ← fuelled (choices_of inner); give (choose t n xs)) else
+  whether eqb k K.BEGIN then (do b ← fuelled (body_of inner proc); give (block t b)) else
+      whether eqb k K.IF then (do c ← condition; want K.THEN; if_of inner t c) else
+      whether eqb k K.WHILE then (do c ← condition; want K.DO; s ← inner; give (while t c s)) else
+      whether eqb k K.CASE then (do n ← want K.NAME; want K.OF; want K.BEGIN; xs ← fuelled (choices_of inner); give (choose t n xs)) else
       (do
         n ← want K.NAME
         a ← assignment_of n
@@ -373,7 +373,7 @@ nesting = 64
 unfoldable pub program : Reader Statement
 program = do
   k ← look
-  if eqb k K.BEGIN
+  whether eqb k K.BEGIN
       then (do
         b ← statement nesting
         want K.AT

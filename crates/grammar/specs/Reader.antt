@@ -1,7 +1,7 @@
 -- Readers: a reader takes the kinds of all tokens and the number of the next token, and gives what it has read with the number of the token after it,
 -- or a refusal with the number of the token at which it is given. They are written one after the other in `do` blocks.
 use Rattle.std.specs.Prelude.{List, ℕ, ◌+◌, eqb, get_or}
-use Rattle.base.specs.Choose.{if◌then◌else◌}
+use Rattle.base.specs.Choose.{whether◌then◌else◌}
 use Rattle.base.specs.Lists.{member}
 
 pub data Result (A : Type 0) : Type 0 where
@@ -37,8 +37,8 @@ next kinds i = ok i (i + 1)
 
 -- a token of kind k; any other has no place here: refusal 4 at it
 unfoldable pub want : ℕ → Reader ℕ
-want k kinds i = if eqb (get_or kinds i 0) k then ok i (i + 1) else bad 4 i
+want k kinds i = whether eqb (get_or kinds i 0) k then ok i (i + 1) else bad 4 i
 
 -- a token of one of the kinds
 unfoldable pub want_one : List ℕ → Reader ℕ
-want_one ks kinds i = if member (get_or kinds i 0) ks then ok i (i + 1) else bad 4 i
+want_one ks kinds i = whether member (get_or kinds i 0) ks then ok i (i + 1) else bad 4 i

@@ -8,7 +8,7 @@ use Prim.Native.Nat.{ℕ, zero, suc, ◌+◌, ◌*◌, ◌≤◌, ◌<◌}
 use native.Mathlib.Omega.{arith}
 use lib.Dec.{eqb}
 use borrow.Author.Tests.{eqb-false}
-use Rattle.base.specs.Choose.{if◌then◌else◌}
+use Rattle.base.specs.Choose.{whether◌then◌else◌}
 use Rattle.base.specs.Lists.{◌∈◌, ◌⊆◌, All}
 use Rattle.base.proofs.Lists.{all_both, all_first, all-last, all_map, all_of, some_is, none-some}
 use Rattle.static_rules.specs.Registers.{Registers}
@@ -124,7 +124,7 @@ module _ (w : List Placed) where
     mark-reached q (m ∷ ls) n h a = go (eqb m.name n) refl h (λ k. mark-reached q ls n k a.1)
       where
         go : (b : Bool) → eqb m.name n ≡ b → (n ≡ m.name) ⊎ (n ∈ names_of ls) → (n ∈ names_of ls → Reached (mark_at ls n) q)
-            → Reached (if b then m.at else mark_at ls n) q
+            → Reached (whether b then m.at else mark_at ls n) q
         go true e k f = a.0
         go false e (inl k) f = absurd (eqb-false _ _ e (sym k))
         go false e (inr k) f = f k
@@ -169,7 +169,7 @@ module _ (w : List Placed) where
         at_first t = some_is h g (rw t at e)
 
         go : (t : Bool) → eqb h.within.name n ≡ t → (first n gs ≡ some g → Enters w (mark_at ps n) g.within g.bases × P g)
-            → Enters w (if eqb m.name n then m.at else mark_at ps n) g.within g.bases × P g
+            → Enters w (whether eqb m.name n then m.at else mark_at ps n) g.within g.bases × P g
         go true t f = rw (a.0, t) (subst (λ (x : Routine). Enters w m.at x.within x.bases × P x) (at_first t) (a.1, b.0))
         go false t f = rw (a.0, t) (f (rw t at e))
 

@@ -8,7 +8,7 @@ use Prim.Native.Nat.{ℕ, suc, ◌+◌, ◌*◌, ◌-◌, ◌%◌, ◌<◌, ◌�
 use native.Mathlib.Omega.{arith}
 use lib.Dec.{eqb}
 use borrow.Author.Tests.{eqb-true, eqb-false}
-use Rattle.base.specs.Choose.{if◌then◌else◌}
+use Rattle.base.specs.Choose.{whether◌then◌else◌}
 use Rattle.base.specs.Lists.{◌∈◌, All, member}
 use Rattle.base.proofs.Lists.{member-in, in-member}
 use Rattle.base.proofs.Tests.{never_true, both}
@@ -312,13 +312,13 @@ module _
     abbrev Lower : Bool → ℕ → Type 0
     Lower long r = long ≡ true → (r % 2 ≡ 1) × Free p (r - 1)
 
-    times-stored : (r : ℕ) (w : Width) (a : Datum) → Used l p (stored w a) → Lower (is_full w) r → Free p r → All (Plain l p) (apply times_row (if is_full w then (r - 1) else r) (stored w a))
+    times-stored : (r : ℕ) (w : Width) (a : Datum) → Used l p (stored w a) → Lower (is_full w) r → Free p r → All (Plain l p) (apply times_row (whether is_full w then (r - 1) else r) (stored w a))
     times-stored r full a k h y = let z = h refl in plain-product l p r (stored full a) tt z.0 k y z.1
     times-stored r short a k h y = plain-half l p r a k y
     times-stored r (byte c) a k h y = absurd k
 
     times-by : (r : ℕ) (m : Meaning) (d : Designator) → Used l p (use_by f m d) → Lower (is_long m) r → Free p r
-        → All (Plain l p) (apply times_row (if is_long m then (r - 1) else r) (use_by f m d))
+        → All (Plain l p) (apply times_row (whether is_long m then (r - 1) else r) (use_by f m d))
     times-by r nothing d k h y = tt
     times-by r (register s) d k h y = let z = h refl in plain-product l p r (held s) tt z.0 k y z.1
     times-by r (cell c) d k h y = times-stored r c.width _ k h y
@@ -380,10 +380,10 @@ module _
         a = t.operand
 
         go : (i : Bool) → member kind shifts ≡ i → (j : Bool) → eqb kind K.TIMES ≡ j → (z : Bool) → member kind full_only ≡ z
-            → (if i then R.shift_rules f a else
-            if j then R.product_rules f p.kept r t ⊕ R.operand_rules f a else
-            if z then R.operand_rules f a ⊕ R.no_short f a else R.operand_rules f a).number ≡ 0
-            → All (Plain l p) (if i then shift_by f (shift_code kind) r a else if j then apply times_row (product_target f r a) (use_of f a) else apply (row_of kind) r (use_of f a))
+            → (whether i then R.shift_rules f a else
+            whether j then R.product_rules f p.kept r t ⊕ R.operand_rules f a else
+            whether z then R.operand_rules f a ⊕ R.no_short f a else R.operand_rules f a).number ≡ 0
+            → All (Plain l p) (whether i then shift_by f (shift_code kind) r a else whether j then apply times_row (product_target f r a) (use_of f a) else apply (row_of kind) r (use_of f a))
         go true e j g z o q = plain-shift (shift_code kind) r a (shift-kind kind (member-in kind shifts e)) q y
         go false e true g z o q =
             plain-times r a (used a k (quiet-right (R.product_rules f p.kept r t) (R.operand_rules f a) q)) (lower r t g (quiet-left _ (R.operand_rules f a) q) b) y
@@ -478,7 +478,7 @@ module _
     abbrev pub PlainUse : Function → Type 0
     PlainUse g = (a : Operand) (xs : List Operand) → Given g 0 (a ∷ xs) → All (Plain l p) (function_code f g a xs)
 
-    if-plain : (b : Bool) (is : List Instruction) → All (Plain l p) is → All (Plain l p) (if b then is else [])
+    if-plain : (b : Bool) (is : List Instruction) → All (Plain l p) is → All (Plain l p) (whether b then is else [])
     if-plain true is h = h
     if-plain false is h = tt
 

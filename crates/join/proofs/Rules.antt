@@ -9,7 +9,7 @@ use native.Mathlib.Omega.{arith}
 use lib.Dec.{eqb}
 use lib.ListN.{get_or}
 use borrow.Author.Tests.{eqb-true, eq-eqb}
-use Rattle.base.specs.Choose.{if◌then◌else◌}
+use Rattle.base.specs.Choose.{whether◌then◌else◌}
 use Rattle.base.specs.Lists.{◌∈◌, All}
 use Rattle.base.proofs.Lists.{in_left, in_right, all_in, all_both, some_is, none-some}
 use Rattle.base.proofs.Tests.{never_true}
@@ -392,7 +392,7 @@ module _ (kinds values found goes : List ℕ) (z : Meant) (l : Layout) where
       known_more n r hs bs gs d (function k) e i h = tt
       known_more n r hs bs gs d (routine s) e i (ks, h) = go (eqb n d) refl
         where
-          go : (t : Bool) → eqb n d ≡ t → (ks : List Based) × ((if eqb n d then some (routine_of n r hs) else first d gs) ≡ some (routine_of d s ks))
+          go : (t : Bool) → eqb n d ≡ t → (ks : List Based) × ((whether eqb n d then some (routine_of n r hs) else first d gs) ≡ some (routine_of d s ks))
           go true t =
               let same = eqb-true n d t in
               let q : r ≡ s = ap return_of (sym e ∙ (ap meant same ∙ i)) in

@@ -5,7 +5,7 @@ use mathlib.Core.List.{List, [], ◌∷◌, ◌++◌, map}
 use mathlib.Core.Option.{Option, none, some}
 use Prim.Native.Nat.{ℕ, ◌+◌, ◌*◌, ◌%◌, ◌<◌, ◌≤◌}
 use lib.Dec.{eqb}
-use Rattle.base.specs.Choose.{if◌then◌else◌}
+use Rattle.base.specs.Choose.{whether◌then◌else◌}
 use Rattle.base.specs.Lists.{◌∈◌, All}
 use Rattle.token.specs.Kinds as K
 use Rattle.static_rules.specs.Registers.{Registers}
@@ -106,7 +106,7 @@ pub record Routine : Type 0 where
 
 unfoldable pub first : ℕ → List Routine → Option Routine
 first n [] = none
-first n (g ∷ gs) = if eqb g.within.name n then some g else first n gs
+first n (g ∷ gs) = whether eqb g.within.name n then some g else first n gs
 
 pub record Callable (gs : List Routine) (p : Point) (n r : ℕ) : Type 0 where
   pub g : Routine

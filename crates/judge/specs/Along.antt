@@ -1,6 +1,6 @@
 -- The rules along a tape: what each event is judged by, and what of it the later events need.
 use Rattle.std.specs.Prelude.{◌≡◌, List, [], ◌∷◌, ◌&&◌, ◌||◌, not, ℕ, zero, suc, ◌+◌, ◌-◌, ◌≤◌, eqb, leb, drop}
-use Rattle.base.specs.Choose.{if◌then◌else◌}
+use Rattle.base.specs.Choose.{whether◌then◌else◌}
 use Rattle.tape.specs.Events as E
 use Rattle.tape.specs.Numbers.{PHRASE, layer_at, form_at, family_at}
 use Rattle.grammar.specs.Tree.{Designator, Operand}
@@ -44,11 +44,11 @@ leave_procedure h = record { kept = under h.kept; count = h.count; counts = h.co
 
 unfoldable pub held_after : Tables → (op t : ℕ) → Held → Held
 held_after f op t h =
-    if eqb op E.BLOCK then enter_block h else
-    if eqb op E.END-BLOCK then leave_block h else
-    if eqb op E.BASE then keep_base (register_of (meaning_at f t)) h else
-    if eqb op E.PROCEDURE then keep_return (register_of (meaning_at f (t + 2))) h else
-    if eqb op E.END-PROCEDURE then leave_procedure h else
+    whether eqb op E.BLOCK then enter_block h else
+    whether eqb op E.END-BLOCK then leave_block h else
+    whether eqb op E.BASE then keep_base (register_of (meaning_at f t)) h else
+    whether eqb op E.PROCEDURE then keep_return (register_of (meaning_at f (t + 2))) h else
+    whether eqb op E.END-PROCEDURE then leave_procedure h else
     h
 
 -- ── cells and their values ──
@@ -59,15 +59,15 @@ cells_of w n room = record { width = w; elements = n; room = room }
 
 unfoldable pub cells_after : Tables → (op t : ℕ) → Cells → Cells
 cells_after f op t c =
-    if eqb (family_at op) E.SINGLE-FULL then cells_of (form_at op) 1 c.room else
-    if eqb (family_at op) E.ARRAY-FULL then cells_of (form_at op) (value_at f t) c.room else
-    if eqb op E.ITEM then cells_of c.width c.elements c.elements else
-    if eqb op E.VALUE then cells_of c.width c.elements (c.room - 1) else
+    whether eqb (family_at op) E.SINGLE-FULL then cells_of (form_at op) 1 c.room else
+    whether eqb (family_at op) E.ARRAY-FULL then cells_of (form_at op) (value_at f t) c.room else
+    whether eqb op E.ITEM then cells_of c.width c.elements c.elements else
+    whether eqb op E.VALUE then cells_of c.width c.elements (c.room - 1) else
     c
 
 -- "11: bad initial value or one too many"
 unfoldable pub value_rule : Cells → (v t : ℕ) → Broken
-value_rule c v t = if eqb c.room 0 then broken 11 t else rule (fits_width (width_by c.width) v) 11 t
+value_rule c v t = whether eqb c.room 0 then broken 11 t else rule (fits_width (width_by c.width) v) 11 t
 
 -- ── what stands open in a statement: the target of an assignment; the name of a use and how many arguments it has had ──
 
@@ -84,9 +84,9 @@ open_of target n position = record { target = target; name = n; position = posit
 
 unfoldable pub open_after : Tables → (op t : ℕ) → Open → Open
 open_after f op t o =
-    if eqb (family_at op) E.TARGET || eqb (family_at op) E.CONTROL then open_of (aim_of (meaning_at f t)) o.name o.position else
-    if eqb op E.APPLIED then open_of o.target t 0 else
-    if eqb (family_at op) E.ARGUED then open_of o.target o.name (o.position + 1) else
+    whether eqb (family_at op) E.TARGET || eqb (family_at op) E.CONTROL then open_of (aim_of (meaning_at f t)) o.name o.position else
+    whether eqb op E.APPLIED then open_of o.target t 0 else
+    whether eqb (family_at op) E.ARGUED then open_of o.target o.name (o.position + 1) else
     o
 
 abbrev pub register_target : List ℕ → Designator → ℕ → Broken
@@ -127,35 +127,35 @@ chain_rule f kept (suc (suc r)) shape t = term_rules f kept r (term_at shape t)
 
 unfoldable pub declaration_rule : Tables → List ℕ → Cells → (op t : ℕ) → Broken
 declaration_rule f kept c op t =
-    if eqb op E.REGISTER then rule (leb (value_at f (t + 2)) 15) 9 (t + 2) else
-    if eqb (family_at op) E.ARRAY-FULL then rule (leb 1 (value_at f t) && leb (value_at f t) most_elements) 11 t else
-    if eqb op E.VALUE then value_rule c (value_at f t) t else
-    if eqb op E.BASE then base_rules f kept t else
-    if eqb op E.PROCEDURE then register_rule f (t + 2) ⊕ zero_rule f (t + 2) else
+    whether eqb op E.REGISTER then rule (leb (value_at f (t + 2)) 15) 9 (t + 2) else
+    whether eqb (family_at op) E.ARRAY-FULL then rule (leb 1 (value_at f t) && leb (value_at f t) most_elements) 11 t else
+    whether eqb op E.VALUE then value_rule c (value_at f t) t else
+    whether eqb op E.BASE then base_rules f kept t else
+    whether eqb op E.PROCEDURE then register_rule f (t + 2) ⊕ zero_rule f (t + 2) else
     unbroken
 
 unfoldable pub assignment_rule : Tables → List ℕ → (target op t : ℕ) → Broken
 assignment_rule f kept target op t =
-    if eqb (family_at op) E.TARGET then aim_by f kept (designator_at (form_at op) t) (meaning_at f t) else
-    if eqb (family_at op) E.CONTROL then control_by kept (designator_at (form_at op) t) (meaning_at f t) else
-    if eqb (family_at op) E.FIRST then first_rules f target (operand_at (form_at op) t) else
-    if eqb (family_at op) E.TERM then chain_rule f kept target (form_at op) t else
-    if eqb op E.ABS || (eqb op E.NEG || eqb op E.NEG-ABS) then sign_rule target t else
+    whether eqb (family_at op) E.TARGET then aim_by f kept (designator_at (form_at op) t) (meaning_at f t) else
+    whether eqb (family_at op) E.CONTROL then control_by kept (designator_at (form_at op) t) (meaning_at f t) else
+    whether eqb (family_at op) E.FIRST then first_rules f target (operand_at (form_at op) t) else
+    whether eqb (family_at op) E.TERM then chain_rule f kept target (form_at op) t else
+    whether eqb op E.ABS || (eqb op E.NEG || eqb op E.NEG-ABS) then sign_rule target t else
     unbroken
 
 unfoldable pub statement_rule : Tables → List ℕ → Open → (op t : ℕ) → Broken
 statement_rule f kept o op t =
-    if eqb (family_at op) E.COMPARED then register_rule f (t - 2) ⊕ operand_rules f (operand_at (form_at op) t) else
-    if eqb (family_at op) E.LIMIT then operand_rules f (operand_at (form_at op) t) else
-    if eqb op E.CALL then call_rules f kept t else
-    if eqb (family_at op) E.ARGUED then argument_rules f kept (argument_of (meaning_at f o.name) o.position) (operand_at (form_at op) t) else
-    if eqb op E.COUNTED then count_by (meaning_at f t) t o.position else
-    if eqb op E.CHOSEN then taken_rules f kept t else
+    whether eqb (family_at op) E.COMPARED then register_rule f (t - 2) ⊕ operand_rules f (operand_at (form_at op) t) else
+    whether eqb (family_at op) E.LIMIT then operand_rules f (operand_at (form_at op) t) else
+    whether eqb op E.CALL then call_rules f kept t else
+    whether eqb (family_at op) E.ARGUED then argument_rules f kept (argument_of (meaning_at f o.name) o.position) (operand_at (form_at op) t) else
+    whether eqb op E.COUNTED then count_by (meaning_at f t) t o.position else
+    whether eqb op E.CHOSEN then taken_rules f kept t else
     assignment_rule f kept o.target op t
 
 unfoldable pub event_rule : Tables → List ℕ → Cells → Open → (op t : ℕ) → Broken
 event_rule f kept c o op t =
-    if eqb (layer_at op) PHRASE then statement_rule f kept o op t else
+    whether eqb (layer_at op) PHRASE then statement_rule f kept o op t else
     declaration_rule f kept c op t
 
 -- between two events: the protected registers; the cells; what stands open in a statement; the broken rules

@@ -8,7 +8,7 @@ use lib.Dec.{eqb, ltb}
 use lib.ListN.{get_or, set, length, take, replicate}
 use lib.Seq.{sets, length-sets, set_out}
 use borrow.Author.Tests.{lt-ltb, le-ltb, eq-eqb, ne_eqb}
-use Rattle.base.specs.Choose.{if◌then◌else◌}
+use Rattle.base.specs.Choose.{whether◌then◌else◌}
 use Rattle.base.specs.Lists.{All}
 use Rattle.base.specs.Numbers.{bytes_of}
 use Rattle.base.proofs.Tests.{cases, by-test}
@@ -50,7 +50,7 @@ sets-out l i [] h = refl
 sets-out l i (v ∷ vs) h = ap (λ (x : List ℕ). sets x (suc i) vs) (set_out l i v h) ∙ sets-out l (suc i) vs (omega arith)
 
 abbrev moved : Filling → Filling
-moved f = if ltb f.at segment_limit then record { at = f.at + f.size; size = f.size } else f
+moved f = whether ltb f.at segment_limit then record { at = f.at + f.size; size = f.size } else f
 
 abbrev moved_all : List ℕ → Filling → Filling
 moved_all [] f = f
@@ -105,7 +105,7 @@ module _ (k : ℕ) (means bases offsets values : List ℕ) where
     abbrev lay_cells : List Filled → List ℕ
     lay_cells [] = image
     lay_cells (d ∷ ds) =
-        if eqb d.cell.base.segment k then sets (lay_cells ds) (get_or offsets d.cell.name 0) (value_bytes d.cell.width d.values) else lay_cells ds
+        whether eqb d.cell.base.segment k then sets (lay_cells ds) (get_or offsets d.cell.name 0) (value_bytes d.cell.width d.values) else lay_cells ds
 
     abbrev next_after : List Filled → Filling
     next_after [] = nowhere
@@ -123,7 +123,7 @@ module _ (k : ℕ) (means bases offsets values : List ℕ) where
     -- the values of a cell
     cell-laid : (d : Filled) (image : List ℕ) → Right means bases d
         → sets image (start_cell k means bases offsets d.cell.name).at (bytes_all (start_cell k means bases offsets d.cell.name).size d.values)
-        ≡ (if eqb d.cell.base.segment k then sets image (get_or offsets d.cell.name 0) (value_bytes d.cell.width d.values) else image)
+        ≡ (whether eqb d.cell.base.segment k then sets image (get_or offsets d.cell.name 0) (value_bytes d.cell.width d.values) else image)
     unfolding start_cell
     cell-laid d image r =
         let f = fields means bases d r in
@@ -147,7 +147,7 @@ module _ (k : ℕ) (means bases offsets values : List ℕ) where
     unfolding place_cells place_cell fill
     filled n [] a = refl
     filled n (d ∷ ds) a =
-        ap₂ (λ (l : List ℕ) (o : ℕ). if eqb d.cell.base.segment k then sets l o (value_bytes d.cell.width d.values) else l) (filled n ds a.1) a.0
+        ap₂ (λ (l : List ℕ) (o : ℕ). whether eqb d.cell.base.segment k then sets l o (value_bytes d.cell.width d.values) else l) (filled n ds a.1) a.0
 
     -- the initial values of the cells of segment k
     pub image-of-tree : (kinds found : List ℕ) (x : Statement) (i j : ℕ) → is_program kinds x i j → (s : Meant) (n : ℕ) → s.cells ≡ []
@@ -163,12 +163,12 @@ placed-there n [] f = tt
 placed-there n (d ∷ ds) f = (rw (eq-eqb d.cell.name d.cell.name refl), later ds f.0 (placed-there n ds f.1))
   where
     skip : (es : List Filled) (q : Placed → ℕ) → Below d.cell.name es → All (λ (p : Placed). q p ≡ p.offset) (place_cells n es).placed
-        → All (λ (p : Placed). (if eqb d.cell.name p.name then offset_for d.cell (place_cells n ds).ends else q p) ≡ p.offset) (place_cells n es).placed
+        → All (λ (p : Placed). (whether eqb d.cell.name p.name then offset_for d.cell (place_cells n ds).ends else q p) ≡ p.offset) (place_cells n es).placed
     skip [] q b a = tt
     skip (e ∷ es) q b a = (let l = b.0 in rw (ne_eqb d.cell.name e.cell.name (λ z. omega arith)) a.0, skip es q b.1 a.1)
 
     later : (es : List Filled) → Below d.cell.name es → All (λ (p : Placed). offset_of (place_cells n ds).placed p.name ≡ p.offset) (place_cells n es).placed
-        → All (λ (p : Placed). (if eqb d.cell.name p.name then offset_for d.cell (place_cells n ds).ends else offset_of (place_cells n ds).placed
+        → All (λ (p : Placed). (whether eqb d.cell.name p.name then offset_for d.cell (place_cells n ds).ends else offset_of (place_cells n ds).placed
         p.name) ≡ p.offset) (place_cells n es).placed
     later es b a = skip es (λ p. offset_of (place_cells n ds).placed p.name) b a
 

@@ -7,7 +7,7 @@ use lib.Dec.{eqb, leb}
 use lib.ListN.{get_or, set, length, replicate, length-set, length-replicate}
 use lib.Seq.{get_or-set_same, get_or-set_other}
 use borrow.Author.Tests.{eqb-true, eqb-false}
-use Rattle.base.specs.Choose.{if◌then◌else◌}
+use Rattle.base.specs.Choose.{whether◌then◌else◌}
 use Rattle.base.specs.Lists.{All}
 use Rattle.base.proofs.Lists.{all_map}
 use Rattle.base.proofs.Tests.{cases}
@@ -119,7 +119,7 @@ module _ (means bases : List ℕ) (N M n : ℕ) (fit : 2 + n ≤ N) where
   unfolding place_cells offset_of
   at-start m e = record { ends = λ k. rw e (start-ends m k); offsets = λ t. zeros M t; broken = refl }
 
-  read_set : (l : List ℕ) (i v t : ℕ) → i < length l → get_or (set l i v) t 0 ≡ (if eqb i t then v else get_or l t 0)
+  read_set : (l : List ℕ) (i v t : ℕ) → i < length l → get_or (set l i v) t 0 ≡ (whether eqb i t then v else get_or l t 0)
   read_set l i v t h =
       cases (eqb i t)
       (λ e. let q = eqb-true i t e in rw e (rw (← q) (get_or-set_same l i v 0 h)))
@@ -147,7 +147,7 @@ module _ (means bases : List ℕ) (N M n : ℕ) (fit : 2 + n ≤ N) where
         ends = λ k.
             ap₂ (λ (g v : ℕ). get_or (set s.ends g v) k 0) f.of-segment e
             ∙ same_set s.ends r.ends c.base.segment (end_for c r.ends) k (omega arith) (omega arith) (h.ends k);
-        offsets = λ t. read_set s.offsets c.name _ t (omega arith) ∙ ap₂ (λ (x y : ℕ). if eqb c.name t then x else y) o (h.offsets t);
+        offsets = λ t. read_set s.offsets c.name _ t (omega arith) ∙ ap₂ (λ (x y : ℕ). whether eqb c.name t then x else y) o (h.offsets t);
         broken = ap₂ (λ (x : Broken) (y : ℕ). x ⊕ rule (leb y segment_limit) 12 c.name) h.broken e;
       }
 

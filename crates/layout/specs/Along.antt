@@ -1,7 +1,7 @@
 -- Where cells stand, and their initial values in a segment's image, event by event. A cell is known by its token: its packed meaning has its width and its
 -- number of elements, its base the segment.
 use Rattle.std.specs.Prelude.{List, ℕ, suc, ◌+◌, ◌*◌, ◌%◌, eqb, leb, ltb, get_or, set, replicate}
-use Rattle.base.specs.Choose.{if◌then◌else◌}
+use Rattle.base.specs.Choose.{whether◌then◌else◌}
 use Rattle.base.specs.Numbers.{stored}
 use Rattle.scopes.specs.declared.Broken.{Broken}
 use Rattle.scopes.specs.Broken.{unbroken, rule, ◌⊕◌}
@@ -52,7 +52,7 @@ module _ (means bases : List ℕ) where
   }
 
   unfoldable pub event_by : (keep : ℕ → ℕ) → (op t : ℕ) → Laying → Laying
-  event_by keep op t s = if eqb op E.ITEM then place_by keep t s else s
+  event_by keep op t s = whether eqb op E.ITEM then place_by keep t s else s
 
   -- every end as it is
   abbrev pub place_at : ℕ → Laying → Laying
@@ -63,7 +63,7 @@ module _ (means bases : List ℕ) where
 
 -- "A segment is at most 4,096 bytes, every cell included": of an end past that is kept that it is past
 unfoldable pub capped : ℕ → ℕ
-capped n = if leb n segment_limit then n else suc segment_limit
+capped n = whether leb n segment_limit then n else suc segment_limit
 
 abbrev pub capped_event : (means bases : List ℕ) → (op t : ℕ) → Laying → Laying
 capped_event means bases = event_by means bases capped
@@ -117,19 +117,19 @@ abbrev pub nowhere : Filling
 nowhere = record { at = 0; size = 0 }
 
 unfoldable pub start_cell : (k : ℕ) (means bases offsets : List ℕ) (t : ℕ) → Filling
-start_cell k means bases offsets t = if eqb (segment_at bases t) k then record { at = get_or offsets t 0; size = size_at means t } else nowhere
+start_cell k means bases offsets t = whether eqb (segment_at bases t) k then record { at = get_or offsets t 0; size = size_at means t } else nowhere
 
 -- a value past the segment's end is not laid
 unfoldable pub lay_value : ℕ → Imaging → Imaging
 lay_value v s =
-    if ltb s.next.at segment_limit then
+    whether ltb s.next.at segment_limit then
     record { image = stored s.image s.next.at s.next.size v; next = record { at = s.next.at + s.next.size; size = s.next.size } }
     else s
 
 unfoldable pub image_event : (k : ℕ) (means bases offsets values : List ℕ) (op t : ℕ) → Imaging → Imaging
 image_event k means bases offsets values op t s =
-    if eqb op E.ITEM then imaging_of s.image (start_cell k means bases offsets t) else
-    if eqb op E.VALUE then lay_value (get_or values t 0) s else
+    whether eqb op E.ITEM then imaging_of s.image (start_cell k means bases offsets t) else
+    whether eqb op E.VALUE then lay_value (get_or values t 0) s else
     s
 
 -- in the ledger

@@ -1,6 +1,6 @@
 -- Tapes that there is room for: token numbers of 16 bits where a pass writes them down, and blocks and procedures no deeper than the stacks that are lent.
 use Rattle.std.specs.Prelude.{◌≡◌, List, [], ◌∷◌, Bool, true, ◌||◌, ℕ, suc, ◌-◌, ◌/◌, ◌%◌, ◌≤◌, ◌<◌, eqb}
-use Rattle.base.specs.Choose.{if◌then◌else◌}
+use Rattle.base.specs.Choose.{whether◌then◌else◌}
 use Rattle.base.specs.Lists.{All}
 use Rattle.tape.specs.Events as E
 use Rattle.tape.specs.Names.{declaring}
@@ -15,7 +15,7 @@ Narrow tape = All (λ (e : ℕ). noted (e % E.EVENTS) ≡ true → e / E.EVENTS 
 
 -- how many blocks, and how many procedures, are open after an event
 abbrev pub level : (opening closing op d : ℕ) → ℕ
-level opening closing op d = if eqb op opening then suc d else if eqb op closing then d - 1 else d
+level opening closing op d = whether eqb op opening then suc d else whether eqb op closing then d - 1 else d
 
 abbrev pub blocks_open : (op d : ℕ) → ℕ
 blocks_open op d = level E.BLOCK E.END-BLOCK op d

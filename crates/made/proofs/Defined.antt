@@ -8,7 +8,7 @@ use lib.Dec.{eqb, ltb}
 use lib.ListN.{length, take, get_or, replicate, length-replicate}
 use lib.Seq.{sets}
 use borrow.Author.Tests.{ltb-false}
-use Rattle.base.specs.Choose.{choose, if◌then◌else◌}
+use Rattle.base.specs.Choose.{choose, whether◌then◌else◌}
 use Rattle.base.specs.Lists.{All}
 use Rattle.base.proofs.Lists.{all_map}
 use Rattle.base.proofs.Tests.{cases}

@@ -7,7 +7,7 @@ use native.Mathlib.Decide.{dec_le}
 use lib.Dec.{ltb}
 use lib.ListN.{length, take, length-take}
 use borrow.Author.Tests.{lt-ltb, le-ltb}
-use Rattle.base.specs.Choose.{if◌then◌else◌}
+use Rattle.base.specs.Choose.{whether◌then◌else◌}
 use Rattle.objtext.specs.Object.{object_text}
 use Rattle.translation.specs.Layout.{segment_limit, round_up}
 use Rattle.translation.specs.Translate.{accepted, refused, in_room}

@@ -1,7 +1,7 @@
 -- The object that the passes make of a text along its tape, by what the ledger has of its tokens.
 use Rattle.std.specs.Prelude.{List, ℕ, ◌+◌, ◌*◌, ◌/◌, eqb, ltb, length, take, replicate}
 use Rattle.std.proofs.lemmas.List.Edits.{sets}
-use Rattle.base.specs.Choose.{if◌then◌else◌}
+use Rattle.base.specs.Choose.{whether◌then◌else◌}
 use Rattle.tape.specs.Pass.{pass}
 use Rattle.objtext.specs.Object.{Segment, object_text}
 use Rattle.translation.specs.Layout.{segment_limit, round_up}
@@ -24,7 +24,7 @@ literal_room = segment_limit / 4 + 1
 
 -- "Segment 1 ends with its last literal; with none, with its last cell, or at 16."
 unfoldable pub end_of_first : (cells start literals : ℕ) → ℕ
-end_of_first cells start literals = if eqb literals 0 then cells else start + 4 * literals
+end_of_first cells start literals = whether eqb literals 0 then cells else start + 4 * literals
 
 module _ (w : Wide) (tape : List ℕ) where
   unfoldable pub image_along : ℕ → List ℕ
@@ -51,6 +51,6 @@ coded_along kinds w b ends tape = code_in (start_of ends) kinds w (on_marks (λ 
 unfoldable pub made_along : (kinds : List ℕ) → Wide → Thin → (ends tape : List ℕ) (bases room : ℕ) → Answer
 made_along kinds w b ends tape bases room =
     let l = coded_along kinds w b ends tape in
-    if ltb segment_limit l.at then refused 14 0 else
-    if ltb segment_limit (start_of ends + 4 * length l.literals) then refused 15 0 else
+    whether ltb segment_limit l.at then refused 14 0 else
+    whether ltb segment_limit (start_of ends + 4 * length l.literals) then refused 15 0 else
     in_room room (accepted (object_text (object_along w tape bases ends (start_of ends) (take l.at l.image) l.literals)))

@@ -9,7 +9,7 @@ use native.Mathlib.Omega.{arith}
 use lib.Dec.{eqb}
 use lib.ListN.{get_or, length}
 use lib.Seq.{get_or-set_same}
-use Rattle.base.specs.Choose.{if◌then◌else◌}
+use Rattle.base.specs.Choose.{whether◌then◌else◌}
 use Rattle.token.specs.Kinds as K
 use Rattle.grammar.specs.Tree.{Designator, Operand, number, place, Sign, plain, abs, neg, neg_abs, Condition, compared, bare, Statement, Width, full, short, byte}
 use Rattle.grammar.specs.Derives.{is_register, is_program}
@@ -255,12 +255,12 @@ module _ (kinds values found : List ℕ) where
   target-same (routine r) own s = refl
   target-same (function k) own s = refl
 
-  argument-same : (b : Bool) (m : Meaning) (own : ℕ) (s : Meant) → write_target own (if b then target_of m else 0) (tabled s) ≡ tabled (if b then target_writes m (λ r. r) own s else s)
+  argument-same : (b : Bool) (m : Meaning) (own : ℕ) (s : Meant) → write_target own (whether b then target_of m else 0) (tabled s) ≡ tabled (whether b then target_writes m (λ r. r) own s else s)
   unfolding write_target
   argument-same false m own s = refl
   argument-same true m own s = target-same m own s
 
-  lower-same : (t : Bool) (m : Meaning) (own : ℕ) (s : Meant) → (if t then write_lower own (target_of m) (tabled s) else tabled s) ≡ tabled (if t then target_writes m (λ r. r - 1) own s else s)
+  lower-same : (t : Bool) (m : Meaning) (own : ℕ) (s : Meant) → (whether t then write_lower own (target_of m) (tabled s) else tabled s) ≡ tabled (whether t then target_writes m (λ r. r - 1) own s else s)
   unfolding write_lower target_writes write
   lower-same false m own s = refl
   lower-same true nothing own s = refl
@@ -309,25 +309,25 @@ module _ (kinds values found : List ℕ) where
     -- a term writes the lower register where it is a product
     term_is : (o : ℕ) (a : Operand) → head_of a - 1 ≡ o
         → step (E.TERM + operand_shape a) (head_of a) here
-        ≡ tell p s form target (if eqb (get_or kinds o 0) K.TIMES && long_operand found s.means a then write_lower (own_in p) target (tabled s) else tabled s)
+        ≡ tell p s form target (whether eqb (get_or kinds o 0) K.TIMES && long_operand found s.means a then write_lower (own_in p) target (tabled s) else tabled s)
     unfolding mean_event within_after form_after target_after first_after declared_after written_after form_at write_product is_product_at
     term_is o (number t) e = rw e
     term_is o (place d) e =
         rw (← e)
         (by_shape (λ n. step (E.TERM + n) d.name here
-        ≡ tell p s form target (if eqb (get_or kinds (d.name - 1) 0) K.TIMES && is_long (meaning_of found s.means d.name) then write_lower (own_in p) target (tabled s) else tabled s))
+        ≡ tell p s form target (whether eqb (get_or kinds (d.name - 1) 0) K.TIMES && is_long (meaning_of found s.means d.name) then write_lower (own_in p) target (tabled s) else tabled s))
         refl refl refl refl d.subscript d.index)
 
     -- an argument is written where it is to be
     argument_is : (a : Operand)
         → step (E.ARGUED + operand_shape a) (head_of a) here
-        ≡ tell p s form (if first then target_of (operand_meaning found s.means a) else 0) (write_target (own_in p) (if first then target_of (operand_meaning found s.means a) else 0) (tabled s))
+        ≡ tell p s form (whether first then target_of (operand_meaning found s.means a) else 0) (write_target (own_in p) (whether first then target_of (operand_meaning found s.means a) else 0) (tabled s))
     unfolding mean_event within_after form_after target_after first_after declared_after written_after form_at
     argument_is a = go first a
       where
         go : (first : Bool) (a : Operand)
             → step (E.ARGUED + operand_shape a) (head_of a) (walk p s form target first)
-            ≡ tell p s form (if first then target_of (operand_meaning found s.means a) else 0) (write_target (own_in p) (if first then target_of (operand_meaning found s.means a) else 0) (tabled s))
+            ≡ tell p s form (whether first then target_of (operand_meaning found s.means a) else 0) (write_target (own_in p) (whether first then target_of (operand_meaning found s.means a) else 0) (tabled s))
         go false a = by-operand (λ n. step (E.ARGUED + n) (head_of a) (walk p s form target false) ≡ tell p s form 0 (write_target (own_in p) 0 (tabled s))) refl refl refl refl refl a
         go true (number t) = refl
         go true (place d) =
@@ -397,14 +397,14 @@ module _ (kinds values found : List ℕ) where
   turn-phrase (applied n) p c s form target first g i j h q o = (form, target, is_written (argument_of (meaning_in found s n) 0), refl, refl)
   turn-phrase (argued n z a) p (applying m r) s form target first g i j h q o =
       let x = operand_meaning found s.means a in
-      let y = if first then target_of x else 0 in
+      let y = whether first then target_of x else 0 in
       let e : first ≡ is_written (argument_of (meaning_in found s n) z) = o ∙ ap₂ (λ (k l : ℕ). is_written (argument_of (meaning_in found s k) l)) q.0 q.1 in
       let t = mean_at (phrase (argued n z a)) p s in (
         form,
         y,
         false,
         settle (own_in p) (owners_in p) p s t form y _ g (argument_is p s form target first a ∙ ap (tell p s form y)
-            (argument-same first x (own_in p) s ∙ ap (λ (b : Bool). tabled (if b then target_writes x (λ r. r) (own_in p) s else s)) e)),
+            (argument-same first x (own_in p) s ∙ ap (λ (b : Bool). tabled (whether b then target_writes x (λ r. r) (own_in p) s else s)) e)),
         sym (later-read (meaning_in found t n) z),
       )
   turn-phrase (counted n k) p c s form target first g i j h q o = (form, target, false, refl, tt)

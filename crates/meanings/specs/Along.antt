@@ -1,7 +1,7 @@
 -- Meanings along a tape: what names mean and which registers procedures write, event by event. What a statement writes goes to the innermost open procedure;
 -- cells are under the base in force.
 use Rattle.std.specs.Prelude.{List, [], ◌∷◌, Bool, false, ◌&&◌, ◌||◌, not, ℕ, zero, suc, ◌+◌, ◌-◌, ◌%◌, eqb, get_or}
-use Rattle.base.specs.Choose.{if◌then◌else◌}
+use Rattle.base.specs.Choose.{whether◌then◌else◌}
 use Rattle.token.specs.Kinds as K
 use Rattle.tape.specs.Events as E
 use Rattle.tape.specs.Numbers.{form_at, family_at}
@@ -68,25 +68,25 @@ write_lower own (suc r) s = write own (r - 1) s
 
 unfoldable pub within_after : (found : List ℕ) (op t : ℕ) → List Meaning → ℕ → Within → Within
 within_after found op t means bases w =
-    if eqb op E.BLOCK then enter_block w else
-    if eqb op E.END-BLOCK then leave_block w else
-    if eqb op E.BASE then change_base (register_of (meaning_of found means t)) bases w else
-    if eqb op E.PROCEDURE then enter_procedure t w else
-    if eqb op E.END-PROCEDURE then leave_procedure w else
+    whether eqb op E.BLOCK then enter_block w else
+    whether eqb op E.END-BLOCK then leave_block w else
+    whether eqb op E.BASE then change_base (register_of (meaning_of found means t)) bases w else
+    whether eqb op E.PROCEDURE then enter_procedure t w else
+    whether eqb op E.END-PROCEDURE then leave_procedure w else
     w
 
 -- what the cells that follow are, as a packed meaning: a cell declared without ARRAY is one element
 unfoldable pub form_after : (values : List ℕ) (op t form : ℕ) → ℕ
 form_after values op t form =
-    if eqb (family_at op) E.SINGLE-FULL then packed CELL (form_at op % WIDTHS) 1 else
-    if eqb (family_at op) E.ARRAY-FULL then packed ARRAY (form_at op % WIDTHS) (get_or values t 0) else
+    whether eqb (family_at op) E.SINGLE-FULL then packed CELL (form_at op % WIDTHS) 1 else
+    whether eqb (family_at op) E.ARRAY-FULL then packed ARRAY (form_at op % WIDTHS) (get_or values t 0) else
     form
 
 -- the register of a CASE is a target, as "The case register counts as written", and an argument where it is written; a number is none
 unfoldable pub target_after : (found : List ℕ) (op t : ℕ) → List Meaning → (first : Bool) → ℕ → ℕ
 target_after found op t means first target =
-    if ((eqb (family_at op) E.TARGET || eqb (family_at op) E.CONTROL) || eqb op E.CHOSEN) || ((eqb (family_at op) E.ARGUED && first) && not (eqb (form_at op) E.NUMBER)) then target_of (meaning_of found means t) else
-    if eqb (family_at op) E.ARGUED then 0 else
+    whether ((eqb (family_at op) E.TARGET || eqb (family_at op) E.CONTROL) || eqb op E.CHOSEN) || ((eqb (family_at op) E.ARGUED && first) && not (eqb (form_at op) E.NUMBER)) then target_of (meaning_of found means t) else
+    whether eqb (family_at op) E.ARGUED then 0 else
     target
 
 -- "IC, LA and LTR write the first": the argument that follows is written
@@ -95,11 +95,11 @@ first_after found op t means = eqb op E.APPLIED && is_written (argument_of (mean
 
 unfoldable pub declared_after : (values found : List ℕ) (op t own : ℕ) → Based → ℕ → Meant → Meant
 declared_after values found op t own b form s =
-    if eqb op E.REGISTER then mean t (register (low (get_or values (t + 2) 0))) s else
-    if eqb op E.ITEM then mean t (unpacked t form b) s else
-    if eqb op E.BASE then open_base own (register_of (meaning_in found s t)) t s else
-    if eqb op E.PROCEDURE then mean t (routine (register_of (meaning_in found s (t + 2)))) s else
-    if eqb op E.END-PROCEDURE then write_text own t s else
+    whether eqb op E.REGISTER then mean t (register (low (get_or values (t + 2) 0))) s else
+    whether eqb op E.ITEM then mean t (unpacked t form b) s else
+    whether eqb op E.BASE then open_base own (register_of (meaning_in found s t)) t s else
+    whether eqb op E.PROCEDURE then mean t (routine (register_of (meaning_in found s (t + 2)))) s else
+    whether eqb op E.END-PROCEDURE then write_text own t s else
     s
 
 -- the operator stands before its operand
@@ -107,13 +107,13 @@ unfoldable pub is_product_at : (kinds found : List ℕ) (op t : ℕ) → List Me
 is_product_at kinds found op t means = eqb (get_or kinds (t - 1) 0) K.TIMES && (eqb (form_at op) E.NUMBER || is_long (meaning_of found means t))
 
 unfoldable pub write_product : (kinds found : List ℕ) (op t own target : ℕ) → Meant → Meant
-write_product kinds found op t own target s = if is_product_at kinds found op t s.means then write_lower own target s else s
+write_product kinds found op t own target s = whether is_product_at kinds found op t s.means then write_lower own target s else s
 
 unfoldable pub written_after : (kinds found : List ℕ) (op t own target : ℕ) → Meant → Meant
 written_after kinds found op t own target s =
-    if ((eqb (family_at op) E.TARGET || eqb (family_at op) E.CONTROL) || eqb op E.CHOSEN) || eqb (family_at op) E.ARGUED then write_target own target s else
-    if eqb (family_at op) E.TERM then write_product kinds found op t own target s else
-    if eqb op E.CALL then call_writes (meaning_in found s t) own (get_or found t 0) s else
+    whether ((eqb (family_at op) E.TARGET || eqb (family_at op) E.CONTROL) || eqb op E.CHOSEN) || eqb (family_at op) E.ARGUED then write_target own target s else
+    whether eqb (family_at op) E.TERM then write_product kinds found op t own target s else
+    whether eqb op E.CALL then call_writes (meaning_in found s t) own (get_or found t 0) s else
     s
 
 -- between two events: where the walk is; what the cells that follow are; the register that the target is, of an assignment, of a CASE or as an argument that is written; whether the

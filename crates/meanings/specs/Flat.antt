@@ -1,6 +1,6 @@
 -- The state of the walk as arrays, and what the ledger shows of the tables.
 use Rattle.std.specs.Prelude.{◌≡◌, List, [], map, ℕ, zero, suc, ◌-◌, ◌<◌, ltb, set, length}
-use Rattle.base.specs.Choose.{if◌then◌else◌}
+use Rattle.base.specs.Choose.{whether◌then◌else◌}
 use Rattle.grammar.specs.Grammar.{nesting}
 use Rattle.ledger.specs.Book.{Wide, Thin, on_wide}
 use Rattle.ledger.specs.Bounds.{Nested}
@@ -42,7 +42,7 @@ pub record Roomy (tape : List ℕ) (owners outer : ℕ) : Type 0 where
 
 -- the names around the program, from 0 on: sixteen mean registers, those that follow functions
 unfoldable pub standard_meaning : ℕ → ℕ
-standard_meaning n = if ltb n 16 then packed REGISTER 0 n else packed FUNCTION 0 (n - 16)
+standard_meaning n = whether ltb n 16 then packed REGISTER 0 n else packed FUNCTION 0 (n - 16)
 
 -- tokens 1 to n mean them
 unfoldable pub standard_named : ℕ → List ℕ → List ℕ
@@ -51,7 +51,7 @@ standard_named (suc n) means = set (standard_named n means) (suc n) (standard_me
 
 -- of a packed meaning, the register that it is, and one; 0 where it is none
 unfoldable pub target_in : ℕ → ℕ
-target_in m = if is_register_in m then suc (number_in m) else 0
+target_in m = whether is_register_in m then suc (number_in m) else 0
 
 -- ── what the ledger shows: the tables that this pass makes, beside the lists that it leaves ──
 

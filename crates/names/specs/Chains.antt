@@ -1,14 +1,14 @@
 -- Chains in lists by token. `links`, the ledger's column `opens`, has at a block's BEGIN the newest label of the block, and at a label the one set before it there; `outer`, its column
 -- `written`, has at a block's BEGIN the BEGIN around it, or 0 at the edge of a procedure body. A chain ends at 0, and it falls.
 use Rattle.std.specs.Prelude.{List, [], ◌∷◌, map, ℕ, zero, suc, ltb, get_or}
-use Rattle.base.specs.Choose.{if◌then◌else◌}
+use Rattle.base.specs.Choose.{whether◌then◌else◌}
 use Rattle.ledger.specs.Book.{Thin}
 use Rattle.scopes.specs.declared.Noted.{Noted}
 use Rattle.scopes.specs.Labels.{Labelled}
 
 -- what comes after t in a chain
 unfoldable pub after : List ℕ → ℕ → ℕ
-after a t = if ltb (get_or a t 0) t then get_or a t 0 else 0
+after a t = whether ltb (get_or a t 0) t then get_or a t 0 else 0
 
 -- of so many at most
 unfoldable pub chain_of : List ℕ → ℕ → ℕ → List ℕ

@@ -1,7 +1,7 @@
 -- The open blocks as two flat lists: `scope`, the ledger's column `opens`, has the tokens that declare names, oldest first, and `starts`, its column `written`,
 -- for each open block where it begins there.
 use Rattle.std.specs.Prelude.{◌≡◌, List, [], ◌∷◌, ℕ, zero, suc, ◌+◌, ◌≤◌, ◌<◌, leb, get_or, length}
-use Rattle.base.specs.Choose.{if◌then◌else◌}
+use Rattle.base.specs.Choose.{whether◌then◌else◌}
 use Rattle.scopes.specs.Search.{standard_names, around}
 use Rattle.scopes.specs.Names.{Named}
 use Rattle.ledger.specs.Book.{Thin, thin_limit}
@@ -11,7 +11,7 @@ use Rattle.scopes.specs.declared.Noted.{Noted}
 -- the entries from lo up to hi, the newest first
 unfoldable pub span : List ℕ → ℕ → ℕ → List ℕ
 span scope lo zero = []
-span scope lo (suc hi) = if leb lo hi then get_or scope hi 0 ∷ span scope lo hi else []
+span scope lo (suc hi) = whether leb lo hi then get_or scope hi 0 ∷ span scope lo hi else []
 
 -- so many blocks, the innermost first, whose entries end at hi
 unfoldable pub blocks_of : List ℕ → List ℕ → ℕ → ℕ → List (List ℕ)

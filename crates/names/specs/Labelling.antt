@@ -1,6 +1,6 @@
 -- The second loop along the tape: labels are judged as they are set, and each GOTO is bound.
 use Rattle.std.specs.Prelude.{◌≡◌, List, ℕ, eqb, get_or}
-use Rattle.base.specs.Choose.{if◌then◌else◌}
+use Rattle.base.specs.Choose.{whether◌then◌else◌}
 use Rattle.tape.specs.Events as E
 use Rattle.tape.specs.Pass.{pass}
 use Rattle.ledger.specs.Book.{Thin}
@@ -17,8 +17,8 @@ pub record Labelling : Type 0 where
 module _ (keys links outer : List ℕ) where
   unfoldable pub label_at : ℕ → ℕ → ℕ → Labelled → Labelled
   label_at op t block s =
-      if eqb op E.LABEL then set_label keys t (chain links (after links t)) s else
-      if eqb op E.GOTO then note_label t (find keys (get_or keys t 0) (blocks_in links outer block)) s else
+      whether eqb op E.LABEL then set_label keys t (chain links (after links t)) s else
+      whether eqb op E.GOTO then note_label t (find keys (get_or keys t 0) (blocks_in links outer block)) s else
       s
 
   unfoldable pub label_op : ℕ → ℕ → Labelling → Labelling

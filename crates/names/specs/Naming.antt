@@ -1,6 +1,6 @@
 -- Naming along a tape: which declaration each name means, event by event.
 use Rattle.std.specs.Prelude.{List, [], ◌∷◌, ℕ, ◌+◌, ◌-◌, eqb, ltb}
-use Rattle.base.specs.Choose.{if◌then◌else◌}
+use Rattle.base.specs.Choose.{whether◌then◌else◌}
 use Rattle.tape.specs.Events as E
 use Rattle.tape.specs.Numbers.{family_at}
 use Rattle.tape.specs.Names.{declaring, shape_at, index_after}
@@ -21,28 +21,28 @@ outer (b ∷ bs) = bs
 
 unfoldable pub blocks_after : ℕ → ℕ → List (List ℕ) → List (List ℕ)
 blocks_after op t bs =
-    if eqb op E.BLOCK then [] ∷ bs else
-    if eqb op E.END-BLOCK then outer bs else
-    if declaring op then enter t bs else
+    whether eqb op E.BLOCK then [] ∷ bs else
+    whether eqb op E.END-BLOCK then outer bs else
+    whether declaring op then enter t bs else
     bs
 
 -- ── uses ──
 
 module _ (keys : List ℕ) where
   unfoldable pub declare_at : ℕ → ℕ → List (List ℕ) → Named → Named
-  declare_at op t bs s = if declaring op then declare_name keys t bs s else s
+  declare_at op t bs s = whether declaring op then declare_name keys t bs s else s
 
   -- the register that stands before or behind an event's token: a procedure's return register, or what a condition compares
   unfoldable pub use_register : ℕ → ℕ → List (List ℕ) → Named → Named
   use_register op t bs s =
-      if eqb op E.PROCEDURE then use_name keys (t + 2) bs s else
-      if eqb (family_at op) E.COMPARED then use_name keys (t - 2) bs s else
+      whether eqb op E.PROCEDURE then use_name keys (t + 2) bs s else
+      whether eqb (family_at op) E.COMPARED then use_name keys (t - 2) bs s else
       s
 
   unfoldable pub use_place : ℕ → ℕ → List (List ℕ) → Named → Named
   use_place shape t bs s =
-      if ltb E.SUBSCRIPTED-INDEXED shape then s else
-      if ltb shape E.INDEXED then use_name keys t bs s else
+      whether ltb E.SUBSCRIPTED-INDEXED shape then s else
+      whether ltb shape E.INDEXED then use_name keys t bs s else
       use_name keys (t + index_after shape) bs (use_name keys t bs s)
 
   unfoldable pub use_at : ℕ → ℕ → List (List ℕ) → Named → Named

@@ -8,7 +8,7 @@ use native.Mathlib.Omega.{arith}
 use borrow.Author.Tests.{eqb-true}
 use lib.Dec.{T, eqb}
 use lib.ListN.{get_or, length}
-use Rattle.base.specs.Choose.{if◌then◌else◌}
+use Rattle.base.specs.Choose.{whether◌then◌else◌}
 use Rattle.base.specs.Lists.{member}
 use Rattle.base.specs.Tables.{all_below}
 use Rattle.base.proofs.Tables.{all-below}
@@ -38,16 +38,16 @@ is-token l {k = zero} h e f g = absurd (true≢false (sym f ∙ e ∙ g))
 is-token l {k = suc k} h e f g = omega arith
 
 -- two tests that agree on every byte
-pub same_test : (f g : ℕ → Bool) → T (all_below 256 (λ k. if f k then g k else not (g k))) → (k : ℕ) → k < 256 → f k ≡ g k
-same_test f g t k h = go (f k) (g k) (all-below 256 (λ k. if f k then g k else not (g k)) t k h)
+pub same_test : (f g : ℕ → Bool) → T (all_below 256 (λ k. whether f k then g k else not (g k))) → (k : ℕ) → k < 256 → f k ≡ g k
+same_test f g t k h = go (f k) (g k) (all-below 256 (λ k. whether f k then g k else not (g k)) t k h)
   where
-    go : (a b : Bool) → T (if a then b else not b) → a ≡ b
+    go : (a b : Bool) → T (whether a then b else not b) → a ≡ b
     go true true t = refl
     go true false t = absurd t
     go false true t = absurd t
     go false false t = refl
 
-pub either : {A : Type 0} (t : Bool) (a : A) → (if t then a else a) ≡ a
+pub either : {A : Type 0} (t : Bool) (a : A) → (whether t then a else a) ≡ a
 either true a = refl
 either false a = refl
 

@@ -11,7 +11,7 @@ use lib.Dec.{T, eqb, leb, leb→le}
 use lib.ListN.{get_or, length, take, set, length-take, length-append, get_or-eq_default}
 use lib.Seq.{take-suc-set, take-set-lt, set-append_left, length-take-le}
 use Rattle.base.proofs.Tests.{and_left, and_right}
-use Rattle.base.specs.Choose.{if◌then◌else◌}
+use Rattle.base.specs.Choose.{whether◌then◌else◌}
 use Rattle.grammar.specs.Reader.{Result, ok, bad, and_then, want}
 use Rattle.readers.specs.declared.tokens.Answer.{Answer}
 use Rattle.tape.specs.Events as E
@@ -110,7 +110,7 @@ pub takes : {B : Type 0} {Q : B → ℕ → Type 0} {ks : List ℕ} {i : ℕ} {r
 unfolding want and_then
 takes {Q} {ks} {i} {r} {s} k f h e d = go (eqb (get_or ks i 0) k) h.read.tells
   where
-    go : (t : Bool) → Tells (λ t v. t ≡ i) r (if t then ok i (i + 1) else bad 4 i) → Reads Q ks i s (and_then (if t then ok i (i + 1) else bad 4 i) f)
+    go : (t : Bool) → Tells (λ t v. t ≡ i) r (whether t then ok i (i + 1) else bad 4 i) → Reads Q ks i s (and_then (whether t then ok i (i + 1) else bad 4 i) f)
     go true x = d
     go false x = absurd (let g = x.0 in omega arith)
 

@@ -7,7 +7,7 @@ use Prim.Native.Nat.{ℕ, ◌+◌, ◌-◌, ◌%◌}
 use lib.Dec.{eqb, leb}
 use lib.ListN.{get_or}
 use borrow.Author.Tests.{ne_eqb}
-use Rattle.base.specs.Choose.{if◌then◌else◌}
+use Rattle.base.specs.Choose.{whether◌then◌else◌}
 use Rattle.base.specs.Lists.{member}
 use Rattle.base.proofs.Tests.{never_true}
 use Rattle.token.specs.Kinds as K
@@ -161,7 +161,7 @@ module _ {f : Tables} {w : Wide} {l : Thin} (s : Listed f w l) (t m : ℕ) (e : 
   unfolding operand_at
   long-is-at shape l h = go (eqb shape 4)
     where
-      go : (x : Bool) → long_operand f.found f.means (if x then number t else place (designator_at shape t)) ≡ (x || l)
+      go : (x : Bool) → long_operand f.found f.means (whether x then number t else place (designator_at shape t)) ≡ (x || l)
       go true = refl
       go false = ap is_long (meant-at s t m e) ∙ (long-is _ _ _ ∙ sym h)
 

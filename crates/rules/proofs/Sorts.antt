@@ -9,7 +9,7 @@ use native.Mathlib.Nat.{mul-le-mul_right, div-add-mod'}
 use lib.Dec.{eqb, leb, ltb}
 use lib.ListN.{get_or}
 use borrow.Author.Tests.{eqb-true, eq-eqb, ne_eqb, le-leb, lt-leb, leb-true, leb-false, ltb-true, ltb-false, lt-ltb, le-ltb}
-use Rattle.base.specs.Choose.{if◌then◌else◌}
+use Rattle.base.specs.Choose.{whether◌then◌else◌}
 use Rattle.base.specs.Lists.{member}
 use Rattle.base.proofs.Tests.{cases}
 use Rattle.base.proofs.Numbers.{one_less}
@@ -61,7 +61,7 @@ pub bare-is : (shape t : ℕ) → not (eqb shape 1 || (eqb shape 2 || eqb shape 
 unfolding subscript_at index_at
 bare-is shape t = go (eqb shape 1) (eqb shape 2) (eqb shape 3)
   where
-    go : (a b c : Bool) → not (a || (b || c)) ≡ is_bare (if a || c then some (t + 2) else none) (if b then some (t + 2) else if c then some (t + 5) else none)
+    go : (a b c : Bool) → not (a || (b || c)) ≡ is_bare (whether a || c then some (t + 2) else none) (whether b then some (t + 2) else whether c then some (t + 5) else none)
     go true true true = refl
     go true true false = refl
     go true false true = refl

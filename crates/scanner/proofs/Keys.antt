@@ -12,7 +12,7 @@ use lib.Dec.{T, leb, ltb, eqb, eqb→eq, ltb→lt, leb→le, lit<}
 use lib.ListN.{length, take, get_or, length-take}
 use lib.Seq.{take_all, get_or-take}
 use borrow.Author.Tests.{eq-eqb, ne_eqb, leb-true, leb-false, lt-leb, ltb-true}
-use Rattle.base.specs.Choose.{if◌then◌else◌}
+use Rattle.base.specs.Choose.{whether◌then◌else◌}
 use Rattle.base.specs.Text.{bytes, same_bytes}
 use Rattle.base.specs.Lists.{All}
 use Rattle.base.specs.Runs.{run_len}
@@ -38,7 +38,7 @@ pub record IsName (t : List ℕ) : Type 0 where
 
 -- a byte of a name is told by its digit: a test of each byte up to `Z`
 char_of : ℕ → ℕ
-char_of d = if ltb d 10 then d + 48 else d + 55
+char_of d = whether ltb d 10 then d + 48 else d + 55
 
 up-to-Z : (b : ℕ) → in_name b ≡ true → b < 91
 up-to-Z b e =

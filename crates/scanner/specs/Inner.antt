@@ -2,7 +2,7 @@
 use Rattle.std.specs.Prelude.{ℕ, ◌+◌, ◌*◌, ◌≤◌, ◌^◌, min, ◌≡◌, Bool, true, false, not, List, [], ◌∷◌, eqb, ltb, length, take, get_or}
 use Prim.Native.Char.{code}
 use Prim.Native.String.{String}
-use Rattle.base.specs.Choose.{if◌then◌else◌}
+use Rattle.base.specs.Choose.{whether◌then◌else◌}
 use Rattle.base.specs.Text.{bytes}
 use Rattle.base.specs.Runs.{run_len}
 use Rattle.base.specs.Numbers.{number_from}
@@ -42,7 +42,7 @@ pub record Named (s : List ℕ) (d : Spelled) : Type 0 where
 
 -- "the first 10 characters count": a name's key with one character more, behind i others
 abbrev pub longer_by : (key i digit : ℕ) → ℕ
-longer_by key i d = if ltb i 10 then key * 36 + d else key
+longer_by key i d = whether ltb i 10 then key * 36 + d else key
 
 -- the kind of the word with this key, or of a name
 unfoldable pub key_kind : List (ℕ × String) → ℕ → ℕ
@@ -60,4 +60,4 @@ bits_of false v = plain v
 
 -- a sign of two bytes where the second follows, or else what is given
 abbrev pub two_or : List ℕ → ℕ → ℕ → Lexeme → Lexeme
-two_or s second two other = if ltb (length s) 2 then other else if eqb (get_or s 1 0) second then Token two 0 2 else other
+two_or s second two other = whether ltb (length s) 2 then other else whether eqb (get_or s 1 0) second then Token two 0 2 else other

@@ -6,7 +6,7 @@ use mathlib.Core.Bool.{Bool, true, false}
 use Prim.Native.Nat.{ℕ}
 use lib.Dec.{eqb}
 use lib.ListN.{get_or}
-use Rattle.base.specs.Choose.{if◌then◌else◌}
+use Rattle.base.specs.Choose.{whether◌then◌else◌}
 use Rattle.base.specs.Lists.{◌∈◌}
 use Rattle.grammar.specs.Events.{Route, labelled, sent, Phrase, aimed, driven, signed, given, joined, tested, limited, called, applied, argued, counted, chosen, Event, edge, route, entry, phrase, mark}
 use Rattle.grammar.specs.Places.{Place, Along}
@@ -59,7 +59,7 @@ module _ (keys : List ℕ) where
   in-block key (d ∷ ds) further = go (eqb (get_or keys d 0) key) (in-block key ds further)
     where
       go : (e : Bool) → (in_block keys key ds further ∈ ds) ⊎ (in_block keys key ds further ≡ further)
-          → ((if e then d else in_block keys key ds further) ∈ (d ∷ ds)) ⊎ ((if e then d else in_block keys key ds further) ≡ further)
+          → ((whether e then d else in_block keys key ds further) ∈ (d ∷ ds)) ⊎ ((whether e then d else in_block keys key ds further) ≡ further)
       go true h = inl (inl refl)
       go false (inl h) = inl (inr h)
       go false (inr h) = inr h

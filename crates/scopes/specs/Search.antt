@@ -1,7 +1,7 @@
 -- Document 01, "Names, cells, protected registers": the search for a name. Names are known by their keys; a block is the list of the tokens that declare its
 -- names, the newest first; blocks stand innermost first.
 use Rattle.std.specs.Prelude.{List, [], ◌∷◌, ◌++◌, map, ℕ, eqb, get_or}
-use Rattle.base.specs.Choose.{if◌then◌else◌}
+use Rattle.base.specs.Choose.{whether◌then◌else◌}
 use Rattle.base.specs.Text.{bytes}
 use Rattle.spots.specs.Spots.{unplaced}
 use Rattle.token.specs.Kinds as K
@@ -46,7 +46,7 @@ module _ (keys : List ℕ) where
   -- the token that declares the name with this key in a block; where none does, what is found further out
   unfoldable pub in_block : ℕ → List ℕ → ℕ → ℕ
   in_block key [] further = further
-  in_block key (d ∷ ds) further = if eqb (get_or keys d 0) key then d else in_block key ds further
+  in_block key (d ∷ ds) further = whether eqb (get_or keys d 0) key then d else in_block key ds further
 
   -- "the search goes outward from the innermost block and ends at the first match"; 0 where there is none
   unfoldable pub find : ℕ → List (List ℕ) → ℕ

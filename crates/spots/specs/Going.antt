@@ -1,6 +1,6 @@
 -- How the code goes from one place of a text to another. Nobody has to believe it: proofs/Theorems ties it to the bytes.
 use Rattle.std.specs.Prelude.{ℕ, ◌+◌, ◌-◌, ◌≤◌, eqb}
-use Rattle.base.specs.Choose.{if◌then◌else◌}
+use Rattle.base.specs.Choose.{whether◌then◌else◌}
 use Rattle.spots.specs.Spots.{spot}
 use Rattle.spots.specs.declared.Spot.{Spot}
 
@@ -15,7 +15,7 @@ pub record Near (a : Spot) : Type 0 where
 -- b is counted from a
 abbrev pub onward : Spot → Spot → Spot
 onward a b =
-    if eqb b.line 1 then spot (a.place + b.place) a.line (a.column + b.column - 1) else
+    whether eqb b.line 1 then spot (a.place + b.place) a.line (a.column + b.column - 1) else
     spot (a.place + b.place) (a.line + b.line - 1) b.column
 
 -- n bytes on, none of which ends a line

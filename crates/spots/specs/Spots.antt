@@ -1,6 +1,6 @@
 -- Document 02, 2/13: where a byte of a text stands. "Each token carries its line and column, both from 1, the column restarting after byte 10."
 use Rattle.std.specs.Prelude.{ℕ, ◌+◌, ◌≡◌, false, List, [], ◌∷◌, eqb, take}
-use Rattle.base.specs.Choose.{if◌then◌else◌}
+use Rattle.base.specs.Choose.{whether◌then◌else◌}
 use Rattle.base.specs.Lists.{All}
 use Rattle.base.specs.Walk.{fold}
 use Rattle.spots.specs.declared.Spot.{Spot}
@@ -11,10 +11,10 @@ spot place line column = record { place = place; line = line; column = column }
 
 -- behind one byte more, "the column restarting after byte 10"
 abbrev pub next_line : ℕ → ℕ → ℕ
-next_line line b = if eqb b 10 then line + 1 else line
+next_line line b = whether eqb b 10 then line + 1 else line
 
 abbrev pub next_column : ℕ → ℕ → ℕ
-next_column column b = if eqb b 10 then 1 else column + 1
+next_column column b = whether eqb b 10 then 1 else column + 1
 
 -- behind some bytes
 abbrev pub line_from : ℕ → List ℕ → ℕ
@@ -39,7 +39,7 @@ unplaced place = spot place 0 0
 
 unfoldable pub newlines : List ℕ → ℕ
 newlines [] = 0
-newlines (b ∷ s) = (if eqb b 10 then 1 else 0) + newlines s
+newlines (b ∷ s) = (whether eqb b 10 then 1 else 0) + newlines s
 
 -- bytes that end no line
 abbrev pub NoNewline : List ℕ → Type 0

@@ -8,7 +8,7 @@ use native.Mathlib.Omega.{arith}
 use borrow.Author.Tests.{ne_eqb, eqb-true}
 use lib.Dec.{eqb}
 use lib.ListN.{get_or, length, take, set}
-use Rattle.base.specs.Choose.{if◌then◌else◌}
+use Rattle.base.specs.Choose.{whether◌then◌else◌}
 use Rattle.base.specs.Lists.{member}
 use Rattle.base.proofs.Tests.{cases, both}
 use Rattle.token.specs.Kinds as K
@@ -37,7 +37,7 @@ its-number : {B : Type 0} (k : ℕ) (ks : List ℕ) (i : ℕ) (f : ℕ → ℕ �
 unfolding want and_then
 its-number k ks i f = go (eqb (get_or ks i 0) k)
   where
-    go : (t : Bool) → and_then (if t then ok i (i + 1) else bad 4 i) f ≡ and_then (if t then ok i (i + 1) else bad 4 i) (λ _ j. f i j)
+    go : (t : Bool) → and_then (whether t then ok i (i + 1) else bad 4 i) f ≡ and_then (whether t then ok i (i + 1) else bad 4 i) (λ _ j. f i j)
     go true = refl
     go false = refl
 

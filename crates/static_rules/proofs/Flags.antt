@@ -8,7 +8,7 @@ use native.Mathlib.Omega.{arith}
 use lib.Dec.{eqb}
 use lib.ListN.{length, get_or}
 use borrow.Author.Tests.{eqb-true, eq-eqb}
-use Rattle.base.specs.Choose.{if◌then◌else◌}
+use Rattle.base.specs.Choose.{whether◌then◌else◌}
 use Rattle.base.specs.Lists.{◌∈◌}
 use Rattle.base.proofs.Tests.{never_true, is_true}
 use Rattle.base.proofs.Tables.{all-below}
@@ -18,7 +18,7 @@ pub length-flags : (f : ℕ → Bool) → length (flags f) ≡ 16
 unfolding flags
 length-flags f = refl
 
-flag_is : (b : Bool) → eqb (if b then 1 else 0) 1 ≡ b
+flag_is : (b : Bool) → eqb (whether b then 1 else 0) 1 ≡ b
 flag_is true = refl
 flag_is false = refl
 
@@ -30,7 +30,7 @@ map_at g (x ∷ l) (suc r) h = map_at g l r (omega arith)
 pub has-flags : (f : ℕ → Bool) (r : ℕ) → r < 16 → has (flags f) r ≡ f r
 unfolding flags has
 has-flags f r h =
-    ap (λ (x : ℕ). eqb x 1) (map_at (λ (x : ℕ). if f x then 1 else 0) sixteen r h)
+    ap (λ (x : ℕ). eqb x 1) (map_at (λ (x : ℕ). whether f x then 1 else 0) sixteen r h)
     ∙ (flag_is (f (get_or sixteen r 0)) ∙ ap f (eqb-true (get_or sixteen r 0) r (is_true _ (all-below 16 (λ k. eqb (get_or sixteen k 0) k) tt r h))))
 
 pub has-none : (r : ℕ) → r < 16 → has no_registers r ≡ false

@@ -6,7 +6,7 @@ use mathlib.Core.Bool.{Bool, true, false}
 use mathlib.Core.Option.{Option}
 use Prim.Native.Nat.{ℕ}
 use lib.ListN.{length, length-set, get_or}
-use Rattle.base.specs.Choose.{if◌then◌else◌}
+use Rattle.base.specs.Choose.{whether◌then◌else◌}
 use Rattle.grammar.specs.Tree.{Register, Item, Width}
 use Rattle.grammar.specs.Events.{opened, closed, entered, left, named, celled, itemed, valued, based, Phrase, aimed, driven, signed, given, joined, tested, limited, called, applied, argued, counted, chosen, Event, edge, route, entry, phrase, mark}
 use Rattle.grammar.specs.Places.{Place, outward}
@@ -62,7 +62,7 @@ target-alike (cell c) g own s = alike s
 target-alike (routine r) g own s = alike s
 target-alike (function k) g own s = alike s
 
-writes-alike : (b : Bool) (m : Meaning) (g : ℕ → ℕ) (own : ℕ) (s : Meant) → Alike s (if b then target_writes m g own s else s)
+writes-alike : (b : Bool) (m : Meaning) (g : ℕ → ℕ) (own : ℕ) (s : Meant) → Alike s (whether b then target_writes m g own s else s)
 writes-alike true m g own s = target-alike m g own s
 writes-alike false m g own s = alike s
 

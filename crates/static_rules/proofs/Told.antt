@@ -9,7 +9,7 @@ use native.Mathlib.Decide.{ℕ_discrete}
 use lib.Dec.{eqb}
 use lib.ListN.{length, get_or, set, length-set}
 use lib.Seq.{get_or-set_same, get_or-set_other}
-use Rattle.base.specs.Choose.{if◌then◌else◌}
+use Rattle.base.specs.Choose.{whether◌then◌else◌}
 use Rattle.base.specs.Lists.{All}
 use Rattle.base.proofs.Tests.{never_true}
 use Rattle.grammar.specs.Tree.{Designator, Operand, number, place, Term}
@@ -78,7 +78,7 @@ call-grows (cell c) own n s u x h k = k
 call-grows (function i) own n s u x h k = k
 call-grows (routine r) own n s u x h k = text-grows own n (write own r s) u x h (write-grows own r s u x h k)
 
-writes-grows : (b : Bool) (m : Meaning) (g : ℕ → ℕ) (own : ℕ) (s : Meant) → Grows s (if b then target_writes m g own s else s)
+writes-grows : (b : Bool) (m : Meaning) (g : ℕ → ℕ) (own : ℕ) (s : Meant) → Grows s (whether b then target_writes m g own s else s)
 writes-grows true m g own s = target-grows m g own s
 writes-grows false m g own s = λ u x h k. k
 
@@ -250,7 +250,7 @@ module _ (kinds values found : List ℕ) where
       let t = grow_written own (add_register r) s in
       elsewhere own u (union (get_or t.written d no_registers)) t n ∙ elsewhere own u (add_register r) s n
 
-  writes-same : (b : Bool) (m : Meaning) (g : ℕ → ℕ) (own u : ℕ) (s : Meant) → (u ≡ own → ⊥) → Same s (if b then target_writes m g own s else s) u
+  writes-same : (b : Bool) (m : Meaning) (g : ℕ → ℕ) (own u : ℕ) (s : Meant) → (u ≡ own → ⊥) → Same s (whether b then target_writes m g own s else s) u
   writes-same true m g own u s n = target-same m g own u s n
   writes-same false m g own u s n = refl
 
@@ -434,7 +434,7 @@ module _ (kinds values found : List ℕ) where
     target-has m g own r s e l h = subst (λ (k : Meaning). WrittenBy (target_writes k g own s) own (g r)) (sym e) (write-has own (g r) s l h)
 
     writes-has : (b : Bool) (m : Meaning) (g : ℕ → ℕ) (own r : ℕ) (s : Meant) → b ≡ true → m ≡ register r → own < length s.written → g r < 16
-        → WrittenBy (if b then target_writes m g own s else s) own (g r)
+        → WrittenBy (whether b then target_writes m g own s else s) own (g r)
     writes-has true m g own r s t e l h = target-has m g own r s e l h
     writes-has false m g own r s t e l h = never_true t
 

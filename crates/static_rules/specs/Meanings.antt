@@ -2,7 +2,7 @@
 -- each event of the text, where it stands, in the order of the text; the rules are judged afterwards, by these tables.
 use Rattle.std.specs.Prelude.{List, [], ◌∷◌, ◌++◌, map, Bool, true, false, ℕ, suc, ◌+◌, ◌-◌, get_or, set, replicate}
 use Rattle.std.proofs.Math.Option.{Option, none, some}
-use Rattle.base.specs.Choose.{if◌then◌else◌}
+use Rattle.base.specs.Choose.{whether◌then◌else◌}
 use Rattle.scopes.specs.Search.{first_token}
 use Rattle.grammar.specs.Tree.{Item, Width, Statement}
 use Rattle.grammar.specs.Events.{Edge, opened, closed, entered, left, Entry, named, celled, itemed, valued, based, Phrase, aimed, driven, signed, given, joined, tested, limited, called, applied, argued, counted, chosen, Event, edge, route, entry, phrase, mark, events_of}
@@ -120,12 +120,12 @@ module _ (kinds values found : List ℕ) where
   mean_phrase (driven d) p s = target_writes (meaning_in found s d.name) (λ r. r) (own_in p) s
   mean_phrase (signed d g) p s = s
   mean_phrase (given d a) p s = s
-  mean_phrase (joined d t) p s = if is_product kinds found s.means t then target_writes (meaning_in found s d.name) (λ r. r - 1) (own_in p) s else s
+  mean_phrase (joined d t) p s = whether is_product kinds found s.means t then target_writes (meaning_in found s d.name) (λ r. r - 1) (own_in p) s else s
   mean_phrase (tested t c) p s = s
   mean_phrase (limited d v a) p s = s
   mean_phrase (called n) p s = call_writes (meaning_in found s n) (own_in p) (get_or found n 0) s
   mean_phrase (applied n) p s = s
-  mean_phrase (argued n q a) p s = if is_written (argument_of (meaning_in found s n) q) then target_writes (operand_meaning found s.means a) (λ r. r) (own_in p) s else s
+  mean_phrase (argued n q a) p s = whether is_written (argument_of (meaning_in found s n) q) then target_writes (operand_meaning found s.means a) (λ r. r) (own_in p) s else s
   mean_phrase (counted n k) p s = s
   mean_phrase (chosen n) p s = target_writes (meaning_in found s n) (λ r. r) (own_in p) s
 

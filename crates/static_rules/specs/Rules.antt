@@ -2,7 +2,7 @@
 -- declaration. A name that was not found fits nowhere: 6 at the same place is the smaller number.
 use Rattle.std.specs.Prelude.{List, [], ◌∷◌, Bool, true, false, ◌&&◌, ◌||◌, not, ℕ, zero, suc, ◌+◌, ◌*◌, ◌-◌, ◌%◌, eqb, leb, get_or}
 use Rattle.std.proofs.Math.Option.{Option, none, some}
-use Rattle.base.specs.Choose.{if◌then◌else◌}
+use Rattle.base.specs.Choose.{whether◌then◌else◌}
 use Rattle.base.specs.Lists.{member}
 use Rattle.token.specs.Kinds as K
 use Rattle.grammar.specs.Tree.{Designator, Operand, number, place, Sign, plain, abs, neg, neg_abs, Term, Condition, compared, bare, Width, full, short, byte}
@@ -94,7 +94,7 @@ count_by (function k) n count = rule (eqb count (arity (function_at k))) 8 n
 -- "A value for a short cell has signed value -32768 to 65535"; of byte cells "initial values 0 to 255"
 abbrev pub fits_width : Width → ℕ → Bool
 fits_width full v = true
-fits_width short v = if negative v then leb (4294967296 - 32768) v else leb v 65535
+fits_width short v = whether negative v then leb (4294967296 - 32768) v else leb v 65535
 fits_width (byte c) v = in_range 0 255 v
 
 -- "11: … array count not 1 to 2,048"
@@ -164,15 +164,15 @@ module _ (f : Tables) where
   -- "`*` by a number, or by what begins with the name of a register or integer cell, needs an odd target and also writes the register below."
   unfoldable pub product_rules : List ℕ → ℕ → Term → Broken
   product_rules kept r t =
-      if long_operand f.found f.means t.operand then rule (eqb (r % 2) 1) 9 t.operator ⊕ write_rule kept (r - 1) t.operator else unbroken
+      whether long_operand f.found f.means t.operand then rule (eqb (r % 2) 1) 9 t.operator ⊕ write_rule kept (r - 1) t.operator else unbroken
 
   -- a term in the chain of the target register r
   unfoldable pub term_rules : List ℕ → ℕ → Term → Broken
   term_rules kept r t =
       let k = kind_at f t.operator in
-      if member k shifts then shift_rules t.operand else
-      if eqb k K.TIMES then product_rules kept r t ⊕ operand_rules t.operand else
-      if member k full_only then operand_rules t.operand ⊕ no_short t.operand else
+      whether member k shifts then shift_rules t.operand else
+      whether eqb k K.TIMES then product_rules kept r t ⊕ operand_rules t.operand else
+      whether member k full_only then operand_rules t.operand ⊕ no_short t.operand else
       operand_rules t.operand
 
   -- ── assignments: each part by what the target means ──

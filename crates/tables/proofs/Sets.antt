@@ -9,7 +9,7 @@ use lib.Bits.{bit_or, or_step}
 use lib.Pow.{shr-shr, shl_exact}
 use lib.ListN.{get_or, set, get_or-eq_default}
 use borrow.Author.Tests.{ne_eqb}
-use Rattle.base.specs.Choose.{if◌then◌else◌}
+use Rattle.base.specs.Choose.{whether◌then◌else◌}
 use Rattle.base.specs.Lists.{All}
 use Rattle.base.specs.Tables.{all_below}
 use Rattle.base.proofs.Tables.{all-below}
@@ -57,7 +57,7 @@ unfolding flags
 flags-same f g h = go sixteen (omega arith)
   where
     flag : Bool → ℕ
-    flag x = if x then 1 else 0
+    flag x = whether x then 1 else 0
 
     go : (l : List ℕ) → All (λ r. r < 16) l → map (λ (r : ℕ). flag (f r)) l ≡ map (λ (r : ℕ). flag (g r)) l
     go [] a = refl
@@ -76,7 +76,7 @@ unfolding set_of union
 set-union a b = flags-same _ _ (λ r h. or-bit a b r ∙ sym (ap₂ (λ (x y : Bool). x || y) (has-flags (λ x. has_bit a x) r h) (has-flags (λ x. has_bit b x) r h)))
 
 agree : Bool → Bool → Bool
-agree a b = if a then b else not b
+agree a b = whether a then b else not b
 
 agreed : (a b : Bool) → T (agree a b) → a ≡ b
 unfolding agree

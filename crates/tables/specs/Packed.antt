@@ -1,7 +1,7 @@
 -- What a name means, in one number: from the low end its sort, with room for more sorts than there are; the width of a cell's elements; a number of 32 bits. Sets of registers,
 -- in one number: a bit a register.
 use Rattle.std.specs.Prelude.{List, [], ◌∷◌, map, Bool, ◌&&◌, ◌||◌, ℕ, suc, ◌+◌, ◌*◌, ◌/◌, ◌%◌, ◌^◌, eqb, leb, get_or, set}
-use Rattle.base.specs.Choose.{if◌then◌else◌}
+use Rattle.base.specs.Choose.{whether◌then◌else◌}
 use Rattle.grammar.specs.Tree.{Width, full, short, byte}
 use Rattle.static_rules.specs.Registers.{Registers, flags, no_registers}
 use Rattle.static_rules.specs.Meaning.{Meaning, nothing, register, cell, routine, function, Based, Cell}
@@ -74,7 +74,7 @@ is_byte_in m = leb 2 (width_number_in m)
 
 -- the width by its number
 abbrev pub width_by : ℕ → Width
-width_by w = if eqb w 0 then full else if eqb w 1 then short else byte (eqb w 3)
+width_by w = whether eqb w 0 then full else whether eqb w 1 then short else byte (eqb w 3)
 
 abbrev pub width_in : ℕ → Width
 width_in m = width_by (width_number_in m)
@@ -89,10 +89,10 @@ cell_in t m b = record { name = t; base = b; width = width_in m; elements = numb
 -- what the name at token t means, with the base that was in force
 unfoldable pub unpacked : (name packed : ℕ) → Based → Meaning
 unpacked t m b =
-    if is_register_in m then register (number_in m) else
-    if is_routine_in m then routine (number_in m) else
-    if is_cell_in m then cell (cell_in t m b) else
-    if is_function_in m then function (number_in m) else
+    whether is_register_in m then register (number_in m) else
+    whether is_routine_in m then routine (number_in m) else
+    whether is_cell_in m then cell (cell_in t m b) else
+    whether is_function_in m then function (number_in m) else
     nothing
 
 -- by token, from token t on
@@ -105,7 +105,7 @@ meanings_of means bases = meanings_from 0 means bases
 
 -- the register that a packed meaning is; 0 where it is none
 unfoldable pub register_in : ℕ → ℕ
-register_in m = if is_register_in m then number_in m else 0
+register_in m = whether is_register_in m then number_in m else 0
 
 -- "`*` … by what begins with the name of a register or integer cell"
 unfoldable pub long_in : ℕ → Bool

@@ -1,7 +1,7 @@
 -- The numbers and values of the paper for each case of the enums that the token reader answers with, and what is laid into lent storage.
 use Rattle.std.specs.Prelude.{ℕ, ◌+◌, min, ◌≡◌, not, List, map, eqb, leb, ltb, length}
 use Rattle.std.proofs.lemmas.List.Edits.{sets}
-use Rattle.base.specs.Choose.{if◌then◌else◌}
+use Rattle.base.specs.Choose.{whether◌then◌else◌}
 use Rattle.spots.specs.declared.Spot.{Spot}
 use Rattle.spots.specs.Spots.{unplaced}
 use Rattle.token.specs.Text.{Outcome, read, refused, Reading, refused_at, read_from, tokens_of, TEXT-LIMIT}
@@ -36,7 +36,7 @@ summary_of (S.Room needed) = summary 16 (unplaced needed) 0
 
 -- a refusal counts no token
 abbrev pub summed : Reading → Summary
-summed r = summary r.number r.spot (if eqb r.number 0 then length r.tokens else 0)
+summed r = summary r.number r.spot (whether eqb r.number 0 then length r.tokens else 0)
 
 -- ── what is laid into lent lists ──
 
@@ -104,12 +104,12 @@ Kinds r before after answer = LaidBy (laid kind_of) r before after answer
 -- in the lists.
 unfoldable pub read_into : ℕ → List ℕ → Reading
 read_into n s =
-    if ltb TEXT-LIMIT (length s) then refused_at 1 (unplaced TEXT-LIMIT) else
-    if leb n (length s) then refused_at 16 (unplaced (length s + 1)) else read_from s 0 0 s
+    whether ltb TEXT-LIMIT (length s) then refused_at 1 (unplaced TEXT-LIMIT) else
+    whether leb n (length s) then refused_at 16 (unplaced (length s + 1)) else read_from s 0 0 s
 
 -- the tokens of a text into lists with so much room, where all of them are read and there is room; the lists stay as they are otherwise
 unfoldable pub tokens_into : ℕ → List ℕ → Reading
 tokens_into n s =
     let r : Reading = tokens_of s in
-    if not (eqb r.number 0) then refused_at r.number r.spot else
-    if ltb n (length r.tokens) then refused_at 16 (unplaced (length r.tokens)) else r
+    whether not (eqb r.number 0) then refused_at r.number r.spot else
+    whether ltb n (length r.tokens) then refused_at 16 (unplaced (length r.tokens)) else r

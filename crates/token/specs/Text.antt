@@ -2,7 +2,7 @@
 use Rattle.std.specs.Prelude.{ℕ, zero, suc, pred, ◌+◌, ◌-◌, ◌%◌, Bool, true, false, not, ◌&&◌, ◌||◌, List, [], ◌∷◌, eqb, ltb, length, take, drop, get_or}
 use Prim.Native.Char.{code}
 use Prim.Native.String.{String}
-use Rattle.base.specs.Choose.{if◌then◌else◌}
+use Rattle.base.specs.Choose.{whether◌then◌else◌}
 use Rattle.base.specs.Text.{bytes, same_bytes, within}
 use Rattle.base.specs.Runs.{run_len}
 use Rattle.base.specs.Numbers.{number_from}
@@ -34,7 +34,7 @@ is_hexadecimal b = is_digit b || within (code "A") (code "F") b
 
 -- what a digit or a capital stands for; any other byte is no digit to a base up to 36
 abbrev pub digit_of : ℕ → ℕ
-digit_of b = if is_digit b then b - code "0" else if is_capital b then b - (code "A" - 10) else 36
+digit_of b = whether is_digit b then b - code "0" else whether is_capital b then b - (code "A" - 10) else 36
 
 -- the first 10 characters of a name as one number: no two have the same (scanner/proofs/Keys, `key_one`)
 abbrev pub key_of : List ℕ → ℕ
@@ -53,22 +53,22 @@ in_comment b = not (eqb b (code ";"))
 unfoldable pub comment : ℕ → List ℕ → Lexeme
 comment n s =
     let m : ℕ = n + run_len in_comment (drop n s) in
-    if ltb m (length s) then Gap (m + 1) else NoToken
+    whether ltb m (length s) then Gap (m + 1) else NoToken
 
 unfoldable pub name_or_word : List ℕ → Lexeme
 name_or_word s =
     let n : ℕ = run_len in_name s in
     let kind : ℕ = word_kind K.words (take n s) in
-    if eqb kind K.COMMENT then comment n s else
-    if eqb kind K.NAME then Token kind (key_of (take n s)) n else Token kind 0 n
+    whether eqb kind K.COMMENT then comment n s else
+    whether eqb kind K.NAME then Token kind (key_of (take n s)) n else Token kind 0 n
 
 -- digits to a base, after a mark of some bytes, with a value of at most `most`; bits gives the 32 bits that it is taken as
 unfoldable pub number : (ℕ → Bool) → ℕ → ℕ → (ℕ → ℕ) → ℕ → List ℕ → Lexeme
 number inside base most bits mark s =
     let n : ℕ = run_len inside s in
     let v : ℕ = number_from digit_of base 0 (take n s) in
-    if eqb n 0 then NoToken else
-    if ltb most v then OutOfRange else Token K.NUMBER (bits v) (mark + n)
+    whether eqb n 0 then NoToken else
+    whether ltb most v then OutOfRange else Token K.NUMBER (bits v) (mark + n)
 
 -- "decimal 0 to 2147483647"
 abbrev pub most_decimal : ℕ
@@ -105,11 +105,11 @@ sign (w ∷ ws) s = elim (begins (bytes w.1) s) [ true ↦ Token w.0 0 (length (
 unfoldable pub lexeme : List ℕ → Lexeme
 lexeme s =
     let b : ℕ = get_or s 0 0 in
-    if separates b then Gap (run_len separates s) else
-    if is_capital b then name_or_word s else
-    if is_digit b then number is_digit 10 most_decimal plain 0 s else
-    if eqb b (code "_") then number is_digit 10 most_negated negated 1 (drop 1 s) else
-    if eqb b (code "#") then number is_hexadecimal 16 most_hexadecimal plain 1 (drop 1 s) else
+    whether separates b then Gap (run_len separates s) else
+    whether is_capital b then name_or_word s else
+    whether is_digit b then number is_digit 10 most_decimal plain 0 s else
+    whether eqb b (code "_") then number is_digit 10 most_negated negated 1 (drop 1 s) else
+    whether eqb b (code "#") then number is_hexadecimal 16 most_hexadecimal plain 1 (drop 1 s) else
     sign K.signs s
 
 -- a token: its kind; its value, which is a number's 32 bits and a name's key, and 0 for any other; and where it stands: its place, "the offset of the first byte",
@@ -180,4 +180,4 @@ abbrev pub TEXT-LIMIT : ℕ
 TEXT-LIMIT = 32768
 
 unfoldable pub tokens_of : List ℕ → Reading
-tokens_of s = if ltb TEXT-LIMIT (length s) then refused_at 1 (unplaced TEXT-LIMIT) else read_from s 0 0 s
+tokens_of s = whether ltb TEXT-LIMIT (length s) then refused_at 1 (unplaced TEXT-LIMIT) else read_from s 0 0 s

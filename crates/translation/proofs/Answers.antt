@@ -7,7 +7,7 @@ use native.Mathlib.Omega.{arith}
 use lib.Dec.{ltb}
 use lib.ListN.{length}
 use borrow.Author.Tests.{ltb-false, le-ltb}
-use Rattle.base.specs.Choose.{if◌then◌else◌}
+use Rattle.base.specs.Choose.{whether◌then◌else◌}
 use Rattle.token.specs.declared.Token.{Token}
 use Rattle.token.specs.Text.{tokens_of}
 use Rattle.grammar.specs.Tree.{Statement}
@@ -35,7 +35,7 @@ unfolding in_room
 fits-room (refused n p) room t e = absurd (not-accepted n p t e)
 fits-room (accepted s) room t e = go (ltb room (length s)) refl e
   where
-    go : (b : Bool) → ltb room (length s) ≡ b → (if b then refused 16 (length s) else accepted s) ≡ accepted t → (accepted s ≡ accepted t) × (length t ≤ room)
+    go : (b : Bool) → ltb room (length s) ≡ b → (whether b then refused 16 (length s) else accepted s) ≡ accepted t → (accepted s ≡ accepted t) × (length t ≤ room)
     go true q h = absurd (not-accepted 16 (length s) t h)
     go false q h = (h, subst (λ (u : List ℕ). length u ≤ room) (accepted-is s t h) (ltb-false _ _ q))
 
@@ -83,7 +83,7 @@ unfolding finish
 finished m t e = go (ltb segment_limit (sizes m.instructions)) refl (ltb segment_limit (literals_end m.layout)) refl e
   where
     go : (a : Bool) → ltb segment_limit (sizes m.instructions) ≡ a → (b : Bool) → ltb segment_limit (literals_end m.layout) ≡ b
-        → (if a then refused 14 0 else if b then refused 15 0 else accepted (object_text (segments m.bases m.layout m.instructions))) ≡ accepted t → Finished m t
+        → (whether a then refused 14 0 else whether b then refused 15 0 else accepted (object_text (segments m.bases m.layout m.instructions))) ≡ accepted t → Finished m t
     go true p b q h = absurd (not-accepted 14 0 t h)
     go false p true q h = absurd (not-accepted 15 0 t h)
     go false p false q h = record { short = ltb-false _ _ p; room = ltb-false _ _ q; made = accepted-is _ t h }

@@ -8,7 +8,7 @@ use native.Mathlib.Omega.{arith}
 use lib.Dec.{eqb, leb}
 use lib.ListN.{length, get_or}
 use borrow.Author.Tests.{eqb-true}
-use Rattle.base.specs.Choose.{if◌then◌else◌}
+use Rattle.base.specs.Choose.{whether◌then◌else◌}
 use Rattle.base.specs.Lists.{All, member}
 use Rattle.base.proofs.Lists.{all_both}
 use Rattle.base.proofs.Tests.{both}
@@ -111,7 +111,7 @@ module _ (f : Tables) (l : Layout) (n : ℕ) (small : All Small f.means)
       ((o, h, omega arith, omega arith), tt)
   shift-ready op r (place d) o h q = ((o, h, register-at d.name, omega arith), tt)
 
-  target-ready : (b : Bool) (r : ℕ) → r < 16 → (if b then (r - 1) else r) < 16
+  target-ready : (b : Bool) (r : ℕ) → r < 16 → (whether b then (r - 1) else r) < 16
   target-ready true r h = omega arith
   target-ready false r h = h
 
@@ -126,8 +126,8 @@ module _ (f : Tables) (l : Layout) (n : ℕ) (small : All Small f.means)
       a = t.operand
 
       go : (x y z : Bool)
-          → (if x then R.shift_rules f a else if y then R.product_rules f kept r t ⊕ R.operand_rules f a else if z then R.operand_rules f a ⊕ R.no_short f a else R.operand_rules f a).number ≡ 0
-          → AllReady (if x then shift_by f (shift_code k) r a else if y then apply times_row (product_target f r a) (use_of f a) else apply (row_of k) r (use_of f a))
+          → (whether x then R.shift_rules f a else whether y then R.product_rules f kept r t ⊕ R.operand_rules f a else whether z then R.operand_rules f a ⊕ R.no_short f a else R.operand_rules f a).number ≡ 0
+          → AllReady (whether x then shift_by f (shift_code k) r a else whether y then apply times_row (product_target f r a) (use_of f a) else apply (row_of k) r (use_of f a))
       go true y z q = shift-ready (shift_code k) r a (shift_small k) h q
       go false true z q = apply-ready times_row (product_target f r a) (use_of f a) (target-ready (long_operand f.found f.means a) r h) (use-ready a (quiet-right _ _ q))
       go false false true q = apply-ready (row_of k) r (use_of f a) h (use-ready a (quiet-left _ _ q))
@@ -182,7 +182,7 @@ module _ (f : Tables) (l : Layout) (n : ℕ) (small : All Small f.means)
   exit-ready : (step : ℕ) → exit_mask step < 16
   exit-ready step = go (leb 2147483648 step)
     where
-      go : (b : Bool) → (if b then 4 else 2) < 16
+      go : (b : Bool) → (whether b then 4 else 2) < 16
       go true = omega arith
       go false = omega arith
 
@@ -290,7 +290,7 @@ module _ (f : Tables) (l : Layout) (n : ℕ) (small : All Small f.means)
   on-ready g r v (stored w a) t h k q = (with-ready g.form g.op r v a t.0 h k q, tt)
   on-ready g r v absent t h k q = tt
 
-  if-ready : (b : Bool) (is : List Instruction) → (b ≡ true → AllReady is) → AllReady (if b then is else [])
+  if-ready : (b : Bool) (is : List Instruction) → (b ≡ true → AllReady is) → AllReady (whether b then is else [])
   if-ready true is h = h refl
   if-ready false is h = tt
 

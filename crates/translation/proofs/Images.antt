@@ -7,7 +7,7 @@ use native.Mathlib.Omega.{arith}
 use lib.Dec.{eqb}
 use lib.ListN.{length, replicate, length-replicate}
 use lib.Seq.{sets, length-sets}
-use Rattle.base.specs.Choose.{if◌then◌else◌}
+use Rattle.base.specs.Choose.{whether◌then◌else◌}
 use Rattle.base.specs.Lists.{All}
 use Rattle.base.specs.Numbers.{bytes_of}
 use Rattle.base.proofs.Lists.{all_both, all-sets, all_replicate}
@@ -44,7 +44,7 @@ unfolding fill
 fill-length k [] image = refl
 fill-length k (p ∷ ps) image = go (eqb p.segment k) (fill-length k ps image)
   where
-    go : (b : Bool) → length (fill k ps image) ≡ length image → length (if b then sets (fill k ps image) p.offset p.content else fill k ps image) ≡ length image
+    go : (b : Bool) → length (fill k ps image) ≡ length image → length (whether b then sets (fill k ps image) p.offset p.content else fill k ps image) ≡ length image
     go true e = length-sets (fill k ps image) p.offset p.content ∙ e
     go false e = e
 
@@ -53,7 +53,7 @@ unfolding fill
 fill-bytes k [] image c h = h
 fill-bytes k (p ∷ ps) image c h = go (eqb p.segment k) (fill-bytes k ps image c.1 h)
   where
-    go : (b : Bool) → Bytes (fill k ps image) → Bytes (if b then sets (fill k ps image) p.offset p.content else fill k ps image)
+    go : (b : Bool) → Bytes (fill k ps image) → Bytes (whether b then sets (fill k ps image) p.offset p.content else fill k ps image)
     go true e = all-sets (λ (x : ℕ). x < 256) (fill k ps image) p.offset p.content e c.0
     go false e = e
 
@@ -73,7 +73,7 @@ pub record Fitting (l : Layout) : Type 0 where
 pub end-first : (l : Layout) → Fitting l → (cells_end l 1 ≤ end_of_first l) × (end_of_first l ≤ segment_limit)
 end-first l h = go (eqb (length l.literals) 0)
   where
-    go : (b : Bool) → (cells_end l 1 ≤ (if b then cells_end l 1 else literals_end l)) × ((if b then cells_end l 1 else literals_end l) ≤ segment_limit)
+    go : (b : Bool) → (cells_end l 1 ≤ (whether b then cells_end l 1 else literals_end l)) × ((whether b then cells_end l 1 else literals_end l) ≤ segment_limit)
     go true = let e = h.ends 1 in (omega arith, omega arith)
     go false = let a = h.at in let r = h.room in (omega arith, omega arith)
 

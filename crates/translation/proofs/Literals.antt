@@ -8,7 +8,7 @@ use native.Mathlib.Omega.{arith}
 use lib.Dec.{eqb}
 use lib.ListN.{length, get_or}
 use borrow.Author.Tests.{eqb-true, eqb-false}
-use Rattle.base.specs.Choose.{if◌then◌else◌}
+use Rattle.base.specs.Choose.{whether◌then◌else◌}
 use Rattle.base.specs.Lists.{◌∈◌, member}
 use Rattle.base.specs.Runs.{run_len, index_of}
 use Rattle.base.proofs.Lists.{in_left, in_right, member-in}
@@ -18,11 +18,11 @@ use Rattle.translation.specs.Layout.{needs, literals_from}
 -- ── the place of a number that is in a list ──
 
 -- the first is the number, or the search goes on
-index-cons : (v x : ℕ) (l : List ℕ) → index_of v (x ∷ l) ≡ (if eqb x v then 0 else suc (index_of v l))
+index-cons : (v x : ℕ) (l : List ℕ) → index_of v (x ∷ l) ≡ (whether eqb x v then 0 else suc (index_of v l))
 unfolding run_len
 index-cons v x l = go (eqb x v) refl
   where
-    go : (b : Bool) → eqb x v ≡ b → index_of v (x ∷ l) ≡ (if b then 0 else suc (index_of v l))
+    go : (b : Bool) → eqb x v ≡ b → index_of v (x ∷ l) ≡ (whether b then 0 else suc (index_of v l))
     go true e = rw (e, run_len)
     go false e = rw (e, run_len)
 
@@ -30,7 +30,7 @@ index-cons v x l = go (eqb x v) refl
 index-by : (P : ℕ → Type 0) (v x : ℕ) (l : List ℕ) → (v ≡ x) ⊎ (v ∈ l) → (x ≡ v → P 0) → (v ∈ l → P (suc (index_of v l))) → P (index_of v (x ∷ l))
 index-by P v x l h f g = subst P (sym (index-cons v x l)) (go (eqb x v) refl h)
   where
-    go : (b : Bool) → eqb x v ≡ b → (v ≡ x) ⊎ (v ∈ l) → P (if b then 0 else suc (index_of v l))
+    go : (b : Bool) → eqb x v ≡ b → (v ≡ x) ⊎ (v ∈ l) → P (whether b then 0 else suc (index_of v l))
     go true e i = f (eqb-true _ _ e)
     go false e (inl i) = absurd (eqb-false _ _ e (sym i))
     go false e (inr i) = g i
@@ -68,14 +68,14 @@ needs-keeps (element c o x) seen v h = h
 needs-keeps (entry k) seen v h = h
 needs-keeps (literal w) seen v h = go (member w seen)
   where
-    go : (b : Bool) → v ∈ (if b then seen else seen ++ (w ∷ []))
+    go : (b : Bool) → v ∈ (whether b then seen else seen ++ (w ∷ []))
     go true = h
     go false = in_left v seen (w ∷ []) h
 
 needs-has : (w : ℕ) (seen : List ℕ) → w ∈ needs (literal w) seen
 needs-has w seen = go (member w seen) refl
   where
-    go : (b : Bool) → member w seen ≡ b → w ∈ (if b then seen else seen ++ (w ∷ []))
+    go : (b : Bool) → member w seen ≡ b → w ∈ (whether b then seen else seen ++ (w ∷ []))
     go true e = member-in w seen e
     go false e = in_right w seen (w ∷ []) (inl refl)
 
@@ -132,7 +132,7 @@ index-grows v [] more h = absurd h
 index-grows v (x ∷ l) more h = index-cons v x (l ++ more) ∙ (go (eqb x v) refl h (index-grows v l more) ∙ sym (index-cons v x l))
   where
     go : (b : Bool) → eqb x v ≡ b → (v ≡ x) ⊎ (v ∈ l) → (v ∈ l → index_of v (l ++ more) ≡ index_of v l)
-        → (if b then 0 else suc (index_of v (l ++ more))) ≡ (if b then 0 else suc (index_of v l))
+        → (whether b then 0 else suc (index_of v (l ++ more))) ≡ (whether b then 0 else suc (index_of v l))
     go true e i f = refl
     go false e (inl i) f = absurd (eqb-false _ _ e (sym i))
     go false e (inr i) f = ap suc (f i)
@@ -153,7 +153,7 @@ needs-grow (element c o x) seen = grows_same seen
 needs-grow (entry k) seen = grows_same seen
 needs-grow (literal w) seen = go (member w seen)
   where
-    go : (b : Bool) → Grows seen (if b then seen else seen ++ (w ∷ []))
+    go : (b : Bool) → Grows seen (whether b then seen else seen ++ (w ∷ []))
     go true = grows_same seen
     go false = record { more = w ∷ []; is = refl }
 

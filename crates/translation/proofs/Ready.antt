@@ -5,7 +5,7 @@ use Prim.Native.Nat.{ℕ, ◌+◌, ◌<◌, ◌≤◌}
 use native.Mathlib.Omega.{arith}
 use lib.Dec.{eqb}
 use lib.ListN.{get_or}
-use Rattle.base.specs.Choose.{if◌then◌else◌}
+use Rattle.base.specs.Choose.{whether◌then◌else◌}
 use Rattle.base.specs.Lists.{All}
 use Rattle.base.proofs.Lists.{all_both, all_get_d}
 use Rattle.base.specs.Runs.{index_of}
@@ -85,7 +85,7 @@ unfolding mark_at
 mark-within n x [] h = omega arith
 mark-within n x (m ∷ ms) h = go (eqb m.name x) (mark-within n x ms h.1)
   where
-    go : (b : Bool) → mark_at ms x ≤ n → (if b then m.at else mark_at ms x) ≤ n
+    go : (b : Bool) → mark_at ms x ≤ n → (whether b then m.at else mark_at ms x) ≤ n
     go true k = h.0
     go false k = k
 

@@ -11,7 +11,7 @@ use lib.Dec.{eqb, leb}
 use lib.ListN.{length, get_or, set, length-set, replicate, length-replicate}
 use lib.Seq.{get_or-set_same, get_or-set_other}
 use borrow.Author.Tests.{leb-true, eq-eqb, ne_eqb}
-use Rattle.base.specs.Choose.{if◌then◌else◌}
+use Rattle.base.specs.Choose.{whether◌then◌else◌}
 use Rattle.base.specs.Lists.{◌∈◌}
 use Rattle.base.proofs.Lists.{all_in}
 use Rattle.grammar.specs.Tree.{Width, full, short, byte}
@@ -107,7 +107,7 @@ offsets-fit n (d ∷ ds) h t = go (eqb d.cell.name t) (offsets-fit n ds (quiet-l
     s : Room
     s = place_cells n ds
 
-    go : (b : Bool) → offset_of s.placed t ≤ segment_limit → (if b then offset_for d.cell s.ends else offset_of s.placed t) ≤ segment_limit
+    go : (b : Bool) → offset_of s.placed t ≤ segment_limit → (whether b then offset_for d.cell s.ends else offset_of s.placed t) ≤ segment_limit
     go true k =
         let r : end_for d.cell s.ends ≤ segment_limit = leb-true _ _ (rule-holds (leb (end_for d.cell s.ends) segment_limit) 12 d.cell.name (omega arith) (quiet-right s.broken _ h)) in
         omega arith

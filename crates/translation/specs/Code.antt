@@ -1,6 +1,6 @@
 -- Document 01, "Code": the instructions of a text in order, with the addresses of branches. Labels and procedures are in force by scope.
 use Rattle.std.specs.Prelude.{List, [], ◌∷◌, ◌++◌, ℕ, ◌+◌, ◌*◌, eqb}
-use Rattle.base.specs.Choose.{if◌then◌else◌}
+use Rattle.base.specs.Choose.{whether◌then◌else◌}
 use Rattle.token.specs.Kinds as K
 use Rattle.translation.specs.Instructions.{Instruction, rr, rx, shift, branch, link, indexed, stop, entry, literal, sizes, opcode, load_row, add_row, compare_row, shift_code, test_op, return_op, always}
 use Rattle.translation.specs.Core.{Core, skip, run, seq, mark, scope, jump, call, procedure, base, when, either, loop, count, select, Arms, last, arm}
@@ -62,7 +62,7 @@ own (select r xs) p = []
 -- where the label or procedure of this name stands; the innermost come first
 unfoldable pub mark_at : List Mark → ℕ → ℕ
 mark_at [] n = 0
-mark_at (m ∷ ms) n = if eqb m.name n then m.at else mark_at ms n
+mark_at (m ∷ ms) n = whether eqb m.name n then m.at else mark_at ms n
 
 -- ── document 02, 3/13: a CASE ──
 

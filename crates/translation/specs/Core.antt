@@ -1,7 +1,7 @@
 -- Document 01, "Code": the statements of a text with their names found: the instructions of assignments and conditions, and the shape around them.
 use Rattle.std.specs.Prelude.{List, [], ◌∷◌, ◌++◌, Bool, true, ◌&&◌, ℕ, ◌-◌, eqb, get_or}
 use Rattle.std.proofs.Math.Option.{Option, none, some}
-use Rattle.base.specs.Choose.{if◌then◌else◌}
+use Rattle.base.specs.Choose.{whether◌then◌else◌}
 use Rattle.base.specs.Lists.{member}
 use Rattle.token.specs.Kinds as K
 use Rattle.grammar.specs.Tree as T
@@ -85,7 +85,7 @@ is_token (place d) = bare_name d
 
 -- "exit branch, mask 2, or 4 if the step is negative"
 abbrev pub exit_mask : ℕ → ℕ
-exit_mask step = if negative step then 4 else 2
+exit_mask step = whether negative step then 4 else 2
 
 -- the return register of the procedure that is called
 abbrev pub return_of : Meaning → ℕ
@@ -121,13 +121,13 @@ module _ (f : Tables) where
 
   -- "1C and 5C name the register below the target."
   abbrev pub product_target : ℕ → Operand → ℕ
-  product_target r a = if long_operand f.found f.means a then (r - 1) else r
+  product_target r a = whether long_operand f.found f.means a then (r - 1) else r
 
   unfoldable pub term_of : ℕ → Term → List Instruction
   term_of r t =
       let k = kind_at f t.operator in
-      if member k shifts then shift_by (shift_code k) r t.operand else
-      if eqb k K.TIMES then apply times_row (product_target r t.operand) (use_of t.operand) else
+      whether member k shifts then shift_by (shift_code k) r t.operand else
+      whether eqb k K.TIMES then apply times_row (product_target r t.operand) (use_of t.operand) else
       apply (row_of k) r (use_of t.operand)
 
   unfoldable pub chain_of : ℕ → List Term → List Instruction
@@ -171,8 +171,8 @@ module _ (f : Tables) where
 
   -- of its last argument, by the register or number before it, which is one token, or by the function's own number; none where the count is wrong
   unfoldable pub function_code : Function → Operand → List Operand → List Instruction
-  function_code g a [] = if eqb 1 (arity g) then function_on g 0 g.number (use_of a) else []
-  function_code g a (b ∷ []) = if eqb 2 (arity g) && is_token a then function_on g (source_of a) (number_of a) (use_of b) else []
+  function_code g a [] = whether eqb 1 (arity g) then function_on g 0 g.number (use_of a) else []
+  function_code g a (b ∷ []) = whether eqb 2 (arity g) && is_token a then function_on g (source_of a) (number_of a) (use_of b) else []
   function_code g a (b ∷ c ∷ more) = []
 
   -- ── the whole text ──

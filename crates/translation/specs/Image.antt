@@ -1,7 +1,7 @@
 -- Document 01, "Names, cells, protected registers": the bytes of the data segments, and the segments of a program in number order.
 use Rattle.std.specs.Prelude.{List, [], ◌∷◌, ◌++◌, ℕ, zero, suc, eqb, length, replicate}
 use Rattle.std.proofs.lemmas.List.Edits.{sets}
-use Rattle.base.specs.Choose.{if◌then◌else◌}
+use Rattle.base.specs.Choose.{whether◌then◌else◌}
 use Rattle.base.specs.Numbers.{bytes_of}
 use Rattle.objtext.specs.Object.{Segment, program, cells}
 use Rattle.translation.specs.Instructions.{Instruction}
@@ -11,7 +11,7 @@ use Rattle.translation.specs.Bytes.{encode_all}
 -- the initial values of the cells of segment k, laid over an image
 unfoldable pub fill : ℕ → List Placed → List ℕ → List ℕ
 fill k [] image = image
-fill k (p ∷ ps) image = if eqb p.segment k then sets (fill k ps image) p.offset p.content else fill k ps image
+fill k (p ∷ ps) image = whether eqb p.segment k then sets (fill k ps image) p.offset p.content else fill k ps image
 
 unfoldable pub words : List ℕ → List ℕ
 words [] = []
@@ -19,7 +19,7 @@ words (v ∷ vs) = bytes_of 4 v ++ words vs
 
 -- "Segment 1 ends with its last literal; with none, with its last cell, or at 16."
 abbrev pub end_of_first : Layout → ℕ
-end_of_first l = if eqb (length l.literals) 0 then cells_end l 1 else literals_end l
+end_of_first l = whether eqb (length l.literals) 0 then cells_end l 1 else literals_end l
 
 -- "Cells and elements without values, gaps between cells or literals and, in the object text, the table hold zero."; writable: "16 to the end of cells for
 -- segment 1"

@@ -1,6 +1,6 @@
 -- Document 01, "Names, cells, protected registers": where cells and literals stand in their segments, and refusal 12 of a cell. Offsets begin here.
 use Rattle.std.specs.Prelude.{List, [], ◌∷◌, ◌++◌, ℕ, ◌+◌, ◌*◌, ◌-◌, ◌/◌, eqb, leb, get_or, set, length, replicate}
-use Rattle.base.specs.Choose.{if◌then◌else◌}
+use Rattle.base.specs.Choose.{whether◌then◌else◌}
 use Rattle.base.specs.Lists.{member}
 use Rattle.base.specs.Numbers.{bytes_of}
 use Rattle.scopes.specs.declared.Broken.{Broken}
@@ -78,14 +78,14 @@ place_cells n (d ∷ ds) = place_cell d (place_cells n ds)
 
 unfoldable pub offset_of : List Placed → ℕ → ℕ
 offset_of [] name = 0
-offset_of (p ∷ ps) name = if eqb p.name name then p.offset else offset_of ps name
+offset_of (p ∷ ps) name = whether eqb p.name name then p.offset else offset_of ps name
 
 -- ── literals ──
 
 -- "Each distinct 32-bit value that an instruction takes from storage as a number is one 4-byte literal, in the order in which the code first needs it"
 abbrev pub needs : Datum → List ℕ → List ℕ
 needs (element c o x) seen = seen
-needs (literal v) seen = if member v seen then seen else seen ++ (v ∷ [])
+needs (literal v) seen = whether member v seen then seen else seen ++ (v ∷ [])
 needs (entry k) seen = seen
 
 unfoldable pub literals_from : List ℕ → List Instruction → List ℕ

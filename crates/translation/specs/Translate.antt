@@ -1,6 +1,6 @@
 -- Document 01, "Numbers answered": the whole translation, a function of the source and the buffer's room. "Groups in order: 1; 2, 3; 4, 5; 6 to 13; 14; 15; 16."
 use Rattle.std.specs.Prelude.{Bool, ◌||◌, List, ◌++◌, map, ℕ, zero, suc, ◌-◌, ltb, leb, length, drop, get_or, replicate}
-use Rattle.base.specs.Choose.{if◌then◌else◌}
+use Rattle.base.specs.Choose.{whether◌then◌else◌}
 use Rattle.base.specs.Text.{within}
 use Rattle.spots.specs.declared.Spot.{Spot}
 use Rattle.spots.specs.Spots.{spot_at, unplaced}
@@ -50,7 +50,7 @@ abbrev pub reports_none : ℕ → Bool
 reports_none number = leb number 1 || within 14 19 number
 
 abbrev pub spot_for : List ℕ → (number place : ℕ) → Spot
-spot_for source number place = if reports_none number then unplaced place else spot_at source place
+spot_for source number place = whether reports_none number then unplaced place else spot_at source place
 
 abbrev pub spot_of : List ℕ → Answer → Spot
 spot_of source a = spot_for source (number_of a) (place_of a)
@@ -111,8 +111,8 @@ make ts x =
 -- "14: program over 4,096 bytes … 0"; "15: literals end past 4,096 … 0"
 unfoldable pub finish : Made → Answer
 finish m =
-    if ltb segment_limit (sizes m.instructions) then refused 14 0 else
-    if ltb segment_limit (literals_end m.layout) then refused 15 0 else
+    whether ltb segment_limit (sizes m.instructions) then refused 14 0 else
+    whether ltb segment_limit (literals_end m.layout) then refused 15 0 else
     accepted (object_text (segments m.bases m.layout m.instructions))
 
 -- "6 to 13"
@@ -140,7 +140,7 @@ translated source = after_text (tokens_of source) (tokens_of source).number
 
 -- "16: buffer shorter than the object text … length needed"
 unfoldable pub in_room : ℕ → Answer → Answer
-in_room room (accepted t) = if ltb room (length t) then refused 16 (length t) else accepted t
+in_room room (accepted t) = whether ltb room (length t) then refused 16 (length t) else accepted t
 in_room room (refused n p) = refused n p
 
 -- the answer to a source and a buffer with this room

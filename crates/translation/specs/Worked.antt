@@ -2,7 +2,7 @@
 -- definition.
 use Rattle.std.specs.Prelude.{◌≡◌, refl, List, [], ◌∷◌, ◌++◌, map, ℕ, zero, suc, ◌+◌, ◌*◌, eqb, replicate}
 use Prim.Native.String.{String}
-use Rattle.base.specs.Choose.{if◌then◌else◌}
+use Rattle.base.specs.Choose.{whether◌then◌else◌}
 use Rattle.base.specs.Text.{bytes, same_bytes}
 use Rattle.base.specs.Runs.{run_len}
 use Rattle.base.specs.Numbers.{number_from, bytes_of}
@@ -41,7 +41,7 @@ use Rattle.translation.specs.Translate.{Answer, accepted, refused, number_of, sp
 -- bytes written as pairs of hexadecimal digits, with blanks between
 abbrev pub digits : List ℕ → List ℕ
 digits [] = []
-digits (c ∷ cs) = if eqb c 32 then digits cs else (digit_of c ∷ digits cs)
+digits (c ∷ cs) = whether eqb c 32 then digits cs else (digit_of c ∷ digits cs)
 
 abbrev pub pairs : List ℕ → List ℕ
 pairs [] = []
