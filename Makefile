@@ -8,11 +8,11 @@ SITE = --set R1=612512 --set R3=287512
 all: target/tautgaff datum
 
 # Every file that the command is made of.
-SOURCES := crates.txt $(shell find crates command -type f -not -path '*/data/*' 2>/dev/null)
+SOURCES := crates.txt $(shell find crates command -type f -not -path '*/data/*' -not -path '*/out/*' 2>/dev/null)
 
 target/tautgaff: $(SOURCES)
 	@build/kit
-	@build/prove tautgaff
+	@build/prove tautgaff_command
 	@command/link
 	@echo "target/tautgaff: built"
 
@@ -22,7 +22,7 @@ datum: target/tautgaff
 # target/libtautgaff.a, for include/tautgaff.h and rust/
 library:
 	@build/kit
-	@build/prove c_translate c_run
+	@build/prove c_translate_c c_run_c
 	@build/library
 
 more: all

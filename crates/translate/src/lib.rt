@@ -130,6 +130,7 @@ const SHORT: usize = 1024;
 
 const MIDDLING: usize = 8192;
 
+#[inline(never)]
 fn short(src: &[u8], out: &mut [u8]) -> made::Answer
     requires { length src.now ≤ S.SHORT }
     ensures { Gives (translation src.now (length out.old)) out.old out.new result }
@@ -141,6 +142,7 @@ fn short(src: &[u8], out: &mut [u8]) -> made::Answer
     translate_in(src, &mut kinds, &mut tape, &mut wide, &mut thin, out)
 }
 
+#[inline(never)]
 fn middling(src: &[u8], out: &mut [u8]) -> made::Answer
     requires { length src.now ≤ S.MIDDLING }
     ensures { Gives (translation src.now (length out.old)) out.old out.new result }
@@ -152,6 +154,7 @@ fn middling(src: &[u8], out: &mut [u8]) -> made::Answer
     translate_in(src, &mut kinds, &mut tape, &mut wide, &mut thin, out)
 }
 
+#[inline(never)]
 fn long(src: &[u8], out: &mut [u8]) -> made::Answer
     requires { length src.now ≤ TEXT-LIMIT }
     ensures { Gives (translation src.now (length out.old)) out.old out.new result }
@@ -163,8 +166,7 @@ fn long(src: &[u8], out: &mut [u8]) -> made::Answer
     translate_in(src, &mut kinds, &mut tape, &mut wide, &mut thin, out)
 }
 
-// By length. A function that calls itself takes none with large arrays into its own frame: so each of the three has a frame of its own, and a short text
-// needs little stack.
+// By length. Each of the three has a frame of its own, so a short text needs little stack.
 fn sized(src: &[u8], out: &mut [u8]) -> made::Answer
     requires { length src.now ≤ TEXT-LIMIT }
     ensures { Gives (translation src.now (length out.old)) out.old out.new result }
