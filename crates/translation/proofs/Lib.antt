@@ -13,4 +13,5 @@ pub mod Objects
 pub mod Numbers
 pub mod Breaking
 pub mod Rows
+pub mod Worked
 pub mod Theorems
