@@ -167,6 +167,7 @@ fn long(src: &[u8], out: &mut [u8]) -> made::Answer
 }
 
 // By length. Each of the three has a frame of its own, so a short text needs little stack.
+#[inline(never)]
 fn sized(src: &[u8], out: &mut [u8]) -> made::Answer
     requires { length src.now ≤ TEXT-LIMIT }
     ensures { Gives (translation src.now (length out.old)) out.old out.new result }

@@ -1,5 +1,6 @@
 -- A refusal of the translator is handed on; an object text, which fits the buffer, is run where it stands. Assumes nothing.
 use Rattle.load_and_go.proofs.Going.{written-fits, written-part, refused-is, going-is}
+use native.Mathlib.Omega.{arith}
 use Rattle.load_and_go.proofs.go.Goals as goal
 
 pub returns-then-t-ne0 : goal.returns-then-t-ne0
@@ -7,7 +8,7 @@ returns-then-t-ne0 c =
     let given = c.args in
     rw c.refused.ensures
     (refused-is _ given.object.now _ _ _ _ _ given.budget _ c.told-t.ensures c.translate.ensures
-    c.if-t-ne0.true)
+    (λ e. grind arith))
 
 pub slice_bounds-run-end : goal.slice_bounds-run-end
 slice_bounds-run-end c =
