@@ -27,9 +27,8 @@ fn escaped(text: &str) -> String {
 pub fn definition(entries: &[Entry], usage: &str) -> String {
     let mut text = "-- The pages of `tautgaff help`, each ended by `~`: numbers 0 to 9 and 10 to 19, each with the refusal and the stop that has it; usage and the commands.\n\
         -- Made of examples/refusals.data and command/usage by examples/make.\n\
-        use mathlib.Core.List.{List, _++_}\n\
-        use Prim.Native.Nat.{ℕ}\n\
-        use Rattle·base.specs.Text.{bytes}\n"
+        use Rattle.std.specs.Prelude.{List, ◌++◌, ℕ}\n\
+        use Rattle.base.specs.Text.{bytes}\n"
         .to_string();
     for (name, pages) in tables(entries, usage) {
         let line = |line: &str| format!("bytes \"{}\"", escaped(line).replace('\n', "\\n"));
