@@ -1,7 +1,7 @@
 #!/usr/bin/env python3
 """Brings the repository's own names in specs/, proofs/ and clauses to one spelling: words in snake case, types, facts and modules in camel case.
 
-usage: python3 tools/respell.py        at the top of the repository, once, after /opt/rattle/port/port.py
+usage: python3 tools/respell.py        at the top of the repository, once, after the kit's port.py
 
 It goes by text, word by word: numberFrom becomes number_from, and in a name of several parts each part alone, numberFrom-append number_from-append. Texts in double quotes stay,
 so do the names of functions, constants and fields of src/, which were never in camel case. It prints each file in which two names fall together.

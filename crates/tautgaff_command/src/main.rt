@@ -10,13 +10,14 @@ use std::rt::Env;
 // The room that a word gets at first; it is doubled for a longer one.
 const WORD_ROOM: usize = 256;
 
-// Puts the word with this number behind the others, ended by a zero byte, if it has room; whether it was put, and whether it is there at all.
+// A word put whole, longer than its room, or not there at all.
 enum Put {
     Whole,
     TooLong,
     NoWord,
 }
 
+// Puts the word with this number behind the others, ended by a zero byte, where it has room.
 fn put_word<R: Host + Env>(
     rt: &R,
     words: &mut Vec<u8, R::A>,
