@@ -8,6 +8,7 @@ ghost use Rattle.alu.specs.Word.{added, subtracted, complemented, made_positive,
 const TOP: u32 = 2147483648;
 
 // A value with its condition code. 16 bytes: a struct of 8 would be packed into one word and taken apart at each use.
+// Kept: the code is a number, since C gives it and is given it (`tautgaff_run`), and refusal 18 is one over 3.
 #[derive(Clone, Copy)]
 pub struct Made {
     pub value: u32,
@@ -18,7 +19,7 @@ pub struct Made {
 fn biased(a: u32) -> u64
     ensures { (result ≡ biased_of a) × (result < 4294967296) }
 {
-    std::num::wrapping_add_u32(a, TOP) as u64
+    a.wrapping_add(TOP) as u64
 }
 
 // The code of a signed result, which is t less 2^32.
@@ -44,7 +45,7 @@ pub fn add(a: u32, b: u32) -> Made
     ensures { result ≡ added a b }
 {
     Made {
-        value: std::num::wrapping_add_u32(a, b),
+        value: a.wrapping_add(b),
         code: settled_code(biased(a) + biased(b)),
     }
 }
@@ -53,7 +54,7 @@ pub fn subtract(a: u32, b: u32) -> Made
     ensures { result ≡ subtracted a b }
 {
     Made {
-        value: std::num::wrapping_sub_u32(a, b),
+        value: a.wrapping_sub(b),
         code: settled_code(4294967296 + biased(a) - biased(b)),
     }
 }
@@ -129,7 +130,7 @@ pub fn insert(a: u32, b: u32) -> u32
 pub fn add_logical(a: u32, b: u32) -> Made
     ensures { result ≡ added_logical a b }
 {
-    let v = std::num::wrapping_add_u32(a, b);
+    let v = a.wrapping_add(b);
     let z = zero_code(v);
     if v < a {
         return Made {
@@ -143,7 +144,7 @@ pub fn add_logical(a: u32, b: u32) -> Made
 pub fn subtract_logical(a: u32, b: u32) -> Made
     ensures { result ≡ subtracted_logical a b }
 {
-    let v = std::num::wrapping_sub_u32(a, b);
+    let v = a.wrapping_sub(b);
     let z = zero_code(v);
     if a < b {
         return Made { value: v, code: z };

@@ -7,7 +7,7 @@ ghost use Rattle.std.specs.Prelude.{◌≡◌, get_or, set};
 pub fn key(keys: &[u64], t: usize) -> u64
     ensures { result ≡ get_or keys.now t 0 }
 {
-    if t < keys.len() { keys[t] } else { 0 }
+    keys.get(t).copied().unwrap_or(0)
 }
 
 pub fn put_wide(a: &mut [u64], i: usize, v: u64)
@@ -22,5 +22,5 @@ pub fn put_wide(a: &mut [u64], i: usize, v: u64)
 pub fn kind(kinds: &[u8], t: usize) -> u8
     ensures { result ≡ get_or kinds.now t 0 }
 {
-    if t < kinds.len() { kinds[t] } else { 0 }
+    kinds.get(t).copied().unwrap_or(0)
 }

@@ -164,16 +164,8 @@ pub value_at-elsewhere : (s : List ℕ) (at n v other m : ℕ) → (other + m �
 value_at-elsewhere s at n v other m h = ap value_of (part-elsewhere s at (bytes_of n v) other m 0 (rw (length-bytes_of n v) h))
 
 -- the turns of the loops of `load` and `store`, as their invariants have them
-pub load-turn : (s : List ℕ) (i left v b : ℕ) {x : ℕ} → number_from (λ b. b) 256 v (take left (drop i s)) ≡ x
-    → 0 < left → i < length s → b ≡ get_or s i 0 → number_from (λ b. b) 256 (v * 256 + b) (take (left - 1) (drop (i + 1) s)) ≡ x
-unfolding number_from
-load-turn s i zero v b q h l e = absurd (omega arith)
-load-turn s i (suc n) v b q h l e = let w : suc n - 1 ≡ n = omega arith in rw (w, e, add-one i) (rw (drop-cons s i 0 l) at q)
-
-pub load-end : (s : List ℕ) (i left v : ℕ) {x : ℕ} → left ≤ 0 → number_from (λ b. b) 256 v (take left (drop i s)) ≡ x → v ≡ x
-unfolding number_from
-load-end s i zero v h q = q
-load-end s i (suc n) v h q = absurd (omega arith)
+pub load_more : (s : List ℕ) (i v b : ℕ) → i < length s → b ≡ get_or s i 0 → v ≡ value_of (take i s) → v * 256 + b ≡ value_of (take (i + 1) s)
+load_more s i v b h e q = rw (q, e) (sym (number_more (λ b. b) 256 s i h))
 
 pub store-turn : (s : List ℕ) (at left v : ℕ) {x : List ℕ} → 0 < left → stored s at left v ≡ x → stored (set s (at + (left - 1)) (v % 256)) at (left - 1) (v / 256) ≡ x
 unfolding bytes_of

@@ -8,6 +8,7 @@ use native.Mathlib.Omega.{arith}
 use native.Mathlib.Numerals.{add-one}
 use lib.ListN.{length, take, drop, get_or, drop_of_length-le}
 use lib.Seq.{drop-cons}
+use Rattle.std.specs.List.{prefix_len}
 use Rattle.base.specs.Runs.{run_len}
 use Rattle.base.specs.Lists.{All}
 
@@ -32,6 +33,16 @@ module _ (p : ℕ → Bool) (s : List ℕ) (i : ℕ) where
     where
       stop : run_len p (drop i s) ≡ 0
       stop = rw (drop_of_length-le s h)
+
+-- the library's word
+pub prefix-run : (p : ℕ → Bool) (s : List ℕ) → prefix_len p s ≡ run_len p s
+unfolding run_len
+prefix-run p [] = refl
+prefix-run p (x ∷ xs) = go (p x) refl (prefix-run p xs)
+  where
+    go : (t : Bool) → p x ≡ t → prefix_len p xs ≡ run_len p xs → prefix_len p (x ∷ xs) ≡ run_len p (x ∷ xs)
+    go true e h = rw (e, run_len) (omega (arith, h))
+    go false e h = rw (e, run_len)
 
 module _ (p : ℕ → Bool) where
   pub run-le : (s : List ℕ) → run_len p s ≤ length s

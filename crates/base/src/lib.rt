@@ -7,20 +7,14 @@ ghost use Rattle.base.specs.Numbers.{value_at, stored};
 pub fn least(a: usize, b: usize) -> usize
     ensures { result ≡ min a b }
 {
-    if a < b { a } else { b }
+    a.min(b)
 }
 
 // What is left of a after b is taken, and 0 where it is less.
 pub fn less(a: usize, b: usize) -> usize
     ensures { result ≡ a - b }
 {
-    if a < b { 0 } else { a - b }
-}
-
-fn wide(x: u8) -> u64
-    ensures { (result ≡ x) × (result < 256) }
-{
-    x as u64
+    a.saturating_sub(b)
 }
 
 // One byte, where there is room for it.
@@ -38,26 +32,20 @@ pub fn load(s: &[u8], at: usize, n: usize) -> u32
     ensures { (result ≡ value_at s.now at n) × (result < 256 ^ n) }
 {
     let mut v: u64 = 0;
-    let mut i = at;
-    let mut left = n;
-    while 0 < left {
-        v = v * 256 + wide(s[i]);
-        i += 1;
-        left -= 1;
+    for b in &s[at..at + n] {
+        v = v * 256 + u64::from(*b);
     }
     v as u32
 }
 
-// Lays the n low bytes of v from `at`.
+// Lays the n low bytes of v from `at`, the last first.
 pub fn store(s: &mut [u8], at: usize, n: usize, v: u32)
     requires { at + n ≤ length s.old }
     ensures { s.new ≡ stored s.old at n v }
 {
     let mut rest = v;
-    let mut left = n;
-    while 0 < left {
-        left -= 1;
-        s[at + left] = (rest % 256) as u8;
-        rest = rest / 256;
+    for i in (0..n).rev() {
+        s[at + i] = (rest % 256) as u8;
+        rest /= 256;
     }
 }

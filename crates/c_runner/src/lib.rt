@@ -7,7 +7,8 @@ ghost use Rattle.std.specs.Prelude.{◌≤◌, length};
 pub fn tautgaff_run_case(case: &[u8], store: &mut [u8], out: &mut [u8]) -> usize
     ensures { result ≤ length out.old }
 {
-    let told = run_cases::answer(case, store, out);
-    let size = told.size;
-    size
+    match run_cases::answer(case, store, out) {
+        Some(told) => told.size,
+        None => 0,
+    }
 }

@@ -3,8 +3,7 @@ use mathlib.Core.Path.{◌≡◌}
 use mathlib.Core.List.{List}
 use Prim.Native.Nat.{ℕ}
 use Rattle.token.specs.Text.{Reading}
-use Rattle.token.specs.Answers.{summary_of, Lists, Laid}
-use Rattle.token.specs.declared.Tokens.{Tokens}
+use Rattle.token.specs.Answers.{Tokens, summary_of, Lists, Laid}
 use Rattle.c_text.specs.Lent.{Lent, parts_of}
 
 pub told : {r : Reading} {before after : Lists} {answer : Tokens} {number : ℕ} {parts : List ℕ} → Laid r before after answer → number ≡ (summary_of answer).number

@@ -7,34 +7,32 @@ ghost use Rattle.token.specs.Answers.{lists, read_into, room, summary_of, tokens
 ghost use Rattle.parse.specs.Programs.{judged};
 ghost use Rattle.c_text.specs.Lent.{Lent, judged_in, parts_of};
 
-use token::Tokens;
-use token_lists::TEXT_LIMIT;
+use token::Unread;
 
-fn number_of(read: Tokens) -> u64
+// Kept: C is answered a number, and the parts of an answer in one list.
+fn number_of(read: Result<usize, Unread>) -> u64
     ensures { result ≡ (summary_of read).number }
 {
     match read {
-        Tokens::Read(n) => 0,
-        Tokens::TooLong => 1,
-        Tokens::NoToken(spot) => 2,
-        Tokens::OutOfRange(spot) => 3,
-        Tokens::Room(needed) => 16,
+        Ok(_) => 0,
+        Err(unread) => unread.number() as u64,
     }
 }
 
-fn parts_of(read: Tokens) -> [usize; 4]
+fn parts_of(read: Result<usize, Unread>) -> [usize; 4]
     ensures { result ≡ parts_of (summary_of read) }
 {
     match read {
-        Tokens::Read(n) => [0, 0, 0, n],
-        Tokens::TooLong => [TEXT_LIMIT, 0, 0, 0],
-        Tokens::NoToken(spot) => [spot.place, spot.line, spot.column, 0],
-        Tokens::OutOfRange(spot) => [spot.place, spot.line, spot.column, 0],
-        Tokens::Room(needed) => [needed, 0, 0, 0],
+        Ok(count) => [0, 0, 0, count],
+        Err(unread) => {
+            let spot = unread.spot();
+            [spot.place, spot.line, spot.column, 0]
+        }
     }
 }
 
 // `token_lists::tokens_of`.
+// Kept: beside `tautgaff_read_tokens`, since C knows both names.
 pub fn tautgaff_tokens(
     text: &[u8],
     kinds: &mut [u8],

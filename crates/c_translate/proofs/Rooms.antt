@@ -9,8 +9,7 @@ use borrow.Author.Tests.{ltb-false}
 use Rattle.base.proofs.Tests.{by-test}
 use Rattle.translation.specs.Translate as T
 use Rattle.translation.specs.Translate.{accepted, refused, translated, in_room, translate}
-use Rattle.translate.specs.Answers.{Outcome, number_of, spot_of, length_of, outcome, defined}
-use Rattle.translate.specs.declared.Answer.{Answer}
+use Rattle.translate.specs.Answers.{Answer, Outcome, number_of, spot_of, length_of, outcome, defined}
 use Rattle.c_translate.specs.Lent.{Lent, parts_of}
 
 fits-room : (a : T.Answer) (room : ℕ) → T.length_of (in_room room a) ≤ room

@@ -6,14 +6,14 @@ ghost use Rattle.std.specs.Prelude.{◌≡◌, ◌∷◌, []};
 ghost use Rattle.translate.specs.Answers.{number_of, spot_of, length_of};
 ghost use Rattle.c_translate.specs.Lent.{Lent, parts_of};
 
-use translate::Answer;
+use translate::{Answer, Refused};
 
 fn number_of(answer: Answer) -> u64
     ensures { result ≡ number_of answer }
 {
     match answer {
-        Answer::Accepted(written) => 0,
-        Answer::Refused(number, spot) => number as u64,
+        Ok(_) => 0,
+        Err(refused) => refused.number as u64,
     }
 }
 
@@ -21,8 +21,8 @@ fn parts_of(answer: Answer) -> [usize; 4]
     ensures { result ≡ parts_of (spot_of answer) (length_of answer) }
 {
     match answer {
-        Answer::Accepted(written) => [0, 0, 0, written],
-        Answer::Refused(number, spot) => [spot.place, spot.line, spot.column, 0],
+        Ok(written) => [0, 0, 0, written],
+        Err(Refused { spot, .. }) => [spot.place, spot.line, spot.column, 0],
     }
 }
 

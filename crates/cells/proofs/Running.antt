@@ -2,9 +2,10 @@
 use Prim.Native.Nat.{ℕ, ◌<◌, ◌≤◌}
 use mathlib.Core.Path.{◌≡◌, sym, ap, ◌∙◌}
 use mathlib.Core.List.{List}
-use mathlib.Core.Option.{Option, none, some}
+use mathlib.Core.Option.{Option, some}
 use lib.ListN.{length}
 use borrow.Author.Tests.{lt-ltb, le-ltb}
+use Rattle.std.specs.Prelude as P
 use Rattle.objtext.specs.Object.{Segment}
 use Rattle.objtext.specs.Reader.{segment_list, read_as, read_object}
 use Rattle.objtext.proofs.Walks.{read_as_lem}
@@ -15,15 +16,15 @@ use Rattle.runner.specs.Runner.{accepted, runner}
 use Rattle.cells.specs.Setting.{laid_by}
 use Rattle.cells.specs.Running.{on_object, run_set}
 
-module _ (source words text regs : List ℕ) (k budget : ℕ) (s : List ℕ) (n : ℕ) (e : read_as n text ≡ read_object text) where
-  pub set-none : n ≡ 0 → runner text regs k budget s ≡ run_set source words text regs k budget s
+module _ (source words text regs : List ℕ) (k budget : ℕ) (s : List ℕ) where
+  pub set-none : read_as P.None text ≡ read_object text → runner text regs k budget s ≡ run_set source words text regs k budget s
   unfolding run_set read_as
-  set-none h = let u : none ≡ read_object text = rw h at e in rw (← u)
+  set-none e = rw (← e)
 
-  module _ (h : n ≡ 0 → ⊥) where
+  module _ (n : ℕ) (e : read_as (P.Some n) text ≡ read_object text) where
     counted : run_set source words text regs k budget s ≡ on_object source words (some (segment_list n text)) text regs k budget s
     unfolding run_set
-    counted = ap (λ (o : Option (List Segment)). on_object source words o text regs k budget s) (read_as_lem n text h e)
+    counted = ap (λ (o : Option (List Segment)). on_object source words o text regs k budget s) (read_as_lem n text e)
 
     pub set-18 : 3 < k → runner text regs k budget s ≡ run_set source words text regs k budget s
     set-18 l = sym (counted ∙ rw (lt-ltb 3 k l))

@@ -1,35 +1,44 @@
--- `--set NAME=VALUE` where NAME is no register: the value is laid into the cell when the program is loaded. What is wrong of a word is told by its number.
-use Rattle.std.specs.Prelude.{List, Bool, true, false, ℕ, ◌+◌, ◌-◌, eqb, ltb, length, take, drop}
+-- `--set NAME=VALUE` where NAME is no register: the value is laid into the cell when the program is loaded. What is wrong of a word is told.
+use Rattle.std.specs.Prelude.{List, Bool, true, false, ℕ, ◌+◌, ◌-◌, eqb, ltb, length, take, drop, Option, None, Some, is_some, Result, Ok, Err}
 use Rattle.base.specs.Choose.{choose}
 use Rattle.base.specs.Numbers.{stored}
 use Rattle.grammar.specs.Tree.{short, byte}
 use Rattle.static_rules.specs.Rules.{fits_width}
 use Rattle.figures.specs.Parts.{part_length, part_count}
 use Rattle.figures.specs.Numbers.{number_in}
-use Rattle.figures.specs.declared.Reading.{Reading}
-use Rattle.figures.specs.declared.Reading.TheVariants.{Number, Nothing}
-use Rattle.words.specs.Wishes.{register_in}
+use Rattle.words.specs.declared.Awaited.{Awaited}
+use Rattle.words.specs.declared.Awaited.TheVariants.{Set, Show}
+use Rattle.words.specs.declared.Fault.{Fault}
+use Rattle.words.specs.declared.Why.{Why}
+use Rattle.words.specs.declared.Why.TheVariants.{BadValue, NotShort, NotByte}
+use Rattle.words.specs.Wishes.{wrong_at, register_in}
 use Rattle.settings.specs.Setting.{words_from}
 use Rattle.cells.specs.declared.Element.{Element}
-use Rattle.cells.specs.declared.Fault.{Fault}
 use Rattle.cells.specs.Elements.{element_named}
 
 -- ── faults ──
 
-abbrev pub no_fault : Fault
-no_fault = record { why = 0; word = 0 }
-
--- the first one stays
-unfoldable pub faulted : Fault → (n why : ℕ) → Fault
-faulted x n why = choose (ltb 0 x.why) x (record { why = why; word = n })
-
--- storage, and what is wrong
+-- storage, and the first word that is wrong
 pub record Laying : Type 0 where
   pub store : List ℕ
-  pub fault : Fault
+  pub fault : Option Fault
 
-abbrev pub laying_of : List ℕ → Fault → Laying
+abbrev pub laying_of : List ℕ → Option Fault → Laying
 laying_of s x = record { store = s; fault = x }
+
+-- storage, and how a word went
+pub record Laid : Type 0 where
+  pub store : List ℕ
+  pub how : Result (Unit {0}) Why
+
+abbrev pub laid : List ℕ → Result (Unit {0}) Why → Laid
+laid s how = record { store = s; how = how }
+
+-- the first one stays
+abbrev pub faulted : Option Fault → (n : ℕ) → Result (Unit {0}) Why → Option Fault
+faulted (Some x) n how = Some x
+faulted None n (Ok u) = None
+faulted None n (Err why) = Some (wrong_at n why)
 
 -- ── a value into an element ──
 
@@ -37,42 +46,47 @@ laying_of s x = record { store = s; fault = x }
 unfoldable pub fits : (size v : ℕ) → Bool
 fits size v = choose (eqb size 2) (fits_width short v) (choose (eqb size 1) (fits_width (byte false) v) true)
 
--- why a value does not fit: 12 it is none for a short cell; 13 it is none for a byte cell
-abbrev pub unfit : (size : ℕ) → ℕ
-unfit size = choose (eqb size 1) 13 12
+-- why a value does not fit
+abbrev pub unfit : (size : ℕ) → Why
+unfit size = choose (eqb size 1) NotByte NotShort
 
 unfoldable pub put_cell : Element → (v : ℕ) → List ℕ → List ℕ
 put_cell e v s = choose (ltb (length s) (e.address + e.size)) s (stored s e.address e.size v)
 
-unfoldable pub set_number : Element → (v n : ℕ) → Laying → Laying
-set_number e v n l = choose (fits e.size v) (laying_of (put_cell e v l.store) l.fault) (laying_of l.store (faulted l.fault n (unfit e.size)))
+unfoldable pub set_number : Element → (v : ℕ) → List ℕ → Laid
+set_number e v s = choose (fits e.size v) (laid (put_cell e v s) (Ok tt)) (laid s (Err (unfit e.size)))
 
-abbrev pub set_value : Element → Reading → (n : ℕ) → Laying → Laying
-set_value e (Number v) n l = set_number e v n l
-set_value e Nothing n l = laying_of l.store (faulted l.fault n 7)
+abbrev pub set_element : Result Element Why → Option ℕ → List ℕ → Laid
+set_element (Err why) v s = laid s (Err why)
+set_element (Ok e) None s = laid s (Err BadValue)
+set_element (Ok e) (Some v) s = set_number e v s
 
-unfoldable pub set_element : Element → Reading → (n : ℕ) → Laying → Laying
-set_element e v n l = choose (ltb 0 e.why) (laying_of l.store (faulted l.fault n e.why)) (set_value e v n l)
+abbrev pub shown : Result Element Why → Result (Unit {0}) Why
+shown (Err why) = Err why
+shown (Ok e) = Ok tt
 
 -- ── words ──
 
 module _ (source : List ℕ) where
   -- NAME=VALUE
-  unfoldable pub set_word : (n : ℕ) (s : List ℕ) → Laying → Laying
-  set_word n s l =
-      let name : List ℕ = take (part_length 61 s) s in
-      choose (ltb (register_in name) 16) l (set_element (element_named source name) (number_in (drop 1 (drop (part_length 61 s) s))) n l)
+  unfoldable pub set_word : (word store : List ℕ) → Laid
+  set_word word s =
+      let name : List ℕ = take (part_length 61 word) word in
+      choose (is_some (register_in name)) (laid s (Ok tt)) (set_element (element_named source name) (number_in (drop 1 (drop (part_length 61 word) word))) s)
 
   -- NAME
-  unfoldable pub show_word : (n : ℕ) (s : List ℕ) → Laying → Laying
-  show_word n s l =
-      choose (ltb (register_in s) 16) l
-      (choose (ltb 0 (element_named source s).why) (laying_of l.store (faulted l.fault n (element_named source s).why)) l)
+  unfoldable pub show_word : (word : List ℕ) → Result (Unit {0}) Why
+  show_word word = choose (is_some (register_in word)) (Ok tt) (shown (element_named source word))
 
-  -- the word n behind an option
-  unfoldable pub lay_word : (option n : ℕ) (s : List ℕ) → Laying → Laying
-  lay_word option n s l = choose (eqb option 2) (set_word n s l) (choose (eqb option 3) (show_word n s l) l)
+  -- the word behind an option
+  abbrev pub lay_word : Option Awaited → (word store : List ℕ) → Laid
+  lay_word (Some Set) word s = set_word word s
+  lay_word (Some Show) word s = laid s (show_word word)
+  lay_word _ word s = laid s (Ok tt)
+
+  abbrev pub lay_next : Option Awaited → (n : ℕ) (word : List ℕ) → Laying → Laying
+  lay_next option n word l = let w : Laid = lay_word option word l.store in laying_of w.store (faulted l.fault n w.how)
 
   -- the cells that the words set, in storage
   unfoldable pub laid_by : (words store : List ℕ) → Laying
-  laid_by words s = words_from lay_word words (part_count 0 words - 1) 1 (laying_of s no_fault)
+  laid_by words s = words_from lay_next words (part_count 0 words - 1) 1 (laying_of s None)

@@ -3,59 +3,57 @@
 #![tactic(auto)]
 
 ghost use Rattle.std.specs.Prelude.{◌≡◌, List, ℕ, ◌+◌, ◌*◌, ◌/◌, ◌%◌, ◌<◌, ◌≤◌, length, get_or};
-ghost use Rattle.figures.specs.Writing.{Adds};
+ghost use Rattle.figures.specs.Writing.{Adds, Puts};
 ghost use Rattle.objtext.specs.Reader.{read_as, read_object};
 ghost use Rattle.machine.specs.Instructions.{long_kind};
 ghost use Rattle.machine.specs.Step.{cpu, address as address_of, extended as extended_of, index_of};
 ghost use Rattle.machine.specs.Operands.{operand_address};
 ghost use Rattle.runner.specs.Runner.{outcome};
-ghost use Rattle.cells.specs.Elements.{asked_by, asked_in, no_element, is_inside, is_element, placed_at, element_of, element_named};
-ghost use Rattle.cells.specs.Setting.{faulted as faulted_of, laying_of, fits as fits_of, unfit as unfit_of, put_cell, set_number, set_value, set_element, set_word, show_word, lay_word, laid_by};
+ghost use Rattle.cells.specs.Elements.{asked_by, asked_in, is_inside, is_element, placed_at, element_of, element_named};
+ghost use Rattle.cells.specs.Setting.{faulted as faulted_of, laying_of, laid, fits as fits_of, unfit as unfit_of, put_cell, set_number, set_word, show_word, lay_word, laid_by};
 ghost use Rattle.cells.specs.Showing.{held_in, more_text, cell_text, name_text, asked_text, all_asked};
 ghost use Rattle.cells.specs.Running.{run_set};
 
-use figures::Reading;
+use figures::Text;
 use listing::Site;
+use runner::{Ran, Refusal};
 use token::kinds;
-
-// No value; no cell of this name; no element of the cell; no value for a short cell, or for a byte cell.
-const NO_VALUE: u8 = 7;
-
-const NO_CELL: u8 = 10;
-
-const NO_ELEMENT: u8 = 11;
-
-const NOT_SHORT: u8 = 12;
-
-const NOT_BYTE: u8 = 13;
+use words::{Awaited, Fault, Why};
 
 // ── elements ──
 
 // NAME or NAME(NUMBER).
 #[derive(Clone, Copy)]
 pub struct Asked {
-    pub named: bool,
-    pub numbered: bool,
     pub key: u64,
-    pub subscript: u64,
+    pub subscript: Option<u64>,
 }
 
-fn asked_by(kinds: &[u8; 5], values: &[u64; 5]) -> Asked
+fn asked_by(kinds: &[u8; 5], values: &[u64; 5]) -> Option<Asked>
     ensures { result ≡ asked_by kinds.now values.now }
 {
-    let alone = kinds[1] == kinds::END_OF_TEXT;
-    let numbered = (kinds[1] == kinds::OPEN)
+    let is_name = kinds[0] == kinds::NAME;
+    let is_alone = kinds[1] == kinds::END_OF_TEXT;
+    if is_name & is_alone {
+        return Some(Asked {
+            key: values[0],
+            subscript: None,
+        });
+    }
+    let is_numbered = (kinds[1] == kinds::OPEN)
         & ((kinds[2] == kinds::NUMBER)
             & ((kinds[3] == kinds::CLOSE) & (kinds[4] == kinds::END_OF_TEXT)));
-    Asked {
-        named: (kinds[0] == kinds::NAME) & (alone | numbered),
-        numbered,
-        key: values[0],
-        subscript: values[2],
+    if is_name & is_numbered {
+        return Some(Asked {
+            key: values[0],
+            subscript: Some(values[2]),
+        });
     }
+    None
 }
 
-fn asked_in(word: &[u8]) -> Asked
+// Kept: token_lists::tokens_of, whose lists C lends, fills five.
+fn asked_in(word: &[u8]) -> Option<Asked>
     ensures { result ≡ asked_in word.now }
 {
     let mut kinds = [0u8; 5];
@@ -63,7 +61,8 @@ fn asked_in(word: &[u8]) -> Asked
     let mut places = [0u32; 5];
     let mut lines = [0u32; 5];
     let mut columns = [0u32; 5];
-    token_lists::tokens_of(
+    // What was laid says all that is asked.
+    let _ = token_lists::tokens_of(
         word,
         &mut kinds,
         &mut values,
@@ -74,24 +73,12 @@ fn asked_in(word: &[u8]) -> Asked
     asked_by(&kinds, &values)
 }
 
-// Where an element lies in storage, and its size; or why there is none. There may be more cells of the name.
+// Where an element lies in storage, and its size. There may be more cells of the name.
 #[derive(Clone, Copy)]
 pub struct Element {
-    pub why: u8,
     pub address: u32,
     pub size: u32,
     pub more: bool,
-}
-
-fn no_element(why: u8) -> Element
-    ensures { result ≡ no_element why }
-{
-    Element {
-        why,
-        address: 0,
-        size: 0,
-        more: false,
-    }
 }
 
 fn is_inside(s: Site, v: u64) -> bool
@@ -108,76 +95,62 @@ fn is_inside(s: Site, v: u64) -> bool
 fn is_element(s: Site, a: Asked) -> bool
     ensures { result ≡ is_element s a }
 {
-    (s.array | !a.numbered) & is_inside(s, a.subscript)
+    (s.array | a.subscript.is_none()) & is_inside(s, a.subscript.unwrap_or(0))
 }
 
 // "Segment k goes to 4096·(k+1)".
 const PAGE: u64 = machine::ROOM as u64;
 
-fn placed_at(s: Site, v: u64) -> Element
+fn placed_at(s: Site, v: u64) -> Result<Element, Why>
     ensures { result ≡ placed_at s v }
 {
     let segment = s.segment as u64;
     let offset = s.offset;
     if 3 < segment {
-        return no_element(NO_ELEMENT);
+        return Err(Why::NoElement);
     }
     if PAGE < offset {
-        return no_element(NO_ELEMENT);
+        return Err(Why::NoElement);
     }
     if PAGE < v {
-        return no_element(NO_ELEMENT);
+        return Err(Why::NoElement);
     }
-    Element {
-        why: 0,
+    Ok(Element {
         address: (PAGE * (segment + 1) + (offset + v)) as u32,
         size: s.size,
         more: s.more,
-    }
+    })
 }
 
-fn element_of(s: Site, a: Asked) -> Element
+#[tactic(auto, unfolding(crate::specs::Elements::element_of))]
+fn element_of(s: Site, a: Asked) -> Result<Element, Why>
     ensures { result ≡ element_of s a }
 {
-    if s.found {
-        if is_element(s, a) {
-            return placed_at(s, a.subscript);
-        }
-        return no_element(NO_ELEMENT);
+    if is_element(s, a) {
+        return placed_at(s, a.subscript.unwrap_or(0));
     }
-    no_element(NO_CELL)
+    Err(Why::NoElement)
 }
 
-pub fn element_named(source: &[u8], word: &[u8]) -> Element
+#[tactic(auto, unfolding(crate::specs::Elements::element_named))]
+pub fn element_named(source: &[u8], word: &[u8]) -> Result<Element, Why>
     ensures { result ≡ element_named source.now word.now }
 {
-    let a = asked_in(word);
-    if a.named {
-        let site = listing::cell(source, a.key);
-        return element_of(site, a);
-    }
-    no_element(NO_CELL)
+    let a = asked_in(word).ok_or(Why::NoCell)?;
+    let site = listing::cell(source, a.key).ok_or(Why::NoCell)?;
+    element_of(site, a)
 }
 
 // ── set ──
 
-// Why a word is wrong, 0 where none is, and which.
-#[derive(Clone, Copy)]
-pub struct Fault {
-    pub why: u8,
-    pub word: usize,
-}
-
-fn faulted(x: Fault, n: usize, why: u8) -> Fault
-    ensures { result ≡ faulted_of x n why }
+// The first fault, by how the word n went.
+fn faulted(x: Option<Fault>, n: usize, how: Result<(), Why>) -> Option<Fault>
+    ensures { result ≡ faulted_of x n how }
 {
-    let before = x.why;
-    if 0 < before {
-        return x;
-    }
-    Fault { why, word: n }
+    x.or(how.err().map(|why| Fault { why, word: n }))
 }
 
+#[tactic(auto, unfolding(crate::specs::Setting::fits))]
 fn fits(size: u32, v: u32) -> bool
     ensures { result ≡ fits_of size v }
 {
@@ -194,15 +167,16 @@ fn fits(size: u32, v: u32) -> bool
 }
 
 // Why a value does not fit.
-fn unfit(size: u32) -> u8
+fn unfit(size: u32) -> Why
     ensures { result ≡ unfit_of size }
 {
     if size == 1 {
-        return NOT_BYTE;
+        return Why::NotByte;
     }
-    NOT_SHORT
+    Why::NotShort
 }
 
+#[tactic(auto, unfolding(crate::specs::Setting::put_cell))]
 fn put_cell(store: &mut [u8], e: Element, v: u32)
     ensures { store.new ≡ put_cell e v store.old }
 {
@@ -214,89 +188,66 @@ fn put_cell(store: &mut [u8], e: Element, v: u32)
     base::store(store, at, size, v);
 }
 
-fn set_number(store: &mut [u8], e: Element, v: u32, n: usize, x: Fault) -> Fault
-    ensures { laying_of store.new result ≡ set_number e v n (laying_of store.old x) }
+#[tactic(auto, unfolding(crate::specs::Setting::set_number))]
+fn set_number(store: &mut [u8], e: Element, v: u32) -> Result<(), Why>
+    ensures { laid store.new result ≡ set_number e v store.old }
 {
     if fits(e.size, v) {
         put_cell(store, e, v);
-        return x;
+        return Ok(());
     }
-    faulted(x, n, unfit(e.size))
-}
-
-fn set_value(store: &mut [u8], e: Element, found: Reading, n: usize, x: Fault) -> Fault
-    ensures { laying_of store.new result ≡ set_value e found n (laying_of store.old x) }
-{
-    match found {
-        Reading::Number(v) => set_number(store, e, v, n, x),
-        Reading::Nothing => faulted(x, n, NO_VALUE),
-    }
-}
-
-fn set_element(store: &mut [u8], e: Element, found: Reading, n: usize, x: Fault) -> Fault
-    ensures { laying_of store.new result ≡ set_element e found n (laying_of store.old x) }
-{
-    let why = e.why;
-    if 0 < why {
-        return faulted(x, n, why);
-    }
-    set_value(store, e, found, n, x)
+    Err(unfit(e.size))
 }
 
 // NAME=VALUE.
-fn set_word(source: &[u8], n: usize, s: &[u8], store: &mut [u8], x: Fault) -> Fault
-    ensures { laying_of store.new result ≡ set_word source.now n s.now (laying_of store.old x) }
+#[tactic(auto, unfolding(crate::specs::Setting::set_word))]
+fn set_word(source: &[u8], s: &[u8], store: &mut [u8]) -> Result<(), Why>
+    ensures { laid store.new result ≡ set_word source.now s.now store.old }
 {
     let size = figures::part_length(s, b'=');
     let name = figures::front(s, size);
-    let k = words::register(name);
-    if k < 16 {
-        return x;
+    if words::register(name).is_some() {
+        return Ok(());
     }
-    let e = element_named(source, name);
+    let e = element_named(source, name)?;
     let found = figures::number(figures::rest(figures::rest(s, size), 1));
-    set_element(store, e, found, n, x)
+    let v = found.ok_or(Why::BadValue)?;
+    set_number(store, e, v)
 }
 
 // NAME.
-fn show_word(source: &[u8], n: usize, s: &[u8], x: Fault) -> Fault
-    ensures { (store : List ℕ) → laying_of store result ≡ show_word source.now n s.now (laying_of store x) }
+#[tactic(auto, unfolding(crate::specs::Setting::show_word))]
+fn show_word(source: &[u8], s: &[u8]) -> Result<(), Why>
+    ensures { result ≡ show_word source.now s.now }
 {
-    let k = words::register(s);
-    if k < 16 {
-        return x;
+    if words::register(s).is_some() {
+        return Ok(());
     }
-    let e = element_named(source, s);
-    let why = e.why;
-    if 0 < why {
-        return faulted(x, n, why);
-    }
-    x
+    element_named(source, s)?;
+    Ok(())
 }
 
-fn lay_word(source: &[u8], option: u8, n: usize, s: &[u8], store: &mut [u8], x: Fault) -> Fault
-    ensures { laying_of store.new result ≡ lay_word source.now option n s.now (laying_of store.old x) }
+// The word behind an option.
+fn lay_word(source: &[u8], option: Option<Awaited>, s: &[u8], store: &mut [u8]) -> Result<(), Why>
+    ensures { laid store.new result ≡ lay_word source.now option s.now store.old }
 {
-    if option == words::SET {
-        return set_word(source, n, s, store, x);
+    match option {
+        Some(Awaited::Set) => set_word(source, s, store),
+        Some(Awaited::Show) => show_word(source, s),
+        _ => Ok(()),
     }
-    if option == words::SHOW {
-        return show_word(source, n, s, x);
-    }
-    x
 }
 
 // Lays the cells that the words set; the first word that is wrong.
-pub fn lay(source: &[u8], words: &[u8], store: &mut [u8]) -> Fault
+pub fn lay(source: &[u8], words: &[u8], store: &mut [u8]) -> Option<Fault>
     ensures { laying_of store.new result ≡ laid_by source.now words.now store.old }
 {
     let count = figures::part_count(words, 0);
-    let mut x = Fault { why: 0, word: 0 };
-    let mut n: usize = 1;
-    while n < count {
+    let mut x = None;
+    for n in 1..count {
         let option = words::run_option(figures::part(words, 0, n - 1));
-        x = lay_word(source, option, n, figures::part(words, 0, n), store, x);
-        n += 1;
+        let how = lay_word(source, option, figures::part(words, 0, n), store);
+        x = faulted(x, n, how);
     }
     x
 }
@@ -317,6 +268,7 @@ fn extended(n: usize, v: u32) -> u32
 }
 
 // What an element holds, as an instruction would read it.
+#[tactic(auto, unfolding(crate::specs::Showing::held_in))]
 fn held(store: &[u8], e: Element) -> u32
     ensures { result ≡ held_in e store.now }
 {
@@ -331,62 +283,53 @@ fn held(store: &[u8], e: Element) -> u32
     0
 }
 
-fn put_more(out: &mut [u8], at: usize, more: bool) -> usize
-    ensures { Adds (more_text more) out.old at out.new result }
+#[tactic(auto, unfolding(crate::specs::Showing::more_text), using(figures::proofs::Writing::still))]
+fn put_more(text: &mut Text, more: bool)
+    ensures { Puts (more_text more) text.old text.new }
 {
     if more {
-        return figures::put_all(out, at, b"  the first of several cells of this name\n");
+        text.put_all(b"  the first of several cells of this name\n");
     }
-    at
 }
 
-fn put_cell_line(out: &mut [u8], at: usize, name: &[u8], e: Element, store: &[u8]) -> usize
-    ensures { Adds (cell_text name.now e store.now) out.old at out.new result }
+#[tactic(auto, unfolding(crate::specs::Showing::cell_text), using(figures::proofs::Writing::then))]
+fn put_cell_line(text: &mut Text, name: &[u8], e: Element, store: &[u8])
+    ensures { Puts (cell_text name.now e store.now) text.old text.new }
 {
-    let why = e.why;
-    if 0 < why {
-        return at;
-    }
-    let end = reports::put_value(out, at, name, held(store, e));
-    put_more(out, end, e.more)
+    reports::put_value(text, name, held(store, e));
+    put_more(text, e.more);
 }
 
-fn put_name(
-    out: &mut [u8],
-    at: usize,
-    name: &[u8],
-    source: &[u8],
-    regs: &[u32; 16],
-    store: &[u8],
-) -> usize
-    ensures { Adds (name_text source.now regs.now store.now name.now) out.old at out.new result }
+#[tactic(auto, unfolding(crate::specs::Showing::name_text), using(figures::proofs::Writing::still))]
+fn put_name(text: &mut Text, name: &[u8], source: &[u8], regs: &[u32; 16], store: &[u8])
+    ensures { Puts (name_text source.now regs.now store.now name.now) text.old text.new }
 {
-    let k = words::register(name);
-    if k < 16 {
-        return reports::put_value(out, at, name, regs[k]);
+    if let Some(k) = words::register(name) {
+        return reports::put_value(text, name, regs[k]);
     }
-    let e = element_named(source, name);
-    put_cell_line(out, at, name, e, store)
+    if let Ok(e) = element_named(source, name) {
+        put_cell_line(text, name, e, store);
+    }
 }
 
+#[tactic(auto, using(figures::proofs::Writing::still))]
 fn put_asked(
-    out: &mut [u8],
-    at: usize,
-    option: u8,
+    text: &mut Text,
+    option: Option<Awaited>,
     name: &[u8],
     source: &[u8],
     regs: &[u32; 16],
     store: &[u8],
-) -> usize
-    ensures { Adds (asked_text source.now regs.now store.now option name.now) out.old at out.new result }
+)
+    ensures { Puts (asked_text source.now regs.now store.now option name.now) text.old text.new }
 {
-    if option == words::SHOW {
-        return put_name(out, at, name, source, regs, store);
+    if let Some(Awaited::Show) = option {
+        put_name(text, name, source, regs, store);
     }
-    at
 }
 
 // What `--show` asks for.
+// Kept: the room and where the text ends, with which docs/PROMISES.md gives `put_all_asked`.
 pub fn put_all_asked(
     out: &mut [u8],
     at: usize,
@@ -398,22 +341,13 @@ pub fn put_all_asked(
     ensures { Adds (all_asked source.now regs.now store.now words.now) out.old at out.new result }
 {
     let count = figures::part_count(words, 0);
-    let mut end = at;
-    let mut n: usize = 1;
-    while n < count {
+    let mut text = Text::up_to(out, at);
+    for n in 1..count {
         let option = words::run_option(figures::part(words, 0, n - 1));
-        end = put_asked(
-            out,
-            end,
-            option,
-            figures::part(words, 0, n),
-            source,
-            regs,
-            store,
-        );
-        n += 1;
+        let name = figures::part(words, 0, n);
+        put_asked(&mut text, option, name, source, regs, store);
     }
-    end
+    text.end()
 }
 
 // ── run ──
@@ -430,13 +364,12 @@ pub fn run_set(
     code: u64,
     budget: u32,
     store: &mut [u8],
-) -> runner::Answer
-    ensures { outcome result store.new ≡ run_set source.now words.now object.now regs code budget store.old }
+) -> Result<Ran, Refusal>
+    ensures { outcome result regs code store.new ≡ run_set source.now words.now object.now regs code budget store.old }
 {
-    let count = objtext::read(object);
-    if count == 0 {
+    let Some(count) = objtext::read(object) else {
         return runner::run_object(object, regs, code, budget, store);
-    }
+    };
     if 3 < code {
         return runner::run_object(object, regs, code, budget, store);
     }
@@ -445,7 +378,7 @@ pub fn run_set(
     }
     runner::load(object, count, store);
     lay(source, words, store);
-    runner::started(object, count, regs, code, budget, store)
+    Ok(runner::started(object, count, regs, code, budget, store))
 }
 
 // ── the operand at which a run stopped ──
@@ -461,12 +394,7 @@ fn index_of(op: u8, x: usize) -> usize
     ensures { (result ≡ index_of (long_kind op) x) × (result ≤ x) }
 {
     match op {
-        0x92 => 0,
-        0x95 => 0,
-        0x88 => 0,
-        0x89 => 0,
-        0x8A => 0,
-        0x8B => 0,
+        0x88..=0x8B | 0x92 | 0x95 => 0,
         _ => x,
     }
 }

@@ -1,5 +1,6 @@
 -- On the tape of a tree the address pass comes to where the tree's code ends, and leaves the addresses that `marks_of` says: a line for each way to make a tree.
 -- Assumes nothing.
+use Rattle.std.specs.Prelude as P
 use mathlib.Core.Path.{◌≡◌, refl, sym, ap, subst, ◌∙◌}
 use mathlib.Core.Bool.{Bool, true, false}
 use mathlib.Core.List.{List, [], ◌∷◌, ◌++◌, append-nil, append_assoc}
@@ -27,7 +28,7 @@ use Rattle.translation.specs.Core.{Arms, last, arm, to_register, compare_with, t
 use Rattle.translation.specs.Code.{arm_count, head_size, size_of, arms_size}
 use Rattle.emit.specs.declared.Use.TheVariants.{Absent}
 use Rattle.emit.specs.declared.Writing.{Writing}
-use Rattle.emit.specs.Codes.{list_of, code_size, apply_code, is_absent, apply_then}
+use Rattle.emit.specs.Codes.{list_of, code_size, apply_code, apply_then}
 use Rattle.emit.specs.Events.{no_writing, written_after, step_codes, chosen_codes, other_codes, codes_of, writing_after, codes_by}
 use Rattle.emit.specs.Along.{depth_after, entry_of, start_after, event_bytes, starts}
 use Rattle.code.specs.Places.{placing_of, mark_closing, mark_after, place_event}
@@ -201,7 +202,7 @@ module _ (f : Tables) (means under offsets : List ℕ) where
   module _ (table : f.means ≡ meanings_of means under) (small : Small f) (held : Held f) where
     mutual
       unfolding is_statement tape_statement tape_declaration core_statement size_of leaves marks_of place_event list_of form_at other_codes step_codes chosen_codes codes_of codes_by
-          apply_then is_absent apply_code written_after writing_after code_size mark_after mark_closing
+          apply_then apply_code written_after writing_after code_size mark_after mark_closing
 
       pub place-statement : (x : Statement) (i j : ℕ) → is_statement f.kinds x i j → (p : ℕ) (w : Writing) (ms : List ℕ) (g : Listing) (k : List ℕ)
           → at p w ms g (tape_statement x k) ≡ at (p + size_of (core_statement f x)) (leaves f means under offsets x w) (marks_of f x p ms) g k
@@ -244,7 +245,7 @@ module _ (f : Tables) (means under offsets : List ℕ) where
       place-statement (choose t n xs) i j h p w ms g k =
           let c = choices_count xs in
           let arms = core_choices f xs in
-          let w' : Writing = record { aim = Absent; sign = 0; arguments = c } in
+          let w' : Writing = record { aim = Absent; sign = P.None; arguments = c } in
           let w'' : Writing = leaves_choices f means under offsets xs no_writing in
           let q = p + head_size c in
           let end = p + (head_size c + arms_size arms) in

@@ -1,14 +1,14 @@
 -- Bytes of an instruction, and literals: a value is searched among those that are there, and entered behind them. Assumes nothing.
 use Prim.Native.Nat.{ℕ, suc, ◌+◌, ◌*◌, ◌/◌, ◌%◌, ◌<◌, ◌≤◌}
 use mathlib.Core.Path.{◌≡◌, refl, sym, ap, ◌∙◌}
-use mathlib.Core.Bool.{true, false}
+use mathlib.Core.Bool.{Bool, true, false, not}
 use mathlib.Core.List.{List, [], ◌∷◌, ◌++◌}
 use native.Mathlib.Omega.{arith}
 use native.Mathlib.Numerals.{add-one}
-use lib.Dec.{eqb}
-use lib.ListN.{length, take, drop, get_or, set}
-use lib.Seq.{sets, length-take-le, take-suc-set, get_or-take}
-use borrow.Author.Tests.{eqb-true, eqb-false, eq-eqb, ne_eqb}
+use lib.Dec.{eqb, ltb}
+use lib.ListN.{length, take, set}
+use lib.Seq.{sets, length-take-le, take-suc-set}
+use borrow.Author.Tests.{ltb-false, eqb-true, eqb-false, eq-eqb, ne_eqb}
 use Rattle.base.specs.Lists.{member}
 use Rattle.base.specs.Runs.{run_len, index_of}
 use Rattle.base.proofs.Tests.{cases}
@@ -18,7 +18,9 @@ use Rattle.translation.specs.Bytes.{two_bytes, four_bytes}
 use Rattle.emit.specs.declared.Code.{Code}
 use Rattle.emit.specs.declared.Code.TheVariants.{Two, Four, Literal}
 use Rattle.emit.specs.Codes.{code_size}
-use Rattle.emit.proofs.Tables.{index_on, index-stop, index-end}
+use Rattle.std.specs.List.{prefix_len, position}
+use Rattle.std.specs.Option.{unwrap_or}
+use Rattle.base.proofs.Runs.{run-le}
 use Rattle.code.specs.Coding.{bytes_in, laid_of, code_bytes, literals_after, lay_code}
 
 -- ── bytes ──
@@ -40,6 +42,20 @@ four-laid s t u v w at op r x b d e q y z =
     z ∙ rw (y, q, e, c, f, p, p2, p3)
 
 -- ── literals ──
+
+prefix-is : (p : ℕ → Bool) (l : List ℕ) → prefix_len p l ≡ run_len p l
+unfolding run_len
+prefix-is p [] = refl
+prefix-is p (x ∷ l) = cases (p x) (λ e. rw (e, run_len, prefix_len) (omega (arith, prefix-is p l))) (λ e. rw (e, run_len, prefix_len))
+
+-- a search among a list's numbers is its `position`
+pub found_is : (v : ℕ) (l : List ℕ) (n r : ℕ) → n ≡ length l → r ≡ unwrap_or (position (λ (x : ℕ). eqb x v) l) n → (r ≡ index_of v l) × (r ≤ n)
+found_is v l n r h q =
+    let m : ℕ = prefix_len (λ (x : ℕ). not (eqb x v)) l in
+    let e : m ≡ index_of v l = prefix-is (λ (x : ℕ). not (eqb x v)) l in
+    let k : index_of v l ≤ length l = run-le (λ (x : ℕ). not (eqb x v)) l in
+    cases (ltb m (length l)) (λ b. let s : r ≡ m = rw b at q in (s ∙ e, omega (arith, s, e, k, h)))
+    (λ b. let s : r ≡ n = rw b at q in let o : length l ≤ m = ltb-false m (length l) b in (omega (arith, s, h, o, e, k), omega (arith, s)))
 
 module _ (v : ℕ) where
   not-member : (l : List ℕ) → index_of v l ≡ length l → member v l ≡ false
@@ -76,16 +92,6 @@ module _ (v : ℕ) where
       r ∙ ap suc (index-new l (omega arith)))
 
   module _ (l : List ℕ) (count : ℕ) (h : count ≤ length l) where
-    pub find-on : (i : ℕ) → i < count → (get_or l i 0 ≡ v → ⊥) → index_of v (take count l) ≡ i + index_of v (drop i (take count l))
-        → index_of v (take count l) ≡ i + 1 + index_of v (drop (i + 1) (take count l))
-    find-on i b n e = index_on v (take count l) i (omega (arith, length-take-le count l h)) (λ q. n (sym (get_or-take count l i 0 b) ∙ q)) e
-
-    pub find-stop : (i : ℕ) → i < count → get_or l i 0 ≡ v → index_of v (take count l) ≡ i + index_of v (drop i (take count l)) → i ≡ index_of v (take count l)
-    find-stop i b n e = index-stop v (take count l) i (omega (arith, length-take-le count l h)) (get_or-take count l i 0 b ∙ n) e
-
-    pub find-end : (i : ℕ) → count ≤ i → index_of v (take count l) ≡ i + index_of v (drop i (take count l)) → i ≡ index_of v (take count l)
-    find-end i b e = index-end v (take count l) i (omega (arith, length-take-le count l h)) e
-
     pub found-needs : (place : ℕ) → place ≡ index_of v (take count l) → place ≤ count → (place ≡ count → ⊥) → take count l ≡ needs (literal v) (take count l)
     found-needs place e b n = let n' : index_of v (take count l) < length (take count l) = omega (arith, length-take-le count l h, e, b, differ place count n b) in rw (is_member (take count l) n')
       where

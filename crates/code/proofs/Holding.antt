@@ -21,7 +21,7 @@ use Rattle.emit.specs.declared.Code.{Code}
 use Rattle.emit.specs.declared.Code.TheVariants.{Two, Four, Literal}
 use Rattle.emit.specs.declared.Codes.{Codes}
 use Rattle.emit.specs.declared.Writing.{Writing}
-use Rattle.emit.specs.Codes.{list_of, blank, code_size, stop_code}
+use Rattle.emit.specs.Codes.{list_of, code_size, stop_code}
 use Rattle.ledger.specs.Book.{Wide, Thin}
 use Rattle.emit.specs.Events.{writing_in, codes_in}
 use Rattle.code.specs.Places.{no_writing}
@@ -89,14 +89,14 @@ pub record Left (start room at n : ℕ) (image literals : List ℕ) (rest : List
 
 module _ (start room k : ℕ) (cs : List Code) where
   pub event-turn :
-      (at n z n' : ℕ) (image literals image' literals' : List ℕ) (c : Code) (whole : Laid) → length literals' ≡ room → k < length cs → c ≡ get_or cs k blank
+      (at n z n' : ℕ) (image literals image' literals' : List ℕ) (c d : Code) (whole : Laid) → length literals' ≡ room → k < length cs → c ≡ get_or cs k d
       → z ≡ code_size c
       → (n < room → laid_by (at + code_size c) n' image' literals' ≡ lay_code start c (laid_by at n image literals)) → (n ≡ room → n' ≡ n)
       → n' ≤ n + 1 → Left start room at n image literals (drop k cs) whole → Left start room (at + z) n' image' literals' (drop (k + 1) cs) whole
-  event-turn at n z n' image literals image' literals' c whole e h q ez step stays one l = record {
+  event-turn at n z n' image literals image' literals' c d whole e h q ez step stays one l = record {
     state = lay_code start c l.state;
     holds = rw ez (holds_on start room at n n' image literals image' literals' c l.state e step stays one l.holds);
-    leads = rw q (fold-turn _ l.state cs k blank h l.leads);
+    leads = rw q (fold-turn _ l.state cs k d h l.leads);
   }
 
   pub event-end :

@@ -1,5 +1,6 @@
 -- The ledger keeps 16 bits of an address. Of a program that ends below 65,536 that is all of it (`places-kept`); and how long a program is does not hang on where
 -- its branches go (`length-same`). Assumes nothing.
+use Rattle.std.specs.Prelude.{Option, Some, None}
 use mathlib.Core.Path.{◌≡◌, refl, sym, ap, ◌∙◌}
 use mathlib.Core.Bool.{Bool, true, false, ◌||◌}
 use mathlib.Core.List.{List, [], ◌∷◌, ◌++◌, map}
@@ -17,7 +18,7 @@ use Rattle.emit.specs.declared.Codes.{Codes}
 use Rattle.emit.specs.declared.Named.{Named}
 use Rattle.emit.specs.declared.Use.{Use}
 use Rattle.emit.specs.declared.Writing.{Writing}
-use Rattle.emit.specs.Codes.{list_of, code_size, code_sizes, apply_code, is_absent, apply_then, branch_code, stop_code}
+use Rattle.emit.specs.Codes.{followed, list_of, code_size, code_sizes, apply_code, apply_then, branch_code, stop_code}
 use Rattle.emit.specs.Events.{use_in, register_at, goal_at, compared_codes, bare_codes, limit_codes, step_codes, chosen_codes, table_bytes, other_codes, codes_of, writing_after, codes_by}
 use Rattle.emit.specs.Along.{ends_here, event_bytes, starts, table_along}
 use Rattle.code.specs.Places.{whole, kept, Placing, place_event, places_along}
@@ -75,7 +76,11 @@ either_same false m n m' n' e q = q
 module _ (kinds values found means marks marks' : List ℕ) where
   then_same : (row r : ℕ) (u : Use) (c d : Code) → code_size c ≡ code_size d → bytes (apply_then row r u c) ≡ bytes (apply_then row r u d)
   unfolding apply_then list_of
-  then_same row r u c d e = either_same (is_absent u) _ _ _ _ (ap (λ (n : ℕ). n + 0) e) (ap (λ (n : ℕ). code_size (apply_code row r u) + (n + 0)) e)
+  then_same row r u c d e = behind (apply_code row r u)
+    where
+      behind : (a : Option Code) → bytes (followed a c) ≡ bytes (followed a d)
+      behind None = ap (λ (n : ℕ). n + 0) e
+      behind (Some a) = ap (λ (n : ℕ). code_size a + (n + 0)) e
 
   others_same : (family t : ℕ) (n : Named) → bytes (other_codes marks family t n) ≡ bytes (other_codes marks' family t n)
   unfolding other_codes list_of code_size
@@ -87,7 +92,7 @@ module _ (kinds values found means marks marks' : List ℕ) where
       (either_same ((eqb family E.PROCEDURE || eqb family E.ELSE) || (eqb family E.END-WHILE || eqb family E.END-CHOICE)) _ _ _ _ refl refl))))
 
   step_same : (t : ℕ) → bytes (step_codes values marks t) ≡ bytes (step_codes values marks' t)
-  unfolding step_codes apply_then is_absent apply_code list_of code_size
+  unfolding step_codes apply_then apply_code list_of code_size
   step_same t = refl
 
   codes_same : (family t : ℕ) (w : Writing) (u : Use) (n : Named) → bytes (codes_of kinds values found means marks family t w u n) ≡ bytes (codes_of kinds values found means marks' family t w u n)

@@ -1,4 +1,5 @@
 -- On the tape of a tree, with the addresses that the tree has, the code pass makes the definition's instructions: a line for each way to make a tree. Assumes nothing.
+use Rattle.std.specs.Prelude as P
 use mathlib.Core.Path.{◌≡◌, refl, sym, ap, subst, ◌∙◌}
 use mathlib.Core.List.{List, [], ◌∷◌, ◌++◌, map}
 use mathlib.Core.Bool.{true}
@@ -197,7 +198,7 @@ module _ (f : Tables) (means under offsets marks : List ℕ) where
           (by_address (λ (r : ℕ). rx (opcode add_row 1) r (literal (value_at f v)) ∷ branch always (get_or marks v 0) ∷ []) g.2
           (event-begins E.END-FOR v w'' k _ refl (end-for-adds f means under offsets marks v w'')))))))
       statement-begins (choose t n xs) i j h ls ps p g w k =
-          let w' : Writing = record { aim = Absent; sign = 0; arguments = choices_count xs } in
+          let w' : Writing = record { aim = Absent; sign = P.None; arguments = choices_count xs } in
           let q = p + head_size (choices_count xs) in
           let rest : List Code = along-it no_writing (tape_choices n xs (event E.END-CASE n ∷ k)) in
           let count = arms_counted f xs in

@@ -8,6 +8,7 @@ ghost use Rattle.base.specs.Runs.{index_of};
 ghost use Rattle.translation.specs.Instructions.{literal};
 ghost use Rattle.translation.specs.Layout.{needs};
 ghost use Rattle.translation.specs.Bytes.{two_bytes, four_bytes};
+ghost use Rattle.emit.specs.Books.{wide_in, thin_in};
 ghost use Rattle.emit.specs.Codes.{list_of, code_size};
 ghost use Rattle.translation.specs.Instructions.{always};
 ghost use Rattle.emit.specs.Codes.{branch_code};
@@ -19,8 +20,8 @@ ghost use Rattle.code.specs.Coding.{bytes_in, Laid, laid_of, laid_by, lay_code, 
 use arrays::put_wide;
 use base::less;
 use emit::{
-    ALWAYS, BRANCH, Code, Codes, DATA_BASE, PROGRAM_BASE, Use, Writing, code_size, count, held,
-    nth, passed, stop,
+    ALWAYS, BRANCH, Book, Code, Codes, DATA_BASE, PROGRAM_BASE, Use, Writing, code_size, head,
+    held, passed, stop,
 };
 use ledger::{THIN_LIMIT, put_written, written};
 
@@ -90,15 +91,13 @@ pub fn places(tape: &[u32], kinds: &[u8], wide: &[u64], thin: &mut [u16]) -> usi
     let mut p: usize = 0;
     let mut w = Writing {
         aim: Use::Absent,
-        sign: 0,
+        sign: None,
         arguments: 0,
     };
-    let mut i: usize = 0;
-    while i < tape.len() {
-        let e = tape[i];
-        let op = tape::op(e);
-        let t = tape::token(e);
-        let behind = passed(kinds, wide, thin, op, t, p, w);
+    for e in tape {
+        let op = tape::op(*e);
+        let t = tape::token(*e);
+        let behind = passed(Book { kinds, wide, thin }, op, t, p, w);
         let q = behind.at;
         let aim = w.aim;
         mark_after(
@@ -112,7 +111,6 @@ pub fn places(tape: &[u32], kinds: &[u8], wide: &[u64], thin: &mut [u16]) -> usi
         let next = behind.writing;
         w = next;
         p = q;
-        i += 1;
     }
     p
 }
@@ -154,14 +152,10 @@ fn find(literals: &[u64], count: usize, v: u64) -> usize
     requires { count ≤ length literals.now }
     ensures { (result ≡ index_of v (take count literals.now)) × (result ≤ count) }
 {
-    let mut i: usize = 0;
-    while i < count {
-        if literals[i] == v {
-            return i;
-        }
-        i += 1;
-    }
-    i
+    literals[..count]
+        .iter()
+        .position(|x| *x == v)
+        .unwrap_or(count)
 }
 
 // A literal that was found, or is entered as the last of them.
@@ -225,26 +219,45 @@ pub struct Reached {
     pub literals: usize,
 }
 
-// Lays the instructions of an event, one behind the other.
+// Lays instructions, one behind the other.
+fn lay_each(
+    image: &mut [u8],
+    literals: &mut [u64],
+    start: u64,
+    from: Reached,
+    codes: &[Code],
+) -> Reached
+    requires { (from.literals ≤ length literals.old) × (length literals.old ≤ 4294967296) × (start < 1099511627776) × (from.length + 4 * length codes.now < code_limit) }
+    ensures { ((s : Laid) → Holds (length literals.old) from.length from.literals image.old literals.old s
+        → Holds (length literals.old) result.length result.literals image.new literals.new (lay_all start codes.now s))
+        × (result.literals ≤ from.literals + length codes.now) × (result.literals ≤ length literals.old) × (result.length ≤ from.length + 4 * length codes.now) }
+{
+    let mut p: usize = from.length;
+    let mut n: usize = from.literals;
+    for c in codes {
+        n = lay_code(image, literals, start, p, n, *c);
+        p += code_size(*c);
+    }
+    Reached {
+        length: p,
+        literals: n,
+    }
+}
+
+// Lays the instructions of an event.
 fn lay_codes(image: &mut [u8], literals: &mut [u64], start: u64, from: Reached, m: Codes) -> Reached
     requires { (from.literals ≤ length literals.old) × (length literals.old ≤ 4294967296) × (start < 1099511627776) × (from.length + 24 < code_limit) }
     ensures { ((s : Laid) → Holds (length literals.old) from.length from.literals image.old literals.old s
         → Holds (length literals.old) result.length result.literals image.new literals.new (lay_all start (list_of m) s))
         × (result.literals ≤ from.literals + 6) × (result.literals ≤ length literals.old) × (result.length ≤ from.length + 24) }
 {
-    let last = count(m);
-    let mut p: usize = from.length;
-    let mut n: usize = from.literals;
-    let mut k: usize = 0;
-    while k < last {
-        let c = nth(m, k);
-        n = lay_code(image, literals, start, p, n, c);
-        p += code_size(c);
-        k += 1;
-    }
-    Reached {
-        length: p,
-        literals: n,
+    match m {
+        Codes::None => from,
+        Codes::One(c) => lay_each(image, literals, start, from, &[c]),
+        Codes::Both(c, d) => lay_each(image, literals, start, from, &[c, d]),
+        Codes::Head(r, n, at, end) => {
+            lay_each(image, literals, start, from, &head(r, n, at, end))
+        }
     }
 }
 
@@ -292,40 +305,29 @@ fn lay_entry(image: &mut [u8], at: usize, family: u32, depth: usize, from: usize
     at
 }
 
-// Behind the head of a CASE, the event at i, its table: "one always-branch each", to where its statements start, which are passed for it. Where the table ends.
-fn lay_table(
-    tape: &[u32],
-    i: usize,
-    kinds: &[u8],
-    wide: &[u64],
-    thin: &[u16],
-    w: Writing,
-    image: &mut [u8],
-    at: usize,
-) -> usize
-    requires { (i < length tape.now) × (length tape.now ≤ 2 * TOKEN-LIMIT) × (at + 4 * length tape.now < code_limit) }
+// Behind the head of a CASE, the event e, its table: "one always-branch each", to where its statements start, which are passed for it along the rest of the tape.
+// Where the table ends.
+fn lay_table(e: u32, rest: &[u32], book: Book, w: Writing, image: &mut [u8], at: usize) -> usize
+    requires { (length rest.now < 2 * TOKEN-LIMIT) × (at + 4 * length rest.now < code_limit) }
     ensures { ((start : ℕ) (literals : List ℕ) → laid_of result image.new literals ≡ lay_all start
-        (table_in kinds.now (wide_of wide.now) (thin_of thin.now) (get_or tape.now i 0 % EVENTS) (get_or tape.now i 0 / EVENTS) w
-        (drop (i + 1) tape.now)) (laid_of at image.old literals)) × (result ≤ at + 4 * length tape.now) }
+        (table_in book.entry.kinds.now (wide_in book.entry) (thin_in book.entry) (e % EVENTS) (e / EVENTS) w rest.now) (laid_of at image.old literals))
+        × (result ≤ at + 4 * length rest.now) }
 {
-    let e = tape[i];
     if tape::family(tape::op(e)) != tape::CHOSEN {
         return at;
     }
-    let mut from = written(thin, tape::token(e));
+    let mut from = written(book.thin, tape::token(e));
     let mut p = from;
     let mut depth: usize = 1;
     let mut v = w;
     let mut end = at;
-    let mut j = i + 1;
-    while j < tape.len() {
+    for x in rest {
         if depth == 0 {
             return end;
         }
-        let e = tape[j];
-        let op = tape::op(e);
+        let op = tape::op(*x);
         let family = tape::family(op);
-        let behind = passed(kinds, wide, thin, op, tape::token(e), p, v);
+        let behind = passed(book, op, tape::token(*x), p, v);
         let q = behind.at;
         end = lay_entry(image, end, family, depth, from);
         from = start_after(family, depth, from, q);
@@ -333,7 +335,6 @@ fn lay_table(
         let next = behind.writing;
         v = next;
         p = q;
-        j += 1;
     }
     end
 }
@@ -341,16 +342,14 @@ fn lay_table(
 // The program's bytes in its image, and the literals that it needs.
 pub fn write_code(
     tape: &[u32],
-    kinds: &[u8],
-    wide: &[u64],
-    thin: &[u16],
+    book: Book,
     start: u64,
     image: &mut [u8],
     literals: &mut [u64],
 ) -> Reached
     requires { (length tape.now ≤ 2 * TOKEN-LIMIT) × (length literals.old ≤ 4294967296) × (start < 1099511627776) }
     ensures { Holds (length literals.old) result.length result.literals image.new literals.new
-        (code_in start kinds.now (wide_of wide.now) (thin_of thin.now) image.old tape.now)
+        (code_in start book.entry.kinds.now (wide_in book.entry) (thin_in book.entry) image.old tape.now)
         × (result.literals ≤ 6 * length tape.now + 1) }
 {
     let mut at = Reached {
@@ -359,25 +358,22 @@ pub fn write_code(
     };
     let mut w = Writing {
         aim: Use::Absent,
-        sign: 0,
+        sign: None,
         arguments: 0,
     };
-    let mut i: usize = 0;
-    while i < tape.len() {
-        let e = tape[i];
-        let op = tape::op(e);
-        let t = tape::token(e);
-        let made = emit::event(kinds, wide, thin, op, t, w);
+    for (i, e) in tape.iter().enumerate() {
+        let op = tape::op(*e);
+        let t = tape::token(*e);
+        let made = emit::event(book, op, t, w);
         let codes = made.codes;
         let from = lay_codes(image, literals, start, at, codes);
         let next = made.writing;
-        let length = lay_table(tape, i, kinds, wide, thin, next, image, from.length);
+        let length = lay_table(*e, &tape[i + 1..], book, next, image, from.length);
         at = Reached {
             length,
             literals: from.literals,
         };
         w = next;
-        i += 1;
     }
     let p = at.length;
     let n = lay_code(image, literals, start, p, at.literals, stop());

@@ -1,2 +1,1 @@
--- Laws behind the comparison of object texts.
-pub mod Prefix
+-- The functions' proofs stand in folders of their names.

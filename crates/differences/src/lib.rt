@@ -1,19 +1,12 @@
 // Where a stored object text differs from what its source becomes: the first line that does, and what it is.
-#![tactic(auto)]
+#![tactic(auto, using(figures::proofs::Writing::then))]
 
 ghost use Rattle.std.specs.Prelude.{◌≡◌, ◌+◌, ◌≤◌, ◌<◌, ◌^◌, length, take, drop};
-ghost use Rattle.figures.specs.Writing.{Adds, Holds};
+ghost use Rattle.figures.specs.Writing.{Holds, Puts};
 ghost use Rattle.differences.specs.Differences.{caret_text, common as common_of, difference_at, difference_text, end_text, head_text, hint_text, kind_of, line_at, line_kind, lines_text, offset_text, about_text, shown_text};
 
 use excerpts::put_visible;
-use figures::{byte, front, part, put_all, put_phrase, put_times, rest};
-
-// What a line is, by its second digit.
-const KINDS: [u8; 102] = *b"behind the last line\n\
-    the head of the program\n\
-    the head of segment %\n\
-    contents of segment %\n\
-    the last line";
+use figures::{Text, byte, front, part, rest};
 
 const NEWLINE: u8 = 10;
 
@@ -22,19 +15,10 @@ const SHOWN: usize = 100;
 
 // How many bytes two texts begin with in common.
 fn common(s: &[u8], t: &[u8]) -> usize
-    ensures { (result ≡ common_of s.now t.now) × (result ≤ length s.now) }
+    ensures value { result ≡ common_of s.now t.now }
+    ensures within { result ≤ length s.now }
 {
-    let mut i: usize = 0;
-    while i < s.len() {
-        if t.len() <= i {
-            return i;
-        }
-        if s[i] != t[i] {
-            return i;
-        }
-        i += 1;
-    }
-    i
+    s.iter().zip(t).take_while(|(a, b)| a == b).count()
 }
 
 fn line_at(made: &[u8], stored: &[u8]) -> usize
@@ -43,139 +27,122 @@ fn line_at(made: &[u8], stored: &[u8]) -> usize
     figures::part_count(front(made, common(made, stored)), NEWLINE)
 }
 
-fn kind_of(b: u8) -> usize
-    ensures { result ≡ kind_of b }
+// What a line is, by its second digit; `%` stands for the segment's number.
+fn kind(b: u8) -> &'static [u8]
+    ensures { result.now ≡ kind_of b }
 {
-    if b == b'1' {
-        return 1;
+    match b {
+        b'1' => b"the head of the program",
+        b'2' => b"the head of segment %",
+        b'0' => b"contents of segment %",
+        b'F' => b"the last line",
+        _ => b"behind the last line",
     }
-    if b == b'2' {
-        return 2;
-    }
-    if b == b'0' {
-        return 3;
-    }
-    if b == b'F' {
-        return 4;
-    }
-    0
 }
 
-fn put_offset(out: &mut [u8], at: usize, line: &[u8]) -> usize
-    ensures { Adds (offset_text line.now) out.old at out.new result }
+fn put_offset(text: &mut Text, line: &[u8])
+    ensures { Puts (offset_text line.now) text.old text.new }
 {
-    if byte(line, 1) != b'0' {
-        return at;
+    if byte(line, 1) == b'0' {
+        text.put_all(b" from offset #");
+        text.put_all(front(rest(line, 4), 4));
     }
-    let begun = put_all(out, at, b" from offset #");
-    put_all(out, begun, front(rest(line, 4), 4))
 }
 
-fn put_kind(out: &mut [u8], at: usize, line: &[u8]) -> usize
-    ensures { Adds (line_kind line.now) out.old at out.new result }
+fn put_kind(text: &mut Text, line: &[u8])
+    ensures { Puts (line_kind line.now) text.old text.new }
 {
-    let segment = figures::digit_of(byte(line, 3));
-    let told = put_phrase(out, at, &KINDS, kind_of(byte(line, 1)), segment);
-    put_offset(out, told, line)
+    let segment = figures::digit_of(byte(line, 3)).unwrap_or(16);
+    text.put_filled(kind(byte(line, 1)), segment);
+    put_offset(text, line);
 }
 
-fn put_end(out: &mut [u8], at: usize, ends: bool) -> usize
-    ensures { Adds (end_text ends) out.old at out.new result }
+fn put_end(text: &mut Text, ends: bool)
+    ensures { Puts (end_text ends) text.old text.new }
 {
     if ends {
-        return put_all(out, at, b", where the stored text ends\n");
+        text.put_all(b", where the stored text ends\n");
+    } else {
+        text.put_all(b"\n");
     }
-    put_all(out, at, b"\n")
 }
 
-fn put_about(
-    out: &mut [u8],
-    at: usize,
-    object: &[u8],
-    line: usize,
-    column: usize,
-    source: &[u8],
-) -> usize
-    ensures { Adds (about_text object.now line column source.now) out.old at out.new result }
+fn put_about(text: &mut Text, object: &[u8], line: usize, column: usize, source: &[u8])
+    ensures { Puts (about_text object.now line column source.now) text.old text.new }
 {
-    let placed = excerpts::put_place(out, at, object, line, column);
-    let parted = put_all(out, placed, b": not what ");
-    let named = put_all(out, parted, source);
-    put_all(out, named, b" becomes: ")
+    excerpts::put_place(text, object, line, column);
+    text.put_all(b": not what ");
+    text.put_all(source);
+    text.put_all(b" becomes: ");
 }
 
-fn put_shown(out: &mut [u8], at: usize, name: &[u8], line: &[u8]) -> usize
-    ensures { Adds (shown_text name.now line.now) out.old at out.new result }
+fn put_shown(text: &mut Text, name: &[u8], line: &[u8])
+    ensures { Puts (shown_text name.now line.now) text.old text.new }
 {
-    let named = put_all(out, at, name);
-    let shown = put_visible(out, named, front(line, SHOWN));
-    put_all(out, shown, b"\n")
+    text.put_all(name);
+    put_visible(text, front(line, SHOWN));
+    text.put_all(b"\n");
 }
 
-fn put_caret(out: &mut [u8], at: usize, before: usize) -> usize
+fn put_caret(text: &mut Text, before: usize)
     requires { before < 2 ^ 63 }
-    ensures { Adds (caret_text before) out.old at out.new result }
+    ensures { Puts (caret_text before) text.old text.new }
 {
-    let blank = put_times(out, at, b' ', 10 + before);
-    put_all(out, blank, b"^\n")
+    text.put_times(b' ', 10 + before);
+    text.put_all(b"^\n");
 }
 
-fn put_lines(out: &mut [u8], at: usize, was: &[u8], is: &[u8]) -> usize
-    ensures { Adds (lines_text was.now is.now) out.old at out.new result }
+fn put_lines(text: &mut Text, was: &[u8], is: &[u8])
+    ensures { Puts (lines_text was.now is.now) text.old text.new }
 {
-    let stored = put_shown(out, at, b"  stored  ", was);
-    let becomes = put_shown(out, stored, b"  becomes ", is);
-    put_caret(out, becomes, common(is, was))
+    put_shown(text, b"  stored  ", was);
+    put_shown(text, b"  becomes ", is);
+    put_caret(text, common(is, was));
 }
 
 fn put_head(
-    out: &mut [u8],
+    text: &mut Text,
     source: &[u8],
     object: &[u8],
     line: usize,
     is: &[u8],
     was: &[u8],
     ends: bool,
-) -> usize
+)
     requires { line < 2 ^ 63 }
-    ensures { Adds (head_text source.now object.now line is.now was.now ends) out.old 0 out.new result }
+    ensures { Puts (head_text source.now object.now line is.now was.now ends) text.old text.new }
 {
     let column = common(is, was) + 1;
-    let placed = put_about(out, 0, object, line + 1, column, source);
-    let told = put_kind(out, placed, is);
-    put_end(out, told, ends)
+    put_about(text, object, line + 1, column, source);
+    put_kind(text, is);
+    put_end(text, ends);
 }
 
-fn put_hint(out: &mut [u8], at: usize, stored: &[u8]) -> usize
-    ensures { Adds (hint_text stored.now) out.old at out.new result }
+fn put_hint(text: &mut Text, stored: &[u8])
+    ensures { Puts (hint_text stored.now) text.old text.new }
 {
-    if figures::same(front(stored, 2), b"01") {
-        return at;
+    if !stored.starts_with(b"01") {
+        text.put_all(b"  an object text begins with 01: this is none, and may be a source\n");
     }
-    put_all(
-        out,
-        at,
-        b"  an object text begins with 01: this is none, and may be a source\n",
-    )
 }
 
 fn put_difference(
-    out: &mut [u8],
+    text: &mut Text,
     source: &[u8],
     object: &[u8],
     made: &[u8],
     stored: &[u8],
     line: usize,
-) -> usize
+)
     requires { line < 2 ^ 63 }
-    ensures { Adds (difference_at source.now object.now made.now stored.now line) out.old 0 out.new result }
+    ensures { Puts (difference_at source.now object.now made.now stored.now line) text.old text.new }
 {
     let is = part(made, NEWLINE, line);
     let was = part(stored, NEWLINE, line);
     let ends = stored.len() <= common(made, stored);
-    let headed = put_head(out, source, object, line, is, was, ends);
-    let shown = put_lines(out, headed, was, is);
-    put_hint(out, shown, stored)
+    put_head(text, source, object, line, is, was, ends);
+    put_lines(text, was, is);
+    put_hint(text, stored);
 }
 
 // What is said of two object texts that differ, with the names of source and object, into lent room; how many bytes it has there.
@@ -183,5 +150,7 @@ pub fn difference(out: &mut [u8], source: &[u8], object: &[u8], made: &[u8], sto
     ensures { Holds out.old (difference_text source.now object.now made.now stored.now) out.new result }
 {
     let line = line_at(made, stored);
-    put_difference(out, source, object, made, stored, line)
+    let mut text = Text::new(out);
+    put_difference(&mut text, source, object, made, stored, line);
+    text.end()
 }

@@ -1,4 +1,5 @@
 -- What the events of declarations and statements make: the definition's instruction, or none. Branches go where `marks` says. Assumes nothing.
+use Rattle.std.specs.Prelude as P
 use mathlib.Core.Path.{◌≡◌, refl, ap, ◌∙◌}
 use mathlib.Core.Bool.{true}
 use mathlib.Core.List.{List, [], ◌∷◌, ◌++◌}
@@ -18,7 +19,7 @@ use Rattle.translation.specs.Code.{head_size, case_head}
 use Rattle.emit.specs.declared.Codes.TheVariants.{Head}
 use Rattle.emit.specs.declared.Use.TheVariants.{Absent}
 use Rattle.emit.specs.declared.Writing.{Writing}
-use Rattle.emit.specs.Codes.{list_of, apply_code, is_absent, apply_then, return_code, link_code, base_code}
+use Rattle.emit.specs.Codes.{list_of, apply_code, apply_then, return_code, link_code, base_code}
 use Rattle.emit.specs.Events.{register_at, goal_at, no_writing, written_after, step_codes, chosen_codes, other_codes, codes_of, writing_after, codes_by}
 use Rattle.emit.specs.Along.{code_for}
 use Rattle.emit.proofs.Operands.{register-at, return-at}
@@ -77,7 +78,7 @@ module _ (f : Tables) (means under offsets marks : List ℕ) where
 
   pub end-for-adds : (v : ℕ) (w : Writing)
       → Adds E.END-FOR v w (rx (opcode add_row 1) (get_or marks (v + 1) 0) (literal (value_at f v)) ∷ branch always (get_or marks v 0) ∷ [])
-  unfolding list_of code_for step_codes apply_then is_absent apply_code form_at register_at goal_at other_codes codes_of codes_by written_after writing_after
+  unfolding list_of code_for step_codes apply_then apply_code form_at register_at goal_at other_codes codes_of codes_by written_after writing_after
   end-for-adds v w = (refl, refl)
 
   pub end-choice-adds : (t : ℕ) (w : Writing) → Adds E.END-CHOICE t w (branch always (get_or marks (t + 1) 0) ∷ [])
@@ -85,7 +86,7 @@ module _ (f : Tables) (means under offsets marks : List ℕ) where
   end-choice-adds t w = (refl, refl)
 
   -- before a CASE's register, how many statements there are
-  pub listed-makes : (c : ℕ) (w : Writing) → Makes f means under offsets marks E.LISTED c w [] (record { aim = Absent; sign = 0; arguments = c })
+  pub listed-makes : (c : ℕ) (w : Writing) → Makes f means under offsets marks E.LISTED c w [] (record { aim = Absent; sign = P.None; arguments = c })
   unfolding list_of form_at register_at goal_at other_codes codes_of codes_by written_after writing_after
   listed-makes c w = (refl, refl)
 

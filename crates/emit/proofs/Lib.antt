@@ -1,6 +1,5 @@
 -- Laws of the instructions of events, and of trees.
 pub mod Tables
-pub mod Lists
 pub mod Knowing
 pub mod Operands
 pub mod Written

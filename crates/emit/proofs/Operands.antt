@@ -16,7 +16,7 @@ use Rattle.grammar.specs.Pinned.{head_of}
 use Rattle.tape.specs.Tape.{event, shape_by, shape, tape_designator, tape_operand, width_of}
 use Rattle.static_rules.specs.Meaning.{Meaning, nothing, register, cell, routine, function, Cell, Based, register_of, function_of, is_full, is_long, long_operand}
 use Rattle.static_rules.specs.Tables.{Tables, kind_at, value_at, meaning_at}
-use Rattle.tables.specs.Packed.{low, number_in, width_number_in, width_by, width_in, based_in, cell_in, unpacked, meanings_of, register_in, packed_at}
+use Rattle.tables.specs.Packed.{low, number_in, width_number_in, width_by, width_in, coded_width, based_in, cell_in, unpacked, meanings_of, register_in, packed_at}
 use Rattle.tables.proofs.Meanings.{low-is, by-sort, register-alone, routine-alone, register-is, meaning-at}
 use Rattle.translation.specs.Instructions.{element, literal}
 use Rattle.translation.specs.Core as C
@@ -71,7 +71,7 @@ offset_at offsets t = low (get_or offsets t 0)
 
 -- an element of a cell
 abbrev pub stands : (offsets : List ℕ) → Cell → (offset index : ℕ) → Use
-stands offsets c o x = Stored (width_of c.width) x c.base.register (offset_at offsets c.name + o)
+stands offsets c o x = Stored (coded_width (width_of c.width)) x c.base.register (offset_at offsets c.name + o)
 
 module _ (f : Tables) (means under offsets : List ℕ) where
   abbrev pub placed : Designator → Use
@@ -134,7 +134,7 @@ module _ (f : Tables) (means under : List ℕ) (table : f.means ≡ meanings_of 
         (λ e. rw e (in-register (number_in m)))
         (λ e g. rw (e, (routine-alone m g).1) (routed (number_in m)))
         (λ e g q. rw (e, q, subscript-is d.name d.subscript d.index i j h, index_is d.name d.subscript d.index i j h)
-        (subst (λ (y : ℕ). P (cell its) (stored its.width (element its o x)) (Stored y x its.base.register (offset_at offsets at + o))) (width_is m) (in_Cell its o x)))
+        (subst (λ (y : ℕ). P (cell its) (stored its.width (element its o x)) (Stored (coded_width y) x its.base.register (offset_at offsets at + o))) (width_is m) (in_Cell its o x)))
         (λ e g q y. rw (e, q) (working (number_in m)))
         (λ e g q y. rw (e, q) unmeant))
       where

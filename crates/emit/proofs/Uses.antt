@@ -1,4 +1,5 @@
 -- The instruction of a use of a function, by its last argument and how many there are, is the definition's with the places of cells. Assumes nothing.
+use Rattle.std.specs.Prelude as P
 use mathlib.Core.Path.{◌≡◌, refl, ap, subst, ◌∙◌}
 use mathlib.Core.Bool.{Bool, true, false}
 use mathlib.Core.List.{List, [], ◌∷◌}
@@ -33,7 +34,7 @@ use Rattle.emit.proofs.Written.{coded, function-is}
 -- ── what is written after arguments ──
 
 abbrev pub argued : Writing → Use → Writing
-argued w u = record { aim = u; sign = 0; arguments = more w.arguments }
+argued w u = record { aim = u; sign = P.None; arguments = more w.arguments }
 
 module _ (f : Tables) (means under offsets : List ℕ) where
   unfoldable pub argued_all : Writing → List Operand → Writing

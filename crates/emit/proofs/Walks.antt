@@ -1,5 +1,6 @@
 -- A walk along a tape that takes in the instructions of each event: over an assignment and over a condition it takes in the definition's instructions with
 -- the places of cells, and over a use. `along` is such a walk, and so is the pass of addresses, but where it sets an address. Assumes nothing.
+use Rattle.std.specs.Prelude.{Option, None}
 use mathlib.Core.Path.{◌≡◌, refl, sym, ap, ap₂, ◌∙◌}
 use mathlib.Core.Bool.{Bool, true, false}
 use mathlib.Core.List.{List, [], ◌∷◌, ◌++◌}
@@ -22,13 +23,14 @@ use Rattle.tables.specs.Packed.{meanings_of, register_in, packed_at}
 use Rattle.translation.specs.Instructions.{compare_row, false_mask}
 use Rattle.translation.specs.Core.{exit_mask, to_register, assignment_of, compare_with, test_of, mask_of, control_of, function_code}
 use Rattle.emit.specs.declared.Use.{Use}
+use Rattle.emit.specs.declared.Sign as Signs
 use Rattle.emit.specs.declared.Use.TheVariants.{Absent, Held, Number, Stored}
 use Rattle.emit.specs.declared.Code.{Code}
 use Rattle.emit.specs.declared.Writing.{Writing}
-use Rattle.emit.specs.Codes.{list_of, is_absent, apply_codes, apply_then, held_in, first_codes, next_codes, branch_code}
+use Rattle.emit.specs.Codes.{list_of, apply_code, apply_codes, apply_then, held_in, first_codes, next_codes, branch_code}
 use Rattle.functions.specs.Arguments.{function_in}
 use Rattle.emit.specs.Events.{place_in, use_in, register_at, written_after, no_writing, compared_codes, bare_codes, limit_codes, used_codes, other_codes, codes_of, writing_after, codes_by}
-use Rattle.emit.specs.Along.{code_for, sign_event, target_writing, control_writing}
+use Rattle.emit.specs.Along.{code_for, sign_of, target_writing, control_writing}
 use Rattle.emit.proofs.Operands.{Small, shape_of, by_form, by_shape, operand-tape, register-at, placed, used}
 use Rattle.emit.proofs.Uses.{argued, argued_all, use-is}
 use Rattle.emit.proofs.Written.{coded, tested, chain_codes, assigned_codes, apply-is, register-assigned, target-assigned}
@@ -49,13 +51,13 @@ no_table family q = each (λ (x : ℕ). eqb x E.CHOSEN ≡ false) unmarking (ref
 
 -- an instruction of the code table, and another behind it
 then-list : (row r : ℕ) (u : Use) (c : Code) → list_of (apply_then row r u c) ≡ list_of (apply_codes row r u) ++ (c ∷ [])
-unfolding list_of apply_codes apply_then is_absent
+unfolding list_of apply_codes apply_then apply_code
 then-list row r Absent c = refl
 then-list row r (Held s) c = refl
 then-list row r (Number v) c = refl
 then-list row r (Stored w x b d) c = refl
 
-abbrev writing_of : Use → ℕ → Writing
+abbrev writing_of : Use → Option Signs.Sign → Writing
 writing_of aim sign = record { aim = aim; sign = sign; arguments = 0 }
 
 module _ (f : Tables) (means under offsets marks : List ℕ) where
@@ -90,16 +92,16 @@ module _ (f : Tables) (means under offsets marks : List ℕ) where
   abbrev controlled : Designator → Use
   controlled d = Held (register_in (packed_at f.found means d.name))
 
-  target-does : (d : Designator) (w : Writing) → Does (E.TARGET + shape d) d.name w [] (writing_of (placed f means under offsets d) 0)
+  target-does : (d : Designator) (w : Writing) → Does (E.TARGET + shape d) d.name w [] (writing_of (placed f means under offsets d) None)
   unfolding list_of form_at use_in other_codes codes_of codes_by written_after writing_after
   target-does d w =
-      by_form (λ n. Does (E.TARGET + n) d.name w [] (writing_of (place_in f.values f.found means under offsets n d.name) 0))
+      by_form (λ n. Does (E.TARGET + n) d.name w [] (writing_of (place_in f.values f.found means under offsets n d.name) None))
       (refl, (refl, refl)) (refl, (refl, refl)) (refl, (refl, refl)) (refl, (refl, refl)) d
 
-  control-does : (d : Designator) (w : Writing) → Does (E.CONTROL + shape d) d.name w [] (writing_of (controlled d) 0)
+  control-does : (d : Designator) (w : Writing) → Does (E.CONTROL + shape d) d.name w [] (writing_of (controlled d) None)
   unfolding list_of form_at register_at other_codes codes_of codes_by written_after writing_after
   control-does d w =
-      by_form (λ n. Does (E.CONTROL + n) d.name w [] (writing_of (controlled d) 0)) (refl, (refl, refl)) (refl, (refl, refl)) (refl, (refl, refl)) (refl, (refl, refl)) d
+      by_form (λ n. Does (E.CONTROL + n) d.name w [] (writing_of (controlled d) None)) (refl, (refl, refl)) (refl, (refl, refl)) (refl, (refl, refl)) (refl, (refl, refl)) d
 
   first_does : (a : Operand) (w : Writing) → Does (E.FIRST + shape_of a) (head_of a) w (list_of (first_codes w.aim w.sign (used f means under offsets a))) w
   unfolding form_at codes_of codes_by written_after writing_after
@@ -185,12 +187,12 @@ module _ (f : Tables) (means under offsets marks : List ℕ) where
       quietly : (op t : ℕ) (s : S) (w : Writing) (k : List ℕ) {w' : Writing} → Does op t w [] w' → walk.run s w (event op t ∷ k) ≡ walk.run s w' k
       quietly op t s w k {w'} p = via op t s w k p ∙ ap (λ (x : S). walk.run x w' k) (walk.emit-none s)
 
-      sign : (g : Sign) (u : Use) (s : S) (k : List ℕ) → walk.run s (writing_of u 0) (tape_sign g k) ≡ walk.run s (writing_of u (sign_event g)) k
+      sign : (g : Sign) (u : Use) (s : S) (k : List ℕ) → walk.run s (writing_of u None) (tape_sign g k) ≡ walk.run s (writing_of u (sign_of g)) k
       unfolding tape_sign list_of form_at other_codes codes_of codes_by written_after writing_after
       sign plain u s k = refl
-      sign (abs t) u s k = quietly E.ABS t s (writing_of u 0) k (refl, (refl, refl))
-      sign (neg t) u s k = quietly E.NEG t s (writing_of u 0) k (refl, (refl, refl))
-      sign (neg_abs t) u s k = quietly E.NEG-ABS t s (writing_of u 0) k (refl, (refl, refl))
+      sign (abs t) u s k = quietly E.ABS t s (writing_of u None) k (refl, (refl, refl))
+      sign (neg t) u s k = quietly E.NEG t s (writing_of u None) k (refl, (refl, refl))
+      sign (neg_abs t) u s k = quietly E.NEG-ABS t s (writing_of u None) k (refl, (refl, refl))
 
       operand : (op : ℕ) (a : Operand) (s : S) (w : Writing) (k : List ℕ) {cs : List Code} → Does (op + shape_of a) (head_of a) w cs w
           → walk.run s w (tape_operand op a k) ≡ walk.run (walk.emit cs s) w k
@@ -207,13 +209,13 @@ module _ (f : Tables) (means under offsets marks : List ℕ) where
 
       -- op: TARGET or CONTROL
       assignment :
-          (op : ℕ) (aimed : Designator → Use) → ((d : Designator) (w : Writing) → Does (op + shape d) d.name w [] (writing_of (aimed d) 0))
+          (op : ℕ) (aimed : Designator → Use) → ((d : Designator) (w : Writing) → Does (op + shape d) d.name w [] (writing_of (aimed d) None))
           → (a : Assignment) (i j : ℕ) → is_assignment f.kinds a i j → (s : S) (w : Writing) (k : List ℕ)
           → walk.run s w (tape_assignment op a k)
-          ≡ walk.run (walk.emit (assigned_codes f means under offsets (aimed a.target) a) s) (writing_of (aimed a.target) (sign_event a.sign)) k
+          ≡ walk.run (walk.emit (assigned_codes f means under offsets (aimed a.target) a) s) (writing_of (aimed a.target) (sign_of a.sign)) k
       unfolding is_assignment tape_assignment tape_designator assigned_codes
       assignment op aimed does a i j (m, h, (b, (n, hs, (p, ho, ht)))) s w k =
-          let w' = writing_of (aimed a.target) (sign_event a.sign) in
+          let w' = writing_of (aimed a.target) (sign_of a.sign) in
           quietly (op + shape a.target) a.target.name s w _ (does a.target w)
           ∙ (sign a.sign (aimed a.target) s _
           ∙ (operand E.FIRST a.first s w' _ (first_does a.first w')

@@ -11,6 +11,7 @@ use Rattle.token.specs.Kinds as K
 use Rattle.grammar.specs.Tree.{Operand, number, place, Sign, plain, abs, neg, neg_abs, Term, Assignment, Width, full, short, byte}
 use Rattle.grammar.specs.Derives.{is_operand, are_terms, is_assignment}
 use Rattle.tape.specs.Tape.{width_of}
+use Rattle.tables.specs.Packed.{coded_width}
 use Rattle.static_rules.specs.Functions.{Function}
 use Rattle.static_rules.specs.Meaning.{Meaning, nothing, register, cell, routine, function, is_full}
 use Rattle.static_rules.specs.Tables.{Tables, kind_at, meaning_at}
@@ -25,10 +26,10 @@ use Rattle.emit.specs.declared.Use.TheVariants.{Absent, Held, Stored}
 use Rattle.emit.specs.declared.Code.{Code}
 use Rattle.emit.specs.declared.Code.TheVariants.{Four}
 use Rattle.emit.specs.declared.Codes.TheVariants.{None}
-use Rattle.emit.specs.Codes.{list_of, column_of, apply_code, is_absent, apply_codes, apply_then, sign_code, signed_codes, load_codes, held_in, amount_in, is_long_use, product_register, term_codes, first_codes, next_codes, half_of, function_codes}
+use Rattle.emit.specs.Codes.{list_of, column_of, apply_code, apply_codes, apply_then, sign_code, signed_codes, load_codes, held_in, amount_in, is_long_use, product_register, term_codes, first_codes, next_codes, half_of, function_codes}
 use Rattle.functions.specs.Arguments.{function_in}
 use Rattle.functions.proofs.Packed.{by-function}
-use Rattle.emit.specs.Along.{code_at, code_for, sign_event}
+use Rattle.emit.specs.Along.{code_at, code_for, sign_of}
 use Rattle.emit.proofs.Operands.{Small, offset_at, stands, placed, used, by_place, by-use}
 
 -- the definition's instructions, with the places of cells
@@ -39,7 +40,7 @@ coded offsets is = map (code_for (offset_at offsets)) is
 abbrev pub tested : (offsets : List ℕ) → List Instruction → (mask to : ℕ) → List Code
 tested offsets is mask to = coded offsets is ++ (code_for (offset_at offsets) (branch mask to) ∷ [])
 
-column-is : (w : Width) → column_of (width_of w) ≡ column w
+column-is : (w : Width) → column_of (coded_width (width_of w)) ≡ column w
 column-is full = refl
 column-is short = refl
 column-is (byte false) = refl
@@ -63,7 +64,7 @@ module _ (f : Tables) (means under offsets : List ℕ) where
   chain_codes aim (t ∷ ts) = list_of (next_codes aim (kind_at f t.operator) (used f means under offsets t.operand)) ++ chain_codes aim ts
 
   unfoldable pub assigned_codes : Use → Assignment → List Code
-  assigned_codes aim a = list_of (first_codes aim (sign_event a.sign) (used f means under offsets a.first)) ++ chain_codes aim a.rest
+  assigned_codes aim a = list_of (first_codes aim (sign_of a.sign) (used f means under offsets a.first)) ++ chain_codes aim a.rest
 
   -- a target that is no register takes no chain
   no-chain : (aim : Use) → ((kind : ℕ) (u : Use) → next_codes aim kind u ≡ None) → (ts : List Term) → chain_codes aim ts ≡ []
@@ -79,18 +80,18 @@ module _ (f : Tables) (means under offsets : List ℕ) (table : f.means ≡ mean
     its = used f means under offsets a
 
     pub apply-is : (row r : ℕ) → list_of (apply_codes row r its) ≡ coded offsets (apply row r (use_of f a))
-    unfolding list_of apply_codes is_absent apply_code code_for
+    unfolding list_of apply_codes apply_code code_for
     apply-is row r =
         by-use f means under table offsets small (λ s n l u v. list_of (apply_codes row r v) ≡ coded offsets (apply row r u)) refl (λ s. refl) (λ v. refl)
         (λ c o x. rw (column-is c.width)) a i j h
 
     signed_is : (op r : ℕ) → list_of (signed_codes op r its) ≡ coded offsets (signed op r (use_of f a))
-    unfolding list_of signed_codes apply_then is_absent apply_code code_for
+    unfolding list_of signed_codes apply_then apply_code code_for
     signed_is op r =
         by-use f means under table offsets small (λ s n l u v. list_of (signed_codes op r v) ≡ coded offsets (signed op r u)) refl (λ s. refl) (λ v. refl)
         (λ c o x. rw (column-is c.width)) a i j h
 
-    load_is : (g : Sign) (r : ℕ) → list_of (load_codes (sign_event g) r its) ≡ coded offsets (load g r (use_of f a))
+    load_is : (g : Sign) (r : ℕ) → list_of (load_codes (sign_of g) r its) ≡ coded offsets (load g r (use_of f a))
     unfolding load_codes sign_code
     load_is plain r = apply-is load_row r
     load_is (abs t) r = signed_is abs_op r
@@ -113,7 +114,7 @@ module _ (f : Tables) (means under offsets : List ℕ) (table : f.means ≡ mean
         by-operand (place d) = refl
 
     product_is : (r : ℕ) → list_of (apply_codes times_row (product_register r its) its) ≡ coded offsets (apply times_row (product_target f r a) (use_of f a))
-    unfolding list_of apply_codes is_absent apply_code product_register is_long_use code_for
+    unfolding list_of apply_codes apply_code product_register is_long_use code_for
     product_is r =
         by-use f means under table offsets small
         (λ s n l u v. list_of (apply_codes times_row (product_register r v) v) ≡ coded offsets (apply times_row (whether l then (r - 1) else r) u)) refl (λ s. refl) (λ v. refl)
@@ -121,7 +122,7 @@ module _ (f : Tables) (means under offsets : List ℕ) (table : f.means ≡ mean
       where
         by_width :
             (w : Width) (x b d : ℕ)
-            → list_of (apply_codes times_row (product_register r (Stored (width_of w) x b d)) (Stored (width_of w) x b d))
+            → list_of (apply_codes times_row (product_register r (Stored (coded_width (width_of w)) x b d)) (Stored (coded_width (width_of w)) x b d))
             ≡ Four (opcode times_row (column w)) (whether is_full w then (r - 1) else r) x b d ∷ []
         by_width full x b d = refl
         by_width short x b d = refl
@@ -164,7 +165,7 @@ module _ (f : Tables) (means under offsets : List ℕ) (table : f.means ≡ mean
   pub target-assigned :
       (a : Assignment) (i j : ℕ) → is_assignment f.kinds a i j
       → assigned_codes f means under offsets (placed f means under offsets a.target) a ≡ coded offsets (assignment_of f a)
-  unfolding is_assignment assigned_codes assignment_of first_codes next_codes list_of apply_codes is_absent apply_code code_for
+  unfolding is_assignment assigned_codes assignment_of first_codes next_codes list_of apply_codes apply_code code_for
   target-assigned a i j (m, h, (b, (n, hs, (p, ho, ht)))) =
       by_place f means under table offsets small (λ x u v. assigned_codes f means under offsets v a ≡ coded offsets (assigned x u))
       (no-chain f means under offsets Absent (λ k u. refl) a.rest)

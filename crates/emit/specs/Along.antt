@@ -1,5 +1,5 @@
 -- The instructions along a tape, and how the definition's instructions are laid: with the places of cells, but for a literal, whose place is found then.
-use Rattle.std.specs.Prelude.{List, [], ◌∷◌, ◌++◌, map, Bool, ◌&&◌, ℕ, ◌+◌, ◌-◌, ◌*◌, ◌/◌, ◌%◌, eqb, get_or}
+use Rattle.std.specs.Prelude.{Option, Some, None, List, [], ◌∷◌, ◌++◌, map, Bool, ◌&&◌, ℕ, ◌+◌, ◌-◌, ◌*◌, ◌/◌, ◌%◌, eqb, get_or}
 use Rattle.base.specs.Choose.{whether◌then◌else◌}
 use Rattle.grammar.specs.Tree.{Sign, plain, abs, neg, neg_abs, Assignment}
 use Rattle.tape.specs.Events as E
@@ -10,6 +10,8 @@ use Rattle.ledger.specs.Book.{Wide, Thin}
 use Rattle.static_rules.specs.Meanings.{data_base}
 use Rattle.translation.specs.Bytes.{index_register}
 use Rattle.translation.specs.Instructions.{Datum, element, literal, entry, Instruction, rr, rx, address, immediate, shift, branch, link, indexed, stop, address_op, always}
+use Rattle.emit.specs.declared.Sign as S
+use Rattle.emit.specs.declared.Sign.TheVariants.{Abs, Neg, NegAbs}
 use Rattle.emit.specs.declared.Use.TheVariants.{Held}
 use Rattle.emit.specs.declared.Code.{Code}
 use Rattle.emit.specs.declared.Code.TheVariants.{Two, Four, Literal}
@@ -97,16 +99,15 @@ code_for place stop = stop_code
 
 -- ── the assignment that is written after its tape ──
 
--- a sign's event, 0 for none
-abbrev pub sign_event : Sign → ℕ
-sign_event plain = 0
-sign_event (abs t) = E.ABS
-sign_event (neg t) = E.NEG
-sign_event (neg_abs t) = E.NEG-ABS
+abbrev pub sign_of : Sign → Option S.Sign
+sign_of plain = None
+sign_of (abs t) = Some Abs
+sign_of (neg t) = Some Neg
+sign_of (neg_abs t) = Some NegAbs
 
 unfoldable pub target_writing : (values found means under offsets : List ℕ) → Assignment → Writing
 target_writing values found means under offsets a =
-    record { aim = place_in values found means under offsets (shape a.target) a.target.name; sign = sign_event a.sign; arguments = 0 }
+    record { aim = place_in values found means under offsets (shape a.target) a.target.name; sign = sign_of a.sign; arguments = 0 }
 
 unfoldable pub control_writing : (found means : List ℕ) → Assignment → Writing
-control_writing found means a = record { aim = Held (register_in (packed_at found means a.target.name)); sign = sign_event a.sign; arguments = 0 }
+control_writing found means a = record { aim = Held (register_in (packed_at found means a.target.name)); sign = sign_of a.sign; arguments = 0 }

@@ -1,16 +1,20 @@
 -- Instructions as the code pass lays them: with their displacements, but for a literal, whose place is found when it is laid. Operands as instructions name them.
 -- The instructions of an event are a list.
-use Rattle.std.specs.Prelude.{Bool, true, false, List, [], ◌∷◌, ◌≡◌, ℕ, ◌+◌, ◌-◌, ◌*◌, ◌/◌, ◌%◌, ◌<◌, eqb, leb, get_or}
+use Rattle.std.specs.Prelude as P
+use Rattle.std.specs.Prelude.{Option, Some, Bool, true, false, List, [], ◌∷◌, ◌≡◌, ℕ, ◌+◌, ◌-◌, ◌*◌, ◌/◌, ◌%◌, ◌<◌, eqb, leb, get_or}
 use Rattle.base.specs.Choose.{whether◌then◌else◌}
 use Rattle.base.specs.Lists.{member}
 use Rattle.token.specs.Kinds as K
-use Rattle.tape.specs.Events as E
 use Rattle.static_rules.specs.Rules.{shifts}
 use Rattle.static_rules.specs.Meanings.{data_base}
 use Rattle.translation.specs.Instructions.{opcode, row_of, load_row, times_row, compare_row, store_row, abs_op, neg_op, neg_abs_op, test_op, branch_op, link_op, return_op, stop_op, shift_code, always}
 use Rattle.translation.specs.Bytes.{program_base}
 use Rattle.emit.specs.declared.Use.{Use}
 use Rattle.emit.specs.declared.Use.TheVariants.{Absent, Held, Number, Stored}
+use Rattle.tables.specs.declared.Width.{Width}
+use Rattle.tables.specs.declared.Width.TheVariants.{Full, Short, Byte, Character}
+use Rattle.emit.specs.declared.Sign.{Sign}
+use Rattle.emit.specs.declared.Sign.TheVariants.{Abs, Neg, NegAbs}
 use Rattle.emit.specs.declared.Code.{Code}
 use Rattle.emit.specs.declared.Code.TheVariants.{Two, Four, Literal}
 use Rattle.emit.specs.declared.Codes.{Codes}
@@ -36,10 +40,6 @@ list_of (Both c d) = c ∷ d ∷ []
 list_of (Head r n at end) =
     Literal (opcode compare_row 1) r 0 n ∷ branch_code 2 end ∷ Two test_op r r ∷ branch_code 12 end ∷ Four (shift_code K.SHLL) r 0 0 2 ∷ indexed_code r at ∷ []
 
--- what stands for an instruction where there is none
-abbrev pub blank : Code
-blank = Two 0 0 0
-
 -- "Two bytes", "Four bytes"
 unfoldable pub code_size : Code → ℕ
 code_size (Two op r s) = 2
@@ -64,36 +64,42 @@ IsRow k row = (k < 11) × (row ≡ get_or code_rows k 0)
 abbrev pub opcode_in : (row column : ℕ) → ℕ
 opcode_in row column = whether eqb column 0 then row / 16777216 % 256 else whether eqb column 1 then row / 65536 % 256 else whether eqb column 2 then row / 256 % 256 else row % 256
 
--- by the number of a cell's width; a byte cell has no column
-abbrev pub column_of : (width : ℕ) → ℕ
-column_of w = whether eqb w E.FULL then 1 else whether eqb w E.SHORT then 2 else 3
+-- by the width of a cell; a byte cell has no column
+abbrev pub column_of : Width → ℕ
+column_of Full = 1
+column_of Short = 2
+column_of Byte = 3
+column_of Character = 3
 
--- the instruction of a row of the code table at register r
-unfoldable pub apply_code : (row r : ℕ) → Use → Code
-apply_code row r Absent = blank
-apply_code row r (Held s) = Two (opcode row 0) r s
-apply_code row r (Number v) = Literal (opcode row 1) r 0 v
-apply_code row r (Stored w x b d) = Four (opcode row (column_of w)) r x b d
+-- the instruction of a row of the code table at register r; none for an operand that there is not
+unfoldable pub apply_code : (row r : ℕ) → Use → Option Code
+apply_code row r Absent = P.None
+apply_code row r (Held s) = Some (Two (opcode row 0) r s)
+apply_code row r (Number v) = Some (Literal (opcode row 1) r 0 v)
+apply_code row r (Stored w x b d) = Some (Four (opcode row (column_of w)) r x b d)
 
-unfoldable pub is_absent : Use → Bool
-is_absent Absent = true
-is_absent (Held s) = false
-is_absent (Number v) = false
-is_absent (Stored w x b d) = false
+abbrev pub only : Option Code → Codes
+only P.None = None
+only (Some a) = One a
 
--- none for an operand that there is not
+abbrev pub followed : Option Code → Code → Codes
+followed P.None c = One c
+followed (Some a) c = Both a c
+
 unfoldable pub apply_codes : (row r : ℕ) → Use → Codes
-apply_codes row r u = whether is_absent u then None else One (apply_code row r u)
+apply_codes row r u = only (apply_code row r u)
 
 -- and another behind it
 unfoldable pub apply_then : (row r : ℕ) → Use → Code → Codes
-apply_then row r u c = whether is_absent u then One c else Both (apply_code row r u) c
+apply_then row r u c = followed (apply_code row r u) c
 
 -- ── assignments ──
 
--- "ABS 10, NEG 13, NEG ABS 11", by the sign's event
-unfoldable pub sign_code : ℕ → ℕ
-sign_code sign = whether eqb sign E.ABS then abs_op else whether eqb sign E.NEG then neg_op else neg_abs_op
+-- "ABS 10, NEG 13, NEG ABS 11"
+abbrev pub sign_code : Sign → ℕ
+sign_code Abs = abs_op
+sign_code Neg = neg_op
+sign_code NegAbs = neg_abs_op
 
 -- "a cell or number is loaded first, then the instruction names the target twice."
 unfoldable pub signed_codes : (op r : ℕ) → Use → Codes
@@ -102,9 +108,9 @@ signed_codes op r (Held s) = One (Two op r s)
 signed_codes op r (Number v) = apply_then load_row r (Number v) (Two op r r)
 signed_codes op r (Stored w x b d) = apply_then load_row r (Stored w x b d) (Two op r r)
 
--- no sign is 0
-unfoldable pub load_codes : (sign r : ℕ) → Use → Codes
-load_codes sign r u = whether eqb sign 0 then apply_codes load_row r u else signed_codes (sign_code sign) r u
+unfoldable pub load_codes : Option Sign → (r : ℕ) → Use → Codes
+load_codes P.None r u = apply_codes load_row r u
+load_codes (Some sign) r u = signed_codes (sign_code sign) r u
 
 -- the register that an operand is; 0 where it is none
 unfoldable pub held_in : Use → ℕ
@@ -119,16 +125,26 @@ amount_in (Held r) = 0
 amount_in (Number v) = v
 amount_in (Stored w x b d) = 0
 
+abbrev pub is_full : Width → Bool
+is_full Full = true
+is_full Short = false
+is_full Byte = false
+is_full Character = false
+
 -- "`*` by a number, or by what begins with the name of a register or integer cell"
 unfoldable pub is_long_use : Use → Bool
 is_long_use Absent = false
 is_long_use (Held r) = true
 is_long_use (Number v) = true
-is_long_use (Stored w x b d) = eqb w E.FULL
+is_long_use (Stored w x b d) = is_full w
 
 -- "1C and 5C name the register below the target."
 unfoldable pub product_register : ℕ → Use → ℕ
 product_register r u = whether is_long_use u then (r - 1) else r
+
+-- the opcode of a shift, of no other operator
+abbrev pub shift_of : ℕ → Option ℕ
+shift_of kind = whether member kind shifts then Some (shift_code kind) else P.None
 
 -- "`89 r0 00 n`, or by register `89 r0 s0 00`"
 unfoldable pub term_codes : (kind r : ℕ) → Use → Codes
@@ -138,7 +154,7 @@ term_codes kind r u =
     apply_codes (row_of kind) r u
 
 -- an assignment's first operand: loaded into a register target, or the register that is stored in a cell target
-unfoldable pub first_codes : (aim : Use) (sign : ℕ) → Use → Codes
+unfoldable pub first_codes : (aim : Use) (sign : Option Sign) → Use → Codes
 first_codes Absent sign u = None
 first_codes (Held r) sign u = load_codes sign r u
 first_codes (Number v) sign u = None

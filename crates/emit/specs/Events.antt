@@ -2,12 +2,13 @@
 -- next token; IF and WHILE, where a false condition goes, and at the next token behind an ELSE part, or the condition of the loop; a STEP's number, the compare,
 -- and at the token before it behind the loop, at the token after it the control register; a CASE's register, its first statement, and at the next token
 -- behind it all.
-use Rattle.std.specs.Prelude.{List, ◌||◌, ℕ, ◌+◌, ◌-◌, ◌*◌, ◌/◌, ◌%◌, eqb, ltb, get_or}
+use Rattle.std.specs.Prelude as P
+use Rattle.std.specs.Prelude.{Option, Some, List, ◌||◌, ℕ, ◌+◌, ◌-◌, ◌*◌, ◌/◌, ◌%◌, eqb, ltb, get_or}
 use Rattle.base.specs.Choose.{whether◌then◌else◌}
 use Rattle.token.specs.Kinds as K
 use Rattle.tape.specs.Events as E
 use Rattle.tape.specs.Numbers.{family_at, form_at}
-use Rattle.tables.specs.Packed.{low, number_in, is_register_in, is_routine_in, is_cell_in, width_number_in, register_in, packed_at}
+use Rattle.tables.specs.Packed.{low, number_in, is_register_in, is_routine_in, is_cell_in, width_number_in, coded_width, register_in, packed_at}
 use Rattle.static_rules.specs.Functions.{Function, arity}
 use Rattle.functions.specs.Arguments.{function_in}
 use Rattle.translation.specs.Instructions.{add_row, compare_row, false_mask, always}
@@ -18,6 +19,8 @@ use Rattle.emit.specs.declared.Use.TheVariants.{Absent, Held, Number, Stored}
 use Rattle.emit.specs.declared.Codes.{Codes}
 use Rattle.emit.specs.declared.Codes.TheVariants.{None, One, Head}
 use Rattle.emit.specs.declared.Named.{Named}
+use Rattle.emit.specs.declared.Sign.{Sign}
+use Rattle.emit.specs.declared.Sign.TheVariants.{Abs, Neg, NegAbs}
 use Rattle.emit.specs.declared.Writing.{Writing}
 use Rattle.emit.specs.declared.Emitted.{Emitted}
 use Rattle.emit.specs.Codes.{apply_then, held_in, first_codes, next_codes, function_codes, branch_code, link_code, base_code, return_code}
@@ -37,7 +40,7 @@ index_in found means shape t =
 
 -- an element of the cell that is declared at token d, with the packed meaning m
 unfoldable pub element_in : (under offsets : List ℕ) (d m subscript index : ℕ) → Use
-element_in under offsets d m subscript index = Stored (width_number_in m) index (get_or under d 0 / 4294967296) (low (get_or offsets d 0) + low subscript)
+element_in under offsets d m subscript index = Stored (coded_width (width_number_in m)) index (get_or under d 0 / 4294967296) (low (get_or offsets d 0) + low subscript)
 
 -- what is declared at token d, by its packed meaning m
 unfoldable pub place_by : (under offsets : List ℕ) (d m subscript index : ℕ) → Use
@@ -77,24 +80,28 @@ goal_at found goes opens family t =
 -- ── the assignment or use that is written ──
 
 abbrev pub no_writing : Writing
-no_writing = record { aim = Absent; sign = 0; arguments = 0 }
+no_writing = record { aim = Absent; sign = P.None; arguments = 0 }
 
 -- no function takes three
 abbrev pub more : ℕ → ℕ
 more n = whether ltb n 3 then n + 1 else n
 
-abbrev pub signing : ℕ → Writing → Writing
+-- the sign that an event is
+abbrev pub sign_at : ℕ → Option Sign
+sign_at family = whether eqb family E.ABS then Some Abs else whether eqb family E.NEG then Some Neg else whether eqb family E.NEG-ABS then Some NegAbs else P.None
+
+abbrev pub signing : Option Sign → Writing → Writing
 signing sign w = record { aim = w.aim; sign = sign; arguments = w.arguments }
 
 -- before the register of a CASE stands how many statements there are, in place of a token
 unfoldable pub written_after : (family t : ℕ) → Writing → Use → (register : ℕ) → Writing
 written_after family t w u r =
-    whether eqb family E.TARGET then record { aim = u; sign = 0; arguments = 0 } else
-    whether eqb family E.CONTROL then record { aim = Held r; sign = 0; arguments = 0 } else
-    whether eqb family E.ABS || (eqb family E.NEG || eqb family E.NEG-ABS) then signing family w else
-    whether eqb family E.ARGUED then record { aim = u; sign = 0; arguments = more w.arguments } else
+    whether eqb family E.TARGET then record { aim = u; sign = P.None; arguments = 0 } else
+    whether eqb family E.CONTROL then record { aim = Held r; sign = P.None; arguments = 0 } else
+    whether eqb family E.ABS || (eqb family E.NEG || eqb family E.NEG-ABS) then signing (sign_at family) w else
+    whether eqb family E.ARGUED then record { aim = u; sign = P.None; arguments = more w.arguments } else
     whether eqb family E.APPLIED || (eqb family E.COUNTED || eqb family E.CHOSEN) then no_writing else
-    whether eqb family E.LISTED then record { aim = Absent; sign = 0; arguments = t } else
+    whether eqb family E.LISTED then record { aim = Absent; sign = P.None; arguments = t } else
     w
 
 -- ── the instructions ──

@@ -1,33 +1,36 @@
 // Document 01, "Code": the instructions of each event of a tape, by the tables of a text.
 #![tactic(auto)]
 
-ghost use Rattle.std.specs.Prelude.{◌≡◌, [], ◌∷◌, ℕ, ◌+◌, ◌-◌, ◌*◌, ◌≤◌, ◌<◌, length, get_or};
+ghost use Rattle.std.specs.Prelude.{◌≡◌, ℕ, ◌+◌, ◌-◌, ◌*◌, ◌≤◌, ◌<◌, length, get_or};
 ghost use Rattle.tape.specs.Events.{TOKEN-LIMIT};
-ghost use Rattle.base.specs.Lists.{member};
-ghost use Rattle.base.specs.Runs.{index_of};
-ghost use Rattle.ledger.specs.Book.{wide_of, thin_of, thin_limit};
-ghost use Rattle.static_rules.specs.Functions.{function_at};
-ghost use Rattle.static_rules.specs.Rules.{shifts};
-ghost use Rattle.translation.specs.Instructions.{row_of, shift_code, false_mask};
+ghost use Rattle.ledger.specs.Book.{thin_limit};
+ghost use Rattle.tables.specs.Packed.{register_in, packed_at};
+ghost use Rattle.static_rules.specs.Functions as F;
+ghost use Rattle.functions.specs.Arguments.{coded};
+ghost use Rattle.translation.specs.Instructions.{row_of, false_mask};
 ghost use Rattle.translation.specs.Core.{exit_mask};
-ghost use Rattle.emit.specs.Codes.{opcode_in, IsRow, list_of, blank as blank_code, code_size, code_sizes, column_of, apply_code, is_absent, apply_codes, apply_then, sign_code, signed_codes, load_codes, held_in, amount_in, is_long_use, product_register, term_codes, first_codes, next_codes, is_immediate, half_of, function_codes, branch_code, link_code, base_code, stop_code};
+ghost use Rattle.emit.specs.Books.{wide_in, thin_in};
+ghost use Rattle.emit.specs.Codes.{opcode_in, IsRow, list_of, code_size, code_sizes, column_of, apply_code, apply_codes, apply_then, sign_code, signed_codes, load_codes, held_in, amount_in, is_long_use, product_register, shift_of, term_codes, first_codes, next_codes, is_immediate, half_of, function_codes, branch_code, link_code, base_code, stop_code};
 ghost use Rattle.tape.specs.Numbers.{family_at};
 ghost use Rattle.emit.specs.declared.Codes.TheVariants.{Head};
-ghost use Rattle.emit.specs.Events.{subscript_in, index_in, element_in, place_by, place_in, use_in, return_in, register_at, goal_at, more as more_of, no_writing, signing as signing_of, written_after, compared_codes, bare_codes, limit_codes, step_codes, second_codes, used_codes, chosen_codes, table_bytes, other_codes, codes_of, emitted_in};
+ghost use Rattle.emit.specs.Events.{subscript_in, index_in, element_in, place_by, place_in, use_in, return_in, register_at, goal_at, more as more_of, no_writing, sign_at, written_after, compared_codes, bare_codes, limit_codes, step_codes, second_codes, used_codes, chosen_codes, table_bytes, other_codes, codes_of, emitted_in};
 ghost use Rattle.emit.specs.Along.{past_in, most_bytes, code_limit};
 
 use arrays::kind;
 use base::less;
+use functions::Function;
 use ledger::{found, goes, meaning, offset, opens, under, value, written};
-use tables::{is_cell, is_register, is_routine, number, register};
+use tables::{Width, is_cell, is_register, is_routine, number, register};
+use token::kinds;
 
-// What an operand is: nothing that fits; held in a register; a number; stored, by the number of its width, at an index register, a base register and a displacement.
+// What an operand is: nothing that fits; held in a register; a number; stored, by its width, at an index register, a base register and a displacement.
+// Kept: `Absent` is a case and no `Option` around the others, since each match on an operand would name `Some` of each of them.
 #[derive(Clone, Copy)]
 pub enum Use {
     Absent,
     Held(u64),
     Number(u64),
-    Stored(u8, u64, u64, u64),
+    Stored(Width, u64, u64, u64),
 }
 
 // An instruction to be laid: of two bytes: opcode, r, s; of four: opcode, r, index, base, displacement; one that takes a number from storage: opcode, r, index,
@@ -39,8 +42,8 @@ pub enum Code {
     Literal(u64, u64, u64, u64),
 }
 
-// The instructions of an event, in order. Who reads them counts them and takes one after the other, so that only `count` and `nth` know how many there can be.
-// Those of a CASE are made of its register, how many statements it has, the address that is indexed and where it ends.
+// The instructions of an event, in order. Those of a CASE are made of its register, how many statements it has, the address that is indexed and where it ends.
+// Kept: an enum of a few and no list, since there is no heap, and an array of six instructions would be moved for each event, most of which make one or two.
 #[derive(Clone, Copy)]
 pub enum Codes {
     None,
@@ -56,13 +59,29 @@ pub struct Named {
     pub goal: usize,
 }
 
-// The assignment or the use of a function that is written: the target or the last argument; an assignment's sign, by its event, 0 for none; how many arguments a use
-// has so far. Before the register of a CASE: how many statements it has.
+// What stands before an assignment's first operand.
+#[derive(Clone, Copy, PartialEq, Eq)]
+pub enum Sign {
+    Abs,
+    Neg,
+    NegAbs,
+}
+
+// The assignment or the use of a function that is written: the target or the last argument; an assignment's sign; how many arguments a use has so far. Before the
+// register of a CASE: how many statements it has.
 #[derive(Clone, Copy)]
 pub struct Writing {
     pub aim: Use,
-    pub sign: u32,
+    pub sign: Option<Sign>,
     pub arguments: u32,
+}
+
+// What is known of a text's tokens: their kinds, and the two slices of the ledger.
+#[derive(Clone, Copy)]
+pub struct Book<'a> {
+    pub kinds: &'a [u8],
+    pub wide: &'a [u64],
+    pub thin: &'a [u16],
 }
 
 // What an event makes: its instructions, and what is written after it.
@@ -82,72 +101,28 @@ pub struct Past {
 // ── the tables ──
 
 // The code table by operator, a row a number: the opcodes with a register, an integer cell or number, a short cell and a byte cell, two digits each; 00 where there is
-// no instruction. Rows that are named are taken by their names, since an array is laid out anew wherever one of its elements is taken.
-const LOAD: u32 = 0x18584800;
+// no instruction.
+const LOAD: u32 = 0x18584800; // :=
 
-const ADD: u32 = 0x1a5a4a00;
+const ADD: u32 = 0x1a5a4a00; // +
 
-const TIMES: u32 = 0x1c5c4c00;
+const SUBTRACT: u32 = 0x1b5b4b00; // -
+
+const TIMES: u32 = 0x1c5c4c00; // *
+
+const ADD_LOGICAL: u32 = 0x1e5e0000; // ++
+
+const SUBTRACT_LOGICAL: u32 = 0x1f5f0000; // --
+
+const AND: u32 = 0x14540000;
+
+const OR: u32 = 0x16560000;
+
+const XOR: u32 = 0x17570000;
 
 const COMPARE: u32 = 0x19594900;
 
 const STORE: u32 = 0x00504000;
-
-const CODES: [u32; 11] = [
-    LOAD, // :=
-    ADD, // +
-    0x1b5b4b00, // -
-    TIMES, // *
-    0x1e5e0000, // ++
-    0x1f5f0000, // --
-    0x14540000, // AND
-    0x16560000, // OR
-    0x17570000, // XOR
-    COMPARE, STORE,
-];
-
-// "Masks when a condition is false: = 7, ^= 9, < 11, <= 3, >= 5, > 13, OVERFLOW 14."
-const FALSE_MASKS: [u8; 7] = [7, 9, 11, 3, 5, 13, 14];
-
-// "Shifts 89, 88, 8B, 8A for SHLL, SHRL, SHLA, SHRA".
-const SHIFTS: [u8; 4] = [0x89, 0x88, 0x8b, 0x8a];
-
-// The kinds of the tokens that the tables' entries stand for, in the tables' order.
-const ROW_KINDS: [u8; 9] = [
-    token::kinds::BECOMES,
-    token::kinds::PLUS,
-    token::kinds::MINUS,
-    token::kinds::TIMES,
-    token::kinds::ADD_LOGICAL,
-    token::kinds::SUBTRACT_LOGICAL,
-    token::kinds::AND,
-    token::kinds::OR,
-    token::kinds::XOR,
-];
-
-const CONDITION_KINDS: [u8; 7] = [
-    token::kinds::EQUAL,
-    token::kinds::UNEQUAL,
-    token::kinds::LESS,
-    token::kinds::AT_MOST,
-    token::kinds::AT_LEAST,
-    token::kinds::MORE,
-    token::kinds::OVERFLOW,
-];
-
-const SHIFT_KINDS: [u8; 4] = [
-    token::kinds::SHLL,
-    token::kinds::SHRL,
-    token::kinds::SHLA,
-    token::kinds::SHRA,
-];
-
-// "ABS 10, NEG 13, NEG ABS 11"
-const ABS: u64 = 0x10;
-
-const NEG: u64 = 0x13;
-
-const NEG_ABS: u64 = 0x11;
 
 // "Branch `47 m0`"; "Call: `45 r0`"; "`07 Fr`"; "The last instruction is `0A 00`."
 pub const BRANCH: u64 = 0x47;
@@ -173,12 +148,6 @@ pub const PROGRAM_BASE: u64 = 15;
 
 pub const DATA_BASE: u64 = 14;
 
-fn wide(b: u8) -> u64
-    ensures { (result ≡ b) × (result < 256) }
-{
-    b as u64
-}
-
 // The opcode in a column of a row.
 fn opcode(row: u32, column: usize) -> u64
     ensures { (result ≡ opcode_in row column) × (result < 256) }
@@ -192,54 +161,51 @@ fn opcode(row: u32, column: usize) -> u64
     }
 }
 
-// The place of a kind in a table of kinds; the table's length where it is not in it.
-fn index_of(k: u8, table: &[u8]) -> usize
-    ensures { (result ≡ index_of k table.now) × (result ≤ length table.now) }
-{
-    let mut i: usize = 0;
-    while i < table.len() {
-        if table[i] == k {
-            return i;
-        }
-        i += 1;
-    }
-    i
-}
-
+// By the kind of an operator; what is none has the row behind theirs.
 fn row_of(k: u8) -> u32
     ensures { IsRow (row_of k) result }
 {
-    let i = index_of(k, &ROW_KINDS);
-    CODES[i]
+    match k {
+        kinds::BECOMES => LOAD,
+        kinds::PLUS => ADD,
+        kinds::MINUS => SUBTRACT,
+        kinds::TIMES => TIMES,
+        kinds::ADD_LOGICAL => ADD_LOGICAL,
+        kinds::SUBTRACT_LOGICAL => SUBTRACT_LOGICAL,
+        kinds::AND => AND,
+        kinds::OR => OR,
+        kinds::XOR => XOR,
+        _ => COMPARE,
+    }
 }
 
+// "Masks when a condition is false: = 7, ^= 9, < 11, <= 3, >= 5, > 13, OVERFLOW 14."
 fn false_mask(k: u8) -> u64
     ensures { (result ≡ false_mask k) × (result < 256) }
 {
-    let i = index_of(k, &CONDITION_KINDS);
-    if i < 7 {
-        return wide(FALSE_MASKS[i]);
+    match k {
+        kinds::EQUAL => 7,
+        kinds::UNEQUAL => 9,
+        kinds::LESS => 11,
+        kinds::AT_MOST => 3,
+        kinds::AT_LEAST => 5,
+        kinds::MORE => 13,
+        kinds::OVERFLOW => 14,
+        _ => 0,
     }
-    0
 }
 
-fn is_shift(k: u8) -> bool
-    ensures { result ≡ member k shifts }
+// "Shifts 89, 88, 8B, 8A for SHLL, SHRL, SHLA, SHRA"; no other operator is one.
+fn shift_code(k: u8) -> Option<u64>
+    ensures { result ≡ shift_of k }
 {
-    (k == token::kinds::SHLL)
-        | (k == token::kinds::SHRL)
-        | (k == token::kinds::SHLA)
-        | (k == token::kinds::SHRA)
-}
-
-fn shift_code(k: u8) -> u64
-    ensures { (result ≡ shift_code k) × (result < 256) }
-{
-    let i = index_of(k, &SHIFT_KINDS);
-    if i < 4 {
-        return wide(SHIFTS[i]);
+    match k {
+        kinds::SHLL => Some(0x89),
+        kinds::SHRL => Some(0x88),
+        kinds::SHLA => Some(0x8b),
+        kinds::SHRA => Some(0x8a),
+        _ => None,
     }
-    0
 }
 
 // "exit branch, mask 2, or 4 if the step is negative".
@@ -254,139 +220,73 @@ fn exit_mask(step: u64) -> u64
 
 // ── instructions ──
 
-pub fn count(m: Codes) -> usize
-    ensures { (result ≡ length (list_of m)) × (result ≤ 6) }
+// Of a CASE: "compare with the count as a literal, branch mask 2 to the end; LTR, branch mask 12 to the end; SHLL by 2; `47 Fr` indexed by r".
+pub fn head(r: u64, n: u64, at: u64, end: u64) -> [Code; 6]
+    ensures { result ≡ list_of (Head r n at end) }
 {
-    match m {
-        Codes::None => 0,
-        Codes::One(_) => 1,
-        Codes::Both(_, _) => 2,
-        Codes::Head(_, _, _, _) => 6,
-    }
+    [
+        Code::Literal(COMPARE_NUMBER, r, 0, n),
+        Code::Four(BRANCH, 2, 0, PROGRAM_BASE, end),
+        Code::Two(TEST, r, r),
+        Code::Four(BRANCH, 12, 0, PROGRAM_BASE, end),
+        Code::Four(SHIFT_LEFT, r, 0, 0, 2),
+        Code::Four(BRANCH, ALWAYS, r, PROGRAM_BASE, at),
+    ]
 }
 
-fn blank() -> Code
-    ensures { result ≡ blank_code }
-{
-    Code::Two(0, 0, 0)
-}
-
-// The only one, or none.
-fn only(k: usize, c: Code) -> Code
-    ensures { result ≡ get_or (c ∷ []) k blank_code }
-{
-    if k == 0 {
-        return c;
-    }
-    blank()
-}
-
-// The first, the second, or none.
-fn pick(k: usize, c: Code, d: Code) -> Code
-    ensures { result ≡ get_or (c ∷ d ∷ []) k blank_code }
-{
-    if k == 0 {
-        return c;
-    }
-    if k == 1 {
-        return d;
-    }
-    blank()
-}
-
-// "compare with the count as a literal, branch mask 2 to the end; LTR, branch mask 12 to the end; SHLL by 2; `47 Fr` indexed by r".
-fn head(k: usize, r: u64, n: u64, at: u64, end: u64) -> Code
-    ensures { result ≡ get_or (list_of (Head r n at end)) k blank_code }
-{
-    match k {
-        0 => Code::Literal(COMPARE_NUMBER, r, 0, n),
-        1 => Code::Four(BRANCH, 2, 0, PROGRAM_BASE, end),
-        2 => Code::Two(TEST, r, r),
-        3 => Code::Four(BRANCH, 12, 0, PROGRAM_BASE, end),
-        4 => Code::Four(SHIFT_LEFT, r, 0, 0, 2),
-        5 => Code::Four(BRANCH, ALWAYS, r, PROGRAM_BASE, at),
-        _ => blank(),
-    }
-}
-
-pub fn nth(m: Codes, k: usize) -> Code
-    ensures { result ≡ get_or (list_of m) k blank_code }
-{
-    match m {
-        Codes::None => blank(),
-        Codes::One(c) => only(k, c),
-        Codes::Both(c, d) => pick(k, c, d),
-        Codes::Head(r, n, at, end) => head(k, r, n, at, end),
-    }
-}
-
-// By the number of a cell's width.
-fn column_of(width: u8) -> usize
+// By the width of a cell.
+fn column_of(width: Width) -> usize
     ensures { (result ≡ column_of width) × (result < 4) }
 {
-    if width == tables::FULL {
-        return 1;
+    match width {
+        Width::Full => 1,
+        Width::Short => 2,
+        Width::Byte | Width::Character => 3,
     }
-    if width == tables::SHORT {
-        return 2;
-    }
-    3
 }
 
-// The instruction of a row of the code table at register r.
-fn apply(row: u32, r: u64, u: Use) -> Code
+// The instruction of a row of the code table at register r; none for an operand that there is not.
+fn apply(row: u32, r: u64, u: Use) -> Option<Code>
     ensures { (k : ℕ) → IsRow k row → result ≡ apply_code k r u }
 {
     match u {
-        Use::Absent => blank(),
-        Use::Held(s) => Code::Two(opcode(row, 0), r, s),
-        Use::Number(v) => Code::Literal(opcode(row, 1), r, 0, v),
-        Use::Stored(width, x, b, d) => Code::Four(opcode(row, column_of(width)), r, x, b, d),
+        Use::Absent => None,
+        Use::Held(s) => Some(Code::Two(opcode(row, 0), r, s)),
+        Use::Number(v) => Some(Code::Literal(opcode(row, 1), r, 0, v)),
+        Use::Stored(width, x, b, d) => {
+            Some(Code::Four(opcode(row, column_of(width)), r, x, b, d))
+        }
     }
 }
 
-fn is_absent(u: Use) -> bool
-    ensures { result ≡ is_absent u }
-{
-    match u {
-        Use::Absent => true,
-        Use::Held(_) => false,
-        Use::Number(_) => false,
-        Use::Stored(_, _, _, _) => false,
-    }
-}
-
-// None for an operand that there is not.
 fn applied(row: u32, r: u64, u: Use) -> Codes
     ensures { (k : ℕ) → IsRow k row → result ≡ apply_codes k r u }
 {
-    if is_absent(u) {
-        return Codes::None;
+    match apply(row, r, u) {
+        None => Codes::None,
+        Some(first) => Codes::One(first),
     }
-    Codes::One(apply(row, r, u))
 }
 
 // And another behind it.
 fn apply_then(row: u32, r: u64, u: Use, c: Code) -> Codes
     ensures { (k : ℕ) → IsRow k row → result ≡ apply_then k r u c }
 {
-    if is_absent(u) {
-        return Codes::One(c);
+    match apply(row, r, u) {
+        None => Codes::One(c),
+        Some(first) => Codes::Both(first, c),
     }
-    Codes::Both(apply(row, r, u), c)
 }
 
-// "ABS 10, NEG 13, NEG ABS 11", by the sign's event.
-fn sign_code(sign: u32) -> u64
+// "ABS 10, NEG 13, NEG ABS 11"
+fn sign_code(sign: Sign) -> u64
     ensures { result ≡ sign_code sign }
 {
-    if sign == tape::ABS {
-        return ABS;
+    match sign {
+        Sign::Abs => 0x10,
+        Sign::Neg => 0x13,
+        Sign::NegAbs => 0x11,
     }
-    if sign == tape::NEG {
-        return NEG;
-    }
-    NEG_ABS
 }
 
 fn signed(op: u64, r: u64, u: Use) -> Codes
@@ -405,16 +305,17 @@ fn signed(op: u64, r: u64, u: Use) -> Codes
     }
 }
 
-fn load(sign: u32, r: u64, u: Use) -> Codes
+fn load(sign: Option<Sign>, r: u64, u: Use) -> Codes
     ensures { result ≡ load_codes sign r u }
 {
-    if sign == 0 {
-        return applied(LOAD, r, u);
+    match sign {
+        None => applied(LOAD, r, u),
+        Some(g) => signed(sign_code(g), r, u),
     }
-    signed(sign_code(sign), r, u)
 }
 
 // The register that an operand is; 0 where it is none.
+// Kept: 0, here and in `amount`, as the definitions `held_in` and `amount_in` have it: the field of an instruction that takes no register is 0.
 pub fn held(u: Use) -> u64
     ensures { result ≡ held_in u }
 {
@@ -444,21 +345,15 @@ fn is_long(u: Use) -> bool
         Use::Absent => false,
         Use::Held(_) => true,
         Use::Number(_) => true,
-        Use::Stored(width, _, _, _) => width == tables::FULL,
+        Use::Stored(width, _, _, _) => width == Width::Full,
     }
-}
-
-fn lower(r: u64) -> u64
-    ensures { result ≡ r - 1 }
-{
-    if r == 0 { 0 } else { r - 1 }
 }
 
 fn product_register(r: u64, u: Use) -> u64
     ensures { result ≡ product_register r u }
 {
     if is_long(u) {
-        return lower(r);
+        return r.saturating_sub(1);
     }
     r
 }
@@ -466,16 +361,16 @@ fn product_register(r: u64, u: Use) -> u64
 fn term(k: u8, r: u64, u: Use) -> Codes
     ensures { result ≡ term_codes k r u }
 {
-    if is_shift(k) {
-        return Codes::One(Code::Four(shift_code(k), r, 0, held(u), amount(u)));
+    if let Some(op) = shift_code(k) {
+        return Codes::One(Code::Four(op, r, 0, held(u), amount(u)));
     }
-    if k == token::kinds::TIMES {
+    if k == kinds::TIMES {
         return applied(TIMES, product_register(r, u), u);
     }
     applied(row_of(k), r, u)
 }
 
-fn first(aim: Use, sign: u32, u: Use) -> Codes
+fn first(aim: Use, sign: Option<Sign>, u: Use) -> Codes
     ensures { result ≡ first_codes aim sign u }
 {
     match aim {
@@ -551,90 +446,129 @@ pub fn code_size(c: Code) -> usize
     }
 }
 
+// Of the six instructions of a CASE, one of which has two bytes.
+const HEAD_SIZE: usize = 22;
+
 // Of all instructions of an event.
 pub fn size(m: Codes) -> usize
     ensures { (result ≡ code_sizes (list_of m)) × (result ≤ 24) }
 {
-    let n = count(m);
-    let mut k: usize = 0;
-    let mut size: usize = 0;
-    while k < n {
-        size += code_size(nth(m, k));
-        k += 1;
+    match m {
+        Codes::None => 0,
+        Codes::One(c) => code_size(c),
+        Codes::Both(c, d) => code_size(c) + code_size(d),
+        Codes::Head(_, _, _, _) => HEAD_SIZE,
     }
-    size
+}
+
+// ── what is known of a token ──
+
+impl Book<'_> {
+    fn kind(self, t: usize) -> u8
+        ensures { result ≡ get_or self.entry.kinds.now t 0 }
+    {
+        kind(self.kinds, t)
+    }
+
+    // A number's value.
+    fn value(self, t: usize) -> u64
+        ensures { result ≡ get_or (wide_in self.entry).values t 0 }
+    {
+        value(self.wide, t)
+    }
+
+    // What the name at token t means, packed.
+    fn meaning(self, t: usize) -> u64
+        ensures { result ≡ packed_at (thin_in self.entry).found (wide_in self.entry).means t }
+    {
+        meaning(self.wide, self.thin, t)
+    }
+
+    // The register that the name at token t means.
+    fn register(self, t: usize) -> u64
+        ensures { result ≡ register_in (packed_at (thin_in self.entry).found (wide_in self.entry).means t) }
+    {
+        register(self.meaning(t))
+    }
+
+    // Where a branch goes, by token: the column of what procedures write is done, and lent again.
+    fn mark(self, t: usize) -> usize
+        ensures { (result ≡ get_or (thin_in self.entry).written t 0) × (result < thin_limit) }
+    {
+        written(self.thin, t)
+    }
 }
 
 // ── operands ──
 
-fn subscript(wide: &[u64], shape: u32, t: usize) -> u64
+fn subscript(book: Book, shape: u32, t: usize) -> u64
     requires { t < TOKEN-LIMIT }
-    ensures { result ≡ subscript_in (wide_of wide.now).values shape t }
+    ensures { result ≡ subscript_in (wide_in book.entry).values shape t }
 {
     if shape % 2 == 1 {
-        return value(wide, t + 2);
+        return book.value(t + 2);
     }
     0
 }
 
-fn index(wide: &[u64], thin: &[u16], shape: u32, t: usize) -> u64
+fn index(book: Book, shape: u32, t: usize) -> u64
     requires { t < TOKEN-LIMIT }
-    ensures { result ≡ index_in (thin_of thin.now).found (wide_of wide.now).means shape t }
+    ensures { result ≡ index_in (thin_in book.entry).found (wide_in book.entry).means shape t }
 {
     if shape == tape::INDEXED {
-        return register(meaning(wide, thin, t + 2));
+        return book.register(t + 2);
     }
     if shape == tape::SUBSCRIPTED_INDEXED {
-        return register(meaning(wide, thin, t + 5));
+        return book.register(t + 5);
     }
     0
 }
 
-fn element(wide: &[u64], d: usize, m: u64, subscript: u64, index: u64) -> Use
-    ensures { result ≡ element_in (wide_of wide.now).under (wide_of wide.now).offsets d m subscript index }
+fn element(book: Book, d: usize, m: u64, subscript: u64, index: u64) -> Use
+    ensures { result ≡ element_in (wide_in book.entry).under (wide_in book.entry).offsets d m subscript index }
 {
-    let displacement = offset(wide, d) % 4294967296 + subscript % 4294967296;
+    let displacement = offset(book.wide, d) % 4294967296 + subscript % 4294967296;
     Use::Stored(
-        tables::width(m),
+        tables::width_of(m),
         index,
-        under(wide, d) / 4294967296,
+        under(book.wide, d) / 4294967296,
         displacement,
     )
 }
 
 // What is declared at token d, by its packed meaning m.
-fn place_by(wide: &[u64], d: usize, m: u64, subscript: u64, index: u64) -> Use
-    ensures { result ≡ place_by (wide_of wide.now).under (wide_of wide.now).offsets d m subscript index }
+fn place_by(book: Book, d: usize, m: u64, subscript: u64, index: u64) -> Use
+    ensures { result ≡ place_by (wide_in book.entry).under (wide_in book.entry).offsets d m subscript index }
 {
     if is_register(m) {
         return Use::Held(number(m));
     }
     if is_cell(m) {
-        return element(wide, d, m, subscript, index);
+        return element(book, d, m, subscript, index);
     }
     Use::Absent
 }
 
-fn place(wide: &[u64], thin: &[u16], shape: u32, t: usize) -> Use
+fn place(book: Book, shape: u32, t: usize) -> Use
     requires { t < TOKEN-LIMIT }
-    ensures { result ≡ place_in (wide_of wide.now).values (thin_of thin.now).found (wide_of wide.now).means
-        (wide_of wide.now).under (wide_of wide.now).offsets shape t }
+    ensures { result ≡ place_in (wide_in book.entry).values (thin_in book.entry).found (wide_in book.entry).means
+        (wide_in book.entry).under (wide_in book.entry).offsets shape t }
 {
-    let s = subscript(wide, shape, t);
-    let x = index(wide, thin, shape, t);
-    place_by(wide, found(thin, t), meaning(wide, thin, t), s, x)
+    let s = subscript(book, shape, t);
+    let x = index(book, shape, t);
+    place_by(book, found(book.thin, t), book.meaning(t), s, x)
 }
 
 // The operand or designator at token t, by its shape.
-pub fn operand(wide: &[u64], thin: &[u16], shape: u32, t: usize) -> Use
+pub fn operand(book: Book, shape: u32, t: usize) -> Use
     requires { t < TOKEN-LIMIT }
-    ensures { result ≡ use_in (wide_of wide.now).values (thin_of thin.now).found (wide_of wide.now).means
-        (wide_of wide.now).under (wide_of wide.now).offsets shape t }
+    ensures { result ≡ use_in (wide_in book.entry).values (thin_in book.entry).found (wide_in book.entry).means
+        (wide_in book.entry).under (wide_in book.entry).offsets shape t }
 {
     if shape == tape::NUMBER {
-        return Use::Number(value(wide, t));
+        return Use::Number(book.value(t));
     }
-    place(wide, thin, shape, t)
+    place(book, shape, t)
 }
 
 // ── what an event names ──
@@ -648,32 +582,32 @@ fn return_register(m: u64) -> u64
     0
 }
 
-pub fn register_at(wide: &[u64], thin: &[u16], family: u32, t: usize) -> u64
+pub fn register_at(book: Book, family: u32, t: usize) -> u64
     requires { t < TOKEN-LIMIT }
-    ensures { result ≡ register_at (thin_of thin.now).found (wide_of wide.now).means family t }
+    ensures { result ≡ register_at (thin_in book.entry).found (wide_in book.entry).means family t }
 {
     if family == tape::END_PROCEDURE {
-        return register(meaning(wide, thin, t + 2));
+        return book.register(t + 2);
     }
     if family == tape::COMPARED {
-        return register(meaning(wide, thin, less(t, 2)));
+        return book.register(less(t, 2));
     }
     if family == tape::CALL {
-        return return_register(meaning(wide, thin, t));
+        return return_register(book.meaning(t));
     }
-    register(meaning(wide, thin, t))
+    book.register(t)
 }
 
-pub fn goal_at(thin: &[u16], family: u32, t: usize) -> usize
-    ensures { (result ≡ goal_at (thin_of thin.now).found (thin_of thin.now).goes (thin_of thin.now).opens family t) × (result < thin_limit) }
+pub fn goal_at(book: Book, family: u32, t: usize) -> usize
+    ensures { (result ≡ goal_at (thin_in book.entry).found (thin_in book.entry).goes (thin_in book.entry).opens family t) × (result < thin_limit) }
 {
     if family == tape::BASE {
-        return opens(thin, t);
+        return opens(book.thin, t);
     }
     if family == tape::CALL {
-        return found(thin, t);
+        return found(book.thin, t);
     }
-    goes(thin, t)
+    goes(book.thin, t)
 }
 
 // ── the assignment or use that is written ──
@@ -683,7 +617,7 @@ fn no_writing() -> Writing
 {
     Writing {
         aim: Use::Absent,
-        sign: 0,
+        sign: None,
         arguments: 0,
     }
 }
@@ -698,15 +632,15 @@ fn more(n: u32) -> u32
     n
 }
 
-fn signing(sign: u32, w: Writing) -> Writing
-    ensures { result ≡ signing_of sign w }
+// The sign that an event is.
+fn sign_at(family: u32) -> Option<Sign>
+    ensures { result ≡ sign_at family }
 {
-    let aim = w.aim;
-    let arguments = w.arguments;
-    Writing {
-        aim,
-        sign,
-        arguments,
+    match family {
+        tape::ABS => Some(Sign::Abs),
+        tape::NEG => Some(Sign::Neg),
+        tape::NEG_ABS => Some(Sign::NegAbs),
+        _ => None,
     }
 }
 
@@ -718,24 +652,27 @@ pub fn written_after(family: u32, t: usize, w: Writing, u: Use, r: u64) -> Writi
     if family == tape::TARGET {
         return Writing {
             aim: u,
-            sign: 0,
+            sign: None,
             arguments: 0,
         };
     }
     if family == tape::CONTROL {
         return Writing {
             aim: Use::Held(r),
-            sign: 0,
+            sign: None,
             arguments: 0,
         };
     }
     if (family == tape::ABS) | ((family == tape::NEG) | (family == tape::NEG_ABS)) {
-        return signing(family, w);
+        return Writing {
+            sign: sign_at(family),
+            ..w
+        };
     }
     if family == tape::ARGUED {
         return Writing {
             aim: u,
-            sign: 0,
+            sign: None,
             arguments: more(w.arguments),
         };
     }
@@ -745,7 +682,7 @@ pub fn written_after(family: u32, t: usize, w: Writing, u: Use, r: u64) -> Writi
     if family == tape::LISTED {
         return Writing {
             aim: Use::Absent,
-            sign: 0,
+            sign: None,
             arguments: t as u32,
         };
     }
@@ -780,89 +717,83 @@ pub fn stop() -> Code
     Code::Two(STOP, 0, 0)
 }
 
-// Where a branch goes, by token: the column of what procedures write is done, and lent again.
-fn mark(thin: &[u16], t: usize) -> usize
-    ensures { (result ≡ get_or (thin_of thin.now).written t 0) × (result < thin_limit) }
-{
-    written(thin, t)
-}
-
 // "IF and WHILE branch on false": a register and the operand u are compared.
-fn compared(kinds: &[u8], thin: &[u16], r: u64, t: usize, u: Use) -> Codes
-    ensures { result ≡ compared_codes kinds.now (thin_of thin.now).written r t u }
+fn compared(book: Book, r: u64, t: usize, u: Use) -> Codes
+    ensures { result ≡ compared_codes book.entry.kinds.now (thin_in book.entry).written r t u }
 {
-    let mask = false_mask(kind(kinds, less(t, 1)));
-    apply_then(COMPARE, r, u, branch(mask, mark(thin, less(t, 3))))
+    let mask = false_mask(book.kind(less(t, 1)));
+    apply_then(COMPARE, r, u, branch(mask, book.mark(less(t, 3))))
 }
 
-fn bare(kinds: &[u8], thin: &[u16], t: usize) -> Codes
-    ensures { result ≡ bare_codes kinds.now (thin_of thin.now).written t }
+fn bare(book: Book, t: usize) -> Codes
+    ensures { result ≡ bare_codes book.entry.kinds.now (thin_in book.entry).written t }
 {
-    let mask = false_mask(kind(kinds, t));
-    Codes::One(branch(mask, mark(thin, less(t, 1))))
+    let mask = false_mask(book.kind(t));
+    Codes::One(branch(mask, book.mark(less(t, 1))))
 }
 
 // "compare with limit; exit branch": the control register and the operand u.
-fn limit(wide: &[u64], thin: &[u16], aim: Use, t: usize, u: Use) -> Codes
-    ensures { result ≡ limit_codes (wide_of wide.now).values (thin_of thin.now).written aim t u }
+fn limit(book: Book, aim: Use, t: usize, u: Use) -> Codes
+    ensures { result ≡ limit_codes (wide_in book.entry).values (thin_in book.entry).written aim t u }
 {
-    let mask = exit_mask(value(wide, less(t, 2)));
-    apply_then(COMPARE, held(aim), u, branch(mask, mark(thin, less(t, 3))))
+    let mask = exit_mask(book.value(less(t, 2)));
+    apply_then(COMPARE, held(aim), u, branch(mask, book.mark(less(t, 3))))
 }
 
 // "5A of the step; branch to the compare".
-fn step(wide: &[u64], thin: &[u16], t: usize) -> Codes
+fn step(book: Book, t: usize) -> Codes
     requires { t < TOKEN-LIMIT }
-    ensures { result ≡ step_codes (wide_of wide.now).values (thin_of thin.now).written t }
+    ensures { result ≡ step_codes (wide_in book.entry).values (thin_in book.entry).written t }
 {
-    let r = mark(thin, t + 1) as u64;
+    let r = book.mark(t + 1) as u64;
     apply_then(
         ADD,
         r,
-        Use::Number(value(wide, t)),
-        branch(ALWAYS, mark(thin, t)),
+        Use::Number(book.value(t)),
+        branch(ALWAYS, book.mark(t)),
     )
 }
 
 // By the first of two arguments, if it is one token: its parenthesis closes behind it.
-fn second(kinds: &[u8], wide: &[u64], thin: &[u16], t: usize, op: u64, u: Use) -> Codes
+fn second(book: Book, t: usize, op: u64, u: Use) -> Codes
     requires { t < TOKEN-LIMIT }
-    ensures { result ≡ second_codes kinds.now (wide_of wide.now).values (thin_of thin.now).found (wide_of wide.now).means t op u }
+    ensures { result ≡ second_codes book.entry.kinds.now (wide_in book.entry).values (thin_in book.entry).found (wide_in book.entry).means t op u }
 {
-    if kind(kinds, t + 3) != token::kinds::CLOSE {
+    if book.kind(t + 3) != kinds::CLOSE {
         return Codes::None;
     }
-    if kind(kinds, t + 2) == token::kinds::NUMBER {
-        return function_codes(op, 0, value(wide, t + 2), u);
+    if book.kind(t + 2) == kinds::NUMBER {
+        return function_codes(op, 0, book.value(t + 2), u);
     }
-    function_codes(op, register(meaning(wide, thin, t + 2)), 0, u)
+    function_codes(op, book.register(t + 2), 0, u)
 }
 
-// The use of the function at place k, by its last argument and how many there are.
-fn used(kinds: &[u8], wide: &[u64], thin: &[u16], t: usize, k: u64, w: Writing) -> Codes
+// The use of a function, by its last argument and how many there are.
+fn used(book: Book, t: usize, f: Function, w: Writing) -> Codes
     requires { t < TOKEN-LIMIT }
-    ensures { result ≡ used_codes kinds.now (wide_of wide.now).values (thin_of thin.now).found (wide_of wide.now).means t (function_at k) w }
+    ensures { (g : F.Function) → f ≡ coded g
+        → result ≡ used_codes book.entry.kinds.now (wide_in book.entry).values (thin_in book.entry).found (wide_in book.entry).means t g w }
 {
-    let op = functions::op(k);
+    let op = f.op as u64;
     let last = w.aim;
     let count = w.arguments;
-    if count as usize != functions::arity(k) {
+    if count != f.arity as u32 {
         return Codes::None;
     }
     if count == 1 {
-        return function_codes(op, 0, functions::number(k), last);
+        return function_codes(op, 0, f.number as u64, last);
     }
-    second(kinds, wide, thin, t, op, last)
+    second(book, t, op, last)
 }
 
 // The instructions of a CASE but its table, which stands before the first statement: "at four bytes before the branch table".
-fn chosen(thin: &[u16], r: u64, t: usize, w: Writing) -> Codes
+fn chosen(book: Book, r: u64, t: usize, w: Writing) -> Codes
     requires { t < TOKEN-LIMIT }
-    ensures { result ≡ chosen_codes (thin_of thin.now).written r t w }
+    ensures { result ≡ chosen_codes (thin_in book.entry).written r t w }
 {
     let n = w.arguments as usize;
-    let at = less(mark(thin, t), 4 * n + 4);
-    let end = mark(thin, t + 1);
+    let at = less(book.mark(t), 4 * n + 4);
+    let end = book.mark(t + 1);
     Codes::Head(r, n as u64, at as u64, end as u64)
 }
 
@@ -877,9 +808,9 @@ pub fn table_size(op: u32, w: Writing) -> usize
 }
 
 // Declarations, ends of statements, calls and GOTOs.
-fn others(thin: &[u16], family: u32, t: usize, n: Named) -> Codes
+fn others(book: Book, family: u32, t: usize, n: Named) -> Codes
     requires { (t < TOKEN-LIMIT) × (n.goal < thin_limit) }
-    ensures { result ≡ other_codes (thin_of thin.now).written family t n }
+    ensures { result ≡ other_codes (thin_in book.entry).written family t n }
 {
     let r = n.register;
     let goal = n.goal;
@@ -890,96 +821,72 @@ fn others(thin: &[u16], family: u32, t: usize, n: Named) -> Codes
         return Codes::One(Code::Two(RETURN, ALWAYS, r));
     }
     if family == tape::CALL {
-        return Codes::One(link(r, mark(thin, goal)));
+        return Codes::One(link(r, book.mark(goal)));
     }
     if family == tape::GOTO {
-        return Codes::One(branch(ALWAYS, mark(thin, goal)));
+        return Codes::One(branch(ALWAYS, book.mark(goal)));
     }
     let opens = (family == tape::PROCEDURE) | (family == tape::ELSE);
     if opens | ((family == tape::END_WHILE) | (family == tape::END_CHOICE)) {
-        return Codes::One(branch(ALWAYS, mark(thin, t + 1)));
+        return Codes::One(branch(ALWAYS, book.mark(t + 1)));
     }
     Codes::None
 }
 
 // The instructions of an event, by its operand u and what it names.
-pub fn codes_of(
-    kinds: &[u8],
-    wide: &[u64],
-    thin: &[u16],
-    family: u32,
-    t: usize,
-    w: Writing,
-    u: Use,
-    n: Named,
-) -> Codes
+pub fn codes_of(book: Book, family: u32, t: usize, w: Writing, u: Use, n: Named) -> Codes
     requires { (t < TOKEN-LIMIT) × (n.goal < thin_limit) }
-    ensures { result ≡ codes_of kinds.now (wide_of wide.now).values (thin_of thin.now).found (wide_of wide.now).means
-        (thin_of thin.now).written family t w u n }
+    ensures { result ≡ codes_of book.entry.kinds.now (wide_in book.entry).values (thin_in book.entry).found (wide_in book.entry).means
+        (thin_in book.entry).written family t w u n }
 {
     let aim = w.aim;
     if family == tape::FIRST {
         return first(aim, w.sign, u);
     }
     if family == tape::TERM {
-        return next(aim, kind(kinds, less(t, 1)), u);
+        return next(aim, book.kind(less(t, 1)), u);
     }
     if family == tape::COMPARED {
-        return compared(kinds, thin, n.register, t, u);
+        return compared(book, n.register, t, u);
     }
     if family == tape::LIMIT {
-        return limit(wide, thin, aim, t, u);
+        return limit(book, aim, t, u);
     }
     if family == tape::BARE {
-        return bare(kinds, thin, t);
+        return bare(book, t);
     }
     if family == tape::END_FOR {
-        return step(wide, thin, t);
+        return step(book, t);
     }
     if family == tape::COUNTED {
-        return used(
-            kinds,
-            wide,
-            thin,
-            t,
-            functions::meant(meaning(wide, thin, t)),
-            w,
-        );
+        return used(book, t, functions::meant(book.meaning(t)), w);
     }
     if family == tape::CHOSEN {
-        return chosen(thin, n.register, t, w);
+        return chosen(book, n.register, t, w);
     }
-    others(thin, family, t, n)
+    others(book, family, t, n)
 }
 
 // What an event makes, by its number and its token.
-pub fn event(kinds: &[u8], wide: &[u64], thin: &[u16], op: u32, t: usize, w: Writing) -> Emitted
+pub fn event(book: Book, op: u32, t: usize, w: Writing) -> Emitted
     requires { t < TOKEN-LIMIT }
-    ensures { result ≡ emitted_in kinds.now (wide_of wide.now) (thin_of thin.now) op t w }
+    ensures { result ≡ emitted_in book.entry.kinds.now (wide_in book.entry) (thin_in book.entry) op t w }
 {
     let family = tape::family(op);
-    let u = operand(wide, thin, tape::form(op), t);
-    let register = register_at(wide, thin, family, t);
-    let goal = goal_at(thin, family, t);
-    let codes = codes_of(kinds, wide, thin, family, t, w, u, Named { register, goal });
+    let u = operand(book, tape::form(op), t);
+    let register = register_at(book, family, t);
+    let goal = goal_at(book, family, t);
+    let codes = codes_of(book, family, t, w, u, Named { register, goal });
     let writing = written_after(family, t, w, u, register);
     Emitted { codes, writing }
 }
 
 // Past an event that stands at address p.
-pub fn passed(
-    kinds: &[u8],
-    wide: &[u64],
-    thin: &[u16],
-    op: u32,
-    t: usize,
-    p: usize,
-    w: Writing,
-) -> Past
+pub fn passed(book: Book, op: u32, t: usize, p: usize, w: Writing) -> Past
     requires { (t < TOKEN-LIMIT) × (p < code_limit) }
-    ensures { (result ≡ past_in kinds.now (wide_of wide.now) (thin_of thin.now) op t p w) × (result.at ≤ p + most_bytes) }
+    ensures { (result ≡ past_in book.entry.kinds.now (wide_in book.entry) (thin_in book.entry) op t p w) × (result.at ≤ p + most_bytes) }
 {
-    let made = event(kinds, wide, thin, op, t, w);
+    let made = event(book, op, t, w);
     let codes = made.codes;
     let at = p + (size(codes) + table_size(op, w));
     let writing = made.writing;

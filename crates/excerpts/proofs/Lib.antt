@@ -1,2 +1,1 @@
--- Laws of the definitions of specs/.
-pub mod Going
+-- The functions' proofs stand in folders of their names.

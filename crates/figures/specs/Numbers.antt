@@ -1,33 +1,32 @@
 -- Numbers as the language has them, and with `-` for `_`: "decimal 0 to 2147483647; with `_` directly in front, `_0` to `_2147483648`; or `#` and one or more
 -- hexadecimal digits with a value below 2^32, taken as 32 bits".
-use Rattle.std.specs.Prelude.{ℕ, ◌+◌, ◌-◌, ◌*◌, ◌%◌, ◌^◌, true, false, ◌||◌, List, [], ◌∷◌, ltb, leb, eqb, length, get_or, drop}
+use Rattle.std.specs.Prelude.{ℕ, ◌+◌, ◌-◌, ◌*◌, ◌%◌, ◌^◌, ◌||◌, ◌&&◌, Option, Some, None, List, [], ◌∷◌, ltb, leb, eqb, length, get_or, drop}
+use Rattle.std.specs.Option.{option_map, option_and_then}
 use Rattle.base.specs.Choose.{choose}
-use Rattle.figures.specs.declared.Reading.{Reading}
-use Rattle.figures.specs.declared.Reading.TheVariants.{Number, Nothing}
+use Rattle.base.specs.Text.{within}
 
--- what a digit stands for, and 16 for any other byte
-abbrev pub digit_of : ℕ → ℕ
-digit_of b = choose (ltb b 48) 16 (choose (leb b 57) (b - 48) (choose (ltb b 65) 16 (choose (leb b 70) (b - 55) 16)))
+-- what a digit stands for
+abbrev pub digit_of : ℕ → Option ℕ
+digit_of b = choose (within 48 57 b) (Some (b - 48)) (choose (within 65 70 b) (Some (b - 65 + 10)) None)
 
--- all of a text as digits to a base, after the number so far; nothing where a byte is no digit or the number goes past a limit
-unfoldable pub digits : ℕ → ℕ → ℕ → List ℕ → Reading
-digits base limit so_far [] = Number so_far
-digits base limit so_far (x ∷ xs) =
-    elim (ltb (digit_of x) base) [
-      | true ↦ elim (leb (so_far * base + digit_of x) limit) [ true ↦ digits base limit (so_far * base + digit_of x) xs | false ↦ Nothing ]
-      | false ↦ Nothing
-    ]
+-- the number so far with a digit more; none where the byte is no digit to the base or the number goes past a limit
+abbrev pub with_digit : ℕ → ℕ → ℕ → ℕ → Option ℕ
+with_digit base limit so_far b =
+    option_and_then (λ d. choose (ltb d base && leb (so_far * base + d) limit) (Some (so_far * base + d)) None) (digit_of b)
+
+-- all of a text as digits to a base, after the number so far
+unfoldable pub digits : ℕ → ℕ → ℕ → List ℕ → Option ℕ
+digits base limit so_far [] = Some so_far
+digits base limit so_far (x ∷ xs) = option_and_then (λ n. digits base limit n xs) (with_digit base limit so_far x)
 
 -- one digit or more
-abbrev pub whole_number : ℕ → ℕ → List ℕ → Reading
-whole_number base limit s = choose (eqb (length s) 0) Nothing (digits base limit 0 s)
+abbrev pub whole_number : ℕ → ℕ → List ℕ → Option ℕ
+whole_number base limit s = choose (eqb (length s) 0) None (digits base limit 0 s)
 
-abbrev pub minus : Reading → Reading
-minus (Number n) = Number ((2 ^ 32 - n) % 2 ^ 32)
-minus Nothing = Nothing
+abbrev pub minus : Option ℕ → Option ℕ
+minus n = option_map (λ v. (2 ^ 32 - v) % 2 ^ 32) n
 
-abbrev pub number_in : List ℕ → Reading
+abbrev pub number_in : List ℕ → Option ℕ
 number_in s =
-    choose (eqb (length s) 0) Nothing
-    (choose (eqb (get_or s 0 0) 35) (whole_number 16 (2 ^ 32 - 1) (drop 1 s))
-    (choose (eqb (get_or s 0 0) 95 || eqb (get_or s 0 0) 45) (minus (whole_number 10 (2 ^ 31) (drop 1 s))) (whole_number 10 (2 ^ 31 - 1) s)))
+    choose (eqb (get_or s 0 0) 35) (whole_number 16 (2 ^ 32 - 1) (drop 1 s))
+    (choose (eqb (get_or s 0 0) 95 || eqb (get_or s 0 0) 45) (minus (whole_number 10 (2 ^ 31) (drop 1 s))) (whole_number 10 (2 ^ 31 - 1) s))

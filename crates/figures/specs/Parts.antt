@@ -1,7 +1,7 @@
 -- Parts of a text that a separator stands between: lines, words, entries of a table.
-use Rattle.std.specs.Prelude.{ℕ, ◌+◌, ◌-◌, true, false, not, List, [], ◌∷◌, ◌++◌, eqb, take}
+use Rattle.std.specs.Prelude.{ℕ, ◌-◌, true, false, List, [], ◌∷◌, ◌++◌, eqb, take, get_or, count_by}
+use Rattle.std.specs.List.{position_or_len}
 use Rattle.base.specs.Choose.{choose}
-use Rattle.base.specs.Runs.{run_len}
 use Rattle.figures.specs.Digits.{decimal}
 
 -- how many separators are still to come behind a byte
@@ -15,7 +15,7 @@ behind sep n (x ∷ xs) = elim (eqb n 0) [ true ↦ x ∷ xs | false ↦ behind 
 
 -- how many bytes stand before the next separator
 abbrev pub part_length : ℕ → List ℕ → ℕ
-part_length sep s = run_len (λ x. not (eqb x sep)) s
+part_length sep s = position_or_len (λ b. eqb b sep) s
 
 abbrev pub first_part : ℕ → List ℕ → List ℕ
 first_part sep s = take (part_length sep s) s
@@ -25,9 +25,8 @@ abbrev pub part_of : ℕ → ℕ → List ℕ → List ℕ
 part_of sep n s = first_part sep (behind sep n s)
 
 -- how many separators there are
-unfoldable pub part_count : ℕ → List ℕ → ℕ
-part_count sep [] = 0
-part_count sep (x ∷ xs) = choose (eqb x sep) 1 0 + part_count sep xs
+abbrev pub part_count : ℕ → List ℕ → ℕ
+part_count sep s = count_by (λ b. eqb b sep) s
 
 -- a phrase with a number put for each `%`
 abbrev pub shown : ℕ → ℕ → List ℕ
@@ -36,3 +35,7 @@ shown n b = choose (eqb b 37) (decimal n) (b ∷ [])
 unfoldable pub filled : ℕ → List ℕ → List ℕ
 filled n [] = []
 filled n (x ∷ xs) = shown n x ++ filled n xs
+
+-- the text with the number n of a table, counted from 0; none where there are not so many
+abbrev pub entry_of : List (List ℕ) → ℕ → List ℕ
+entry_of texts n = get_or texts n []

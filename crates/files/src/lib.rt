@@ -2,15 +2,17 @@
 // file's name and the system's reason.
 #![tactic(auto)]
 
-ghost use Rattle.std.specs.Prelude.{◌≤◌, length, ◌≡◌, IfOk, IfErr};
+ghost use Rattle.std.specs.Prelude.{◌≤◌, length, ◌≡◌, IfOk, IfSome};
+ghost use Rattle.std.specs.Result.{result_ok};
 
+use arrayvec::ArrayString;
 use std::fmt::Write as _;
 use std::fs::{Metadata, OpenFile, OpenOptions, Permissions};
 use std::io::{Error, ErrorKind, Input, Print, Read, Write};
 use std::os::unix::fs::{MetadataExt, PermissionsExt};
 use std::random::RandomSource;
 use std::rt::Files;
-use std::{fmt, fs, io, str};
+use std::{fs, io, str};
 
 // What the command needs of the system that it runs on: files, the standard streams, memory for the name behind a link, and bytes that nobody foresees.
 pub trait Host: Files + Input + Print + Alloc + RandomSource {
@@ -21,31 +23,6 @@ pub trait Host: Files + Input + Print + Alloc + RandomSource {
 impl Host for HostRuntime {
     fn complain(&self, text: &[u8]) -> io::Result<()> {
         Print::write_all(&self.stderr(), text)
-    }
-}
-
-// How many bytes were read, and whether reading failed.
-#[derive(Clone, Copy)]
-pub struct Got {
-    pub size: usize,
-    pub failed: bool,
-}
-
-fn count(size: usize) -> Got
-    ensures { result.size ≡ size }
-{
-    Got {
-        size: size,
-        failed: false,
-    }
-}
-
-fn nothing() -> Got
-    ensures { result.size ≡ 0 }
-{
-    Got {
-        size: 0,
-        failed: true,
     }
 }
 
@@ -60,71 +37,40 @@ pub const OBJECT_ROOM: usize = 44096;
 // The longest of the system's reasons has 49 bytes.
 const REASON_ROOM: usize = 256;
 
-// The words of an error.
-#[derive(Drop)]
-struct Reason {
-    text: [u8; REASON_ROOM],
-    size: usize,
-}
-
-impl fmt::Write for Reason {
-    fn write_str(&mut self, s: &str) -> fmt::Result {
-        self.size = figures::put_all(&mut self.text, self.size, s.as_bytes());
-        Ok(())
-    }
-}
-
 // What the library puts behind the system's reason: its number.
-const NUMBERED: &[u8] = b" (os error ";
+const NUMBERED: &str = " (os error ";
 
-// Where the number of the system's error begins, or the length where there is none.
-fn reason_length(words: &[u8]) -> usize {
-    for n in 0..words.len() {
-        if figures::same(
-            figures::front(figures::rest(words, n), NUMBERED.len()),
-            NUMBERED,
-        ) {
-            return n;
-        }
-    }
-    words.len()
+// The system's reason without its number.
+fn reason(words: &str) -> &str {
+    words
+        .split_once(NUMBERED)
+        .map_or(words, |(reason, _)| reason)
 }
 
 // The name, a colon and the reason.
 fn fail<R: Host>(rt: &R, name: &[u8], e: &Error) {
-    let mut reason = Reason {
-        text: [0u8; REASON_ROOM],
-        size: 0,
-    };
-    let _ = write!(reason, "{e}");
-    let words = figures::front(&reason.text, reason.size);
+    let mut words = ArrayString::<REASON_ROOM>::new();
+    let _ = write!(words, "{e}");
     complain(rt, name);
     complain(rt, b": ");
-    complain(rt, figures::front(words, reason_length(words)));
+    complain(rt, reason(words.as_str()).as_bytes());
     complain(rt, b"\n");
 }
 
-// Whether it was done; if not, that is said.
-fn told<R: Host>(rt: &R, name: &[u8], done: io::Result<()>) -> bool {
+// What came of it, if it was done; if not, that is said.
+fn told<R: Host, T>(rt: &R, name: &[u8], done: io::Result<T>) -> Option<T>
+    ensures { result ≡ result_ok done }
+{
     match done {
-        Ok(()) => true,
+        Ok(value) => Some(value),
         Err(e) => {
             fail(rt, name, &e);
-            false
+            None
         }
     }
 }
 
 // ── reading ──
-
-fn first_end(size: usize) -> usize
-    ensures { result ≤ size }
-{
-    if size < SOURCE_ROOM {
-        return size;
-    }
-    SOURCE_ROOM
-}
 
 // How far to read after n bytes: only what begins as an object text does is read further than a source.
 fn next_end(first: u8, n: usize, end: usize, size: usize) -> usize
@@ -142,7 +88,7 @@ fn read_all<F: Read>(file: &mut F, room: &mut [u8]) -> io::Result<usize>
     ensures { IfOk result (λ n. n ≤ length room.old) }
 {
     let mut n: usize = 0;
-    let mut end = first_end(room.len());
+    let mut end = room.len().min(SOURCE_ROOM);
     while n < end {
         let size = file.read(&mut room[n..end])?;
         if size == 0 {
@@ -160,10 +106,10 @@ fn is_standard(name: &[u8]) -> bool {
 
 // The system's files have names of any bytes, the library's are text: another name is none that can be reached.
 fn path(name: &[u8]) -> io::Result<&str> {
-    match str::from_utf8(name) {
-        Ok(text) => Ok(text),
-        Err(_) => Err(Error::new(ErrorKind::InvalidFilename, "the name is not UTF-8")),
-    }
+    str::from_utf8(name).map_err(|_| Error::new(
+        ErrorKind::InvalidFilename,
+        "the name is not UTF-8",
+    ))
 }
 
 fn read_standard<R: Host>(rt: &R, room: &mut [u8]) -> io::Result<usize>
@@ -180,37 +126,25 @@ fn read_named<R: Host>(rt: &R, name: &[u8], room: &mut [u8]) -> io::Result<usize
     read_all(&mut file, room)
 }
 
-// What was read, or that it could not be, which is said.
-fn outcome<R: Host>(rt: &R, name: &[u8], read: io::Result<usize>) -> Got
-    ensures ok { IfOk read (λ n. result.size ≡ n) }
-    ensures err { IfErr read (λ _. result.size ≡ 0) }
+// A file's first bytes, as many as there is room for; none where it cannot be read, which is said.
+pub fn load<'a, R: Host>(rt: &R, name: &[u8], room: &'a mut [u8]) -> Option<&'a [u8]>
+    ensures { IfSome result (λ text. length text.now ≤ length room.old) }
 {
-    match read {
-        Ok(n) => count(n),
-        Err(e) => {
-            fail(rt, name, &e);
-            nothing()
-        }
-    }
-}
-
-// A file's first bytes, as many as there is room for.
-pub fn load<R: Host>(rt: &R, name: &[u8], room: &mut [u8]) -> Got
-    ensures { result.size ≤ length room.old }
-{
-    if is_standard(name) {
+    let size = if is_standard(name) {
         let read = read_standard(rt, room);
-        return outcome(rt, b"standard input", read);
-    }
-    let read = read_named(rt, name, room);
-    outcome(rt, name, read)
+        told(rt, b"standard input", read)?
+    } else {
+        let read = read_named(rt, name, room);
+        told(rt, name, read)?
+    };
+    Some(&room[..size])
 }
 
 // ── the standard streams ──
 
 // To standard output.
 pub fn print<R: Host>(rt: &R, text: &[u8]) -> bool {
-    told(rt, b"standard output", Print::write_all(rt, text))
+    told(rt, b"standard output", Print::write_all(rt, text)).is_some()
 }
 
 // To standard error.
@@ -228,20 +162,20 @@ struct Kept {
     mode: u32,
 }
 
-fn what_stays(about: &Metadata) -> Kept {
-    Kept {
-        owner: about.uid(),
-        group: about.gid(),
-        mode: about.mode(),
+impl From<&Metadata> for Kept {
+    fn from(about: &Metadata) -> Kept {
+        Kept {
+            owner: about.uid(),
+            group: about.gid(),
+            mode: about.mode(),
+        }
     }
 }
 
 // Whether it is the file behind a name, which the system has for a standard stream.
 fn is_behind<R: Host>(rt: &R, about: &Metadata, name: &str) -> bool {
-    match fs::metadata(rt, name) {
-        Ok(other) => (about.dev() == other.dev()) & (about.ino() == other.ino()),
-        Err(_) => false,
-    }
+    fs::metadata(rt, name).is_ok_and(|other| about.dev() == other.dev()
+        && about.ino() == other.ino())
 }
 
 // The file to which standard output or standard error goes, as `/dev/stdout` may be.
@@ -250,10 +184,7 @@ fn is_standard_file<R: Host>(rt: &R, about: &Metadata) -> bool {
 }
 
 fn is_link<R: Host>(rt: &R, name: &str) -> bool {
-    match fs::symlink_metadata(rt, name) {
-        Ok(about) => about.is_symlink(),
-        Err(_) => false,
-    }
+    fs::symlink_metadata(rt, name).is_ok_and(|about| about.is_symlink())
 }
 
 // ── a file replaced ──
@@ -262,14 +193,13 @@ fn is_link<R: Host>(rt: &R, name: &str) -> bool {
 const NAME_ROOM: usize = 4200;
 
 // A name in the same folder that no other file has.
-fn put_other_name<R: Host>(rt: &R, room: &mut [u8], name: &str) -> usize {
+fn other_name<R: Host>(rt: &R, name: &str) -> ArrayString<NAME_ROOM> {
     let mut chance = [0u8; 3];
     let _ = rt.fill_bytes(&mut chance);
-    let named = figures::put_all(room, 0, name.as_bytes());
-    let marked = figures::put_all(room, named, b".new");
-    let first = figures::put_decimal(room, marked, figures::byte(&chance, 0) as usize);
-    let second = figures::put_decimal(room, first, figures::byte(&chance, 1) as usize);
-    figures::put_decimal(room, second, figures::byte(&chance, 2) as usize)
+    let [first, second, third] = chance;
+    let mut other = ArrayString::new();
+    let _ = write!(other, "{name}.new{first}{second}{third}");
+    other
 }
 
 // As the file was that is replaced: its mode, and owner and group where the system lets us.
@@ -326,24 +256,20 @@ fn put_under<R: Host>(
 }
 
 fn put_in_place<R: Host>(rt: &R, name: &str, text: &[u8], was: Option<Kept>) -> io::Result<()> {
-    let mut room = [0u8; NAME_ROOM];
-    let end = put_other_name(rt, &mut room, name);
-    put_under(rt, path(figures::front(&room, end))?, name, text, was)
+    let other = other_name(rt, name);
+    put_under(rt, other.as_str(), name, text, was)
 }
 
 // The whole text under another name in the same folder, which then takes the name's place.
 fn replace<R: Host>(rt: &R, name: &str, text: &[u8], was: Option<Kept>) -> bool {
-    told(rt, name.as_bytes(), put_in_place(rt, name, text, was))
+    told(rt, name.as_bytes(), put_in_place(rt, name, text, was)).is_some()
 }
 
 // The file behind a link, by the name that the system has for it.
 fn replace_behind<R: Host>(rt: &R, name: &str, text: &[u8], was: Option<Kept>) -> bool {
-    match fs::canonicalize(rt, name) {
-        Ok(target) => replace(rt, target.as_str(), text, was),
-        Err(e) => {
-            fail(rt, name.as_bytes(), &e);
-            false
-        }
+    match told(rt, name.as_bytes(), fs::canonicalize(rt, name)) {
+        Some(target) => replace(rt, target.as_str(), text, was),
+        None => false,
     }
 }
 
@@ -353,7 +279,7 @@ fn replace_behind<R: Host>(rt: &R, name: &str, text: &[u8], was: Option<Kept>) -
 fn write_directly<R: Host>(rt: &R, name: &str, file: R::File, text: &[u8]) -> bool {
     let mut opened = file;
     let done = opened.write_all(text);
-    told(rt, name.as_bytes(), done)
+    told(rt, name.as_bytes(), done).is_some()
 }
 
 fn store_known<R: Host>(rt: &R, name: &str, file: R::File, about: &Metadata, text: &[u8]) -> bool {
@@ -362,9 +288,9 @@ fn store_known<R: Host>(rt: &R, name: &str, file: R::File, about: &Metadata, tex
     }
     drop(file);
     if is_link(rt, name) {
-        return replace_behind(rt, name, text, Some(what_stays(about)));
+        return replace_behind(rt, name, text, Some(Kept::from(about)));
     }
-    replace(rt, name, text, Some(what_stays(about)))
+    replace(rt, name, text, Some(Kept::from(about)))
 }
 
 fn store_over<R: Host>(rt: &R, name: &str, file: R::File, text: &[u8]) -> bool {
@@ -397,11 +323,8 @@ pub fn store<R: Host>(rt: &R, name: &[u8], text: &[u8]) -> bool {
     if is_standard(name) {
         return print(rt, text);
     }
-    match path(name) {
-        Ok(text_name) => store_named(rt, text_name, text),
-        Err(e) => {
-            fail(rt, name, &e);
-            false
-        }
+    match told(rt, name, path(name)) {
+        Some(text_name) => store_named(rt, text_name, text),
+        None => false,
     }
 }

@@ -9,7 +9,7 @@ use lib.Seq.{sets, take_all, drop-drop}
 use Rattle.base.specs.Numbers.{bytes_of}
 use Rattle.base.proofs.Parts.{drop-turn, sets-append}
 use Rattle.objtext.specs.Object.{hex_digit, hex, line, newline, content_frame, content_frames, frames_for, text_of}
-use Rattle.objtext.specs.Reader.{content_length, line_length, frame_head_bytes, bytes_place}
+use Rattle.objtext.specs.Reader.{line_length, frame_head_bytes, bytes_place}
 use Rattle.objtext.proofs.Lines.{length-hex, length-line}
 
 -- ── digits ──
@@ -40,55 +40,42 @@ frame-laid s t u at k o bs e q = q ∙ rw e (sym (sets-append s at (hex (0 ∷ k
 
 -- ── content ──
 
+-- the frames of the content from frame m on
 abbrev pub rest : ℕ → List ℕ → ℕ → List ℕ
-rest k bs o = text_of (content_frames (frames_for (length bs - o)) k o (drop o bs))
+rest k bs m = text_of (content_frames (frames_for (length bs) - m) k (16 * m) (drop (16 * m) bs))
 
-pub content-start : (s : List ℕ) (at k : ℕ) (bs : List ℕ) → sets s at (rest k bs 0) ≡ sets s at (text_of (content_frames (frames_for (length bs)) k 0 bs))
-content-start s at k bs = let z : length bs - 0 ≡ length bs = omega arith in rw z
+-- the turn at frame m, whose bytes end at e
+module _ (k : ℕ) (bs : List ℕ) (m : ℕ) (h : m < frames_for (length bs)) (e : ℕ) (l : e ≡ min (16 * m + 16) (length bs)) where
+  abbrev part : List ℕ
+  part = take (e - 16 * m) (drop (16 * m) bs)
 
-module _ (k : ℕ) (bs : List ℕ) (o e : ℕ) (h : o < length bs) (m : e ≡ min (o + 16) (length bs)) where
-  part : take (e - o) (drop o bs) ≡ take 16 (drop o bs)
-  part = go (dec_le (o + 16) (length bs))
+  taken : length part ≡ e - 16 * m
+  taken = omega (arith, length-take (e - 16 * m) (drop (16 * m) bs), length-drop (16 * m) bs)
+
+  whole : part ≡ take 16 (drop (16 * m) bs)
+  whole = go (dec_le (16 * m + 16) (length bs))
     where
-      go : Dec (o + 16 ≤ length bs) → take (e - o) (drop o bs) ≡ take 16 (drop o bs)
-      go (yes l) = let z : e - o ≡ 16 = omega arith in rw z
-      go (no l) =
-          let d = length-drop o bs in
-          take_all (e - o) (drop o bs) (omega arith) ∙ sym (take_all 16 (drop o bs) (omega arith))
+      go : Dec (16 * m + 16 ≤ length bs) → part ≡ take 16 (drop (16 * m) bs)
+      go (yes g) = let z : e - 16 * m ≡ 16 = omega arith in rw z
+      go (no g) =
+          let d = length-drop (16 * m) bs in
+          take_all (e - 16 * m) (drop (16 * m) bs) (omega arith) ∙ sym (take_all 16 (drop (16 * m) bs) (omega arith))
 
-  behind : text_of (content_frames (frames_for (length bs - o) - 1) k (o + 16) (drop 16 (drop o bs))) ≡ rest k bs e
-  behind = go (dec_le (o + 16) (length bs))
-    where
-      go : Dec (o + 16 ≤ length bs) → text_of (content_frames (frames_for (length bs - o) - 1) k (o + 16) (drop 16 (drop o bs))) ≡ rest k bs e
-      go (yes l) =
-          let z : e ≡ o + 16 = omega arith in
-          let w : frames_for (length bs - o) - 1 ≡ frames_for (length bs - (o + 16)) = omega arith in
-          rw (z, w, drop-drop 16 o bs)
-      go (no l) =
-          let w : frames_for (length bs - o) - 1 ≡ 0 = omega arith in
-          let v : frames_for (length bs - e) ≡ 0 = omega arith in
-          rw (w, v)
-
-  first : rest k bs o ≡ line (content_frame k o (take (e - o) (drop o bs))) ++ rest k bs e
+  first : rest k bs m ≡ line (content_frame k (16 * m) part) ++ rest k bs (m + 1)
   first =
-      let w : frames_for (length bs - o) ≡ suc (frames_for (length bs - o) - 1) = omega arith in
-      rw (w, part) (ap (λ (t : List ℕ). line (content_frame k o (take 16 (drop o bs))) ++ t) behind)
+      let w : frames_for (length bs) - m ≡ suc (frames_for (length bs) - (m + 1)) = omega arith in
+      let o : 16 * m + 16 ≡ 16 * (m + 1) = omega arith in
+      rw (w, whole, drop-drop 16 (16 * m) bs, o)
 
-  taken : length (take (e - o) (drop o bs)) ≡ e - o
-  taken = omega (arith, length-take (e - o) (drop o bs), length-drop o bs)
-
-  pub content-on : (s t : List ℕ) (at : ℕ) {z : List ℕ} → t ≡ sets s at (line (content_frame k o (take (e - o) (drop o bs)))) → sets s at (rest k bs o) ≡ z
-      → sets t (at + (2 * (e - o) + line_length frame_head_bytes)) (rest k bs e) ≡ z
+  pub content-on : (s t : List ℕ) (at : ℕ) {z : List ℕ} → t ≡ sets s at (line (content_frame k (16 * m) part)) → sets s at (rest k bs m) ≡ z
+      → sets t (at + (2 * (e - 16 * m) + line_length frame_head_bytes)) (rest k bs (m + 1)) ≡ z
   unfolding bytes_of
   content-on s t at q g =
-      let l : length (line (content_frame k o (take (e - o) (drop o bs)))) ≡ 2 * (e - o) + line_length frame_head_bytes = omega (arith, length-line (content_frame k o (take (e - o) (drop o bs))), taken) in
-      rw (q, ← l) (sym (sets-append s at (line (content_frame k o (take (e - o) (drop o bs)))) (rest k bs e)) ∙ (ap (λ (u : List ℕ). sets s at u) (sym first) ∙ g))
+      let n : length (line (content_frame k (16 * m) part)) ≡ 2 * (e - 16 * m) + line_length frame_head_bytes = omega (arith, length-line (content_frame k (16 * m) part), taken) in
+      rw (q, ← n) (sym (sets-append s at (line (content_frame k (16 * m) part)) (rest k bs (m + 1))) ∙ (ap (λ (u : List ℕ). sets s at u) (sym first) ∙ g))
 
-  pub room-on : content_length (length bs - o) ≡ 2 * (e - o) + line_length frame_head_bytes + content_length (length bs - e)
-  room-on = omega arith
+pub content-start : (s : List ℕ) (at k : ℕ) (bs : List ℕ) → sets s at (rest k bs 0) ≡ sets s at (text_of (content_frames (frames_for (length bs)) k 0 bs))
+content-start s at k bs = let z : frames_for (length bs) - 0 ≡ frames_for (length bs) = omega arith in rw z
 
-pub content-end : (s : List ℕ) (at k : ℕ) (bs : List ℕ) (o : ℕ) {z : List ℕ} → length bs ≤ o → sets s at (rest k bs o) ≡ z → s ≡ z
-content-end s at k bs o h q = let w : frames_for (length bs - o) ≡ 0 = omega arith in rw w at q
-
-pub room-end : (n o : ℕ) → n ≤ o → content_length (n - o) ≡ 0
-room-end n o h = let z : n - o ≡ 0 = omega arith in rw z
+pub content-end : (s : List ℕ) (at k : ℕ) (bs : List ℕ) (m : ℕ) {z : List ℕ} → frames_for (length bs) ≤ m → sets s at (rest k bs m) ≡ z → s ≡ z
+content-end s at k bs m h q = let w : frames_for (length bs) - m ≡ 0 = omega arith in rw w at q

@@ -1,5 +1,5 @@
 -- Segments laid one behind the other make the object's text, whose length is told by the lengths of the contents. Assumes nothing.
-use Prim.Native.Nat.{ℕ, zero, suc, ◌+◌, ◌/◌, ◌%◌, ◌≤◌}
+use Prim.Native.Nat.{ℕ, zero, suc, ◌+◌, ◌*◌, ◌≤◌}
 use mathlib.Core.Path.{◌≡◌, refl, sym, ap, ◌∙◌}
 use mathlib.Core.List.{List, [], ◌∷◌, ◌++◌, append_assoc, append-nil}
 use native.Mathlib.Omega.{arith}
@@ -11,24 +11,16 @@ use Rattle.objtext.specs.Object.{Segment, program, cells, line, head_frame, cont
 use Rattle.objtext.proofs.Lines.{length-line}
 use Rattle.objtext.proofs.Written.{text-append, length-frames}
 use Rattle.frames.specs.Frames.{later_data, frames_from, object_of, program_length, data_length, later_length, length_for}
-use Rattle.objtext.specs.Reader.{data_line, program_line}
 
 -- ── segments ──
 
 abbrev content : ℕ → List ℕ → List ℕ
 content k bs = text_of (content_frames (frames_for (length bs)) k 0 bs)
 
-pub program-laid : (s t u : List ℕ) (at : ℕ) (bs : List ℕ) → t ≡ sets s at (line (1 ∷ 0 ∷ length bs / 256 % 256 ∷ length bs % 256 ∷ [])) → u ≡ sets t (at + program_line) (content 0 bs)
-    → u ≡ sets s at (text_of (segment_frames 0 (program bs)))
-unfolding bytes_of
-program-laid s t u at bs e q = q ∙ rw e (sym (sets-append s at (line (1 ∷ 0 ∷ length bs / 256 % 256 ∷ length bs % 256 ∷ [])) (content 0 bs)))
-
-pub data-laid : (s t u : List ℕ) (at k : ℕ) (bs : List ℕ) (from to : ℕ)
-    → t ≡ sets s at (line (2 ∷ k ∷ length bs / 256 % 256 ∷ length bs % 256 ∷ from / 256 % 256 ∷ from % 256 ∷ to / 256 % 256 ∷ to % 256 ∷ [])) → u ≡ sets t (at + data_line) (content k bs)
-    → u ≡ sets s at (text_of (segment_frames k (cells bs from to)))
-unfolding bytes_of
-data-laid s t u at k bs from to e q =
-    q ∙ rw e (sym (sets-append s at (line (2 ∷ k ∷ length bs / 256 % 256 ∷ length bs % 256 ∷ from / 256 % 256 ∷ from % 256 ∷ to / 256 % 256 ∷ to % 256 ∷ [])) (content k bs)))
+pub segment-laid : (s t u : List ℕ) (at k : ℕ) (head bs : List ℕ) → t ≡ sets s at (line head) → u ≡ sets t (at + 2 * length head + 1) (content k bs) → u ≡ sets s at (line head ++ content k bs)
+segment-laid s t u at k head bs e q =
+    let l : at + 2 * length head + 1 ≡ at + length (line head) = omega (arith, length-line head) in
+    q ∙ rw (e, l) (sym (sets-append s at (line head) (content k bs)))
 
 length-program : (k : ℕ) (bs : List ℕ) → length (text_of (segment_frames k (program bs))) ≡ program_length (length bs)
 unfolding bytes_of

@@ -1,7 +1,7 @@
 // The writer of the object text: the frames of a segment, and of a whole object. Nothing is touched behind what is laid.
 #![tactic(auto)]
 
-ghost use Rattle.std.specs.Prelude.{◌≡◌, ◌+◌, ◌*◌, ◌<◌, ◌≤◌, length};
+ghost use Rattle.std.specs.Prelude.{◌≡◌, ◌++◌, ◌+◌, ◌*◌, ◌<◌, ◌≤◌, length};
 ghost use Rattle.std.proofs.lemmas.List.Edits.{sets};
 ghost use Rattle.objtext.specs.Object.{program, cells, hex_digit, hex, line, frame_bytes, content_frame, content_frames, frames_for, segment_frames, text_of, object_text, program_limit, data_limit, content_limit};
 ghost use Rattle.objtext.specs.Reader.{line_length, frame_head_bytes, content_length};
@@ -25,17 +25,11 @@ const DIGITS: [u8; 16] = [
     48, 49, 50, 51, 52, 53, 54, 55, 56, 57, 65, 66, 67, 68, 69, 70,
 ];
 
-fn digit(n: usize) -> u8
+fn digit(n: u8) -> u8
     requires { n < 16 }
     ensures { result ≡ hex_digit n }
 {
-    DIGITS[n]
-}
-
-fn wide(b: u8) -> usize
-    ensures { (result ≡ b) × (result < 256) }
-{
-    b as usize
+    DIGITS[n as usize]
 }
 
 // Two digits a byte.
@@ -43,12 +37,9 @@ fn put_hex(out: &mut [u8], at: usize, bytes: &[u8])
     requires { at + 2 * length bytes.now ≤ length out.old }
     ensures { out.new ≡ sets out.old at (hex bytes.now) }
 {
-    let mut i: usize = 0;
-    while i < bytes.len() {
-        let b = wide(bytes[i]);
-        out[at + 2 * i] = digit(b / 16);
-        out[at + 2 * i + 1] = digit(b % 16);
-        i += 1;
+    for (i, b) in bytes.iter().enumerate() {
+        out[at + 2 * i] = digit(*b / 16);
+        out[at + 2 * i + 1] = digit(*b % 16);
     }
 }
 
@@ -83,15 +74,24 @@ fn put_content(out: &mut [u8], at: usize, k: u8, content: &[u8]) -> usize
     ensures { (result ≡ at + content_length (length content.now))
         × (out.new ≡ sets out.old at (text_of (content_frames (frames_for (length content.now)) k 0 content.now))) }
 {
-    let mut o: usize = 0;
-    let mut p = at;
-    while o < content.len() {
-        let e = least(o + FRAME_BYTES, content.len());
-        put_frame(out, p, k, o, &content[o..e]);
-        p += 2 * (e - o) + FRAME_HEAD_LINE;
-        o = e;
+    let mut end = at;
+    for m in 0..(content.len() + 15) / FRAME_BYTES {
+        let from = FRAME_BYTES * m;
+        let to = least(from + FRAME_BYTES, content.len());
+        put_frame(out, end, k, from, &content[from..to]);
+        end += 2 * (to - from) + FRAME_HEAD_LINE;
     }
-    p
+    end
+}
+
+// A segment's head and, behind it, its content in frames; the place behind them.
+fn put_segment(out: &mut [u8], at: usize, k: u8, head: &[u8], content: &[u8]) -> usize
+    requires { (length content.now ≤ content_limit) × (at + (line_length (length head.now) + content_length (length content.now)) ≤ length out.old) }
+    ensures { (result ≡ at + (line_length (length head.now) + content_length (length content.now)))
+        × (out.new ≡ sets out.old at (line head.now ++ text_of (content_frames (frames_for (length content.now)) k 0 content.now))) }
+{
+    put_line(out, at, head);
+    put_content(out, at + 2 * head.len() + 1, k, content)
 }
 
 // "Program head: 01, number, length (2 bytes)"; the place behind the segment's frames.
@@ -101,8 +101,7 @@ fn put_program(out: &mut [u8], at: usize, content: &[u8]) -> usize
 {
     let n = content.len();
     let head = [1u8, 0, (n / 256 % 256) as u8, (n % 256) as u8];
-    put_line(out, at, &head);
-    put_content(out, at + PROGRAM_HEAD, 0, content)
+    put_segment(out, at, 0, &head, content)
 }
 
 // "Data head: 02, number, length, writable from, writable to".
@@ -121,11 +120,11 @@ fn put_data(out: &mut [u8], at: usize, k: u8, content: &[u8], from: usize, to: u
         (to / 256 % 256) as u8,
         (to % 256) as u8,
     ];
-    put_line(out, at, &head);
-    put_content(out, at + DATA_HEAD, k, content)
+    put_segment(out, at, k, &head, content)
 }
 
 // The segments of the base declarations.
+// Kept: `bases` beside the contents, since the caller would make an enum of no, one or two contents out of it, and it would be taken apart here again.
 fn put_later(out: &mut [u8], at: usize, bases: usize, second: &[u8], third: &[u8]) -> usize
     requires { (length second.now ≤ data_limit) × (length third.now ≤ data_limit) × (at + later_length bases (length second.now) (length third.now) ≤ length out.old) }
     ensures { (result ≡ at + later_length bases (length second.now) (length third.now))

@@ -1,3 +1,3 @@
--- The table in the code is the definition's, and so is the function that a packed meaning is.
-pub mod Table
+-- The function that a packed meaning is, and what it takes.
 pub mod Packed
+pub mod Table

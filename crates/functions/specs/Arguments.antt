@@ -1,43 +1,27 @@
--- What a standard function takes in a parenthesis, by number; a function as a row of numbers; the function that a packed meaning is.
-use Rattle.std.specs.Prelude.{List, [], ◌∷◌, ℕ, eqb}
+-- What a standard function takes in a parenthesis, and a function, as the code has them; the function that a packed meaning is.
+use Rattle.std.specs.Prelude.{ℕ}
 use Rattle.base.specs.Choose.{whether◌then◌else◌}
-use Rattle.static_rules.specs.Functions.{Argument, written_register, read_register, byte_number, indexed_cell, plain_cell, surplus, Function, no_function, function_at, arity, argument_at}
+use Rattle.static_rules.specs.Functions as F
 use Rattle.tables.specs.Packed.{number_in, is_function_in}
+use Rattle.functions.specs.declared.Argument.{Argument}
+use Rattle.functions.specs.declared.Argument.TheVariants.{WrittenRegister, ReadRegister, ByteNumber, IndexedCell, PlainCell, Surplus}
+use Rattle.functions.specs.declared.Function.{Function}
 
-abbrev pub SURPLUS : ℕ
-SURPLUS = 0
+abbrev pub coded_argument : F.Argument → Argument
+coded_argument x = elim x [ F.written_register ↦ WrittenRegister | F.read_register ↦ ReadRegister | F.byte_number ↦ ByteNumber | F.indexed_cell ↦ IndexedCell | F.plain_cell ↦ PlainCell | F.surplus ↦ Surplus ]
 
-abbrev pub WRITTEN-REGISTER : ℕ
-WRITTEN-REGISTER = 1
-
-abbrev pub READ-REGISTER : ℕ
-READ-REGISTER = 2
-
-abbrev pub BYTE-NUMBER : ℕ
-BYTE-NUMBER = 3
-
-abbrev pub INDEXED-CELL : ℕ
-INDEXED-CELL = 4
-
-abbrev pub PLAIN-CELL : ℕ
-PLAIN-CELL = 5
-
-abbrev pub argument_number : Argument → ℕ
-argument_number x = elim x [ written_register ↦ WRITTEN-REGISTER | read_register ↦ READ-REGISTER | byte_number ↦ BYTE-NUMBER | indexed_cell ↦ INDEXED-CELL | plain_cell ↦ PLAIN-CELL | surplus ↦ SURPLUS ]
-
-unfoldable pub argument_by : ℕ → Argument
-argument_by a =
-    whether eqb a WRITTEN-REGISTER then written_register else
-    whether eqb a READ-REGISTER then read_register else
-    whether eqb a BYTE-NUMBER then byte_number else
-    whether eqb a INDEXED-CELL then indexed_cell else
-    whether eqb a PLAIN-CELL then plain_cell else
-    surplus
+abbrev pub argument_by : Argument → F.Argument
+argument_by WrittenRegister = F.written_register
+argument_by ReadRegister = F.read_register
+argument_by ByteNumber = F.byte_number
+argument_by IndexedCell = F.indexed_cell
+argument_by PlainCell = F.plain_cell
+argument_by Surplus = F.surplus
 
 -- what it takes in its first and in its second parenthesis, in how many, its opcode, its number
-abbrev pub row_of : Function → List ℕ
-row_of g = argument_number (argument_at g 0) ∷ argument_number (argument_at g 1) ∷ arity g ∷ g.op ∷ g.number ∷ []
+abbrev pub coded : F.Function → Function
+coded g = record { first = coded_argument (F.argument_at g 0); second = coded_argument (F.argument_at g 1); arity = F.arity g; op = g.op; number = g.number }
 
 -- of what means none, one that takes nothing
-unfoldable pub function_in : ℕ → Function
-function_in m = whether is_function_in m then function_at (number_in m) else no_function
+unfoldable pub function_in : ℕ → F.Function
+function_in m = whether is_function_in m then F.function_at (number_in m) else F.no_function

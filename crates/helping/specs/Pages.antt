@@ -1,11 +1,11 @@
--- The pages of `tautgaff help`, each ended by `~`: numbers 0 to 9 and 10 to 19, each with the refusal and the stop that has it; usage and the commands.
+-- The pages of `tautgaff help`: numbers 0 to 19, each with the refusal and the stop that has it; usage and the commands.
 -- Made of examples/refusals.data and command/usage by examples/make.
-use Rattle.std.specs.Prelude.{List, ◌++◌, ℕ}
+use Rattle.std.specs.Prelude.{List, [], ◌∷◌, ◌++◌, ℕ}
 use Rattle.base.specs.Text.{bytes}
 
-unfoldable pub below10 : List ℕ
-below10 =
-    bytes "Stop 0: the budget is used up\n"
+abbrev pub pages : List (List ℕ)
+pages =
+    (bytes "Stop 0: the budget is used up\n"
     ++ bytes "\n"
     ++ bytes "As many instructions as were allowed have been completed, and the program is not at its end.\n"
     ++ bytes "\n"
@@ -15,8 +15,8 @@ below10 =
     ++ bytes "\n"
     ++ bytes "This, with budget 1000, runs and gets stop 1: one instruction leads to the end.\n"
     ++ bytes "\n"
-    ++ bytes "    BEGIN GOTO L; L: END @\n"
-    ++ bytes "~Refusal 1: the source is too long\n"
+    ++ bytes "    BEGIN GOTO L; L: END @\n")
+    ∷ (bytes "Refusal 1: the source is too long\n"
     ++ bytes "\n"
     ++ bytes "The source has more than 32,768 bytes. All of them count, also those after the `@`; none of them is read.\n"
     ++ bytes "Place: 32768, the first byte too many.\n"
@@ -41,8 +41,8 @@ below10 =
     ++ bytes "\n"
     ++ bytes "This, with budget 1, runs and gets stop 0: the budget comes first.\n"
     ++ bytes "\n"
-    ++ bytes "    BEGIN R1 := R2; END @\n"
-    ++ bytes "~Refusal 2: a byte that is in no token, or a comment that is not closed\n"
+    ++ bytes "    BEGIN R1 := R2; END @\n")
+    ∷ (bytes "Refusal 2: a byte that is in no token, or a comment that is not closed\n"
     ++ bytes "\n"
     ++ bytes "Capitals, digits, the signs of the language, `_` before a digit, `#` before a hexadecimal digit, blank and newline are all there is outside comments.\n"
     ++ bytes "Small letters, TAB, CR and a byte-order mark are in no token. A comment runs from COMMENT to the next `;`.\n"
@@ -67,8 +67,8 @@ below10 =
     ++ bytes "\n"
     ++ bytes "This runs and gets stop 1: 4 is the second element.\n"
     ++ bytes "\n"
-    ++ bytes "    BEGIN ARRAY (2) INTEGER A; R1 := 4; A(R1) := R2; END @\n"
-    ++ bytes "~Refusal 3: a number out of range\n"
+    ++ bytes "    BEGIN ARRAY (2) INTEGER A; R1 := 4; A(R1) := R2; END @\n")
+    ∷ (bytes "Refusal 3: a number out of range\n"
     ++ bytes "\n"
     ++ bytes "Decimal numbers run from 0 to 2147483647, with `_` in front, which is the minus sign, from _0 to _2147483648; after `#` any value of 32 bits may\n"
     ++ bytes "stand.\n"
@@ -93,8 +93,8 @@ below10 =
     ++ bytes "\n"
     ++ bytes "This runs and gets stop 1: elements of a short array have 2 bytes.\n"
     ++ bytes "\n"
-    ++ bytes "    BEGIN ARRAY (4) SHORT INTEGER A; R1 := 2; R2 := A(R1); END @\n"
-    ++ bytes "~Refusal 4: no program goes on like this\n"
+    ++ bytes "    BEGIN ARRAY (4) SHORT INTEGER A; R1 := 2; R2 := A(R1); END @\n")
+    ∷ (bytes "Refusal 4: no program goes on like this\n"
     ++ bytes "\n"
     ++ bytes "The tokens up to this one, with it, begin no program. All before it could have been the beginning of one.\n"
     ++ bytes "Place: that token, or the text's length where the text ends too early.\n"
@@ -126,8 +126,8 @@ below10 =
     ++ bytes "    00000000020A00\n"
     ++ bytes "    0201001000100010\n"
     ++ bytes "    000100001000000000000000000000000000000000\n"
-    ++ bytes "    FF\n"
-    ++ bytes "~Refusal 5: constructs inside each other more than 64 deep\n"
+    ++ bytes "    FF\n")
+    ∷ (bytes "Refusal 5: constructs inside each other more than 64 deep\n"
     ++ bytes "\n"
     ++ bytes "BEGIN, IF, WHILE, FOR, PROCEDURE and CASE open a construct; one stands inside 64 others. The BEGIN of a CASE belongs to it and opens none.\n"
     ++ bytes "Place: that word.\n"
@@ -142,8 +142,8 @@ below10 =
     ++ bytes "\n"
     ++ bytes "    BEGIN   ... 64 times\n"
     ++ bytes "    END;   ... 63 times\n"
-    ++ bytes "    END @\n"
-    ++ bytes "~Refusal 6: a name that is not declared, a label that is not set\n"
+    ++ bytes "    END @\n")
+    ∷ (bytes "Refusal 6: a name that is not declared, a label that is not set\n"
     ++ bytes "\n"
     ++ bytes "No declaration before this place, in this block or one around it, has the name; or no label of an enclosing block has it. A GOTO looks for labels no\n"
     ++ bytes "further than the edge of the procedure body it stands in.\n"
@@ -155,8 +155,8 @@ below10 =
     ++ bytes "\n"
     ++ bytes "This is accepted: a label may come after the GOTO.\n"
     ++ bytes "\n"
-    ++ bytes "    BEGIN PROCEDURE P(R5); BEGIN GOTO L; L: END; P; END @\n"
-    ++ bytes "~Refusal 7: declared twice\n"
+    ++ bytes "    BEGIN PROCEDURE P(R5); BEGIN GOTO L; L: END; P; END @\n")
+    ∷ (bytes "Refusal 7: declared twice\n"
     ++ bytes "\n"
     ++ bytes "The block has declared this name already, or set this label. Only the first 10 characters of a name count. Labels and other names are apart from each\n"
     ++ bytes "other.\n"
@@ -168,8 +168,8 @@ below10 =
     ++ bytes "\n"
     ++ bytes "This is accepted: the second A belongs to an inner block, which may hide names of outer ones.\n"
     ++ bytes "\n"
-    ++ bytes "    BEGIN INTEGER A; BEGIN INTEGER A; END; END @\n"
-    ++ bytes "~Refusal 8: a name or token that does not fit\n"
+    ++ bytes "    BEGIN INTEGER A; BEGIN INTEGER A; END; END @\n")
+    ∷ (bytes "Refusal 8: a name or token that does not fit\n"
     ++ bytes "\n"
     ++ bytes "A register stands where a cell has to, a cell where a register has to, a procedure's or function's name in an expression, a subscript after what is no\n"
     ++ bytes "array, a short cell with AND, OR, XOR, `++` or `--`, a BYTE or CHARACTER cell in an assignment, a condition or as a limit; more than one register name is\n"
@@ -192,8 +192,8 @@ below10 =
     ++ bytes "\n"
     ++ bytes "This is accepted: that of STC has.\n"
     ++ bytes "\n"
-    ++ bytes "    BEGIN ARRAY (4) BYTE B; R2 := #FF; STC(R2)(B(R1)); END @\n"
-    ++ bytes "~Refusal 9: a register that cannot be this one\n"
+    ++ bytes "    BEGIN ARRAY (4) BYTE B; R2 := #FF; STC(R2)(B(R1)); END @\n")
+    ∷ (bytes "Refusal 9: a register that cannot be this one\n"
     ++ bytes "\n"
     ++ bytes "Register numbers are 0 to 15. Register 0 cannot be a base, a return register, an index, a shift amount or the register of a CASE, since the machine takes\n"
     ++ bytes "0 there for no register. A product by a number, a register or an integer cell needs an odd target.\n"
@@ -205,12 +205,8 @@ below10 =
     ++ bytes "\n"
     ++ bytes "This is accepted: R3 takes the lower half; the upper half goes to R2.\n"
     ++ bytes "\n"
-    ++ bytes "    BEGIN R3 := R1 * 10; END @\n"
-    ++ bytes "~"
-
-unfoldable pub from10 : List ℕ
-from10 =
-    bytes "Refusal 10: a protected register is written\n"
+    ++ bytes "    BEGIN R3 := R1 * 10; END @\n")
+    ∷ (bytes "Refusal 10: a protected register is written\n"
     ++ bytes "\n"
     ++ bytes "Protected are register 15, by which the program finds its own instructions; 14, the data base, by which it finds its cells; the bases of the enclosing\n"
     ++ bytes "blocks; and the return registers of the procedures around this place. A call writes the procedure's return register and all that its body writes,\n"
@@ -223,8 +219,8 @@ from10 =
     ++ bytes "\n"
     ++ bytes "This is accepted: RD is nobody's base here, and a protected register may be read.\n"
     ++ bytes "\n"
-    ++ bytes "    BEGIN RD := R1; R1 := RE; END @\n"
-    ++ bytes "~Refusal 11: a value that is out of bounds\n"
+    ++ bytes "    BEGIN RD := R1; R1 := RE; END @\n")
+    ∷ (bytes "Refusal 11: a value that is out of bounds\n"
     ++ bytes "\n"
     ++ bytes "An initial value that a short cell cannot hold (-32768 to 65535), or a BYTE or CHARACTER cell (0 to 255), or one value too many; an array count that is\n"
     ++ bytes "not 1 to 2,048; a subscript that is not the byte offset of an element; a shift by more than 63; a number of MVI or CLI that is not 0 to 255.\n"
@@ -244,8 +240,8 @@ from10 =
     ++ bytes "\n"
     ++ bytes "This is accepted: 255 is the greatest.\n"
     ++ bytes "\n"
-    ++ bytes "    BEGIN BYTE B; CLI(#FF)(B); END @\n"
-    ++ bytes "~Refusal 12: a cell past the end of its segment, or a third base declaration\n"
+    ++ bytes "    BEGIN BYTE B; CLI(#FF)(B); END @\n")
+    ∷ (bytes "Refusal 12: a cell past the end of its segment, or a third base declaration\n"
     ++ bytes "\n"
     ++ bytes "A data segment has 4,096 bytes; the first 16 of the one of base 14 are a table. Two SEGMENT BASE declarations are all that a program has room for.\n"
     ++ bytes "Place: the cell's name, or the base's.\n"
@@ -256,8 +252,8 @@ from10 =
     ++ bytes "\n"
     ++ bytes "This is accepted: 16 + 4 * 1020 is 4,096.\n"
     ++ bytes "\n"
-    ++ bytes "    BEGIN ARRAY (1020) INTEGER A; END @\n"
-    ++ bytes "~Refusal 13: too many names\n"
+    ++ bytes "    BEGIN ARRAY (1020) INTEGER A; END @\n")
+    ∷ (bytes "Refusal 13: too many names\n"
     ++ bytes "\n"
     ++ bytes "A program may declare 256 names and set 256 labels, in all its blocks together.\n"
     ++ bytes "Place: the 257th.\n"
@@ -272,8 +268,8 @@ from10 =
     ++ bytes "\n"
     ++ bytes "    BEGIN\n"
     ++ bytes "    BEGIN L: END;   ... 256 times\n"
-    ++ bytes "    END @\n"
-    ++ bytes "~Refusal 14: the program is too long\n"
+    ++ bytes "    END @\n")
+    ∷ (bytes "Refusal 14: the program is too long\n"
     ++ bytes "\n"
     ++ bytes "The instructions have more than 4,096 bytes.\n"
     ++ bytes "Place: 0.\n"
@@ -288,8 +284,8 @@ from10 =
     ++ bytes "\n"
     ++ bytes "    BEGIN\n"
     ++ bytes "    R1 := R2;   ... 2047 times\n"
-    ++ bytes "    END @\n"
-    ++ bytes "~Refusal 15: no room for the literals\n"
+    ++ bytes "    END @\n")
+    ∷ (bytes "Refusal 15: no room for the literals\n"
     ++ bytes "\n"
     ++ bytes "Each different number that an instruction takes from storage is a literal of 4 bytes behind the cells of base 14; the last of them would end past\n"
     ++ bytes "4,096.\n"
@@ -301,8 +297,8 @@ from10 =
     ++ bytes "\n"
     ++ bytes "This is accepted: no number is taken from storage; a shift's amount is none either.\n"
     ++ bytes "\n"
-    ++ bytes "    BEGIN ARRAY (1020) INTEGER A; R1 := R1 - R1; END @\n"
-    ++ bytes "~Refusal 16: the buffer is too short\n"
+    ++ bytes "    BEGIN ARRAY (1020) INTEGER A; R1 := R1 - R1; END @\n")
+    ∷ (bytes "Refusal 16: the buffer is too short\n"
     ++ bytes "\n"
     ++ bytes "The program is right, but the object text does not fit into the room that was lent for it. No byte is written.\n"
     ++ bytes "Place: the length that is needed.\n"
@@ -313,8 +309,8 @@ from10 =
     ++ bytes "\n"
     ++ bytes "This, with room 138, is accepted: it fits exactly.\n"
     ++ bytes "\n"
-    ++ bytes "    BEGIN INTEGER A(5); R1 := A + 3; A := R1; END @\n"
-    ++ bytes "~Refusal 17: no object text\n"
+    ++ bytes "    BEGIN INTEGER A(5); R1 := A + 3; A := R1; END @\n")
+    ∷ (bytes "Refusal 17: no object text\n"
     ++ bytes "\n"
     ++ bytes "The runner was not given exactly the form of an object text: capital hexadecimal, a frame a line, one program head and one to three data heads in\n"
     ++ bytes "order, contents of 16 bytes a line, `FF` in the last line, every line ended.\n"
@@ -333,8 +329,8 @@ from10 =
     ++ bytes "    00000000020A00\n"
     ++ bytes "    0201001000100010\n"
     ++ bytes "    000100001000000000000000000000000000000000\n"
-    ++ bytes "    FF\n"
-    ++ bytes "~Refusal 18: no condition code\n"
+    ++ bytes "    FF\n")
+    ∷ (bytes "Refusal 18: no condition code\n"
     ++ bytes "\n"
     ++ bytes "The runner was given a condition code over 3.\n"
     ++ bytes "Place: 0.\n"
@@ -345,8 +341,8 @@ from10 =
     ++ bytes "\n"
     ++ bytes "This, with code 3, runs and gets stop 1: 3 is the last one.\n"
     ++ bytes "\n"
-    ++ bytes "    BEGIN END @\n"
-    ++ bytes "~Refusal 19: too little storage\n"
+    ++ bytes "    BEGIN END @\n")
+    ∷ (bytes "Refusal 19: too little storage\n"
     ++ bytes "\n"
     ++ bytes "The runner was lent less than 20,480 bytes: segment 0 is loaded at 4,096, segment 3 at 16,384, each with 4,096 bytes.\n"
     ++ bytes "Place: 0.\n"
@@ -357,12 +353,8 @@ from10 =
     ++ bytes "\n"
     ++ bytes "This, with storage 20480, runs and gets stop 1: this is enough for every program.\n"
     ++ bytes "\n"
-    ++ bytes "    BEGIN END @\n"
-    ++ bytes "~"
-
-unfoldable pub commands : List ℕ
-commands =
-    bytes "Tautgaff: PL360, translated and run, with proof.\n"
+    ++ bytes "    BEGIN END @\n")
+    ∷ (bytes "Tautgaff: PL360, translated and run, with proof.\n"
     ++ bytes "\n"
     ++ bytes "    tautgaff translate FILE [-o OBJECT]   the object text, to OBJECT or standard output\n"
     ++ bytes "    tautgaff check FILE...                each file's answer\n"
@@ -372,18 +364,18 @@ commands =
     ++ bytes "\n"
     ++ bytes "FILE is a PL360 source, OBJECT an object text; `-` is standard input.\n"
     ++ bytes "Status: 0 accepted, ended, same; 1 refused or different; 2 wrong use, or a file that cannot be read or written;\n"
-    ++ bytes "3 budget used up; 4 stopped by 2, 3 or 4.\n"
-    ++ bytes "~    tautgaff translate FILE [-o OBJECT]\n"
+    ++ bytes "3 budget used up; 4 stopped by 2, 3 or 4.\n")
+    ∷ (bytes "    tautgaff translate FILE [-o OBJECT]\n"
     ++ bytes "\n"
     ++ bytes "Translates the source in FILE and writes the object text to OBJECT, or to standard output. OBJECT appears whole or not at all; one that is there\n"
     ++ bytes "already is replaced; what is no file, as /dev/stdout, is written directly. A source that is refused leaves OBJECT as it was.\n"
     ++ bytes "Of a source no more than 32,769 bytes are read: one of more than 32,768 is refused.\n"
-    ++ bytes "Status: 0 accepted, 1 refused, 2 wrong use, or a file that cannot be read or written.\n"
-    ++ bytes "~    tautgaff check FILE...\n"
+    ++ bytes "Status: 0 accepted, 1 refused, 2 wrong use, or a file that cannot be read or written.\n")
+    ∷ (bytes "    tautgaff check FILE...\n"
     ++ bytes "\n"
     ++ bytes "Says of each source whether it is accepted, or which refusal it gets: file, line and column, the line itself, and what stands there.\n"
-    ++ bytes "Status: 0 all accepted, 1 some refused, 2 wrong use, or a file that cannot be read.\n"
-    ++ bytes "~    tautgaff run FILE|OBJECT [--set NAME=VALUE]... [--show NAME]... [--budget N] [--cc N]\n"
+    ++ bytes "Status: 0 all accepted, 1 some refused, 2 wrong use, or a file that cannot be read.\n")
+    ∷ (bytes "    tautgaff run FILE|OBJECT [--set NAME=VALUE]... [--show NAME]... [--budget N] [--cc N]\n"
     ++ bytes "\n"
     ++ bytes "Runs an object text, or a source, which is translated first, and reports why it stopped, how many instructions were completed, the registers and the\n"
     ++ bytes "condition code. Of a source a stop at an operand is shown where it is written, with the address.\n"
@@ -394,13 +386,13 @@ commands =
     ++ bytes "NAME is R0 to R9 or RA to RF; or, for a source, a declared cell, or an element of an array, NAME(NUMBER), by its byte offset as in the language. If several\n"
     ++ bytes "cells have the name, the first in the text is meant.\n"
     ++ bytes "VALUE is decimal, with `_` or `-` in front if negative, or `#` and hexadecimal digits. Registers 14 and 15 are set by loading.\n"
-    ++ bytes "Status: 0 ended, 1 refused, 2 wrong use, or a file that cannot be read, 3 budget used up, 4 stopped by 2, 3 or 4.\n"
-    ++ bytes "~    tautgaff same FILE OBJECT\n"
+    ++ bytes "Status: 0 ended, 1 refused, 2 wrong use, or a file that cannot be read, 3 budget used up, 4 stopped by 2, 3 or 4.\n")
+    ∷ (bytes "    tautgaff same FILE OBJECT\n"
     ++ bytes "\n"
     ++ bytes "Translates the source in FILE again and compares the result with OBJECT, byte by byte. Where they differ it shows the first line that does, as it is and\n"
     ++ bytes "as it should be, and says what the line is.\n"
-    ++ bytes "Status: 0 same, 1 different or refused, 2 wrong use, or a file that cannot be read.\n"
-    ++ bytes "~    tautgaff help [COMMAND|NUMBER]\n"
+    ++ bytes "Status: 0 same, 1 different or refused, 2 wrong use, or a file that cannot be read.\n")
+    ∷ (bytes "    tautgaff help [COMMAND|NUMBER]\n"
     ++ bytes "\n"
-    ++ bytes "Usage; more on a command; what the refusal or the stop with a number means, when it is given, a text that gets it and one that does not.\n"
-    ++ bytes "~"
+    ++ bytes "Usage; more on a command; what the refusal or the stop with a number means, when it is given, a text that gets it and one that does not.\n")
+    ∷ []

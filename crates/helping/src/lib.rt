@@ -1,58 +1,46 @@
 // `tautgaff help`: which page a word asks for, and the page.
 #![tactic(auto)]
 
-ghost use Rattle.std.specs.Prelude.{◌≡◌, ltb};
-ghost use Rattle.base.specs.Choose.{choose};
+ghost use Rattle.std.specs.Prelude.{◌≡◌};
 ghost use Rattle.figures.specs.Writing.{Adds};
-ghost use Rattle.helping.specs.Help.{none, of_number, page as page_for, page_of};
+ghost use Rattle.helping.specs.Help.{known, page as page_text, page_for, page_of};
 
-use figures::Reading;
+use figures::{Text, entry};
+use words::Command;
 
 mod pages;
 
 // A page by its number; past the last one there is nothing.
+// Kept: the room and where the text ends, with which docs/PROMISES.md gives `put_page`.
 pub fn put_page(out: &mut [u8], at: usize, page: usize) -> usize
-    ensures { Adds (page_for page) out.old at out.new result }
+    ensures { Adds (page_text page) out.old at out.new result }
 {
-    if page < 10 {
-        return figures::put_part(out, at, &pages::BELOW10, b'~', page);
-    }
-    if page < 20 {
-        return figures::put_part(out, at, &pages::FROM10, b'~', page - 10);
-    }
-    figures::put_part(out, at, &pages::COMMANDS, b'~', page - 20)
+    let mut text = Text::up_to(out, at);
+    text.put_all(entry(&pages::PAGES, page));
+    text.end()
 }
 
 // The page of usage, behind those of the numbers; the commands' follow.
 pub const USAGE: usize = 20;
 
-// No page.
-pub const NONE: usize = 26;
-
-fn known(n: u32) -> usize
-    ensures { result ≡ choose (ltb n 20) n none }
+fn known(n: u32) -> Option<usize>
+    ensures { result ≡ known n }
 {
-    if n < 20 {
-        return n as usize;
-    }
-    NONE
+    if n < 20 { Some(n as usize) } else { None }
 }
 
-fn of_number(n: Reading) -> usize
-    ensures { result ≡ of_number n }
+fn page_for(command: Command) -> usize
+    ensures { result ≡ page_for command }
 {
-    match n {
-        Reading::Number(v) => known(v),
-        Reading::Nothing => NONE,
-    }
+    USAGE + 1 + command as usize
 }
 
-pub fn page_of(word: &[u8]) -> usize
+// The page that a word asks for.
+pub fn page_of(word: &[u8]) -> Option<usize>
     ensures { result ≡ page_of word.now }
 {
-    let command = words::command(word);
-    if 0 < command {
-        return USAGE + command as usize;
+    match Command::named(word) {
+        Some(command) => Some(page_for(command)),
+        None => figures::count(word).and_then(known),
     }
-    of_number(figures::count(word))
 }

@@ -1,5 +1,6 @@
-// The pages of `tautgaff help`, each ended by `~`. Made of examples/refusals.data and command/usage by examples/make.
-pub const BELOW10: [u8; 7475] = *b"Stop 0: the budget is used up
+// The pages of `tautgaff help`. Made of examples/refusals.data and command/usage by examples/make.
+pub const PAGES: [&[u8]; 26] = [
+    b"Stop 0: the budget is used up
 
 As many instructions as were allowed have been completed, and the program is not at its end.
 
@@ -10,7 +11,8 @@ This, with budget 1000, runs and gets stop 0: the GOTO leads to itself.
 This, with budget 1000, runs and gets stop 1: one instruction leads to the end.
 
     BEGIN GOTO L; L: END @
-~Refusal 1: the source is too long
+",
+    b"Refusal 1: the source is too long
 
 The source has more than 32,768 bytes. All of them count, also those after the `@`; none of them is read.
 Place: 32768, the first byte too many.
@@ -36,7 +38,8 @@ This, with budget 2, runs and gets stop 1: after one instruction the end is reac
 This, with budget 1, runs and gets stop 0: the budget comes first.
 
     BEGIN R1 := R2; END @
-~Refusal 2: a byte that is in no token, or a comment that is not closed
+",
+    b"Refusal 2: a byte that is in no token, or a comment that is not closed
 
 Capitals, digits, the signs of the language, `_` before a digit, `#` before a hexadecimal digit, blank and newline are all there is outside comments.
 Small letters, TAB, CR and a byte-order mark are in no token. A comment runs from COMMENT to the next `;`.
@@ -62,7 +65,8 @@ This runs and gets stop 2: 8 bytes after A the literal 8 stands, which may be re
 This runs and gets stop 1: 4 is the second element.
 
     BEGIN ARRAY (2) INTEGER A; R1 := 4; A(R1) := R2; END @
-~Refusal 3: a number out of range
+",
+    b"Refusal 3: a number out of range
 
 Decimal numbers run from 0 to 2147483647, with `_` in front, which is the minus sign, from _0 to _2147483648; after `#` any value of 32 bits may
 stand.
@@ -88,7 +92,8 @@ This runs and gets stop 3: an index counts bytes, and 2 is half an element.
 This runs and gets stop 1: elements of a short array have 2 bytes.
 
     BEGIN ARRAY (4) SHORT INTEGER A; R1 := 2; R2 := A(R1); END @
-~Refusal 4: no program goes on like this
+",
+    b"Refusal 4: no program goes on like this
 
 The tokens up to this one, with it, begin no program. All before it could have been the beginning of one.
 Place: that token, or the text's length where the text ends too early.
@@ -121,7 +126,8 @@ This object text runs and gets stop 1: `0A 00` ends a program.
     0201001000100010
     000100001000000000000000000000000000000000
     FF
-~Refusal 5: constructs inside each other more than 64 deep
+",
+    b"Refusal 5: constructs inside each other more than 64 deep
 
 BEGIN, IF, WHILE, FOR, PROCEDURE and CASE open a construct; one stands inside 64 others. The BEGIN of a CASE belongs to it and opens none.
 Place: that word.
@@ -137,7 +143,8 @@ This is accepted: 64 may stand inside each other.
     BEGIN   ... 64 times
     END;   ... 63 times
     END @
-~Refusal 6: a name that is not declared, a label that is not set
+",
+    b"Refusal 6: a name that is not declared, a label that is not set
 
 No declaration before this place, in this block or one around it, has the name; or no label of an enclosing block has it. A GOTO looks for labels no
 further than the edge of the procedure body it stands in.
@@ -150,7 +157,8 @@ This gets refusal 6 at 34, line 1 column 35: L is outside the body of P.
 This is accepted: a label may come after the GOTO.
 
     BEGIN PROCEDURE P(R5); BEGIN GOTO L; L: END; P; END @
-~Refusal 7: declared twice
+",
+    b"Refusal 7: declared twice
 
 The block has declared this name already, or set this label. Only the first 10 characters of a name count. Labels and other names are apart from each
 other.
@@ -163,7 +171,8 @@ This gets refusal 7 at 40, line 1 column 41: both begin with CENTIMETRE.
 This is accepted: the second A belongs to an inner block, which may hide names of outer ones.
 
     BEGIN INTEGER A; BEGIN INTEGER A; END; END @
-~Refusal 8: a name or token that does not fit
+",
+    b"Refusal 8: a name or token that does not fit
 
 A register stands where a cell has to, a cell where a register has to, a procedure's or function's name in an expression, a subscript after what is no
 array, a short cell with AND, OR, XOR, `++` or `--`, a BYTE or CHARACTER cell in an assignment, a condition or as a limit; more than one register name is
@@ -187,7 +196,8 @@ This gets refusal 8 at 30, line 1 column 31: the instruction of SET has no room 
 This is accepted: that of STC has.
 
     BEGIN ARRAY (4) BYTE B; R2 := #FF; STC(R2)(B(R1)); END @
-~Refusal 9: a register that cannot be this one
+",
+    b"Refusal 9: a register that cannot be this one
 
 Register numbers are 0 to 15. Register 0 cannot be a base, a return register, an index, a shift amount or the register of a CASE, since the machine takes
 0 there for no register. A product by a number, a register or an integer cell needs an odd target.
@@ -200,9 +210,8 @@ This gets refusal 9 at 15, line 1 column 16: a product has 64 bits: the target m
 This is accepted: R3 takes the lower half; the upper half goes to R2.
 
     BEGIN R3 := R1 * 10; END @
-~";
-
-pub const FROM10: [u8; 4949] = *b"Refusal 10: a protected register is written
+",
+    b"Refusal 10: a protected register is written
 
 Protected are register 15, by which the program finds its own instructions; 14, the data base, by which it finds its cells; the bases of the enclosing
 blocks; and the return registers of the procedures around this place. A call writes the procedure's return register and all that its body writes,
@@ -216,7 +225,8 @@ This gets refusal 10 at 6, line 1 column 7: RE is register 14, the data base: ce
 This is accepted: RD is nobody's base here, and a protected register may be read.
 
     BEGIN RD := R1; R1 := RE; END @
-~Refusal 11: a value that is out of bounds
+",
+    b"Refusal 11: a value that is out of bounds
 
 An initial value that a short cell cannot hold (-32768 to 65535), or a BYTE or CHARACTER cell (0 to 255), or one value too many; an array count that is
 not 1 to 2,048; a subscript that is not the byte offset of an element; a shift by more than 63; a number of MVI or CLI that is not 0 to 255.
@@ -237,7 +247,8 @@ This gets refusal 11 at 18, line 1 column 19: a byte has no sign.
 This is accepted: 255 is the greatest.
 
     BEGIN BYTE B; CLI(#FF)(B); END @
-~Refusal 12: a cell past the end of its segment, or a third base declaration
+",
+    b"Refusal 12: a cell past the end of its segment, or a third base declaration
 
 A data segment has 4,096 bytes; the first 16 of the one of base 14 are a table. Two SEGMENT BASE declarations are all that a program has room for.
 Place: the cell's name, or the base's.
@@ -249,7 +260,8 @@ This gets refusal 12 at 27, line 1 column 28: 16 + 4 * 1021 is 4,100.
 This is accepted: 16 + 4 * 1020 is 4,096.
 
     BEGIN ARRAY (1020) INTEGER A; END @
-~Refusal 13: too many names
+",
+    b"Refusal 13: too many names
 
 A program may declare 256 names and set 256 labels, in all its blocks together.
 Place: the 257th.
@@ -265,7 +277,8 @@ This is accepted: 256 labels are allowed.
     BEGIN
     BEGIN L: END;   ... 256 times
     END @
-~Refusal 14: the program is too long
+",
+    b"Refusal 14: the program is too long
 
 The instructions have more than 4,096 bytes.
 Place: 0.
@@ -281,7 +294,8 @@ This is accepted: this makes 4,096.
     BEGIN
     R1 := R2;   ... 2047 times
     END @
-~Refusal 15: no room for the literals
+",
+    b"Refusal 15: no room for the literals
 
 Each different number that an instruction takes from storage is a literal of 4 bytes behind the cells of base 14; the last of them would end past
 4,096.
@@ -294,7 +308,8 @@ This gets refusal 15 at 0: the array fills the segment, and nothing is left for 
 This is accepted: no number is taken from storage; a shift's amount is none either.
 
     BEGIN ARRAY (1020) INTEGER A; R1 := R1 - R1; END @
-~Refusal 16: the buffer is too short
+",
+    b"Refusal 16: the buffer is too short
 
 The program is right, but the object text does not fit into the room that was lent for it. No byte is written.
 Place: the length that is needed.
@@ -306,7 +321,8 @@ This, with room 137, gets refusal 16 at 138: the object text has 138 bytes.
 This, with room 138, is accepted: it fits exactly.
 
     BEGIN INTEGER A(5); R1 := A + 3; A := R1; END @
-~Refusal 17: no object text
+",
+    b"Refusal 17: no object text
 
 The runner was not given exactly the form of an object text: capital hexadecimal, a frame a line, one program head and one to three data heads in
 order, contents of 16 bytes a line, `FF` in the last line, every line ended.
@@ -326,7 +342,8 @@ This object text runs and gets stop 1: this is the object text of `BEGIN END @`.
     0201001000100010
     000100001000000000000000000000000000000000
     FF
-~Refusal 18: no condition code
+",
+    b"Refusal 18: no condition code
 
 The runner was given a condition code over 3.
 Place: 0.
@@ -338,7 +355,8 @@ This, with code 4, gets refusal 18 at 0: the codes are 0, 1, 2 and 3.
 This, with code 3, runs and gets stop 1: 3 is the last one.
 
     BEGIN END @
-~Refusal 19: too little storage
+",
+    b"Refusal 19: too little storage
 
 The runner was lent less than 20,480 bytes: segment 0 is loaded at 4,096, segment 3 at 16,384, each with 4,096 bytes.
 Place: 0.
@@ -350,9 +368,8 @@ This, with storage 20479, gets refusal 19 at 0: a byte is missing.
 This, with storage 20480, runs and gets stop 1: this is enough for every program.
 
     BEGIN END @
-~";
-
-pub const COMMANDS: [u8; 3143] = *b"Tautgaff: PL360, translated and run, with proof.
+",
+    b"Tautgaff: PL360, translated and run, with proof.
 
     tautgaff translate FILE [-o OBJECT]   the object text, to OBJECT or standard output
     tautgaff check FILE...                each file's answer
@@ -363,17 +380,20 @@ pub const COMMANDS: [u8; 3143] = *b"Tautgaff: PL360, translated and run, with pr
 FILE is a PL360 source, OBJECT an object text; `-` is standard input.
 Status: 0 accepted, ended, same; 1 refused or different; 2 wrong use, or a file that cannot be read or written;
 3 budget used up; 4 stopped by 2, 3 or 4.
-~    tautgaff translate FILE [-o OBJECT]
+",
+    b"    tautgaff translate FILE [-o OBJECT]
 
 Translates the source in FILE and writes the object text to OBJECT, or to standard output. OBJECT appears whole or not at all; one that is there
 already is replaced; what is no file, as /dev/stdout, is written directly. A source that is refused leaves OBJECT as it was.
 Of a source no more than 32,769 bytes are read: one of more than 32,768 is refused.
 Status: 0 accepted, 1 refused, 2 wrong use, or a file that cannot be read or written.
-~    tautgaff check FILE...
+",
+    b"    tautgaff check FILE...
 
 Says of each source whether it is accepted, or which refusal it gets: file, line and column, the line itself, and what stands there.
 Status: 0 all accepted, 1 some refused, 2 wrong use, or a file that cannot be read.
-~    tautgaff run FILE|OBJECT [--set NAME=VALUE]... [--show NAME]... [--budget N] [--cc N]
+",
+    b"    tautgaff run FILE|OBJECT [--set NAME=VALUE]... [--show NAME]... [--budget N] [--cc N]
 
 Runs an object text, or a source, which is translated first, and reports why it stopped, how many instructions were completed, the registers and the
 condition code. Of a source a stop at an operand is shown where it is written, with the address.
@@ -385,12 +405,15 @@ NAME is R0 to R9 or RA to RF; or, for a source, a declared cell, or an element o
 cells have the name, the first in the text is meant.
 VALUE is decimal, with `_` or `-` in front if negative, or `#` and hexadecimal digits. Registers 14 and 15 are set by loading.
 Status: 0 ended, 1 refused, 2 wrong use, or a file that cannot be read, 3 budget used up, 4 stopped by 2, 3 or 4.
-~    tautgaff same FILE OBJECT
+",
+    b"    tautgaff same FILE OBJECT
 
 Translates the source in FILE again and compares the result with OBJECT, byte by byte. Where they differ it shows the first line that does, as it is and
 as it should be, and says what the line is.
 Status: 0 same, 1 different or refused, 2 wrong use, or a file that cannot be read.
-~    tautgaff help [COMMAND|NUMBER]
+",
+    b"    tautgaff help [COMMAND|NUMBER]
 
 Usage; more on a command; what the refusal or the stop with a number means, when it is given, a text that gets it and one that does not.
-~";
+",
+];

@@ -8,9 +8,9 @@ ghost use Rattle.machine.specs.Instructions.{short_kind, shift_kind, plain_kind,
 ghost use Rattle.machine.specs.Lent.{given, turn};
 
 use machine::{
-    Fun, Given, MAP, Next, ROOM, Shift, address, branch_register_step, branch_step, compare_step,
-    execute, get, halt, link_step, load_step, lower, multiply_step, multiply_word_step, put_step,
-    service_step, shift_step, store_step, upper,
+    Fun, Given, MAP, Next, ROOM, Shift, Stop, address, branch_register_step, branch_step,
+    compare_step, execute, get, halt, link_step, load_step, lower, multiply_step,
+    multiply_word_step, put_step, service_step, shift_step, store_step, upper,
 };
 
 // "Two bytes: opcode, r·16+s".
@@ -35,7 +35,7 @@ fn short(op: u8, g: Given, regs: &mut [u32; 16]) -> Next
         0x1C => multiply_step(g, regs),
         0x1E => execute(Fun::AddLogical, 2, g, regs),
         0x1F => execute(Fun::SubtractLogical, 2, g, regs),
-        _ => halt(4, g.code, g.at),
+        _ => halt(Stop::NoInstruction, g.code, g.at),
     }
 }
 
@@ -48,7 +48,7 @@ fn shift(op: u8, g: Given, regs: &mut [u32; 16]) -> Next
         0x89 => shift_step(Shift::LeftLogical, g, regs),
         0x8A => shift_step(Shift::Right, g, regs),
         0x8B => shift_step(Shift::Left, g, regs),
-        _ => halt(4, g.code, g.at),
+        _ => halt(Stop::NoInstruction, g.code, g.at),
     }
 }
 
@@ -77,7 +77,7 @@ fn reading(op: u8, g: Given, map: &[usize; MAP], regs: &mut [u32; 16], s: &[u8])
         0x5C => multiply_word_step(g, map, regs, s),
         0x5E => load_step(Fun::AddLogical, 4, g, map, regs, s),
         0x5F => load_step(Fun::SubtractLogical, 4, g, map, regs, s),
-        _ => halt(4, g.code, g.at),
+        _ => halt(Stop::NoInstruction, g.code, g.at),
     }
 }
 
@@ -133,13 +133,13 @@ pub fn step(
 {
     let i = at as usize;
     if i % 2 != 0 {
-        return halt(4, code, at);
+        return halt(Stop::NoInstruction, code, at);
     }
     if i < ROOM {
-        return halt(4, code, at);
+        return halt(Stop::NoInstruction, code, at);
     }
     if ROOM + program < i + 2 {
-        return halt(4, code, at);
+        return halt(Stop::NoInstruction, code, at);
     }
     let op = s[i];
     let rx = s[i + 1];
@@ -147,16 +147,16 @@ pub fn step(
         return short(
             op,
             Given {
-                rx: rx,
+                rx,
                 b: get(regs, lower(rx)),
-                code: code,
-                at: at,
+                code,
+                at,
             },
             regs,
         );
     }
     if ROOM + program < i + 4 {
-        return halt(4, code, at);
+        return halt(Stop::NoInstruction, code, at);
     }
     let third = s[i + 2];
     let fourth = s[i + 3];
@@ -164,10 +164,10 @@ pub fn step(
         return storage(
             op,
             Given {
-                rx: rx,
+                rx,
                 b: named(regs, lower(rx), third, fourth),
-                code: code,
-                at: at,
+                code,
+                at,
             },
             map,
             regs,
@@ -177,10 +177,10 @@ pub fn step(
     plain(
         op,
         Given {
-            rx: rx,
+            rx,
             b: named(regs, 0, third, fourth),
-            code: code,
-            at: at,
+            code,
+            at,
         },
         map,
         regs,

@@ -4,7 +4,7 @@ use mathlib.Core.Logic.{◌⊎◌, inl, inr}
 use mathlib.Core.List.{List, [], ◌∷◌}
 use mathlib.Core.Bool.{Bool, true, false, not, ◌&&◌}
 use mathlib.Core.Option.{Option, none, some}
-use Prim.Native.Nat.{ℕ, suc, ◌+◌, ◌*◌, ◌-◌, ◌%◌, ◌<◌, ◌≤◌}
+use Prim.Native.Nat.{ℕ, ◌+◌, ◌*◌, ◌-◌, ◌%◌, ◌<◌, ◌≤◌}
 use native.Mathlib.Omega.{arith}
 use lib.Dec.{eqb}
 use borrow.Author.Tests.{eqb-true, eqb-false}
@@ -14,8 +14,9 @@ use Rattle.base.proofs.Lists.{member-in, in-member}
 use Rattle.base.proofs.Tests.{never_true, both}
 use Rattle.token.specs.Kinds as K
 use Rattle.grammar.specs.Tree.{Designator, Operand, number, place, Sign, plain, abs, neg, neg_abs, Term, Width, full, short, byte}
-use Rattle.scopes.specs.Broken.{◌⊕◌, rule}
-use Rattle.scopes.proofs.Joins.{quiet-left, quiet-right, rule-holds}
+use Rattle.scopes.specs.declared.Refusal.TheVariants.{Misfit, WrongRegister, Protected, OutOfBounds}
+use Rattle.scopes.specs.Broken.{unbroken, ◌⊕◌, rule}
+use Rattle.scopes.proofs.Joins.{some-none, quiet-left, quiet-right, rule-holds}
 use Rattle.static_rules.specs.Functions as F
 use Rattle.static_rules.specs.Functions.{Argument, written_register, read_register, byte_number, indexed_cell, plain_cell, surplus, Form, Function, function_table, function_at, arity, argument_at, is_written}
 use Rattle.static_rules.specs.Meaning.{Meaning, nothing, register, cell, routine, function, Cell, element_size, is_full, is_half, is_byte, is_long, operand_meaning, register_of, function_of, long_operand}
@@ -38,10 +39,6 @@ use Rattle.join.specs.Writes.{writes, writes_short, writes_long}
 use Rattle.join.specs.Points.{Within, Writes, Point}
 use Rattle.join.proofs.Safe.{PlainShort, Reads, Serves, InCell, served-all, FitsDatum, TakesNumber, Fits, Plain, Choosing}
 use Rattle.join.proofs.Opcodes.{writes-only, AppliesShort, AppliesLong, Row, ShortRow, load_row_lem, add_row_lem, operator-row, short_row, shift-kind}
-
--- the number of a rule is not 0
-pub refused : {A : Type 0} (n : ℕ) → suc n ≡ 0 → A
-refused n e = absurd (omega arith)
 
 pub is-register : (m : Meaning) → is_register m ≡ true → m ≡ register (register_of m)
 is-register nothing h = never_true h
@@ -257,42 +254,42 @@ module _
     first-element short n h = (refl, omega arith)
     first-element (byte c) n h = (refl, omega arith)
 
-    subscript-in : (c : Cell) (s : Option ℕ) → 1 ≤ c.elements → (R.subscript_rules f c s).number ≡ 0
+    subscript-in : (c : Cell) (s : Option ℕ) → 1 ≤ c.elements → R.subscript_rules f c s ≡ unbroken
         → (subscript_of f s % element_size c.width ≡ 0) × (subscript_of f s + element_size c.width ≤ element_size c.width * c.elements)
     unfolding R.subscript_rules
     subscript-in c none h q = first-element c.width c.elements h
-    subscript-in c (some t) h q = inside_is c (value_at f t) (rule-holds (inside c (value_at f t)) 11 t (omega arith) q)
+    subscript-in c (some t) h q = inside_is c (value_at f t) (rule-holds (inside c (value_at f t)) OutOfBounds t q)
 
-    cell_in : (c : Cell) (d : Designator) → meaning_at f d.name ≡ cell c → 1 ≤ c.elements → Seen d.name → (R.place_by f (cell c) d).number ≡ 0
+    cell_in : (c : Cell) (d : Designator) → meaning_at f d.name ≡ cell c → 1 ≤ c.elements → Seen d.name → R.place_by f (cell c) d ≡ unbroken
         → InCell l p c (subscript_of f d.subscript) (index_of f d.index)
     cell_in c d e h k q =
         let s = quiet-left (R.subscript_rules f c d.subscript) (R.index_rules f d.index) (quiet-right _ (R.subscript_rules f c d.subscript ⊕ R.index_rules f d.index) q) in
         let i = subscript-in c d.subscript h s in
         record { based = k c e; index = index-small d.index; aligned = i.0; whole = i.1; at = stands d.name c e }
 
-    used-by : (m : Meaning) (d : Designator) → meaning_at f d.name ≡ m → Small m → Seen d.name → (R.place_by f m d).number ≡ 0 → not (is_byte_cell m) ≡ true → Used l p (use_by f m d)
+    used-by : (m : Meaning) (d : Designator) → meaning_at f d.name ≡ m → Small m → Seen d.name → R.place_by f m d ≡ unbroken → not (is_byte_cell m) ≡ true → Used l p (use_by f m d)
     used-by nothing d e h k q b = tt
     used-by (register r) d e h k q b = h
     used-by (cell c) d e h k q b = not_byte l p c.width (element c (subscript_of f d.subscript) (index_of f d.index)) b (cell_in c d e h.1 k q, refl)
     used-by (routine r) d e h k q b = tt
     used-by (function i) d e h k q b = tt
 
-    used-place : (d : Designator) → Seen d.name → (R.place_rules f d).number ≡ 0 → (R.no_byte f d).number ≡ 0 → Used l p (use_by f (meaning_at f d.name) d)
+    used-place : (d : Designator) → Seen d.name → R.place_rules f d ≡ unbroken → R.no_byte f d ≡ unbroken → Used l p (use_by f (meaning_at f d.name) d)
     unfolding R.place_rules R.no_byte
     used-place d k q b =
-        used-by (meaning_at f d.name) d refl (small_at d.name) k q (rule-holds (not (is_byte_cell (meaning_at f d.name))) 8 d.name (omega arith) b)
+        used-by (meaning_at f d.name) d refl (small_at d.name) k q (rule-holds (not (is_byte_cell (meaning_at f d.name))) Misfit d.name b)
 
-    pub used : (a : Operand) → SeenOperand a → (R.operand_rules f a).number ≡ 0 → Used l p (use_of f a)
+    pub used : (a : Operand) → SeenOperand a → R.operand_rules f a ≡ unbroken → Used l p (use_of f a)
     unfolding use_of R.operand_rules
     used (number t) k q = refl
     used (place d) k q = used-place d k (quiet-left (R.place_rules f d) (R.no_byte f d) q) (quiet-right (R.place_rules f d) (R.no_byte f d) q)
 
-    pub plain-compared : (r : ℕ) (a : Operand) → SeenOperand a → (R.operand_rules f a).number ≡ 0 → All (Plain l p) (compare_with f r a)
+    pub plain-compared : (r : ℕ) (a : Operand) → SeenOperand a → R.operand_rules f a ≡ unbroken → All (Plain l p) (compare_with f r a)
     unfolding compare_with
     plain-compared r a k q = plain-compare l p r (use_of f a) (used a k q)
 
     -- a register stored in a cell
-    pub plain-stored : (r : ℕ) (d : Designator) (c : Cell) → meaning_at f d.name ≡ cell c → Seen d.name → (R.place_rules f d).number ≡ 0 → (R.no_byte f d).number ≡ 0
+    pub plain-stored : (r : ℕ) (d : Designator) (c : Cell) → meaning_at f d.name ≡ cell c → Seen d.name → R.place_rules f d ≡ unbroken → R.no_byte f d ≡ unbroken
         → All (Plain l p) (apply store_row r (use_of f (place d)))
     unfolding use_of
     plain-stored r d c e k q b =
@@ -301,10 +298,10 @@ module _
 
     -- ── terms ──
 
-    plain-shift : (op r : ℕ) (a : Operand) → (64 ≤ op) × ((s : Shift) × (long_kind op ≡ M.shifts s)) → (R.shift_rules f a).number ≡ 0 → Free p r → All (Plain l p) (shift_by f op r a)
+    plain-shift : (op r : ℕ) (a : Operand) → (64 ≤ op) × ((s : Shift) × (long_kind op ≡ M.shifts s)) → R.shift_rules f a ≡ unbroken → Free p r → All (Plain l p) (shift_by f op r a)
     unfolding shift_by R.shift_rules
     plain-shift op r (number t) h q y =
-        let e = (in-range 0 63 (value_at f t) (rule-holds (R.in_range 0 63 (value_at f t)) 11 t (omega arith) q)).1 in
+        let e = (in-range 0 63 (value_at f t) (rule-holds (R.in_range 0 63 (value_at f t)) OutOfBounds t q)).1 in
         (plain_by l p (shift op r 0 (value_at f t)) (h.0, h.1, omega arith) (λ x i. free_one l p r x y i), tt)
     plain-shift op r (place d) h q y = (plain_by l p (shift op r (register_of (meaning_at f d.name)) 0) (h.0, h.1, omega arith) (λ x i. free_one l p r x y i), tt)
 
@@ -343,10 +340,10 @@ module _
     no-short-by row (routine r) d h = tt
     no-short-by row (function i) d h = tt
 
-    no_short_lem : (row : ℕ) (a : Operand) → (R.no_short f a).number ≡ 0 → TakesShort l p row (use_of f a)
+    no_short_lem : (row : ℕ) (a : Operand) → R.no_short f a ≡ unbroken → TakesShort l p row (use_of f a)
     unfolding use_of R.no_short
     no_short_lem row (number t) q = tt
-    no_short_lem row (place d) q = no-short-by row (meaning_at f d.name) d (rule-holds (not (is_short (meaning_at f d.name))) 8 d.name (omega arith) q)
+    no_short_lem row (place d) q = no-short-by row (meaning_at f d.name) d (rule-holds (not (is_short (meaning_at f d.name))) Misfit d.name q)
 
     -- ── terms of the target r ──
 
@@ -357,19 +354,19 @@ module _
     not-member : (x : ℕ) (xs : List ℕ) → not (member x xs) ≡ true → x ∈ xs → ⊥
     not-member x xs h i = never_true (sym (ap not (in-member x xs i)) ∙ h)
 
-    pub spared-by : (r t : ℕ) → (R.write_rule p.kept r t).number ≡ 0 → r ∈ p.kept → ⊥
+    pub spared-by : (r t : ℕ) → R.write_rule p.kept r t ≡ unbroken → r ∈ p.kept → ⊥
     unfolding R.write_rule
-    spared-by r t q = not-member r p.kept (rule-holds (not (member r p.kept)) 10 t (omega arith) q)
+    spared-by r t q = not-member r p.kept (rule-holds (not (member r p.kept)) Protected t q)
 
-    lower : (r : ℕ) (t : Term) → eqb (kind_at f t.operator) K.TIMES ≡ true → (R.product_rules f p.kept r t).number ≡ 0 → Below r t
+    lower : (r : ℕ) (t : Term) → eqb (kind_at f t.operator) K.TIMES ≡ true → R.product_rules f p.kept r t ≡ unbroken → Below r t
         → Lower (long_operand f.found f.means t.operand) r
     unfolding R.product_rules
     lower r t times q b long =
-        let h : (rule (eqb (r % 2) 1) 9 t.operator ⊕ R.write_rule p.kept (r - 1) t.operator).number ≡ 0 = rw long at q in
-        let odd = eqb-true (r % 2) 1 (rule-holds (eqb (r % 2) 1) 9 t.operator (omega arith) (quiet-left _ _ h)) in
-        (odd, record { spared = spared-by (r - 1) t.operator (quiet-right (rule (eqb (r % 2) 1) 9 t.operator) _ h); counted = b times long })
+        let h : (rule (eqb (r % 2) 1) WrongRegister t.operator ⊕ R.write_rule p.kept (r - 1) t.operator) ≡ unbroken = rw long at q in
+        let odd = eqb-true (r % 2) 1 (rule-holds (eqb (r % 2) 1) WrongRegister t.operator (quiet-left _ _ h)) in
+        (odd, record { spared = spared-by (r - 1) t.operator (quiet-right (rule (eqb (r % 2) 1) WrongRegister t.operator) _ h); counted = b times long })
 
-    pub plain-term : (r : ℕ) (t : Term) → SeenOperand t.operand → (R.term_rules f p.kept r t).number ≡ 0 → Below r t → Free p r → All (Plain l p) (term_of f r t)
+    pub plain-term : (r : ℕ) (t : Term) → SeenOperand t.operand → R.term_rules f p.kept r t ≡ unbroken → Below r t → Free p r → All (Plain l p) (term_of f r t)
     unfolding term_of R.term_rules
     plain-term r t k q b y = go (member kind shifts) refl (eqb kind K.TIMES) refl (member kind full_only) refl q
       where
@@ -382,7 +379,7 @@ module _
         go : (i : Bool) → member kind shifts ≡ i → (j : Bool) → eqb kind K.TIMES ≡ j → (z : Bool) → member kind full_only ≡ z
             → (whether i then R.shift_rules f a else
             whether j then R.product_rules f p.kept r t ⊕ R.operand_rules f a else
-            whether z then R.operand_rules f a ⊕ R.no_short f a else R.operand_rules f a).number ≡ 0
+            whether z then R.operand_rules f a ⊕ R.no_short f a else R.operand_rules f a) ≡ unbroken
             → All (Plain l p) (whether i then shift_by f (shift_code kind) r a else whether j then apply times_row (product_target f r a) (use_of f a) else apply (row_of kind) r (use_of f a))
         go true e j g z o q = plain-shift (shift_code kind) r a (shift-kind kind (member-in kind shifts e)) q y
         go false e true g z o q =
@@ -396,20 +393,20 @@ module _
 
     -- ── uses of functions ──
 
-    pub register-is : (d : Designator) → (R.only_register f (place d)).number ≡ 0 → meaning_at f d.name ≡ register (register_of (meaning_at f d.name))
+    pub register-is : (d : Designator) → R.only_register f (place d) ≡ unbroken → meaning_at f d.name ≡ register (register_of (meaning_at f d.name))
     unfolding R.only_register
     register-is d q =
         is-register (meaning_at f d.name)
-        (both (is_register (meaning_at f d.name)) (R.bare_name d) (rule-holds (is_register (meaning_at f d.name) && R.bare_name d) 8 d.name (omega arith) q)).0
+        (both (is_register (meaning_at f d.name)) (R.bare_name d) (rule-holds (is_register (meaning_at f d.name) && R.bare_name d) Misfit d.name q)).0
 
     -- a register, in the instruction as it is written
     pub record Alone (a : Operand) : Type 0 where
       pub low : source_of f a < 16
       pub used-as : use_of f a ≡ held (source_of f a)
 
-    alone : (a : Operand) → (R.only_register f a).number ≡ 0 → Alone a
+    alone : (a : Operand) → R.only_register f a ≡ unbroken → Alone a
     unfolding R.only_register use_of
-    alone (number t) q = refused 7 q
+    alone (number t) q = absurd (some-none q)
     alone (place d) q = record { low = register-at d.name; used-as = ap (λ (m : Meaning). use_by f m d) (register-is d q) }
 
     -- an element of a cell
@@ -420,7 +417,7 @@ module _
       pub at : InCell l p c offset index
       pub used-as : use_of f a ≡ stored c.width (element c offset index)
 
-    element-by : (m : Meaning) (d : Designator) → meaning_at f d.name ≡ m → Small m → Seen d.name → is_cell m ≡ true → (R.place_by f m d).number ≡ 0 → Element (place d)
+    element-by : (m : Meaning) (d : Designator) → meaning_at f d.name ≡ m → Small m → Seen d.name → is_cell m ≡ true → R.place_by f m d ≡ unbroken → Element (place d)
     unfolding use_of
     element-by nothing d e h k b q = never_true b
     element-by (register r) d e h k b q = never_true b
@@ -429,12 +426,12 @@ module _
     element-by (routine r) d e h k b q = never_true b
     element-by (function i) d e h k b q = never_true b
 
-    element-of : (a : Operand) → SeenOperand a → (R.cell_rules f a).number ≡ 0 → Element a
+    element-of : (a : Operand) → SeenOperand a → R.cell_rules f a ≡ unbroken → Element a
     unfolding R.cell_rules R.place_rules
-    element-of (number t) k q = refused 7 q
+    element-of (number t) k q = absurd (some-none q)
     element-of (place d) k q =
-        let b = rule-holds (is_cell (meaning_at f d.name)) 8 d.name (omega arith) (quiet-left (rule (is_cell (meaning_at f d.name)) 8 d.name) _ q) in
-        element-by (meaning_at f d.name) d refl (small_at d.name) k b (quiet-right (rule (is_cell (meaning_at f d.name)) 8 d.name) _ q)
+        let b = rule-holds (is_cell (meaning_at f d.name)) Misfit d.name (quiet-left (rule (is_cell (meaning_at f d.name)) Misfit d.name) _ q) in
+        element-by (meaning_at f d.name) d refl (small_at d.name) k b (quiet-right (rule (is_cell (meaning_at f d.name)) Misfit d.name) _ q)
 
     -- what stands in a parenthesis where no rule is broken
     abbrev pub Taken : Argument → Operand → Type 0
@@ -449,15 +446,15 @@ module _
     abbrev pub Writing : Operand → Type 0
     Writing a = (r : ℕ) → r < 16 → operand_meaning f.found f.means a ≡ register r → (v : Within) → p.within ≡ some v → Writes v r
 
-    written : (a : Operand) → (R.only_register f a).number ≡ 0 → (R.written_rules f p.kept a).number ≡ 0 → Writing a → Free p (source_of f a)
+    written : (a : Operand) → R.only_register f a ≡ unbroken → R.written_rules f p.kept a ≡ unbroken → Writing a → Free p (source_of f a)
     unfolding R.only_register R.written_rules
-    written (number t) o q w = refused 7 o
+    written (number t) o q w = absurd (some-none o)
     written (place d) o q w =
         let e = register-is d o in
         let r = register_of (meaning_at f d.name) in
-        record { spared = spared-by r d.name (subst (λ (m : Meaning). (R.target_by f m p.kept d.name).number ≡ 0) e q); counted = w r (register-at d.name) e }
+        record { spared = spared-by r d.name (subst (λ (m : Meaning). R.target_by f m p.kept d.name ≡ unbroken) e q); counted = w r (register-at d.name) e }
 
-    pub taken : (x : Argument) (a : Operand) → SeenOperand a → (R.argument_rules f p.kept x a).number ≡ 0 → (is_written x ≡ true → Writing a) → Taken x a
+    pub taken : (x : Argument) (a : Operand) → SeenOperand a → R.argument_rules f p.kept x a ≡ unbroken → (is_written x ≡ true → Writing a) → Taken x a
     unfolding R.argument_rules R.plain_rules
     taken written_register a k q w =
         let o = quiet-left (R.only_register f a) (R.written_rules f p.kept a) q in
@@ -465,7 +462,7 @@ module _
     taken read_register a k q w = alone a q
     taken byte_number a k q w = tt
     taken indexed_cell a k q w = element-of a k q
-    taken plain_cell (number t) k q w = refused 7 q
+    taken plain_cell (number t) k q w = absurd (some-none q)
     taken plain_cell (place d) k q w = element-of (place d) k (quiet-left (R.cell_rules f (place d)) _ q)
     taken surplus a k q w = tt
 

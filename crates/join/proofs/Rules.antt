@@ -19,10 +19,12 @@ use Rattle.grammar.specs.Events as E
 use Rattle.grammar.specs.Events.{opened, closed, entered, labelled, sent, celled, based, aimed, driven, given, joined, tested, called, argued, chosen, Event, edge, route, entry, phrase, mark, operand_names, uses, each, events_value, events_item, events_register, events_declaration, events_sign, events_term, events_chain, events_arguments, labels_onto, events_statement, events_body, events_items, events_choices, events_of}
 use Rattle.grammar.specs.Places.{Block, Place, after, Along}
 use Rattle.grammar.specs.Places as P
+use Rattle.scopes.specs.declared.Refusal.TheVariants.{Misfit, WrongRegister, Protected}
+use Rattle.scopes.specs.Broken.{unbroken}
 use Rattle.scopes.specs.Search.{first_token, around, innermost}
 use Rattle.scopes.specs.Names.{names_in}
 use Rattle.scopes.specs.Labels.{labels_in}
-use Rattle.scopes.proofs.Joins.{quiet-left, quiet-right, rule-holds}
+use Rattle.scopes.proofs.Joins.{some-none, quiet-left, quiet-right, rule-holds}
 use Rattle.scopes.proofs.Led.{none-at-edge}
 use Rattle.scopes.proofs.Bound as B
 use Rattle.scopes.proofs.Bound.{Bound}
@@ -45,7 +47,7 @@ use Rattle.translation.specs.Layout.{Layout, offset_of}
 use Rattle.translation.proofs.Rooms.{CellAt}
 use Rattle.join.specs.Points.{Within, Writes, Point, start, procedure_of}
 use Rattle.join.proofs.Safe.{Plain, Routine, first, Callable, Basing, Choosing, labels_of, Safe, SafeArms}
-use Rattle.join.proofs.Plain.{refused, is-register, Free, SeenOperand, used, spared-by, plain-load, plain-term, plain-compared, plain-stored, plain_step, plain-choosing, register-is, taken, Given, function-plain}
+use Rattle.join.proofs.Plain.{is-register, Free, SeenOperand, used, spared-by, plain-load, plain-term, plain-compared, plain-stored, plain_step, plain-choosing, register-is, taken, Given, function-plain}
 
 -- a register that is not 0
 positive : (m : Meaning) → is_register m ≡ true → not (is_zero m) ≡ true → 0 < register_of m
@@ -186,10 +188,10 @@ module _ (kinds values found goes : List ℕ) (z : Meant) (l : Layout) where
       -- ── assignments ──
 
       -- the target's register may be written
-      free-target : (p : Place) (d : Designator) (r : ℕ) → meaning_at f d.name ≡ register r → r < 16 → (R.target_by f (meaning_at f d.name) (kept_in f p) d.name).number ≡ 0
+      free-target : (p : Place) (d : Designator) (r : ℕ) → meaning_at f d.name ≡ register r → r < 16 → R.target_by f (meaning_at f d.name) (kept_in f p) d.name ≡ unbroken
           → ((r : ℕ) → r < 16 → meaning_in found z d.name ≡ register r → WrittenBy z (own_in p) r) → Free (point_in p) r
       free-target p d r e h q t =
-          let k : (R.write_rule (kept_in f p) r d.name).number ≡ 0 = subst (λ (m : Meaning). (R.target_by f m (kept_in f p) d.name).number ≡ 0) e q in
+          let k : R.write_rule (kept_in f p) r d.name ≡ unbroken = subst (λ (m : Meaning). R.target_by f m (kept_in f p) d.name ≡ unbroken) e q in
           record { spared = spared-by f small l (point_in p) stands r d.name k; counted = counted-in p r h (t r h e) }
 
       skip-sign : (d : Designator) (s : Sign) (k : List Event) (p : Place) → Along Fact (events_sign d s k) p → Along Fact k p
@@ -223,7 +225,7 @@ module _ (kinds values found goes : List ℕ) (z : Meant) (l : Layout) where
         term-plain : (d : Designator) (r : ℕ) (t : Term) → meaning_at f d.name ≡ register r → r < 16 → Free (point_in p) r → Fact (phrase (joined d t)) p → PlainHere (term_of f r t)
         term-plain d r t e h y k =
             plain-term f small l (point_in p) stands r t (seen-operand p gs x t.operand k.bound)
-            (subst (λ (m : Meaning). (R.term_by f m (kept_in f p) t).number ≡ 0) e k.unbroken)
+            (subst (λ (m : Meaning). R.term_by f m (kept_in f p) t ≡ unbroken) e k.unbroken)
             (λ times long. counted-in p (r - 1) (omega arith) (k.told r h e (both _ _ times long))) y
 
         chain-plain : (d : Designator) (r : ℕ) (ts : List Term) → meaning_at f d.name ≡ register r → r < 16 → Free (point_in p) r → All (λ (t : Term). Fact (phrase (joined d t)) p) ts
@@ -238,7 +240,7 @@ module _ (kinds values found goes : List ℕ) (z : Meant) (l : Layout) where
         register-plain r a e h y g ts =
             all_both (Plain l (point_in p)) (load a.sign r (use_of f a.first)) (chain_of f r a.rest)
             (plain-load l (point_in p) a.sign r (use_of f a.first) h
-            (used f small l (point_in p) stands a.first (seen-operand p gs x a.first g.bound) (subst (λ (m : Meaning). (R.first_by f m a.first).number ≡ 0) e g.unbroken)) y)
+            (used f small l (point_in p) stands a.first (seen-operand p gs x a.first g.bound) (subst (λ (m : Meaning). R.first_by f m a.first ≡ unbroken) e g.unbroken)) y)
             (chain-plain a.target r a.rest e h y ts)
 
         assign-plain : (a : Assignment) → Fact (phrase (aimed a.target)) p → Fact (phrase (given a.target a.first)) p
@@ -305,18 +307,18 @@ module _ (kinds values found goes : List ℕ) (z : Meant) (l : Layout) where
             d : ℕ
             d = get_or found n 0
 
-            go : (m : Meaning) → meaning_at f n ≡ m → (R.call_by f m (kept_in f p) n).number ≡ 0 → Bound d (names_in p) → Callable gs (point_in p) d (return_of m)
-            go nothing e q b = refused 7 q
-            go (register r) e q b = refused 7 q
-            go (cell c) e q b = refused 7 q
-            go (function i) e q b = refused 7 q
+            go : (m : Meaning) → meaning_at f n ≡ m → R.call_by f m (kept_in f p) n ≡ unbroken → Bound d (names_in p) → Callable gs (point_in p) d (return_of m)
+            go nothing e q b = absurd (some-none q)
+            go (register r) e q b = absurd (some-none q)
+            go (cell c) e q b = absurd (some-none q)
+            go (function i) e q b = absurd (some-none q)
             go (routine r) e q (inl i) = absurd (not-zero n (routine r) i e)
             go (routine r) e q (inr i) =
                 let m = subst (Means (bases_in p) gs d) e (x.names d i) in
                 let h : r < 16 = subst Small e (small_at n) in
                 let free = spared-by f small l (point_in p) stands r n (quiet-left (R.write_rule (kept_in f p) r n) _ q) in
                 let set = get_or z.written d no_registers in
-                let text = spares-is set (kept_in f p) (rule-holds (spares set (kept_in f p)) 10 n (omega arith) (quiet-right (R.write_rule (kept_in f p) r n) _ q)) in
+                let text = spares-is set (kept_in f p) (rule-holds (spares set (kept_in f p)) Protected n (quiet-right (R.write_rule (kept_in f p) r n) _ q)) in
                 let Has-both = k.told r h e (above n r e) (not-around d r p x.around e free) in
                 record {
                   g = record { within = procedure_of z.written d r; bases = m.0 };
@@ -448,12 +450,12 @@ module _ (kinds values found goes : List ℕ) (z : Meant) (l : Layout) where
         positive : 0 < register_of (meaning_at f n)
         spared : register_of (meaning_at f n) ∈ kept_in f p → ⊥
 
-      took : (n : ℕ) (p : Place) → (R.taken_rules f (kept_in f p) n).number ≡ 0 → Took n p
+      took : (n : ℕ) (p : Place) → R.taken_rules f (kept_in f p) n ≡ unbroken → Took n p
       unfolding R.taken_rules R.register_rule R.zero_rule
       took n p q =
-          let a = rule-holds (is_register (meaning_at f n)) 8 n (omega arith) (quiet-left (R.register_rule f n) _ q) in
+          let a = rule-holds (is_register (meaning_at f n)) Misfit n (quiet-left (R.register_rule f n) _ q) in
           let rest = quiet-right (R.register_rule f n) _ q in
-          let c = rule-holds (not (is_zero (meaning_at f n))) 9 n (omega arith) (quiet-left (R.zero_rule f n) _ rest) in
+          let c = rule-holds (not (is_zero (meaning_at f n))) WrongRegister n (quiet-left (R.zero_rule f n) _ rest) in
           let r = register_of (meaning_at f n) in
           record {
             register = a;
@@ -482,8 +484,8 @@ module _ (kinds values found goes : List ℕ) (z : Meant) (l : Layout) where
           → ((0 < register_of (meaning_at f r)) × (register_of (meaning_at f r) < 16)) × (meant n ≡ routine (register_of (meaning_at f r)))
       unfolding R.register_rule R.zero_rule
       return-safe n r p k =
-          let a = rule-holds (is_register (meaning_at f r)) 8 r (omega arith) (quiet-left (R.register_rule f r) _ k.unbroken) in
-          let c = rule-holds (not (is_zero (meaning_at f r))) 9 r (omega arith) (quiet-right (R.register_rule f r) _ k.unbroken) in
+          let a = rule-holds (is_register (meaning_at f r)) Misfit r (quiet-left (R.register_rule f r) _ k.unbroken) in
+          let c = rule-holds (not (is_zero (meaning_at f r))) WrongRegister r (quiet-right (R.register_rule f r) _ k.unbroken) in
           ((positive (meaning_at f r) a c, register-at r), k.told a)
 
       -- ── labels ──

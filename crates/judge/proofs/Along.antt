@@ -18,8 +18,7 @@ use Rattle.ledger.specs.Book.{Wide, Thin, wide_of, thin_of, put_offset}
 use Rattle.ledger.specs.Bounds.{blocks_open, procedures_open, Nested}
 use Rattle.ledger.proofs.Bounds.{nested-here, nested-on}
 use Rattle.ledger.proofs.Columns.{wide-length}
-use Rattle.scopes.specs.declared.Broken.{Broken}
-use Rattle.scopes.specs.Broken.{◌⊕◌}
+use Rattle.scopes.specs.Broken.{Ruling, ◌⊕◌}
 use Rattle.static_rules.specs.Tables.{Tables}
 use Rattle.static_rules.specs.Rules.{protected}
 use Rattle.tables.specs.Packed.{meanings_of, sets_of}
@@ -28,6 +27,7 @@ use Rattle.rules.specs.Shows.{Listed, Shown}
 use Rattle.judge.specs.declared.Cells.{Cells}
 use Rattle.judge.specs.declared.Depths.{Depths}
 use Rattle.judge.specs.declared.Open.{Open}
+use Rattle.judge.specs.declared.Target.TheVariants.{Unfit}
 use Rattle.judge.specs.Along.{Held, held_after, cells_after, cells_of, open_of, open_after, event_rule, Judging, judge_event, beginning, held_of, Moved, Stays}
 use Rattle.judge.proofs.Moves.{stays_same, stays_on, offsets-put, put-stays}
 
@@ -93,7 +93,7 @@ few-after f op t n o h =
 
 -- ── the loop ──
 
-abbrev judging : Held → Cells → Open → Broken → Judging
+abbrev judging : Held → Cells → Open → Ruling → Judging
 judging h c o b = record { held = h; cells = c; standing = o; broken = b }
 
 -- there are tables that the columns list
@@ -113,11 +113,11 @@ listed-after {f} {w} {w'} {b} e s =
 shown-after : {f : Tables} {kinds : List ℕ} {w w' : Wide} {b : Thin} → Stays w w' → Shown f kinds w b → Shown f kinds w' b
 shown-after e s = record { listed = listed-after e s.listed; kinds-is = s.kinds-is }
 
-module _ (tape kinds wide₀ thin : List ℕ) (others : Broken) where
+module _ (tape kinds wide₀ thin : List ℕ) (others : Ruling) where
   abbrev begun : Tables → Judging
   begun f = pass (judge_event f) (beginning others) tape
 
-  pub record Going (wide counts : List ℕ) (d : Depths) (c : Cells) (o : Open) (b : Broken) (i : ℕ) : Type 0 where
+  pub record Going (wide counts : List ℕ) (d : Depths) (c : Cells) (o : Open) (b : Ruling) (i : ℕ) : Type 0 where
     pub is : (f : Tables) → Shown f kinds (wide_of wide₀) (thin_of thin) → pass (judge_event f) (judging (held_of (wide_of wide).offsets counts d) c o b) (drop i tape) ≡ begun f
     pub stays : Stays (wide_of wide₀) (wide_of wide)
     pub inside : i ≤ length tape
@@ -129,7 +129,7 @@ module _ (tape kinds wide₀ thin : List ℕ) (others : Broken) where
     pub small : length tape < 4294967296
     pub room : length tape + 2 ≤ length wide / 4
 
-  module _ {wide counts : List ℕ} {d : Depths} {c : Cells} {o : Open} {b : Broken} {i : ℕ} (g : Going wide counts d c o b i) (h : i < length tape) where
+  module _ {wide counts : List ℕ} {d : Depths} {c : Cells} {o : Open} {b : Ruling} {i : ℕ} (g : Going wide counts d c o b i) (h : i < length tape) where
     -- there is room for one more protected register, and for one more block where one opens
     pub kept-fits : (d.kept < length (wide_of wide).offsets) × ((d.kept ≤ 4294967296) × (d.count < 4294967296))
     kept-fits =
@@ -147,7 +147,7 @@ module _ (tape kinds wide₀ thin : List ℕ) (others : Broken) where
     opened-fits op eo = (nested-here _ _ _ _ (nested-on (length counts) d.counts g.procedures op i tape h eo g.nested)).0
 
     pub going_on :
-        {wide' counts' : List ℕ} {d' : Depths} {c' : Cells} {o' : Open} {b' r : Broken} (op t : ℕ) → op ≡ get_or tape i 0 % E.EVENTS → t ≡ get_or tape i 0 / E.EVENTS
+        {wide' counts' : List ℕ} {d' : Depths} {c' : Cells} {o' : Open} {b' r : Ruling} (op t : ℕ) → op ≡ get_or tape i 0 % E.EVENTS → t ≡ get_or tape i 0 / E.EVENTS
         → ((f : Tables) → Shown f kinds (wide_of wide) (thin_of thin) → r ≡ event_rule f (stack_of (wide_of wide).offsets d.kept) c o op t)
         → b' ≡ b ⊕ r
         → ((f : Tables) → Listed f (wide_of wide) (thin_of thin) → Moved (held_after f op t (held_of (wide_of wide).offsets counts d)) (wide_of wide').offsets counts' d d')
@@ -190,10 +190,10 @@ module _ (tape kinds wide₀ thin : List ℕ) (others : Broken) where
   pub going :
       (wide wide₁ counts : List ℕ) → wide_of wide₁ ≡ put_offset 0 14 (wide_of wide) → wide_of wide₀ ≡ put_offset 1 15 (wide_of wide₁) → length wide₁ ≡ length wide → length wide₀ ≡ length wide₁
       → length tape < 4294967296 → length tape + 2 ≤ length wide / 4 → Nested (length counts) 0 0 tape
-      → Going wide₀ counts (record { kept = 2; count = 0; counts = 0 }) (cells_of 0 0 0) (open_of 0 0 0) others 0
+      → Going wide₀ counts (record { kept = 2; count = 0; counts = 0 }) (cells_of 0 0 0) (open_of Unfit 0 0) others 0
   unfolding stack_of
   going wide wide₁ counts e f l m h r n = record {
-    is = λ t q. ap (λ (k : List ℕ). pass (judge_event t) (judging (record { kept = k; count = 0; counts = [] }) (cells_of 0 0 0) (open_of 0 0 0) others) tape) first;
+    is = λ t q. ap (λ (k : List ℕ). pass (judge_event t) (judging (record { kept = k; count = 0; counts = [] }) (cells_of 0 0 0) (open_of Unfit 0 0) others) tape) first;
     stays = stays_same wide₀;
     inside = omega arith;
     deep = omega arith;
@@ -224,7 +224,7 @@ module _ (tape kinds wide₀ thin : List ℕ) (others : Broken) where
       first = ap₂ (λ (x y : ℕ). x ∷ y ∷ []) one two
 
   pub going_end :
-      {wide counts : List ℕ} {d : Depths} {c : Cells} {o : Open} {b : Broken} {i : ℕ} (start wide₁ : List ℕ)
+      {wide counts : List ℕ} {d : Depths} {c : Cells} {o : Open} {b : Ruling} {i : ℕ} (start wide₁ : List ℕ)
       → wide_of wide₁ ≡ put_offset 0 14 (wide_of start) → wide_of wide₀ ≡ put_offset 1 15 (wide_of wide₁) → Going wide counts d c o b i → length tape ≤ i
       → ((f : Tables) → Shown f kinds (wide_of start) (thin_of thin) → b ≡ (begun f).broken) × Stays (wide_of start) (wide_of wide)
   going_end {wide} start wide₁ e₁ e₂ g h =

@@ -27,8 +27,8 @@ use Rattle.tape.specs.Pass.{pass}
 use Rattle.tape.specs.Written.{operand_shape, sign_code, condition_code, op_of, token_of}
 use Rattle.tape.proofs.Numbers.{by_shape, by-operand, by_width}
 use Rattle.tape.proofs.Written.{tree-tape, follows-in}
-use Rattle.scopes.specs.declared.Broken.{Broken}
-use Rattle.scopes.specs.Broken.{unbroken, rule, broken, ◌⊕◌}
+use Rattle.scopes.specs.declared.Refusal.TheVariants.{Misfit, Protected, OutOfBounds}
+use Rattle.scopes.specs.Broken.{Ruling, unbroken, rule, broken, ◌⊕◌}
 use Rattle.scopes.proofs.Joins.{join-right, join-assoc}
 use Rattle.static_rules.specs.Functions.{Argument}
 use Rattle.static_rules.specs.Meaning.{Meaning, nothing, register, cell, routine, function, register_of, argument_of}
@@ -42,6 +42,8 @@ use Rattle.static_rules.proofs.Unbroken.{rules-onto}
 use Rattle.tables.specs.Packed.{width_by}
 use Rattle.rules.specs.Parts.{designator_at, operand_at}
 use Rattle.judge.specs.declared.Open.{Open}
+use Rattle.judge.specs.declared.Target.{Target}
+use Rattle.judge.specs.declared.Target.TheVariants.{Unfit}
 use Rattle.judge.specs.Along.{Held, held_after, cells_of, cells_after, value_rule, aim_of, open_of, open_after, aim_by, control_by, sign_rule, first_rules, chain_rule, declaration_rule, assignment_rule, statement_rule, event_rule, Judging, judge_event, beginning}
 use Rattle.judge.proofs.Parts.{designator-at, operand-at}
 
@@ -75,11 +77,11 @@ module _ (f : Tables) where
 
   -- ── the loop's state, by what stands open ──
 
-  abbrev at : Place → (s n room : ℕ) → Open → Broken → Judging
+  abbrev at : Place → (s n room : ℕ) → Open → Ruling → Judging
   at p s n room g b = record { held = held_in p; cells = cells_of s n room; standing = g; broken = b }
 
   -- what the definition has judged already: the values that are still to come
-  abbrev pending : Context → ℕ → Broken
+  abbrev pending : Context → ℕ → Ruling
   pending nowhere room = unbroken
   pending (aiming d) room = unbroken
   pending (applying n p) room = unbroken
@@ -91,17 +93,17 @@ module _ (f : Tables) where
   Opens (applying t y) s n g = (g.name ≡ t) × (g.position ≡ y)
   Opens (declaring c w ts) s n g = (s ≡ width_of w) × (n ≡ count_of f.values c)
 
-  pub record At (p : Place) (c : Context) (b : Broken) (j : Judging) : Type 0 where
+  pub record At (p : Place) (c : Context) (b : Ruling) (j : Judging) : Type 0 where
     width : ℕ
     elements : ℕ
     room : ℕ
     standing : Open
-    judged : Broken
+    judged : Ruling
     is : j ≡ at p width elements room standing judged
     opens : Opens c width elements standing
     all : b ≡ judged ⊕ pending c room
 
-  complete : (c : Context) (room : ℕ) (b x : Broken) → Complete c → b ≡ x ⊕ pending c room → b ≡ x
+  complete : (c : Context) (room : ℕ) (b x : Ruling) → Complete c → b ≡ x ⊕ pending c room → b ≡ x
   unfolding R.value_rules
   complete nowhere room b x d e = e ∙ join-right x
   complete (aiming d) room b x h e = e ∙ join-right x
@@ -112,8 +114,8 @@ module _ (f : Tables) where
   step op t j = judge_event f op t j
 
   -- an event that is judged by its rules, and after which no value is to come
-  judged : (e : Event) (p : Place) (c : Context) (b : Broken) (s n room : ℕ) (g : Open) (x : Broken) (s' n' room' : ℕ) (g' : Open) → b ≡ x → Opens (context_after e c) s' n' g'
-      → ((y : Broken) → y ⊕ pending (context_after e c) room' ≡ y) → step (op_of e) (token_of e) (at p s n room g x) ≡ at (after e p) s' n' room' g' (x ⊕ rules_at f e p)
+  judged : (e : Event) (p : Place) (c : Context) (b : Ruling) (s n room : ℕ) (g : Open) (x : Ruling) (s' n' room' : ℕ) (g' : Open) → b ≡ x → Opens (context_after e c) s' n' g'
+      → ((y : Ruling) → y ⊕ pending (context_after e c) room' ≡ y) → step (op_of e) (token_of e) (at p s n room g x) ≡ at (after e p) s' n' room' g' (x ⊕ rules_at f e p)
       → At (after e p) (context_after e c) (rule_event f e p b) (step (op_of e) (token_of e) (at p s n room g x))
   unfolding rule_event
   judged e p c b s n room g x s' n' room' g' h o w k = record {
@@ -124,13 +126,13 @@ module _ (f : Tables) where
     judged = x ⊕ rules_at f e p;
     is = k;
     opens = o;
-    all = ap (λ (y : Broken). y ⊕ rules_at f e p) h ∙ sym (w (x ⊕ rules_at f e p));
+    all = ap (λ (y : Ruling). y ⊕ rules_at f e p) h ∙ sym (w (x ⊕ rules_at f e p));
   }
 
   module _ (kinds : List ℕ) where
     -- ── edges, routes and marks ──
 
-    turn-edge : (x : Edge) (p : Place) (s n room : ℕ) (g : Open) (y : Broken) → EdgeFits x p → (i j : ℕ) → is_event kinds (edge x) i j
+    turn-edge : (x : Edge) (p : Place) (s n room : ℕ) (g : Open) (y : Ruling) → EdgeFits x p → (i j : ℕ) → is_event kinds (edge x) i j
         → step (op_of (edge x)) (token_of (edge x)) (at p s n room g y) ≡ at (after (edge x) p) s n room g (y ⊕ rules_at f (edge x) p)
     unfolding judge_event held_after cells_after open_after event_rule declaration_rule layer_at form_at
     turn-edge (opened t ls) p s n room g y u i j h = refl
@@ -144,7 +146,7 @@ module _ (f : Tables) where
     turn-edge (left m) [] s n room g y u i j h = elim u [ ]
     turn-edge (left m) (within b ∷ p) s n room g y u i j h = elim u [ ]
 
-    turn-route : (x : Route) (p : Place) (s n room : ℕ) (g : Open) (y : Broken) → RouteFits x p
+    turn-route : (x : Route) (p : Place) (s n room : ℕ) (g : Open) (y : Ruling) → RouteFits x p
         → step (op_of (route x)) (token_of (route x)) (at p s n room g y) ≡ at (after (route x) p) s n room g (y ⊕ rules_at f (route x) p)
     unfolding judge_event held_after cells_after open_after event_rule declaration_rule statement_rule assignment_rule layer_at form_at
     turn-route (labelled l) (within b ∷ p) s n room g y u = refl
@@ -152,7 +154,7 @@ module _ (f : Tables) where
     turn-route (labelled l) [] s n room g y u = elim u [ ]
     turn-route (labelled l) (body name return ∷ p) s n room g y u = elim u [ ]
 
-    turn-mark : (x : Mark) (p : Place) (s n room : ℕ) (g : Open) (y : Broken) → step (op_of (mark x)) (token_of (mark x)) (at p s n room g y) ≡ at p s n room g (y ⊕ unbroken)
+    turn-mark : (x : Mark) (p : Place) (s n room : ℕ) (g : Open) (y : Ruling) → step (op_of (mark x)) (token_of (mark x)) (at p s n room g y) ≡ at p s n room g (y ⊕ unbroken)
     unfolding judge_event held_after cells_after open_after event_rule declaration_rule layer_at form_at
     turn-mark (looped t) p s n room g y = refl
     turn-mark (otherwise t) p s n room g y = refl
@@ -167,7 +169,7 @@ module _ (f : Tables) where
     -- ── entries ──
 
     -- a cell, whose values are still to come
-    turn-item : (m : Option ℕ) (w : Width) (y : Item) (c : Context) (k : Block) (p : Place) (b : Broken) (s n room : ℕ) (g : Open) (x : Broken) → EntrySuits (itemed m w y) c
+    turn-item : (m : Option ℕ) (w : Width) (y : Item) (c : Context) (k : Block) (p : Place) (b : Ruling) (s n room : ℕ) (g : Open) (x : Ruling) → EntrySuits (itemed m w y) c
         → Opens c s n g → b ≡ x ⊕ pending c room
         → At (after (entry (itemed m w y)) (within k ∷ p)) (declaring m w y.numbers) (rule_event f (entry (itemed m w y)) (within k ∷ p) b) (step E.ITEM y.name (at (within k ∷ p) s n room g x))
     unfolding judge_event held_after cells_after open_after event_rule declaration_rule rule_event layer_at form_at
@@ -182,22 +184,22 @@ module _ (f : Tables) where
           judged = x ⊕ unbroken;
           is = refl;
           opens = (o.0 ∙ ap width_of q.1, v);
-          all = ap₂ (λ (z : Broken) (l : ℕ). z ⊕ R.value_rules f w l y.numbers) (u ∙ sym (join-right x)) (sym v);
+          all = ap₂ (λ (z : Ruling) (l : ℕ). z ⊕ R.value_rules f w l y.numbers) (u ∙ sym (join-right x)) (sym v);
         }
     turn-item m w y nowhere k p b s n room g x q o e = elim q [ ]
     turn-item m w y (aiming _) k p b s n room g x q o e = elim q [ ]
     turn-item m w y (applying name position) k p b s n room g x q o e = elim q [ ]
 
-    value-judged : (w : Width) (s n room t : ℕ) (ts : List ℕ) (x : Broken) → s ≡ width_of w
+    value-judged : (w : Width) (s n room t : ℕ) (ts : List ℕ) (x : Ruling) → s ≡ width_of w
         → x ⊕ R.value_rules f w room (t ∷ ts) ≡ (x ⊕ value_rule (cells_of s n room) (value_at f t) t) ⊕ R.value_rules f w (room - 1) ts
     unfolding R.value_rules value_rule
-    value-judged w s n zero t ts x e = sym (join-assoc x (broken 11 t) (R.value_rules f w zero ts))
+    value-judged w s n zero t ts x e = sym (join-assoc x (broken OutOfBounds t) (R.value_rules f w zero ts))
     value-judged w s n (suc room) t ts x e =
         let u : suc room - 1 ≡ room = omega arith in
         let v : width_by s ≡ w = ap width_by e ∙ width_is w in
-        rw (u, ne_eqb (suc room) 0 (λ q. omega arith), v) (sym (join-assoc x (rule (R.fits_width w (value_at f t)) 11 t) (R.value_rules f w room ts)))
+        rw (u, ne_eqb (suc room) 0 (λ q. omega arith), v) (sym (join-assoc x (rule (R.fits_width w (value_at f t)) OutOfBounds t) (R.value_rules f w room ts)))
 
-    turn-value : (t : ℕ) (c : Context) (k : Block) (p : Place) (b : Broken) (s n room : ℕ) (g : Open) (x : Broken) → EntrySuits (valued t) c → Opens c s n g → b ≡ x ⊕ pending c room
+    turn-value : (t : ℕ) (c : Context) (k : Block) (p : Place) (b : Ruling) (s n room : ℕ) (g : Open) (x : Ruling) → EntrySuits (valued t) c → Opens c s n g → b ≡ x ⊕ pending c room
         → At (after (entry (valued t)) (within k ∷ p)) (context_after (entry (valued t)) c) (rule_event f (entry (valued t)) (within k ∷ p) b) (step E.VALUE t (at (within k ∷ p) s n room g x))
     unfolding judge_event held_after cells_after open_after event_rule declaration_rule rule_event layer_at form_at
     turn-value t (declaring m w (v ∷ ts)) k p b s n room g x q o e = record {
@@ -215,7 +217,7 @@ module _ (f : Tables) where
     turn-value t (applying name position) k p b s n room g x q o e = elim q [ ]
     turn-value t (declaring m w []) k p b s n room g x q o e = elim q [ ]
 
-    turn-entry : (d : Entry) (p : Place) (c : Context) (b : Broken) (s n room : ℕ) (g : Open) (x : Broken) → InBlock p → (i j : ℕ) → is_event kinds (entry d) i j → EntrySuits d c → Opens c s n g
+    turn-entry : (d : Entry) (p : Place) (c : Context) (b : Ruling) (s n room : ℕ) (g : Open) (x : Ruling) → InBlock p → (i j : ℕ) → is_event kinds (entry d) i j → EntrySuits d c → Opens c s n g
         → b ≡ x ⊕ pending c room → At (after (entry d) p) (context_after (entry d) c) (rule_event f (entry d) p b) (step (op_of (entry d)) (token_of (entry d)) (at p s n room g x))
     unfolding judge_event held_after cells_after open_after event_rule declaration_rule is_register R.value_rules layer_at form_at
     turn-entry (named r) (within k ∷ p) c b s n room g x u i j h q o e =
@@ -229,7 +231,7 @@ module _ (f : Tables) where
         (rw (range-is 1 2048 (value_at f t) (omega arith))
         (by_width
         (λ v. step (E.ARRAY-FULL + v) t (at (within k ∷ p) s n room g x)
-        ≡ at (within k ∷ p) v (value_at f t) room g (x ⊕ rule (leb 1 (value_at f t) && leb (value_at f t) 2048) 11 t)) refl refl refl refl w))
+        ≡ at (within k ∷ p) v (value_at f t) room g (x ⊕ rule (leb 1 (value_at f t) && leb (value_at f t) 2048) OutOfBounds t)) refl refl refl refl w))
     turn-entry (itemed m w y) (within k ∷ p) c b s n room g x u i j h q o e = turn-item m w y c k p b s n room g x q o e
     turn-entry (valued t) (within k ∷ p) c b s n room g x u i j h q o e = turn-value t c k p b s n room g x q o e
     turn-entry (based t) (within k ∷ p) c b s n room g x u i j h q o e =
@@ -250,25 +252,25 @@ module _ (f : Tables) where
     -- ── phrases ──
 
     -- what holds is joined to no effect
-    none-joined : (y : Broken) → y ≡ y ⊕ (unbroken ⊕ unbroken)
-    none-joined y = sym (ap (λ (z : Broken). y ⊕ z) (join-right unbroken) ∙ join-right y)
+    none-joined : (y : Ruling) → y ≡ y ⊕ (unbroken ⊕ unbroken)
+    none-joined y = sym (ap (λ (z : Ruling). y ⊕ z) (join-right unbroken) ∙ join-right y)
 
-    alone : (h : Bool) (t : ℕ) → rule h 10 t ≡ unbroken ⊕ rule h 10 t
+    alone : (h : Bool) (t : ℕ) → rule h Protected t ≡ unbroken ⊕ rule h Protected t
     unfolding rule ◌⊕◌
     alone true t = refl
     alone false t = refl
 
     -- the loop judges a target by what it means, as the definition does
     aim_same : (d : Designator) (kept : List ℕ) (m : Meaning)
-        → aim_by f kept d m ≡ R.place_by f m d ⊕ (rule (not (R.is_byte_cell m)) 8 d.name ⊕ R.target_by f m kept d.name)
+        → aim_by f kept d m ≡ R.place_by f m d ⊕ (rule (not (R.is_byte_cell m)) Misfit d.name ⊕ R.target_by f m kept d.name)
     unfolding rule R.write_rule
     aim_same d kept nothing = none-joined _
-    aim_same d kept (register r) = ap (λ (y : Broken). rule (bare_name d) 8 d.name ⊕ y) (alone (not (member r kept)) d.name)
-    aim_same d kept (cell c) = ap (λ (y : Broken). R.place_by f (cell c) d ⊕ y) (sym (join-right _))
+    aim_same d kept (register r) = ap (λ (y : Ruling). rule (bare_name d) Misfit d.name ⊕ y) (alone (not (member r kept)) d.name)
+    aim_same d kept (cell c) = ap (λ (y : Ruling). R.place_by f (cell c) d ⊕ y) (sym (join-right _))
     aim_same d kept (routine r) = none-joined _
     aim_same d kept (function k) = none-joined _
 
-    control-same : (d : Designator) (kept : List ℕ) (m : Meaning) → control_by kept d m ≡ rule (R.is_register m && bare_name d) 8 d.name ⊕ R.target_by f m kept d.name
+    control-same : (d : Designator) (kept : List ℕ) (m : Meaning) → control_by kept d m ≡ rule (R.is_register m && bare_name d) Misfit d.name ⊕ R.target_by f m kept d.name
     unfolding rule
     control-same d kept nothing = sym (join-right _)
     control-same d kept (register r) = refl
@@ -288,11 +290,11 @@ module _ (f : Tables) where
     unfolding chain_rule
     chain_same nothing kept k u t e o = refl
     chain_same (register r) kept k u t e o = ap₂ (λ (x : ℕ) (a : Operand). R.term_rules f kept r (record { operator = x; operand = a })) e o
-    chain_same (cell c) kept k u t e o = ap (λ (x : ℕ). broken 8 x) e
+    chain_same (cell c) kept k u t e o = ap (λ (x : ℕ). broken Misfit x) e
     chain_same (routine r) kept k u t e o = refl
     chain_same (function y) kept k u t e o = refl
 
-    sign_same : (m : Meaning) (t : ℕ) (y : Sign) → R.no_sign y ≡ broken 8 t → sign_rule (aim_of m) t ≡ R.sign_by m y
+    sign_same : (m : Meaning) (t : ℕ) (y : Sign) → R.no_sign y ≡ broken Misfit t → sign_rule (aim_of m) t ≡ R.sign_by m y
     unfolding sign_rule
     sign_same nothing t y e = refl
     sign_same (register r) t y e = refl
@@ -300,15 +302,15 @@ module _ (f : Tables) where
     sign_same (routine r) t y e = refl
     sign_same (function k) t y e = refl
 
-    module _ (p : Place) (s n room : ℕ) (g : Open) (x : Broken) where
+    module _ (p : Place) (s n room : ℕ) (g : Open) (x : Ruling) where
       abbrev here : Judging
       here = at p s n room g x
 
-      abbrev judged_by : Open → Broken → Judging
+      abbrev judged_by : Open → Ruling → Judging
       judged_by g y = at p s n room g (x ⊕ y)
 
       -- the target that is named next
-      abbrev aiming_at : ℕ → Open
+      abbrev aiming_at : Target → Open
       aiming_at y = open_of y g.name g.position
 
       -- an argument more
@@ -333,16 +335,16 @@ module _ (f : Tables) where
 
       signed_is : (m : Meaning) (y : Sign) → Shown y → g.target ≡ aim_of m → step ((sign_code y).family + (sign_code y).form) (sign_code y).token here ≡ judged_by g (R.sign_by m y)
       unfolding judge_event held_after cells_after open_after event_rule statement_rule assignment_rule layer_at form_at
-      signed_is m (abs t) q e = ap (judged_by g) (ap (λ (z : ℕ). sign_rule z t) e ∙ sign_same m t (abs t) refl)
-      signed_is m (neg t) q e = ap (judged_by g) (ap (λ (z : ℕ). sign_rule z t) e ∙ sign_same m t (neg t) refl)
-      signed_is m (neg_abs t) q e = ap (judged_by g) (ap (λ (z : ℕ). sign_rule z t) e ∙ sign_same m t (neg_abs t) refl)
+      signed_is m (abs t) q e = ap (judged_by g) (ap (λ (z : Target). sign_rule z t) e ∙ sign_same m t (abs t) refl)
+      signed_is m (neg t) q e = ap (judged_by g) (ap (λ (z : Target). sign_rule z t) e ∙ sign_same m t (neg t) refl)
+      signed_is m (neg_abs t) q e = ap (judged_by g) (ap (λ (z : Target). sign_rule z t) e ∙ sign_same m t (neg_abs t) refl)
       signed_is m plain q e = elim q [ ]
 
       given_is : (m : Meaning) (a : Operand) (i j : ℕ) → is_operand kinds a i j → g.target ≡ aim_of m → step (E.FIRST + operand_shape a) (head_of a) here ≡ judged_by g (R.first_by f m a)
       unfolding judge_event held_after cells_after open_after event_rule statement_rule assignment_rule layer_at form_at
       given_is m a i j h e =
           by-operand (λ k. step (E.FIRST + k) (head_of a) here ≡ judged_by g (first_rules f g.target (operand_at k (head_of a)))) refl refl refl refl refl a
-          ∙ ap (judged_by g) (ap₂ (λ (z : ℕ) (y : Operand). first_rules f z y) e (operand-at a (pinned-operand kinds a i j h).1) ∙ first-same m a)
+          ∙ ap (judged_by g) (ap₂ (λ (z : Target) (y : Operand). first_rules f z y) e (operand-at a (pinned-operand kinds a i j h).1) ∙ first-same m a)
 
       joined_is : (m : Meaning) (t : Term) (i j : ℕ) → t.operator ≡ i → is_operand kinds t.operand (i + 1) j → g.target ≡ aim_of m
           → step (E.TERM + operand_shape t.operand) (head_of t.operand) here ≡ judged_by g (R.term_by f m (kept_in f p) t)
@@ -352,7 +354,7 @@ module _ (f : Tables) where
           let q = pinned-operand kinds a (i + 1) j h in
           by-operand (λ k. step (E.TERM + k) (head_of a) here ≡ judged_by g (chain_rule f (kept_in f p) g.target k (head_of a))) refl refl refl refl refl a
           ∙ ap (judged_by g)
-          (ap (λ (z : ℕ). chain_rule f (kept_in f p) z (operand_shape a) (head_of a)) e ∙ chain_same m (kept_in f p) (operand_shape a) (head_of a) t (omega (arith, q.0)) (operand-at a q.1))
+          (ap (λ (z : Target). chain_rule f (kept_in f p) z (operand_shape a) (head_of a)) e ∙ chain_same m (kept_in f p) (operand_shape a) (head_of a) t (omega (arith, q.0)) (operand-at a q.1))
 
       operand-is : (a : Operand) (i j : ℕ) → is_operand kinds a i j → step (E.LIMIT + operand_shape a) (head_of a) here ≡ judged_by g (R.operand_rules f a)
       unfolding judge_event held_after cells_after open_after event_rule statement_rule assignment_rule layer_at form_at
@@ -391,11 +393,11 @@ module _ (f : Tables) where
       unfolding judge_event held_after cells_after open_after event_rule statement_rule assignment_rule layer_at form_at
       chosen_is t = refl
 
-    call_step : (p : Place) (s n room : ℕ) (g : Open) (x : Broken) (t : ℕ) → step E.CALL t (at p s n room g x) ≡ at p s n room g (x ⊕ R.call_rules f (kept_in f p) t)
+    call_step : (p : Place) (s n room : ℕ) (g : Open) (x : Ruling) (t : ℕ) → step E.CALL t (at p s n room g x) ≡ at p s n room g (x ⊕ R.call_rules f (kept_in f p) t)
     unfolding judge_event held_after cells_after open_after event_rule statement_rule assignment_rule layer_at form_at
     call_step p s n room g x t = refl
 
-    turn_signed : (d : Designator) (y : Sign) (p : Place) (c : Context) (b : Broken) (s n room : ℕ) (g : Open) (x : Broken) → Aims d c → Shown y → Opens c s n g → b ≡ x ⊕ pending c room
+    turn_signed : (d : Designator) (y : Sign) (p : Place) (c : Context) (b : Ruling) (s n room : ℕ) (g : Open) (x : Ruling) → Aims d c → Shown y → Opens c s n g → b ≡ x ⊕ pending c room
         → At p c (rule_event f (phrase (signed d y)) p b) (step (op_of (phrase (signed d y))) (token_of (phrase (signed d y))) (at p s n room g x))
     turn_signed d y p (aiming z) b s n room g x q w o e =
         judged (phrase (signed d y)) p (aiming z) b s n room g x s n room g (complete (aiming z) room b x tt e) o join-right
@@ -404,7 +406,7 @@ module _ (f : Tables) where
     turn_signed d y p (applying name position) b s n room g x q w o e = elim q [ ]
     turn_signed d y p (declaring count _ values) b s n room g x q w o e = elim q [ ]
 
-    turn-phrase : (y : Phrase) (p : Place) (c : Context) (b : Broken) (s n room : ℕ) (g : Open) (x : Broken) (i j : ℕ) → is_event kinds (phrase y) i j → PhraseSuits y c → Opens c s n g
+    turn-phrase : (y : Phrase) (p : Place) (c : Context) (b : Ruling) (s n room : ℕ) (g : Open) (x : Ruling) (i j : ℕ) → is_event kinds (phrase y) i j → PhraseSuits y c → Opens c s n g
         → b ≡ x ⊕ pending c room → At p (context_after (phrase y) c) (rule_event f (phrase y) p b) (step (op_of (phrase y)) (token_of (phrase y)) (at p s n room g x))
     turn-phrase (aimed d) p c b s n room g x i j h q o e =
         judged (phrase (aimed d)) p c b s n room g x s n room (open_of (aim_of (meaning_at f d.name)) g.name g.position) (complete c room b x q e) refl join-right
@@ -454,7 +456,7 @@ module _ (f : Tables) where
 
     -- ── along the tape ──
 
-    turn : (e : Event) (p : Place) (c : Context) (b : Broken) (j : Judging) → Stands kinds e p 0 → Suits e c → At p c b j
+    turn : (e : Event) (p : Place) (c : Context) (b : Ruling) (j : Judging) → Stands kinds e p 0 → Suits e c → At p c b j
         → At (after e p) (context_after e c) (rule_event f e p b) (step (op_of e) (token_of e) j)
     turn e p c b j z q a = rw a.is (go e z q)
       where
@@ -478,11 +480,11 @@ module _ (f : Tables) where
 -- ── programs ──
 
 pub judged-program :
-    (kinds : List ℕ) (f : Tables) (x : Statement) (i j : ℕ) → is_program kinds x i j → (b : Broken)
+    (kinds : List ℕ) (f : Tables) (x : Statement) (i j : ℕ) → is_program kinds x i j → (b : Ruling)
     → (pass (judge_event f) (beginning b) (tape_statement x [])).broken ≡ b ⊕ rules_of f x
 judged-program kinds f x i j q b =
     let (c, k, a) = follows-in (judge_event f) (rule_event f) (At f) (λ e p. Stands kinds e p 0) (turn f kinds) (events_of x) [] nowhere b (beginning b)
     (text-stands kinds _ _ _ _ (program-text kinds x i j q)) (program-coherent x)
-    (record { width = 0; elements = 0; room = 0; standing = open_of 0 0 0; judged = b; is = refl; opens = tt; all = sym (join-right b) }) in
+    (record { width = 0; elements = 0; room = 0; standing = open_of Unfit 0 0; judged = b; is = refl; opens = tt; all = sym (join-right b) }) in
     ap (λ (l : List ℕ). (pass (judge_event f) (beginning b) l).broken) (tree-tape x)
     ∙ (ap (λ (y : Judging). y.broken) a.is ∙ (sym (complete f c a.room _ a.judged k a.all) ∙ rules-onto f (events_of x) [] b))

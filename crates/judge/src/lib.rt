@@ -16,14 +16,13 @@ ghost use Rattle.rules.specs.Shows.{Listed, Shown};
 ghost use Rattle.judge.specs.Along.{enter_block, leave_block, keep_base, keep_return, leave_procedure, held_after, cells_after, value_rule, aim_of, open_after, register_target, aim_by, control_by, sign_rule, first_rules, chain_rule, declaration_rule, assignment_rule, statement_rule, event_rule, judge_event, beginning, held_of, Moved, Stays};
 
 use arrays::{kind, put_wide};
-use base::less;
 use ledger::{meaning, put_offset, value};
 use rules::{
-    argued_rules, base_rules, broken, call_rules, counted_rules, element_rules, is_bare, no_byte,
-    none, only_register, operand_rules, register_rule, taken_rules, term_rules, used_register,
+    argued_rules, base_rules, call_rules, counted_rules, element_rules, is_bare, no_byte,
+    only_register, operand_rules, register_rule, taken_rules, term_rules, used_register,
     write_rule,
 };
-use scopes::{Broken, join, rule};
+use scopes::{Broken, Refusal, join, rule};
 use tables::{is_cell, is_register, number, register, top};
 use tape::{family, layer};
 
@@ -35,10 +34,18 @@ pub struct Cells {
     pub room: u64,
 }
 
+// What an assignment goes to, by what its target means: a cell, a register, or what it cannot go to, and is not judged further.
+#[derive(Clone, Copy)]
+pub enum Target {
+    Unfit,
+    Cell,
+    Register(usize),
+}
+
 // What stands open in a statement: the target of an assignment; the token of a use's name and how many arguments it has had.
 #[derive(Clone, Copy)]
 pub struct Open {
-    pub target: usize,
+    pub target: Target,
     pub name: usize,
     pub position: usize,
 }
@@ -57,30 +64,21 @@ fn enter_block(counts: &mut [u64], d: Depths) -> Depths
     requires { d.counts < length counts.old }
     ensures { (kept : List ℕ) → Moved (enter_block (held_of kept counts.old d)) kept counts.new d result }
 {
-    let depth = d.counts;
-    let count = d.count;
-    put_wide(counts, depth, count as u64);
+    put_wide(counts, d.counts, d.count as u64);
     Depths {
-        kept: d.kept,
         count: 0,
-        counts: depth + 1,
+        counts: d.counts + 1,
+        ..d
     }
-}
-
-fn fewer(depth: usize, count: usize) -> usize
-    ensures { result ≡ depth - count }
-{
-    if count < depth { depth - count } else { 0 }
 }
 
 fn leave_block(counts: &[u64], d: Depths) -> Depths
     ensures { (kept : List ℕ) → Moved (leave_block (held_of kept counts.now d)) kept counts.now d result }
 {
-    let depth = d.counts;
     Depths {
-        kept: fewer(d.kept, d.count),
-        count: top(counts, depth) as usize,
-        counts: less(depth, 1),
+        kept: d.kept.saturating_sub(d.count),
+        count: top(counts, d.counts) as usize,
+        counts: d.counts.saturating_sub(1),
     }
 }
 
@@ -90,12 +88,11 @@ fn keep_base(wide: &mut [u64], r: u64, d: Depths) -> Depths
         → Moved (keep_base r (held_of (wide_of wide.old).offsets counts d)) (wide_of wide.new).offsets counts d result)
         × Stays (wide_of wide.old) (wide_of wide.new) }
 {
-    let depth = d.kept;
-    put_offset(wide, depth, r);
+    put_offset(wide, d.kept, r);
     Depths {
-        kept: depth + 1,
+        kept: d.kept + 1,
         count: d.count + 1,
-        counts: d.counts,
+        ..d
     }
 }
 
@@ -105,12 +102,10 @@ fn keep_return(wide: &mut [u64], r: u64, d: Depths) -> Depths
         → Moved (keep_return r (held_of (wide_of wide.old).offsets counts d)) (wide_of wide.new).offsets counts d result)
         × Stays (wide_of wide.old) (wide_of wide.new) }
 {
-    let depth = d.kept;
-    put_offset(wide, depth, r);
+    put_offset(wide, d.kept, r);
     Depths {
-        kept: depth + 1,
-        count: d.count,
-        counts: d.counts,
+        kept: d.kept + 1,
+        ..d
     }
 }
 
@@ -118,9 +113,8 @@ fn leave_procedure(d: Depths) -> Depths
     ensures { (kept counts : List ℕ) → Moved (leave_procedure (held_of kept counts d)) kept counts d result }
 {
     Depths {
-        kept: less(d.kept, 1),
-        count: d.count,
-        counts: d.counts,
+        kept: d.kept.saturating_sub(1),
+        ..d
     }
 }
 
@@ -163,76 +157,65 @@ fn held_after(
 fn cells_after(op: u32, t: usize, wide: &[u64], c: Cells) -> Cells
     ensures { (f : Tables) → f.values ≡ (wide_of wide.now).values → result ≡ cells_after f op t c }
 {
-    let room = c.room;
-    let elements = c.elements;
     let k = family(op);
     let width = tape::form(op);
     if k == tape::SINGLE_FULL {
         return Cells {
             width,
             elements: 1,
-            room,
+            ..c
         };
     }
     if k == tape::ARRAY_FULL {
         return Cells {
             width,
             elements: value(wide, t),
-            room,
+            ..c
         };
     }
     if op == tape::ITEM {
         return Cells {
-            width: c.width,
-            elements,
-            room: elements,
+            room: c.elements,
+            ..c
         };
     }
     if op == tape::VALUE {
         return Cells {
-            width: c.width,
-            elements,
-            room: one_less(room),
+            room: c.room.saturating_sub(1),
+            ..c
         };
     }
     c
 }
 
-fn one_less(n: u64) -> u64
-    ensures { result ≡ n - 1 }
-{
-    if n == 0 { 0 } else { n - 1 }
-}
-
 // "A value for a short cell has signed value -32768 to 65535"; of byte cells "initial values 0 to 255".
-fn value_rule(c: Cells, v: u64, t: usize) -> Broken
+fn value_rule(c: Cells, v: u64, t: usize) -> Option<Broken>
     ensures { result ≡ value_rule c v t }
 {
-    let width = c.width;
     if c.room == 0 {
-        return broken(11, t);
+        return Refusal::OutOfBounds.at(t);
     }
-    if width == tape::FULL {
-        return none();
+    if c.width == tape::FULL {
+        return None;
     }
-    if width == tape::SHORT {
-        return rule((v <= 65535) | (4294934528 <= v), 11, t);
+    if c.width == tape::SHORT {
+        return rule((v <= 65535) | (4294934528 <= v), Refusal::OutOfBounds, t);
     }
-    rule(v <= 255, 11, t)
+    rule(v <= 255, Refusal::OutOfBounds, t)
 }
 
 // ── what stands open in a statement ──
 
-fn aim_of(m: u64) -> usize
+fn aim_of(m: u64) -> Target
     ensures { (n : ℕ) (b : Based) → result ≡ aim_of (unpacked n m b) }
 {
     if is_register(m) {
-        return number(m) as usize + 2;
+        return Target::Register(number(m) as usize);
     }
     if is_cell(m) {
-        return 1;
+        return Target::Cell;
     }
-    0
+    Target::Unfit
 }
 
 fn open_after(op: u32, t: usize, wide: &[u64], thin: &[u16], o: Open) -> Open
@@ -243,37 +226,32 @@ fn open_after(op: u32, t: usize, wide: &[u64], thin: &[u16], o: Open) -> Open
     if (k == tape::TARGET) | (k == tape::CONTROL) {
         return Open {
             target: aim_of(meaning(wide, thin, t)),
-            name: o.name,
-            position: o.position,
+            ..o
         };
     }
     if op == tape::APPLIED {
         return Open {
-            target: o.target,
             name: t,
             position: 0,
+            ..o
         };
     }
     if k == tape::ARGUED {
         let position = o.position + 1;
-        return Open {
-            target: o.target,
-            name: o.name,
-            position,
-        };
+        return Open { position, ..o };
     }
     o
 }
 
 // A register that a whole chain goes to.
-fn register_target(shape: u32, wide: &[u64], depth: usize, m: u64, t: usize) -> Broken
+fn register_target(shape: u32, wide: &[u64], depth: usize, m: u64, t: usize) -> Option<Broken>
     ensures { result ≡ register_target (stack_of (wide_of wide.now).offsets depth) (designator_at shape t) (number_in m) }
 {
-    let bare = rule(is_bare(shape), 8, t);
+    let bare = rule(is_bare(shape), Refusal::Misfit, t);
     join(bare, write_rule(wide, depth, number(m), t))
 }
 
-fn aim_rules(shape: u32, wide: &[u64], thin: &[u16], depth: usize, t: usize) -> Broken
+fn aim_rules(shape: u32, wide: &[u64], thin: &[u16], depth: usize, t: usize) -> Option<Broken>
     requires { t < 4294967296 }
     ensures { (f : Tables) → Listed f (wide_of wide.now) (thin_of thin.now)
         → result ≡ aim_by f (stack_of (wide_of wide.now).offsets depth) (designator_at shape t) (meaning_at f t) }
@@ -286,10 +264,10 @@ fn aim_rules(shape: u32, wide: &[u64], thin: &[u16], depth: usize, t: usize) -> 
         let fits = element_rules(shape, m, wide, thin, t);
         return join(fits, no_byte(wide, thin, t));
     }
-    broken(8, t)
+    Refusal::Misfit.at(t)
 }
 
-fn control_rules(shape: u32, wide: &[u64], thin: &[u16], depth: usize, t: usize) -> Broken
+fn control_rules(shape: u32, wide: &[u64], thin: &[u16], depth: usize, t: usize) -> Option<Broken>
     ensures { (f : Tables) → Listed f (wide_of wide.now) (thin_of thin.now)
         → result ≡ control_by (stack_of (wide_of wide.now).offsets depth) (designator_at shape t) (meaning_at f t) }
 {
@@ -297,53 +275,52 @@ fn control_rules(shape: u32, wide: &[u64], thin: &[u16], depth: usize, t: usize)
     if is_register(m) {
         return register_target(shape, wide, depth, m, t);
     }
-    broken(8, t)
+    Refusal::Misfit.at(t)
 }
 
-fn sign_rule(target: usize, t: usize) -> Broken
+fn sign_rule(target: Target, t: usize) -> Option<Broken>
     ensures { result ≡ sign_rule target t }
 {
-    if target == 1 {
-        return broken(8, t);
+    match target {
+        Target::Unfit => None,
+        Target::Cell => Refusal::Misfit.at(t),
+        Target::Register(_) => None,
     }
-    none()
 }
 
-fn first_rules(target: usize, shape: u32, wide: &[u64], thin: &[u16], t: usize) -> Broken
+fn first_rules(target: Target, shape: u32, wide: &[u64], thin: &[u16], t: usize) -> Option<Broken>
     requires { t < 4294967296 }
     ensures { (f : Tables) → Listed f (wide_of wide.now) (thin_of thin.now) → result ≡ first_rules f target (operand_at shape t) }
 {
-    if target == 0 {
-        return none();
+    match target {
+        Target::Unfit => None,
+        Target::Cell => only_register(shape, wide, thin, t),
+        Target::Register(_) => operand_rules(shape, wide, thin, t),
     }
-    if target == 1 {
-        return only_register(shape, wide, thin, t);
-    }
-    operand_rules(shape, wide, thin, t)
 }
 
 fn chain_rule(
-    target: usize,
+    target: Target,
     shape: u32,
     kinds: &[u8],
     wide: &[u64],
     thin: &[u16],
     depth: usize,
     t: usize,
-) -> Broken
+) -> Option<Broken>
     requires { t < 4294967296 }
     ensures { (f : Tables) → Shown f kinds.now (wide_of wide.now) (thin_of thin.now)
         → result ≡ chain_rule f (stack_of (wide_of wide.now).offsets depth) target shape t }
 {
-    if target == 0 {
-        return none();
+    let operator = t.saturating_sub(1);
+    match target {
+        Target::Unfit => None,
+        Target::Cell => Refusal::Misfit.at(operator),
+        Target::Register(r) => {
+            let k = kind(kinds, operator);
+            term_rules(k, shape, wide, thin, depth, r, t)
+        }
     }
-    let operator = less(t, 1);
-    if target == 1 {
-        return broken(8, operator);
-    }
-    let k = kind(kinds, operator);
-    term_rules(k, shape, wide, thin, depth, target - 2, t)
 }
 
 // ── an event ──
@@ -351,18 +328,25 @@ fn chain_rule(
 // "array count not 1 to 2,048"
 const MOST_ELEMENTS: u64 = 2048;
 
-fn declaration_rule(op: u32, t: usize, wide: &[u64], thin: &[u16], depth: usize, c: Cells) -> Broken
+fn declaration_rule(
+    op: u32,
+    t: usize,
+    wide: &[u64],
+    thin: &[u16],
+    depth: usize,
+    c: Cells,
+) -> Option<Broken>
     requires { t < 4294967296 }
     ensures { (f : Tables) → Listed f (wide_of wide.now) (thin_of thin.now)
         → result ≡ declaration_rule f (stack_of (wide_of wide.now).offsets depth) c op t }
 {
     let k = family(op);
     if op == tape::REGISTER {
-        return rule(value(wide, t + 2) <= 15, 9, t + 2);
+        return rule(value(wide, t + 2) <= 15, Refusal::WrongRegister, t + 2);
     }
     if k == tape::ARRAY_FULL {
         let v = value(wide, t);
-        return rule((1 <= v) & (v <= MOST_ELEMENTS), 11, t);
+        return rule((1 <= v) & (v <= MOST_ELEMENTS), Refusal::OutOfBounds, t);
     }
     if op == tape::VALUE {
         return value_rule(c, value(wide, t), t);
@@ -373,7 +357,7 @@ fn declaration_rule(op: u32, t: usize, wide: &[u64], thin: &[u16], depth: usize,
     if op == tape::PROCEDURE {
         return used_register(wide, thin, t + 2);
     }
-    none()
+    None
 }
 
 fn assignment_rule(
@@ -383,8 +367,8 @@ fn assignment_rule(
     wide: &[u64],
     thin: &[u16],
     depth: usize,
-    target: usize,
-) -> Broken
+    target: Target,
+) -> Option<Broken>
     requires { t < 4294967296 }
     ensures { (f : Tables) → Shown f kinds.now (wide_of wide.now) (thin_of thin.now)
         → result ≡ assignment_rule f (stack_of (wide_of wide.now).offsets depth) target op t }
@@ -406,16 +390,16 @@ fn assignment_rule(
     if (op == tape::ABS) | ((op == tape::NEG) | (op == tape::NEG_ABS)) {
         return sign_rule(target, t);
     }
-    none()
+    None
 }
 
 // The register of a condition stands two tokens before its operand.
-fn compared_rules(shape: u32, wide: &[u64], thin: &[u16], t: usize) -> Broken
+fn compared_rules(shape: u32, wide: &[u64], thin: &[u16], t: usize) -> Option<Broken>
     requires { t < 4294967296 }
     ensures { (f : Tables) → Listed f (wide_of wide.now) (thin_of thin.now)
         → result ≡ register_rule f (t - 2) ⊕ operand_rules f (operand_at shape t) }
 {
-    let n = fewer(t, 2);
+    let n = t.saturating_sub(2);
     let compared = register_rule(meaning(wide, thin, n), n);
     join(compared, operand_rules(shape, wide, thin, t))
 }
@@ -428,7 +412,7 @@ fn statement_rule(
     thin: &[u16],
     depth: usize,
     o: Open,
-) -> Broken
+) -> Option<Broken>
     requires { t < 4294967296 }
     ensures { (f : Tables) → Shown f kinds.now (wide_of wide.now) (thin_of thin.now)
         → result ≡ statement_rule f (stack_of (wide_of wide.now).offsets depth) o op t }
@@ -464,7 +448,7 @@ fn event_rule(
     depth: usize,
     c: Cells,
     o: Open,
-) -> Broken
+) -> Option<Broken>
     requires { t < 4294967296 }
     ensures { (f : Tables) → Shown f kinds.now (wide_of wide.now) (thin_of thin.now)
         → result ≡ event_rule f (stack_of (wide_of wide.now).offsets depth) c o op t }
@@ -485,8 +469,8 @@ pub fn judge(
     wide: &mut [u64],
     thin: &[u16],
     counts: &mut [u64],
-    others: Broken,
-) -> Broken
+    others: Option<Broken>,
+) -> Option<Broken>
     requires { (length tape.now < 4294967296) × ((length tape.now + 2 ≤ length wide.old / 4) × Nested (length counts.old) 0 0 tape.now) }
     ensures { ((f : Tables) → Shown f kinds.now (wide_of wide.old) (thin_of thin.now)
         → result ≡ (pass (judge_event f) (beginning others) tape.now).broken) × Stays (wide_of wide.old) (wide_of wide.new) }
@@ -504,23 +488,19 @@ pub fn judge(
         room: 0,
     };
     let mut o = Open {
-        target: 0,
+        target: Target::Unfit,
         name: 0,
         position: 0,
     };
     let mut least = others;
-    let mut i: usize = 0;
-    while i < tape.len() {
-        let e = tape[i];
-        let op = tape::op(e);
-        let t = tape::token(e);
-        let depth = d.kept;
-        let r = event_rule(op, t, kinds, wide, thin, depth, c, o);
+    for e in tape {
+        let op = tape::op(*e);
+        let t = tape::token(*e);
+        let r = event_rule(op, t, kinds, wide, thin, d.kept, c, o);
         least = join(least, r);
         d = held_after(op, t, wide, thin, counts, d);
         c = cells_after(op, t, wide, c);
         o = open_after(op, t, wide, thin, o);
-        i += 1;
     }
     least
 }

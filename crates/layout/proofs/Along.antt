@@ -8,8 +8,8 @@ use lib.Dec.{leb}
 use lib.ListN.{length, get_or, drop}
 use borrow.Author.Tests.{lt-ltb, le-ltb, le-leb, lt-leb, eq-eqb, ne_eqb}
 use Rattle.base.specs.Numbers.{stored}
-use Rattle.scopes.specs.declared.Broken.{Broken}
-use Rattle.scopes.specs.Broken.{unbroken, rule, ◌⊕◌}
+use Rattle.scopes.specs.declared.Refusal.TheVariants.{NoRoom}
+use Rattle.scopes.specs.Broken.{Ruling, unbroken, rule, ◌⊕◌}
 use Rattle.static_rules.specs.Meaning.{element_size}
 use Rattle.tape.specs.Events as E
 use Rattle.tape.specs.Pass.{pass}
@@ -43,9 +43,9 @@ unfolding capped
 past_is n h = rw (lt-leb n segment_limit h)
 
 pub place_is :
-    (w : Wide) (b : Thin) (t : ℕ) (r : Broken) {w' : Wide} {b' : Thin} {r' q : Broken} {m size k end offset n v : ℕ} → m ≡ get_or w.means t 0
+    (w : Wide) (b : Thin) (t : ℕ) (r : Ruling) {w' : Wide} {b' : Thin} {r' q : Ruling} {m size k end offset n v : ℕ} → m ≡ get_or w.means t 0
     → size ≡ element_size (width_in m) → k ≡ segment_at w.under t → end ≡ get_or b.written k 0 → offset ≡ round_up size end → n ≡ number_in m
-    → w' ≡ put_offset t offset w → v ≡ capped (offset + size * n) → b' ≡ put_written k v b → q ≡ rule (leb (offset + size * n) segment_limit) 12 t → r' ≡ r ⊕ q
+    → w' ≡ put_offset t offset w → v ≡ capped (offset + size * n) → b' ≡ put_written k v b → q ≡ rule (leb (offset + size * n) segment_limit) NoRoom t → r' ≡ r ⊕ q
     → book_of w' b' r' ≡ place_in t (book_of w b r)
 unfolding place_by
 place_is w b t r em es ek ee eo en e1 ev e2 e3 e4 = rw (e4, e3, e2, ev, e1, eo, ee, ek, en, es, em)

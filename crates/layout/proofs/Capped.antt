@@ -9,8 +9,8 @@ use lib.ListN.{get_or, set, replicate, get_or-map}
 use borrow.Author.Tests.{leb-false, lt-leb}
 use Rattle.base.specs.Walk.{fold}
 use Rattle.base.proofs.Tests.{cases}
-use Rattle.scopes.specs.declared.Broken.{Broken}
-use Rattle.scopes.specs.Broken.{unbroken, rule, ◌⊕◌}
+use Rattle.scopes.specs.declared.Refusal.TheVariants.{NoRoom}
+use Rattle.scopes.specs.Broken.{Ruling, unbroken, rule, ◌⊕◌}
 use Rattle.scopes.proofs.Joins.{quiet-left, quiet-right, rule-holds}
 use Rattle.static_rules.specs.Meaning.{element_size}
 use Rattle.grammar.specs.Tree.{Width}
@@ -78,7 +78,7 @@ alike w n e =
 pub record Capped (exact kept : Laying) : Type 0 where
   pub ends : kept.ends ≡ map capped exact.ends
   pub broken : kept.broken ≡ exact.broken
-  pub same : exact.broken.number ≡ 0 → kept ≡ exact
+  pub same : exact.broken ≡ unbroken → kept ≡ exact
 
 module _ (means bases : List ℕ) where
   placed : (t : ℕ) (x k : Laying) → Capped x k → Capped (place_at means bases t x) (place_by means bases capped t k)
@@ -90,14 +90,14 @@ module _ (means bases : List ℕ) where
       let a = alike w n (get_or x.ends g 0) in
       let e : get_or k.ends g 0 ≡ capped (get_or x.ends g 0) = ap (λ (l : List ℕ). get_or l g 0) c.ends ∙ read-capped x.ends g in
       let end = end_at means bases t x.ends in
-      let here = rule (leb end segment_limit) 12 t in
+      let here = rule (leb end segment_limit) NoRoom t in
       let limit = ap (λ (v : ℕ). leb (end_past w n v) segment_limit) e ∙ a.limit in
       let kept = ap (λ (v : ℕ). capped (end_past w n v)) e ∙ a.kept in
       record {
         ends = ap₂ (λ (l : List ℕ) (v : ℕ). set l g v) c.ends kept ∙ set-map capped x.ends g end;
-        broken = ap₂ (λ (r : Broken) (b : Bool). r ⊕ rule b 12 t) c.broken limit;
+        broken = ap₂ (λ (r : Ruling) (b : Bool). r ⊕ rule b NoRoom t) c.broken limit;
         same = λ z.
-            let fits = within end (rule-holds (leb end segment_limit) 12 t (omega arith) (quiet-right x.broken here z)) in
+            let fits = within end (rule-holds (leb end segment_limit) NoRoom t (quiet-right x.broken here z)) in
             ap (place_by means bases capped t) (c.same (quiet-left x.broken here z))
             ∙ ap (λ (v : ℕ). laying_of (set x.ends g v) (set x.offsets t (offset_at means bases t x.ends)) (x.broken ⊕ here)) fits;
       }

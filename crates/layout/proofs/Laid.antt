@@ -11,8 +11,8 @@ use Rattle.base.specs.Choose.{whether◌then◌else◌}
 use Rattle.base.specs.Lists.{All}
 use Rattle.base.proofs.Lists.{all_map}
 use Rattle.base.proofs.Tests.{cases}
-use Rattle.scopes.specs.declared.Broken.{Broken}
-use Rattle.scopes.specs.Broken.{unbroken, rule, ◌⊕◌}
+use Rattle.scopes.specs.declared.Refusal.TheVariants.{NoRoom}
+use Rattle.scopes.specs.Broken.{Ruling, unbroken, rule, ◌⊕◌}
 use Rattle.grammar.specs.Tree.{Item, Statement}
 use Rattle.grammar.specs.Derives.{is_program}
 use Rattle.tape.specs.Tape.{tape_statement}
@@ -148,7 +148,7 @@ module _ (means bases : List ℕ) (N M n : ℕ) (fit : 2 + n ≤ N) where
             ap₂ (λ (g v : ℕ). get_or (set s.ends g v) k 0) f.of-segment e
             ∙ same_set s.ends r.ends c.base.segment (end_for c r.ends) k (omega arith) (omega arith) (h.ends k);
         offsets = λ t. read_set s.offsets c.name _ t (omega arith) ∙ ap₂ (λ (x y : ℕ). whether eqb c.name t then x else y) o (h.offsets t);
-        broken = ap₂ (λ (x : Broken) (y : ℕ). x ⊕ rule (leb y segment_limit) 12 c.name) h.broken e;
+        broken = ap₂ (λ (x : Ruling) (y : ℕ). x ⊕ rule (leb y segment_limit) NoRoom c.name) h.broken e;
       }
 
 -- the laws of a whole text: s is what stands before it, N and M the lengths of the two arrays

@@ -3,8 +3,8 @@
 use Rattle.std.specs.Prelude.{List, ℕ, suc, ◌+◌, ◌*◌, ◌%◌, eqb, leb, ltb, get_or, set, replicate}
 use Rattle.base.specs.Choose.{whether◌then◌else◌}
 use Rattle.base.specs.Numbers.{stored}
-use Rattle.scopes.specs.declared.Broken.{Broken}
-use Rattle.scopes.specs.Broken.{unbroken, rule, ◌⊕◌}
+use Rattle.scopes.specs.declared.Refusal.TheVariants.{NoRoom}
+use Rattle.scopes.specs.Broken.{Ruling, unbroken, rule, ◌⊕◌}
 use Rattle.static_rules.specs.Meaning.{element_size}
 use Rattle.tape.specs.Events as E
 use Rattle.tape.specs.Pass.{pass}
@@ -19,9 +19,9 @@ use Rattle.layout.specs.declared.Filling.{Filling}
 pub record Laying : Type 0 where
   pub ends : List ℕ
   pub offsets : List ℕ
-  pub broken : Broken
+  pub broken : Ruling
 
-abbrev pub laying_of : (ends offsets : List ℕ) → Broken → Laying
+abbrev pub laying_of : (ends offsets : List ℕ) → Ruling → Laying
 laying_of ends offsets b = record { ends = ends; offsets = offsets; broken = b }
 
 -- "Segment 1 begins with a table of four 4-byte entries, so cells start at 16; segments 2 and 3 start at 0."
@@ -48,7 +48,7 @@ module _ (means bases : List ℕ) where
   place_by keep t s = record {
     ends = set s.ends (segment_at bases t) (keep (end_at t s.ends));
     offsets = set s.offsets t (offset_at t s.ends);
-    broken = s.broken ⊕ rule (leb (end_at t s.ends) segment_limit) 12 t;
+    broken = s.broken ⊕ rule (leb (end_at t s.ends) segment_limit) NoRoom t;
   }
 
   unfoldable pub event_by : (keep : ℕ → ℕ) → (op t : ℕ) → Laying → Laying
@@ -74,12 +74,12 @@ capped_event means bases = event_by means bases capped
 pub record Book : Type 0 where
   pub wide : Wide
   pub thin : Thin
-  pub broken : Broken
+  pub broken : Ruling
 
-abbrev pub book_of : Wide → Thin → Broken → Book
+abbrev pub book_of : Wide → Thin → Ruling → Book
 book_of w b r = record { wide = w; thin = b; broken = r }
 
-abbrev pub book_in : (wide thin : List ℕ) → Broken → Book
+abbrev pub book_in : (wide thin : List ℕ) → Ruling → Book
 book_in wide thin r = book_of (wide_of wide) (thin_of thin) r
 
 -- the ends stand in the column `written`; all columns but it and the offsets stay

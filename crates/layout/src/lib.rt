@@ -12,7 +12,7 @@ ghost use Rattle.layout.specs.Along.{segment_at, capped, book_in, place_in, even
 
 use base::put_byte;
 use ledger::{clear_written, mean, offset, put_offset, put_written, under, value, written};
-use scopes::{Broken, join, rule};
+use scopes::{Broken, Refusal, join, rule};
 use tables::{element_size, number};
 
 // "A segment is at most 4,096 bytes, every cell included."
@@ -49,7 +49,12 @@ fn cap(end: u64) -> usize
     PAST_LIMIT
 }
 
-fn place_cell(wide: &mut [u64], thin: &mut [u16], t: usize, broken: Broken) -> Broken
+fn place_cell(
+    wide: &mut [u64],
+    thin: &mut [u16],
+    t: usize,
+    broken: Option<Broken>,
+) -> Option<Broken>
     ensures { book_in wide.new thin.new result ≡ place_in t (book_in wide.old thin.old broken) }
 {
     let m = mean(wide, t);
@@ -59,10 +64,19 @@ fn place_cell(wide: &mut [u64], thin: &mut [u16], t: usize, broken: Broken) -> B
     let end = start + size * number(m);
     put_offset(wide, t, start);
     put_written(thin, k, cap(end));
-    join(broken, rule(end <= SEGMENT_LIMIT as u64, 12, t))
+    join(
+        broken,
+        rule(end <= SEGMENT_LIMIT as u64, Refusal::NoRoom, t),
+    )
 }
 
-fn layout_event(op: u32, t: usize, wide: &mut [u64], thin: &mut [u16], broken: Broken) -> Broken
+fn layout_event(
+    op: u32,
+    t: usize,
+    wide: &mut [u64],
+    thin: &mut [u16],
+    broken: Option<Broken>,
+) -> Option<Broken>
     ensures { book_in wide.new thin.new result ≡ event_in op t (book_in wide.old thin.old broken) }
 {
     if op == tape::ITEM {
@@ -72,17 +86,14 @@ fn layout_event(op: u32, t: usize, wide: &mut [u64], thin: &mut [u16], broken: B
 }
 
 // Where cells stand, by token, and where they end, by segment, in the column `written`, whatever stood there.
-pub fn layout(tape: &[u32], wide: &mut [u64], thin: &mut [u16]) -> Broken
+pub fn layout(tape: &[u32], wide: &mut [u64], thin: &mut [u16]) -> Option<Broken>
     ensures { book_in wide.new thin.new result ≡ layout_in (length thin.old / 4) tape.now (book_in wide.old thin.old unbroken) }
 {
     clear_written(thin);
     put_written(thin, 1, TABLE_BYTES);
-    let mut broken = Broken { number: 0, at: 0 };
-    let mut i: usize = 0;
-    while i < tape.len() {
-        let e = tape[i];
-        broken = layout_event(tape::op(e), tape::token(e), wide, thin, broken);
-        i += 1;
+    let mut broken = None;
+    for e in tape {
+        broken = layout_event(tape::op(*e), tape::token(*e), wide, thin, broken);
     }
     broken
 }
@@ -112,11 +123,9 @@ pub fn lay(s: &mut [u8], at: usize, n: usize, v: u64)
     ensures { s.new ≡ stored s.old at n v }
 {
     let mut rest = v;
-    let mut left = n;
-    while 0 < left {
-        left -= 1;
-        put_byte(s, at + left, (rest % 256) as u8);
-        rest = rest / 256;
+    for i in (0..n).rev() {
+        put_byte(s, at + i, (rest % 256) as u8);
+        rest /= 256;
     }
 }
 
@@ -124,13 +133,11 @@ fn lay_value(image: &mut [u8], v: u64, f: Filling) -> Filling
     requires { f.size ≤ 4 }
     ensures { (imaging_of image.new result ≡ lay_value v (imaging_of image.old f)) × (result.size ≤ 4) }
 {
-    let at = f.at;
-    let size = f.size;
-    if at < SEGMENT_LIMIT {
-        lay(image, at, size, v);
+    if f.at < SEGMENT_LIMIT {
+        lay(image, f.at, f.size, v);
         return Filling {
-            at: at + size,
-            size,
+            at: f.at + f.size,
+            ..f
         };
     }
     f
@@ -154,11 +161,8 @@ pub fn fill(tape: &[u32], k: usize, wide: &[u64], image: &mut [u8]) -> Filling
     ensures { imaging_of image.new result ≡ pass (image_in k (wide_of wide.now)) (imaging_of image.old nowhere) tape.now }
 {
     let mut f = Filling { at: 0, size: 0 };
-    let mut i: usize = 0;
-    while i < tape.len() {
-        let e = tape[i];
-        f = image_event(tape::op(e), tape::token(e), k, wide, image, f);
-        i += 1;
+    for e in tape {
+        f = image_event(tape::op(*e), tape::token(*e), k, wide, image, f);
     }
     f
 }

@@ -9,6 +9,8 @@ pub const THIN_LIMIT: usize = 65536;
 
 // ── a column by its number ──
 
+// Kept: the two of each pair differ in an element's type; a generic one is no plainer, since each of the readers and writers below would then show of its own
+// element what `wide_of` or `thin_of` says, and thin ones widen it.
 fn wide_at(wide: &[u64], column: usize, t: usize) -> u64
     requires { column < 4 }
     ensures { result ≡ get_or (wide_column column (wide_of wide.now)) t 0 }
@@ -51,10 +53,8 @@ fn clear_wide(wide: &mut [u64], column: usize)
     requires { column < 4 }
     ensures { wide_of wide.new ≡ on_wide column zeros (wide_of wide.old) }
 {
-    let mut t: usize = 0;
-    while t < wide.len() / 4 {
+    for t in 0..wide.len() / 4 {
         put_wide(wide, column, t, 0);
-        t += 1;
     }
 }
 
@@ -62,10 +62,8 @@ fn clear_thin(thin: &mut [u16], column: usize)
     requires { column < 4 }
     ensures { thin_of thin.new ≡ on_thin column zeros (thin_of thin.old) }
 {
-    let mut t: usize = 0;
-    while t < thin.len() / 4 {
+    for t in 0..thin.len() / 4 {
         put_thin(thin, column, t, 0);
-        t += 1;
     }
 }
 

@@ -1,4 +1,3 @@
 -- Laws behind the code that reads and writes lines.
 pub mod Digits
-pub mod Fills
 pub mod Products

@@ -17,10 +17,8 @@ pub fn put_all(out: &mut [u8], at: usize, text: &[u8]) -> usize
     ensures { result ≤ length out.old }
 {
     let mut end = at;
-    let mut i = 0;
-    while i < text.len() {
-        end = put(out, end, text[i]);
-        i += 1;
+    for b in text {
+        end = put(out, end, *b);
     }
     end
 }
@@ -50,11 +48,9 @@ pub fn put_fields(out: &mut [u8], at: usize, fields: &[u64]) -> usize
     ensures { result ≤ length out.old }
 {
     let mut end = at;
-    let mut i = 0;
-    while i < fields.len() {
-        end = put_decimal(out, end, fields[i]);
+    for n in fields {
+        end = put_decimal(out, end, *n);
         end = put(out, end, b' ');
-        i += 1;
     }
     end
 }

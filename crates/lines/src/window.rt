@@ -3,27 +3,13 @@ ghost use Rattle.std.specs.Prelude.{◌≤◌, length};
 
 use std::io::Read;
 
-// Moves what stands from `from` up to `to` to the front.
-fn shift(room: &mut [u8], from: usize, to: usize)
-    requires { (from ≤ to) × (to ≤ length room.old) }
-{
-    let mut i = from;
-    while i < to {
-        room[i - from] = room[i];
-        i += 1;
-    }
-}
-
 // Reads until the room is full, the input ends or a read fails: how many bytes.
 fn read_full<F: Read>(input: &mut F, room: &mut [u8]) -> usize
     ensures { result ≤ length room.old }
 {
     let mut done: usize = 0;
     while done < room.len() {
-        let size = match input.read(&mut room[done..]) {
-            Ok(n) => n,
-            Err(_) => 0,
-        };
+        let size = input.read(&mut room[done..]).unwrap_or(0);
         if size == 0 {
             return done;
         }
@@ -37,7 +23,7 @@ pub fn refill<F: Read>(input: &mut F, room: &mut [u8], from: usize, to: usize) -
     requires { (from ≤ to) × (to ≤ length room.old) }
     ensures { result ≤ length room.old }
 {
-    shift(room, from, to);
+    room.copy_within(from..to, 0);
     let kept = to - from;
     kept + read_full(input, &mut room[kept..])
 }
@@ -65,12 +51,8 @@ pub fn keep<F: Read>(input: &mut F, room: &mut [u8], at: usize, to: usize, least
 pub fn line(s: &[u8]) -> usize
     ensures { result ≤ length s.now }
 {
-    let mut i = 0;
-    while i < s.len() {
-        if s[i] == b'\n' {
-            return i + 1;
-        }
-        i += 1;
+    match s.iter().position(|b| *b == b'\n') {
+        Some(end) => end + 1,
+        None => s.len(),
     }
-    i
 }

@@ -1,39 +1,43 @@
 -- A text looked at: the groups of refusals on the way, 1 to 13, and what is seen where no rule is broken. Assumes nothing.
+use Rattle.std.proofs.Common.{Ok, Err}
 use mathlib.Core.Path.{◌≡◌, refl, sym, ap, subst, ◌∙◌}
 use mathlib.Core.List.{List, [], ◌∷◌}
-use mathlib.Core.Option.{none}
+use Rattle.std.specs.Prelude.{Option, None, Some}
 use Prim.Native.Nat.{ℕ, zero, suc, ◌+◌, ◌<◌}
+use lib.Dec.{eqb}
 use lib.ListN.{length, take}
+use Rattle.base.proofs.Tests.{never_true}
+use Rattle.token.proofs.Readings.{unread-some}
 use borrow.Author.Tests.{lt-ltb}
 use Rattle.token.specs.Text.{tokens_of, TEXT-LIMIT}
-use Rattle.token.specs.Answers.{Summary, summary_of}
+use Rattle.token.specs.Answers.{Tokens, Summary, refusal_of, summary_of}
 use Rattle.token.specs.declared.Token.{Token}
-use Rattle.token.specs.declared.Tokens.{Tokens}
-use Rattle.token.specs.declared.Tokens.TheVariants as S
+use Rattle.token.specs.declared.Unread.{Unread}
 use Rattle.grammar.specs.Tree.{Statement}
-use Rattle.grammar.specs.Reader.{Result, ok, bad}
 use Rattle.grammar.specs.Grammar.{program}
 use Rattle.grammar.specs.Refusals.{Grammatical, derived, four, five}
 use Rattle.grammar.proofs.Theorems.{grammatical, answer_of, one_told}
-use Rattle.ledger.specs.Book.{Wide, Thin}
 use Rattle.scopes.specs.declared.Broken.{Broken}
+use Rattle.scopes.specs.Broken.{Ruling, unbroken}
+use Rattle.ledger.specs.Book.{Wide, Thin}
 use Rattle.scopes.specs.Search.{first_token}
 use Rattle.static_rules.specs.Meaning.{Meaning, nothing, register, cell, routine, function}
 use Rattle.translation.specs.Layout.{layout}
 use Rattle.translation.specs.Translate.{kinds_of, values_of, make}
 use Rattle.translation.proofs.Tokens.{small-text}
-use Rattle.parse.specs.Programs.{Told, told_of, Parsed}
-use Rattle.readers.specs.declared.tokens.Answer as P
+use Rattle.parse.specs.Programs.{Accepted}
+use Rattle.readers.specs.declared.tokens.Read.{Read}
+use Rattle.readers.specs.declared.tokens.Refused as P
+use Rattle.readers.specs.Reads.{Stopped}
 use Rattle.settled.specs.declared.Judged.{Judged}
 use Rattle.settled.specs.Texts.{all_tokens, Fronted, Small, Text, Blanks, Bound, Settled, Stays}
 use Rattle.settled.proofs.Reading.{all_read}
-use Rattle.settled.proofs.Programs.{tree, reads, text-is}
+use Rattle.settled.proofs.Programs.{text-is}
 use Rattle.settled.proofs.Ruling.{broken-is}
 use Rattle.listing.specs.declared.Seen.{Seen}
 use Rattle.listing.specs.declared.Site.{Site}
 use Rattle.listing.specs.Sound.{ruled, on_grammar, after_tokens, sound_of}
 use Rattle.listing.specs.Cells.{sited, sites_from, site_in}
-use Rattle.listing.specs.Operands.{span_along}
 use Rattle.listing.specs.Seeing.{Shows, Sees}
 
 -- ── cells ──
@@ -44,7 +48,7 @@ unfolding sites_from sited
 sites-same values f g key t [] e = refl
 sites-same values f g key t (m ∷ ms) e = rw (sites-same values f g key (suc t) ms e) (one m (sites_from values g key (suc t) ms))
   where
-    one : (m : Meaning) (later : Site) → sited values f key t m later ≡ sited values g key t m later
+    one : (m : Meaning) (later : Option Site) → sited values f key t m later ≡ sited values g key t m later
     one nothing later = refl
     one (register r) later = refl
     one (cell c) later = rw (e t)
@@ -55,23 +59,19 @@ module _ (q : Seen) (key address : ℕ) where
   -- ── "6 to 13" ──
 
   module _
-      (ts : List Token) (x : Statement) (tape : List ℕ) (others : Broken) (r : Judged) (w₀ w : Wide) (b₀ b : Thin) (t : Text ts x w₀.values tape) (d : Bound ts x b₀ others)
+      (ts : List Token) (x : Statement) (tape : List ℕ) (others : Ruling) (r : Judged) (w₀ w : Wide) (b₀ b : Thin) (t : Text ts x w₀.values tape) (d : Bound ts x b₀ others)
       (k : Stays w₀ w b₀ b) (s : Settled ts x w b others r)
     where
-      judged : r.broken.number ≡ (make ts x).broken.number
-      judged = ap (λ (z : Broken). z.number) (broken-is ts x others r w b₀ b d s)
+      judged : r.broken ≡ (make ts x).broken
+      judged = broken-is ts x others r w b₀ b d s
 
-      pub rule-broken : (r.broken.number ≡ 0 → ⊥) → Sees none key address q → Sees (ruled ts x (make ts x).broken.number) key address q
-      rule-broken h n = go (make ts x).broken.number refl
-        where
-          go : (m : ℕ) → (make ts x).broken.number ≡ m → Sees (ruled ts x m) key address q
-          go zero e = absurd (h (judged ∙ e))
-          go (suc m) e = n
+      pub rule-broken : {one : Broken} → r.broken ≡ Some one → Sees None key address q → Sees (ruled ts x (make ts x).broken) key address q
+      rule-broken h n = rw (sym judged ∙ h) n
 
-      pub none-broken : (kinds : List ℕ) → kinds ≡ kinds_of ts → r.broken.number ≡ 0 → Shows ts kinds w b tape key address q
-          → Sees (ruled ts x (make ts x).broken.number) key address q
+      pub none-broken : (kinds : List ℕ) → kinds ≡ kinds_of ts → r.broken ≡ unbroken → Shows ts kinds w b tape key address q
+          → Sees (ruled ts x (make ts x).broken) key address q
       unfolding make layout site_in
-      none-broken kinds ek h g = subst (λ (n : ℕ). Sees (ruled ts x n) key address q) (sym (sym judged ∙ h)) (record {
+      none-broken kinds ek h g = subst (λ (b : Ruling). Sees (ruled ts x b) key address q) (sym (sym judged ∙ h)) (record {
         site-is = g.site-is ∙ rw (k.values-stay, t.values-are, s.means-are) (sites-same (values_of ts) _ _ key 0 _ (s.offsets_are h));
         located = record {
           book = record {
@@ -84,27 +84,20 @@ module _ (q : Seen) (key address : ℕ) where
             goes-is = k.goes-stays ∙ d.goes-is;
             opens-are = s.opens-are;
           };
-          span = span_along address kinds w b tape;
-          span-is = rw (ek, t.tape-is);
-          from_is = g.from_is;
-          to_is = g.to_is;
+          operand-is = rw (ek, t.tape-is) at g.operand-is;
         };
       })
 
   -- ── "4, 5" ──
 
-  module _ (ts : List Token) (kinds tape : List ℕ) (p : P.Answer) (d : Parsed kinds first_token tape p) where
-    pub no_program : (p.number ≡ 0 → ⊥) → Sees none key address q → Sees (after_tokens ts (program kinds first_token)) key address q
-    no_program h n = go (program kinds first_token) d.is
-      where
-        go : (m : Result Statement) → record { number = p.number; token = p.at; events = take p.value tape } ≡ told_of m → Sees (after_tokens ts m) key address q
-        go (ok x j) w = absurd (h (ap (λ (z : Told). z.number) w))
-        go (bad m i) w = n
+  module _ (ts : List Token) (kinds : List ℕ) where
+    pub no_program : (e : P.Refused) → Stopped kinds first_token e (program kinds first_token) → Sees None key address q → Sees (after_tokens ts (program kinds first_token)) key address q
+    no_program e d n = rw d.is n
 
-    pub some-program : (z : p.number ≡ 0) (values : List ℕ) → kinds ≡ kinds_of ts → values ≡ values_of ts → Small ts
-        → ((x : Statement) → Text ts x values (take p.value tape) → Sees (ruled ts x (make ts x).broken.number) key address q)
+    pub some-program : (tape : List ℕ) (p : Read) → Accepted kinds first_token tape p → (values : List ℕ) → kinds ≡ kinds_of ts → values ≡ values_of ts → Small ts
+        → ((x : Statement) → Text ts x values (take p.value tape) → Sees (ruled ts x (make ts x).broken) key address q)
         → Sees (after_tokens ts (program kinds first_token)) key address q
-    some-program z values ek ev small g = rw (reads kinds tape p d z) (g (tree kinds tape p d z) (text-is kinds tape p d z ts values ek ev small))
+    some-program tape p d values ek ev small g = rw d.is (g d.tree (text-is kinds tape p d ts values ek ev small))
 
   -- ── "1; 2, 3" ──
 
@@ -117,14 +110,18 @@ module _ (q : Seen) (key address : ℕ) where
       go (five t h) = refl
 
   module _ (src kinds values : List ℕ) (answer : Tokens) (d : Fronted src kinds values answer) where
-    pub text-refused : (a : Tokens) (m : ℕ) → answer ≡ a → (summary_of a).number ≡ suc m → Sees none key address q → Sees (sound_of src) key address q
+    pub text-refused : (u : Unread) → answer ≡ Err u → Sees None key address q → Sees (sound_of src) key address q
     unfolding sound_of
-    text-refused a m e z n =
-        let f : (tokens_of src).number ≡ suc m = sym (ap (λ (y : Summary). y.number) d.is) ∙ (ap (λ (y : Tokens). (summary_of y).number) e ∙ z) in
-        rw f n
+    text-refused u e n = by (refusal_of u).number refl
+      where
+        by : (m : ℕ) → (refusal_of u).number ≡ m → Sees (sound_of src) key address q
+        by zero z = never_true (sym (unread-some u) ∙ ap (λ (k : ℕ). eqb k 0) z)
+        by (suc m) z =
+            let f : (tokens_of src).number ≡ suc m = sym (ap (λ (y : Summary). y.number) d.is) ∙ (ap (λ (y : Tokens). (summary_of y).number) e ∙ z) in
+            rw f n
 
     pub text-read :
-        (n : ℕ) → answer ≡ S.Read n → (w : Wide) (b : Thin) → w.values ≡ take (first_token + n) values → Blanks (all_tokens src) w b
+        (n : ℕ) → answer ≡ Ok n → (w : Wide) (b : Thin) → w.values ≡ take (first_token + n) values → Blanks (all_tokens src) w b
         → (let ts = all_tokens src in take (first_token + n) kinds ≡ kinds_of ts → w.values ≡ values_of ts → Small ts → Blanks ts w b
         → Sees (after_tokens ts (program (take (first_token + n) kinds) first_token)) key address q)
         → Sees (sound_of src) key address q
@@ -133,6 +130,6 @@ module _ (q : Seen) (key address : ℕ) where
         rw (all_read src answer d.is n e, read-grammar (all_tokens src)) (rw (d.kinds-are n e) at (g (d.kinds-are n e) (v ∙ d.values-are n e) (small-text src) bs))
 
   -- "1: source over 32,768 bytes"
-  pub too_long : (src : List ℕ) → TEXT-LIMIT < length src → Sees none key address q → Sees (sound_of src) key address q
+  pub too_long : (src : List ℕ) → TEXT-LIMIT < length src → Sees None key address q → Sees (sound_of src) key address q
   unfolding sound_of tokens_of
   too_long src h n = rw (lt-ltb TEXT-LIMIT (length src) h) n

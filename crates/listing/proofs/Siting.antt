@@ -7,6 +7,7 @@ use native.Mathlib.Omega.{arith}
 use lib.Dec.{eqb}
 use lib.ListN.{length, drop, get_or}
 use lib.Seq.{drop-cons, drop-length}
+use Rattle.std.specs.Prelude.{Option, None, Some, is_some}
 use Rattle.base.proofs.Tests.{never_true}
 use Rattle.static_rules.specs.Meaning.{Meaning, nothing, Based}
 use Rattle.tables.specs.Packed.{is_cell_in, cell_in, based_in, unpacked, meanings_from, meanings_of}
@@ -14,7 +15,7 @@ use Rattle.tables.proofs.Meanings.{by-sort, as-cell, meaning-at}
 use Rattle.ledger.specs.Book.{Wide, wide_of}
 use Rattle.ledger.proofs.Columns.{wide-length}
 use Rattle.listing.specs.declared.Site.{Site}
-use Rattle.listing.specs.Cells.{nowhere, site_of, sited, sites_from}
+use Rattle.listing.specs.Cells.{site_of, sited, sites_from}
 
 and_first : (a b : Bool) → (a && b) ≡ true → a ≡ true
 and_first true b e = refl
@@ -26,7 +27,7 @@ and_second false b e = never_true e
 
 -- ── at a token ──
 
-module _ (w : Wide) (key t : ℕ) (later : Site) where
+module _ (w : Wide) (key t : ℕ) (later : Option Site) where
   abbrev m : ℕ
   m = get_or w.means t 0
 
@@ -37,7 +38,7 @@ module _ (w : Wide) (key t : ℕ) (later : Site) where
   place i = get_or w.offsets i 0
 
   pub sited-here : (is_cell_in m && eqb (get_or w.values t 0) key) ≡ true
-      → site_of (cell_in t m base) (get_or w.offsets t 0) later.found ≡ sited w.values place key t (unpacked t m base) later
+      → Some (site_of (cell_in t m base) (get_or w.offsets t 0) (is_some later)) ≡ sited w.values place key t (unpacked t m base) later
   unfolding sited
   sited-here e = rw (as-cell t m base (and_first (is_cell_in m) _ e), and_second (is_cell_in m) _ e)
 
@@ -62,17 +63,17 @@ module _ (wide : List ℕ) (key : ℕ) where
   ms = meanings_of w.means w.under
 
   -- the cells from token t on
-  abbrev pub sites_at : ℕ → Site
+  abbrev pub sites_at : ℕ → Option Site
   sites_at t = sites_from w.values (λ (i : ℕ). get_or w.offsets i 0) key t (drop t ms)
 
   -- at token t, before others
-  abbrev at : ℕ → Meaning → Site → Site
+  abbrev at : ℕ → Meaning → Option Site → Option Site
   at t m s = sited w.values (λ (i : ℕ). get_or w.offsets i 0) key t m s
 
   long : length ms ≡ length wide / 4
   long = length-meanings 0 w.means w.under ∙ wide-length 1 wide
 
-  pub sites-start : nowhere ≡ sites_at (length wide / 4)
+  pub sites-start : None ≡ sites_at (length wide / 4)
   unfolding sites_from
   sites-start = rw (← long, drop-length ms)
 
@@ -80,7 +81,7 @@ module _ (wide : List ℕ) (key : ℕ) where
   unfolding sites_from
   sites-step t h = ap (λ (l : List Meaning). sites_from w.values (λ (i : ℕ). get_or w.offsets i 0) key t l) (drop-cons ms t nothing h)
 
-  pub sites-turn : (u t : ℕ) {s s' : Site} → suc t ≡ u → u ≤ length wide / 4 → s ≡ sites_at u
+  pub sites-turn : (u t : ℕ) {s s' : Option Site} → suc t ≡ u → u ≤ length wide / 4 → s ≡ sites_at u
       → s' ≡ at t (unpacked t (get_or w.means t 0) (based_in (get_or w.under t 0))) s → s' ≡ sites_at t
   sites-turn u t e h es e' =
       let l = long in

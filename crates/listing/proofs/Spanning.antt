@@ -1,4 +1,5 @@
 -- A turn of the loop along the tape, from the facts of its calls. Assumes nothing.
+use Rattle.std.specs.Prelude.{Option}
 use Prim.Native.Nat.{ℕ, ◌+◌, ◌/◌, ◌%◌, ◌<◌}
 use mathlib.Core.Path.{◌≡◌}
 use mathlib.Core.List.{List}
@@ -16,7 +17,7 @@ use Rattle.listing.specs.declared.Span.{Span}
 use Rattle.listing.specs.Operands.{span_of, target_after, operand_by, span_after, Spanning, spanning_of, span_event}
 
 module _
-    (address : ℕ) (kinds : List ℕ) (w : Wide) (b : Thin) (op t p : ℕ) (v : Writing) (target span : Span) {family form z : ℕ} {own operand span' target' : Span}
+    (address : ℕ) (kinds : List ℕ) (w : Wide) (b : Thin) (op t p : ℕ) (v : Writing) (target span : Option Span) {family form z : ℕ} {own : Span} {operand span' target' : Option Span}
     {m : Emitted}
   where
     span-is :

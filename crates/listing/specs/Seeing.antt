@@ -1,6 +1,6 @@
 -- What is answered of a text in one reading: the cell of a name, and the operand at an address of the program.
-use Rattle.std.specs.Prelude.{◌≡◌, List, [], ℕ, get_or}
-use Rattle.std.proofs.Math.Option.{Option, none, some}
+use Rattle.std.specs.Prelude.{◌≡◌, List, [], ℕ, eqb, get_or, Option, None, Some}
+use Rattle.base.specs.Choose.{choose}
 use Rattle.token.specs.declared.Token.{Token}
 use Rattle.grammar.specs.Tree.{Statement}
 use Rattle.grammar.specs.Grammar.{program}
@@ -11,6 +11,7 @@ use Rattle.tables.specs.Packed.{unpacked, based_in, meanings_of}
 use Rattle.translation.specs.Translate.{kinds_of, values_of, place_at, named, labelled, make}
 use Rattle.translation.specs.Layout.{place_cells, offset_of}
 use Rattle.settled.specs.Texts.{all_tokens, Small, Text, Blanks, meant_in}
+use Rattle.listing.specs.declared.Operand.{Operand}
 use Rattle.listing.specs.declared.Seen.{Seen}
 use Rattle.listing.specs.declared.Site.{Site}
 use Rattle.listing.specs.Sound.{Sound, ruled, after_tokens}
@@ -29,21 +30,26 @@ pub record Book (ts : List Token) (x : Statement) : Type 0 where
   pub goes-is : thin.goes ≡ (labelled ts x).goes
   pub opens-are : thin.opens ≡ (meant_in ts x).opens
 
--- the places of the first and the last token of the operand, which is `)` where it is indexed
-pub record Located (ts : List Token) (x : Statement) (address from to : ℕ) : Type 0 where
-  pub book : Book ts x
-  pub span : Span
-  pub span-is : span ≡ span_along address (kinds_of ts) book.wide book.thin (tape_statement x [])
-  pub from_is : from ≡ place_at ts span.token
-  pub to_is : to ≡ place_at ts span.last
+-- from the place of its first token, which the names in front of the text do not have
+abbrev pub operand_from : (from to : ℕ) → Option Operand
+operand_from from to = choose (eqb from 0) None (Some (record { from = from; to = to }))
 
-abbrev pub LocatedBy : Option Sound → (address from to : ℕ) → Type 0
-LocatedBy none address from to = (from ≡ 0) × (to ≡ 0)
-LocatedBy (some s) address from to = Located s.tokens s.tree address from to
+-- the places of the first and the last token of the operand, which is `)` where it is indexed
+abbrev pub operand_of : List Token → Option Span → Option Operand
+operand_of ts None = None
+operand_of ts (Some s) = operand_from (place_at ts s.token) (place_at ts s.last)
+
+pub record Located (ts : List Token) (x : Statement) (address : ℕ) (operand : Option Operand) : Type 0 where
+  pub book : Book ts x
+  pub operand-is : operand ≡ operand_of ts (span_along address (kinds_of ts) book.wide book.thin (tape_statement x []))
+
+abbrev pub LocatedBy : Option Sound → (address : ℕ) (operand : Option Operand) → Type 0
+LocatedBy None address operand = operand ≡ None
+LocatedBy (Some s) address operand = Located s.tokens s.tree address operand
 
 pub record Sees (s : Option Sound) (key address : ℕ) (r : Seen) : Type 0 where
   pub site-is : r.site ≡ site_by s key
-  pub located : LocatedBy s address r.from r.to
+  pub located : LocatedBy s address r.operand
 
 -- ── by the ledger ──
 
@@ -51,24 +57,23 @@ abbrev pub place_by : Wide → ℕ → ℕ
 place_by w t = get_or w.offsets t 0
 
 -- what is declared at token t, before those behind it
-abbrev pub sited_in : Wide → (key t : ℕ) → Site → Site
+abbrev pub sited_in : Wide → (key t : ℕ) → Option Site → Option Site
 sited_in w key t later = sited w.values (place_by w) key t (unpacked t (get_or w.means t 0) (based_in (get_or w.under t 0))) later
 
-abbrev pub sites_in : Wide → (key : ℕ) → Site
+abbrev pub sites_in : Wide → (key : ℕ) → Option Site
 sites_in w key = sites_from w.values (place_by w) key 0 (meanings_of w.means w.under)
 
 -- of a text on its tape
 pub record Shows (ts : List Token) (kinds : List ℕ) (w : Wide) (b : Thin) (tape : List ℕ) (key address : ℕ) (r : Seen) : Type 0 where
   pub site-is : r.site ≡ sites_in w key
-  pub from_is : r.from ≡ place_at ts (span_along address kinds w b tape).token
-  pub to_is : r.to ≡ place_at ts (span_along address kinds w b tape).last
+  pub operand-is : r.operand ≡ operand_of ts (span_along address kinds w b tape)
 
 -- ── where the tape, or the tokens, are still to be found to be a program's ──
 
 abbrev pub LooksOn : (source kinds tape : List ℕ) → Wide → Thin → (key address : ℕ) → Seen → Type 0
 LooksOn source kinds tape w b key address r =
     let ts : List Token = all_tokens source in
-    (x : Statement) → Text ts x w.values tape → kinds ≡ kinds_of ts → Blanks ts w b → Sees (ruled ts x (make ts x).broken.number) key address r
+    (x : Statement) → Text ts x w.values tape → kinds ≡ kinds_of ts → Blanks ts w b → Sees (ruled ts x (make ts x).broken) key address r
 
 abbrev pub LooksAt : (source kinds : List ℕ) → Wide → Thin → (key address : ℕ) → Seen → Type 0
 LooksAt source kinds w b key address r =

@@ -2,7 +2,6 @@
 #![tactic(auto)]
 
 ghost use Rattle.std.specs.Prelude.{◌≡◌, ℕ, ◌+◌, ◌*◌, ◌≤◌, ◌<◌, length};
-ghost use Rattle.std.proofs.Math.Option.{none};
 ghost use Rattle.token.specs.Text.{tokens_of, TEXT-LIMIT};
 ghost use Rattle.grammar.specs.Grammar.{nesting};
 ghost use Rattle.scopes.specs.Search.{first_token};
@@ -10,23 +9,22 @@ ghost use Rattle.tape.specs.Events.{TOKEN-LIMIT};
 ghost use Rattle.ledger.specs.Book.{wide_of, thin_of};
 ghost use Rattle.ledger.specs.Bounds.{Narrow, Nested};
 ghost use Rattle.settled.specs.Texts.{all_tokens, Lent, Rooms};
+ghost use Rattle.emit.specs.Books.{wide_in, thin_in};
 ghost use Rattle.listing.specs.Sound.{sound_of};
-ghost use Rattle.listing.specs.Cells.{nowhere as nowhere_of, site_named};
-ghost use Rattle.listing.specs.Operands.{no_span, span_of, stores as stores_of, target_after, operand_by, span_after, span_along, reach as reach_of};
-ghost use Rattle.listing.specs.Seeing.{sited_in, sites_in, Shows, LooksOn, LooksAt, Sees};
+ghost use Rattle.listing.specs.Cells.{site_named};
+ghost use Rattle.listing.specs.Operands.{span_of, stores as stores_of, target_after, operand_by, span_after, span_along, reach as reach_of};
+ghost use Rattle.listing.specs.Seeing.{sited_in, sites_in, operand_of, Shows, LooksOn, LooksAt, Sees};
 
-use emit::{Use, Writing, size, table_size};
+use emit::{Book, Use, Writing, size, table_size};
 use ledger::{mean, offset, under, value};
 use settled::{FIRST_TOKEN, MORE_ROWS, TEXT_LIMIT, place_of};
 use tables::{element_size, is_array, is_cell, number};
-use token::Tokens;
 
 // ── cells ──
 
 // The first cell of a name, and whether there are more; its segment, its offset there, the size and the number of its elements, whether it is an array.
 #[derive(Clone, Copy)]
 pub struct Site {
-    pub found: bool,
     pub more: bool,
     pub segment: u32,
     pub offset: u64,
@@ -35,77 +33,52 @@ pub struct Site {
     pub array: bool,
 }
 
-fn nowhere() -> Site
-    ensures { result ≡ nowhere_of }
-{
-    Site {
-        found: false,
-        more: false,
-        segment: 0,
-        offset: 0,
-        size: 0,
-        elements: 0,
-        array: false,
-    }
-}
-
 // What is declared at token t, before those behind it.
-fn sited(wide: &[u64], key: u64, t: usize, later: Site) -> Site
+fn sited(wide: &[u64], key: u64, t: usize, later: Option<Site>) -> Option<Site>
     ensures { result ≡ sited_in (wide_of wide.now) key t later }
 {
     let m = mean(wide, t);
     if is_cell(m) & (value(wide, t) == key) {
-        return Site {
-            found: true,
-            more: later.found,
+        return Some(Site {
+            more: later.is_some(),
             segment: (under(wide, t) % 4294967296) as u32,
             offset: offset(wide, t),
             size: element_size(m) as u32,
             elements: number(m) as u32,
             array: is_array(m),
-        };
+        });
     }
     later
 }
 
-fn sites(wide: &[u64], key: u64) -> Site
+fn sites(wide: &[u64], key: u64) -> Option<Site>
     ensures { result ≡ sites_in (wide_of wide.now) key }
 {
-    let mut s = nowhere();
-    let mut t: usize = wide.len() / 4;
-    while 0 < t {
-        t -= 1;
-        s = sited(wide, key, t, s);
+    let mut site = None;
+    for t in (0..wide.len() / 4).rev() {
+        site = sited(wide, key, t, site);
     }
-    s
+    site
 }
 
 // ── operands ──
 
-// An operand as it is written: its first and its last token; 0 and 0 for none.
+// An operand as it is written: its first and its last token.
 #[derive(Clone, Copy)]
 pub struct Span {
     pub token: usize,
     pub last: usize,
 }
 
-fn no_span() -> Span
-    ensures { result ≡ no_span }
-{
-    Span { token: 0, last: 0 }
-}
-
 // From the first token of an operand to its last.
 fn reach(shape: u32) -> usize
     ensures { (result ≡ reach_of shape) × (result ≤ 6) }
 {
-    if (shape == 1) | (shape == 2) {
-        return 3;
+    match shape {
+        tape::SUBSCRIPTED | tape::INDEXED => 3,
+        tape::SUBSCRIPTED_INDEXED => 6,
+        _ => 0,
     }
-    if shape == 3 {
-        return 6;
-    }
-    0
 }
 
 fn span_at(token: usize, shape: u32) -> Span
@@ -119,35 +92,36 @@ fn span_at(token: usize, shape: u32) -> Span
 fn stores(aim: Use) -> bool
     ensures { result ≡ stores_of aim }
 {
-    match aim {
-        Use::Absent => false,
-        Use::Held(_) => false,
-        Use::Number(_) => false,
-        Use::Stored(_, _, _, _) => true,
-    }
+    matches!(aim, Use::Stored(..))
 }
 
 // What is written: an assignment's target, or the last argument of a use.
-fn target_after(family: u32, own: Span, target: Span) -> Span
+fn target_after(family: u32, own: Span, target: Option<Span>) -> Option<Span>
     ensures { result ≡ target_after family own target }
 {
     if (family == tape::TARGET) | ((family == tape::CONTROL) | (family == tape::ARGUED)) {
-        return own;
+        return Some(own);
     }
     target
 }
 
 // A store's operand is the target, and that of a use its last argument.
-fn operand_by(family: u32, aim: Use, own: Span, target: Span) -> Span
+fn operand_by(family: u32, aim: Use, own: Span, target: Option<Span>) -> Option<Span>
     ensures { result ≡ operand_by family aim own target }
 {
     if ((family == tape::FIRST) & stores(aim)) | (family == tape::COUNTED) {
         return target;
     }
-    own
+    Some(own)
 }
 
-fn span_after(address: usize, p: usize, q: usize, operand: Span, span: Span) -> Span
+fn span_after(
+    address: usize,
+    p: usize,
+    q: usize,
+    operand: Option<Span>,
+    span: Option<Span>,
+) -> Option<Span>
     ensures { result ≡ span_after address p q operand span }
 {
     if (p == address) & (p < q) {
@@ -157,24 +131,22 @@ fn span_after(address: usize, p: usize, q: usize, operand: Span, span: Span) -> 
 }
 
 // The operand of the event whose first instruction is at the address.
-fn span_along(tape: &[u32], kinds: &[u8], wide: &[u64], thin: &[u16], address: usize) -> Span
+fn span_along(tape: &[u32], book: Book, address: usize) -> Option<Span>
     requires { length tape.now ≤ 2 * TOKEN-LIMIT }
-    ensures { result ≡ span_along address kinds.now (wide_of wide.now) (thin_of thin.now) tape.now }
+    ensures { result ≡ span_along address book.entry.kinds.now (wide_in book.entry) (thin_in book.entry) tape.now }
 {
     let mut p: usize = 0;
     let mut w = Writing {
         aim: Use::Absent,
-        sign: 0,
+        sign: None,
         arguments: 0,
     };
-    let mut target = no_span();
-    let mut span = no_span();
-    let mut i: usize = 0;
-    while i < tape.len() {
-        let e = tape[i];
-        let op = tape::op(e);
-        let t = tape::token(e);
-        let made = emit::event(kinds, wide, thin, op, t, w);
+    let mut target = None;
+    let mut span = None;
+    for e in tape {
+        let op = tape::op(*e);
+        let t = tape::token(*e);
+        let made = emit::event(book, op, t, w);
         let codes = made.codes;
         let q = p + (size(codes) + table_size(op, w));
         let aim = w.aim;
@@ -185,51 +157,58 @@ fn span_along(tape: &[u32], kinds: &[u8], wide: &[u64], thin: &[u16], address: u
         let next = made.writing;
         w = next;
         p = q;
-        i += 1;
     }
     span
 }
 
 // ── both, of a text ──
 
-// The cell of a name, and the operand at an address of the program: the places of its first and its last token, 0 and 0 for none.
+// An operand by the places of its first and its last token.
 #[derive(Clone, Copy)]
-pub struct Seen {
-    pub site: Site,
+pub struct Operand {
     pub from: usize,
     pub to: usize,
 }
 
+// The cell of a name, and the operand at an address of the program.
+#[derive(Clone, Copy)]
+pub struct Seen {
+    pub site: Option<Site>,
+    pub operand: Option<Operand>,
+}
+
 fn nothing() -> Seen
-    ensures { (key address : ℕ) → Sees none key address result }
+    ensures { (key address : ℕ) → Sees None key address result }
 {
     Seen {
-        site: nowhere(),
-        from: 0,
-        to: 0,
+        site: None,
+        operand: None,
     }
 }
 
-// By the ledger of a text that breaks no rule.
-fn look_settled(
-    src: &[u8],
-    tape: &[u32],
-    kinds: &[u8],
-    wide: &[u64],
-    thin: &[u16],
-    key: u64,
-    address: usize,
-) -> Seen
-    requires { ((tokens_of src.now).number ≡ 0) × (length tape.now ≤ TOKEN-LIMIT) }
-    ensures { Shows (all_tokens src.now) kinds.now (wide_of wide.now) (thin_of thin.now) tape.now key address result }
+// The names in front of the text have no place.
+fn placed(src: &[u8], span: Option<Span>) -> Option<Operand>
+    requires { (tokens_of src.now).number ≡ 0 }
+    ensures { result ≡ operand_of (all_tokens src.now) span }
 {
-    let site = sites(wide, key);
-    let span = span_along(tape, kinds, wide, thin, address);
-    Seen {
-        site,
-        from: place_of(src, span.token),
-        to: place_of(src, span.last),
+    let span = span?;
+    let from = place_of(src, span.token);
+    if from == 0 {
+        return None;
     }
+    let to = place_of(src, span.last);
+    Some(Operand { from, to })
+}
+
+// By the ledger of a text that breaks no rule.
+fn look_settled(src: &[u8], tape: &[u32], book: Book, key: u64, address: usize) -> Seen
+    requires { ((tokens_of src.now).number ≡ 0) × (length tape.now ≤ TOKEN-LIMIT) }
+    ensures { Shows (all_tokens src.now) book.entry.kinds.now (wide_in book.entry) (thin_in book.entry) tape.now key address result }
+{
+    let site = sites(book.wide, key);
+    let span = span_along(tape, book, address);
+    let operand = placed(src, span);
+    Seen { site, operand }
 }
 
 // A program that is on the tape: 6 to 13.
@@ -248,12 +227,10 @@ fn look_tape(
 {
     let others = settled::bind(tape, wide, thin);
     let s = settled::settle(tape, kinds, wide, thin, others);
-    let broken = s.broken;
-    let number = broken.number;
-    if number != 0 {
-        return nothing();
+    match s.broken {
+        Some(_) => nothing(),
+        None => look_settled(src, tape, Book { kinds, wide, thin }, key, address),
     }
-    look_settled(src, tape, kinds, wide, thin, key, address)
 }
 
 // The tokens: 4 and 5, then the rest.
@@ -269,13 +246,10 @@ fn look_tokens(
     requires { ((tokens_of src.now).number ≡ 0) × (first_token ≤ length kinds.now) × (length tape.old ≡ length kinds.now) × Lent (length kinds.now) wide.old thin.old }
     ensures { LooksAt src.now kinds.now (wide_of wide.old) (thin_of thin.old) key address result }
 {
-    let p = parse::program(kinds, FIRST_TOKEN, tape);
-    let number = p.number;
-    let events = p.value;
-    if number != 0 {
-        return nothing();
+    match parse::program(kinds, FIRST_TOKEN, tape) {
+        Ok(p) => look_tape(src, &tape[..p.value], kinds, wide, thin, key, address),
+        Err(_) => nothing(),
     }
-    look_tape(src, &tape[..events], kinds, wide, thin, key, address)
 }
 
 // The text: 1 to 3, then the rest, in lists with room for any text of its length, cut to its tokens.
@@ -293,7 +267,7 @@ fn look_in(
 {
     let tokens = settled::read(src, kinds, wide);
     match tokens {
-        Tokens::Read(n) => {
+        Ok(n) => {
             let m = FIRST_TOKEN + n;
             let rows = 4 * m;
             look_tokens(
@@ -306,10 +280,7 @@ fn look_in(
                 address,
             )
         }
-        Tokens::TooLong => nothing(),
-        Tokens::NoToken(_) => nothing(),
-        Tokens::OutOfRange(_) => nothing(),
-        Tokens::Room(_) => nothing(),
+        Err(_) => nothing(),
     }
 }
 
@@ -348,7 +319,7 @@ pub fn look(src: &[u8], key: u64, address: usize) -> Seen
 }
 
 // The first cell of a name, by its key.
-pub fn cell(src: &[u8], key: u64) -> Site
+pub fn cell(src: &[u8], key: u64) -> Option<Site>
     ensures { result ≡ site_named src.now key }
 {
     let seen = look(src, key, 0);

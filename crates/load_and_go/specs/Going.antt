@@ -1,19 +1,16 @@
 -- A source translated, loaded and run: the whole answer by the definitions of the translation and of the runner.
-use Rattle.std.specs.Prelude.{◌≡◌, List, ℕ, eqb, ltb, length, take}
+use Rattle.std.specs.Prelude.{List, ℕ, eqb, ltb, length, take, Result, Ok, Err}
 use Rattle.base.specs.Choose.{choose}
 use Rattle.spots.specs.declared.Spot.{Spot}
 use Rattle.spots.specs.Spots.{unplaced}
 use Rattle.machine.specs.Space.{needed}
 use Rattle.translation.specs.Translate as T
 use Rattle.translation.specs.Translate.{translate, leaves}
-use Rattle.translate.specs.Answers.{number_of, spot_of, length_of}
-use Rattle.translate.specs.declared.Answer as A
-use Rattle.runner.specs.declared.Stop.TheVariants.{BudgetUsed}
 use Rattle.runner.specs.Numbers.{stop_of}
 use Rattle.runner.specs.Runner as R
 use Rattle.runner.specs.Runner.{runner}
-use Rattle.load_and_go.specs.declared.Answer.{Answer}
-use Rattle.load_and_go.specs.declared.Translated.{Translated}
+use Rattle.load_and_go.specs.declared.Went.{Went}
+use Rattle.load_and_go.specs.declared.Refused.{Refused}
 
 -- number and place with line and column; the length of the object text; stop, counter, registers, code and count; the whole buffer and the whole storage
 pub record Outcome : Type 0 where
@@ -63,27 +60,31 @@ load_and_go source regs k budget buffer s =
     choose (ltb 3 k) (not_run 18 (unplaced 0) regs k buffer s)
     (choose (ltb (length s) needed) (not_run 19 (unplaced 0) regs k buffer s) (gone source (translate source (length buffer)) regs k budget buffer s))
 
--- the code's answer in the paper's numbers
-abbrev pub outcome : Answer → List ℕ → List ℕ → Outcome
-outcome a b s =
+-- the code's answer in the paper's numbers, to the registers regs and the code k, with buffer and storage as they are left
+abbrev pub outcome : Result Went Refused → List ℕ → ℕ → List ℕ → List ℕ → Outcome
+outcome (Ok w) regs k b s =
     record {
-      number = a.number;
-      spot = a.spot;
-      length = a.length;
-      stop = stop_of a.stop;
-      counter = a.counter;
-      regs = a.regs;
-      code = a.code;
-      count = a.count;
+      number = 0;
+      spot = unplaced 0;
+      length = w.length;
+      stop = stop_of w.ran.stop;
+      counter = w.ran.counter;
+      regs = w.ran.regs;
+      code = w.ran.code;
+      count = w.ran.count;
       buffer = b;
       store = s;
     }
-
-abbrev pub refusal : ℕ → Spot → List ℕ → ℕ → Answer
-refusal n p regs k = record { number = n; spot = p; length = 0; stop = BudgetUsed; counter = 0; regs = regs; code = k; count = 0 }
-
--- the translator's answer
-pub record Told (a : A.Answer) (r : Translated) : Type 0 where
-  pub number_is : r.number ≡ number_of a
-  pub spot_is : r.spot ≡ spot_of a
-  pub length-is : r.length ≡ length_of a
+outcome (Err r) regs k b s =
+    record {
+      number = r.number;
+      spot = r.spot;
+      length = 0;
+      stop = 0;
+      counter = 0;
+      regs = regs;
+      code = k;
+      count = 0;
+      buffer = b;
+      store = s;
+    }

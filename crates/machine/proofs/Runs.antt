@@ -3,13 +3,15 @@
 use Prim.Native.Nat.{ℕ, suc, ◌+◌, ◌-◌, ◌<◌, ◌≤◌}
 use mathlib.Core.Path.{◌≡◌, sym, ap, ◌∙◌}
 use mathlib.Core.List.{List}
+use Rattle.std.proofs.Common.{Option, Some, None}
 use native.Mathlib.Omega.{arith}
-use borrow.Author.Tests.{eq-eqb, ne_eqb}
-use Rattle.machine.specs.declared.Next.{Next}
+use borrow.Author.Tests.{ne_eqb}
+use Rattle.machine.specs.declared.Stop.{Stop}
+use Rattle.machine.specs.declared.Stop.TheVariants.{BudgetUsed, AtEnd, Forbidden, Misaligned, NoInstruction}
 use Rattle.machine.specs.Space.{Space}
-use Rattle.machine.specs.Step.{Cpu, cpu, Stepped, stepped, step}
+use Rattle.machine.specs.Step.{Cpu, Stepped, stepped, step}
 use Rattle.machine.specs.Run.{Result, result, counted, onward, after, run}
-use Rattle.machine.specs.Lent.{turn}
+use Rattle.machine.specs.Lent.{stop_of, stop_or_completed}
 
 pub with-count : {k : ℕ} {c : Cpu} {n n' : ℕ} {s : List ℕ} → n ≡ n' → result k c n s ≡ result k c n' s
 with-count {k} {c} {s = s} e = ap (λ (n : ℕ). result k c n s) e
@@ -17,27 +19,32 @@ with-count {k} {c} {s = s} e = ap (λ (n : ℕ). result k c n s) e
 pub counted-twice : (n m : ℕ) (r : Result) → counted n (counted m r) ≡ counted (n + m) r
 counted-twice n m r = with-count (let e : n + (m + r.count) ≡ n + m + r.count = omega arith in e)
 
-module _ (m : Space) (c : Cpu) (s : List ℕ) {q : Next} {rs t : List ℕ} (e : stepped (turn q rs) t ≡ step m c s) (b n : ℕ) (h : n < b) where
-  first : run (b - n) m c s ≡ after (stepped (turn q rs) t) (λ d u. run (b - (n + 1)) m d u)
-  unfolding run
-  first = let w : b - n ≡ suc (b - (n + 1)) = omega arith in rw w (ap (λ (o : Stepped). after o (λ d u. run (b - (n + 1)) m d u)) (sym e))
+-- a stop is not the number of none
+pub stops : (k : Stop) → stop_of k ≡ 5 → ⊥
+stops BudgetUsed e = omega arith
+stops AtEnd e = omega arith
+stops Forbidden e = omega arith
+stops Misaligned e = omega arith
+stops NoInstruction e = omega arith
 
-  pub run_on : q.stop ≡ 5 → {x : Result} → counted n (run (b - n) m c s) ≡ x → counted (n + 1) (run (b - (n + 1)) m (cpu rs q.code q.at) t) ≡ x
+module _ (m : Space) (c : Cpu) (s : List ℕ) (q : Option Stop) {d : Cpu} {t : List ℕ} (e : stepped (record { stop = stop_or_completed q; cpu = d }) t ≡ step m c s) (b n : ℕ) (h : n < b) where
+  first : run (b - n) m c s ≡ after (stepped (record { stop = stop_or_completed q; cpu = d }) t) (λ f u. run (b - (n + 1)) m f u)
+  unfolding run
+  first = let w : b - n ≡ suc (b - (n + 1)) = omega arith in rw w (ap (λ (o : Stepped). after o (λ f u. run (b - (n + 1)) m f u)) (sym e))
+
+  pub run_on : q ≡ None → {x : Result} → counted n (run (b - n) m c s) ≡ x → counted (n + 1) (run (b - (n + 1)) m d t) ≡ x
   unfolding onward
   run_on f g =
-      sym (counted-twice n 1 (run (b - (n + 1)) m (cpu rs q.code q.at) t))
-      ∙ ap (counted n) (sym (first ∙ rw (eq-eqb q.stop 5 f))) ∙ g
+      sym (counted-twice n 1 (run (b - (n + 1)) m d t))
+      ∙ ap (counted n) (sym (first ∙ rw f)) ∙ g
 
-  pub run-stop : (q.stop ≡ 5 → ⊥) → {x : Result} → counted n (run (b - n) m c s) ≡ x → result q.stop (cpu rs q.code q.at) n t ≡ x
+  pub run-stop : {k : Stop} → q ≡ Some k → {x : Result} → counted n (run (b - n) m c s) ≡ x → result (stop_of k) d n t ≡ x
   unfolding onward
-  run-stop f g =
-      with-count (let w : n ≡ n + 0 = omega arith in w) ∙ ap (counted n) (sym (first ∙ rw (ne_eqb q.stop 5 f))) ∙ g
+  run-stop {k} f g =
+      with-count (let w : n ≡ n + 0 = omega arith in w) ∙ ap (counted n) (sym (first ∙ rw (f, ne_eqb (stop_of k) 5 (stops k)))) ∙ g
 
-pub run_out : (m : Space) (c : Cpu) (s : List ℕ) (b n : ℕ) → b ≤ n → {x : Result} → counted n (run (b - n) m c s) ≡ x → result 0 c n s ≡ x
+pub run_out : (m : Space) (c : Cpu) (s : List ℕ) (b n : ℕ) → b ≤ n → n ≤ b → {x : Result} → counted n (run (b - n) m c s) ≡ x → result 0 c b s ≡ x
 unfolding run
-run_out m c s b n h g =
+run_out m c s b n h l g =
     let w : b - n ≡ 0 = omega arith in
-    with-count (let v : n ≡ n + 0 = omega arith in v) ∙ ap (counted n) (sym (ap (λ (k : ℕ). run k m c s) w)) ∙ g
-
-pub run-start : (m : Space) (c : Cpu) (s : List ℕ) (b : ℕ) → counted 0 (run (b - 0) m c s) ≡ run b m c s
-run-start m c s b = let w : b - 0 ≡ b = omega arith in rw w (with-count (let v : 0 + (run b m c s).count ≡ (run b m c s).count = omega arith in v))
+    with-count (let v : b ≡ n + 0 = omega arith in v) ∙ ap (counted n) (sym (ap (λ (k : ℕ). run k m c s) w)) ∙ g

@@ -4,7 +4,7 @@
 
 ghost use Rattle.std.specs.Prelude.{◌≡◌, true, ◌&&◌, List, ℕ, ◌+◌, ◌*◌, ◌/◌, ◌%◌, ◌^◌, ◌<◌, ◌≤◌, leb, length, get_or};
 ghost use Rattle.machine.specs.Space.{room, needed, displacements, space_by, readable, writable};
-ghost use Rattle.machine.specs.Step.{completed, went, stepped, applied, shifted_by, part as part_of, address as address_of, extended, executed, paired, asked, load_turn, store_step, compare_turn, multiply_turn, multiply_by_turn, branch_turn, branch_register_turn, link_turn, shift_turn, end_stop};
+ghost use Rattle.machine.specs.Step.{went, halted, stepped, applied, shifted_by, part as part_of, address as address_of, extended, executed, paired, asked, load_turn, store_step, compare_turn, multiply_turn, multiply_by_turn, branch_turn, branch_register_turn, link_turn, shift_turn, end_stop};
 ghost use Rattle.machine.specs.Lent.{given, turn, ended};
 
 use alu::Made;
@@ -26,8 +26,15 @@ pub const MAP: usize = 3 * PAGES;
 // "Addresses keep 24 bits".
 const ADDRESSES: usize = 16777216;
 
-// No stop: the instruction was completed.
-pub const COMPLETED: u32 = 5;
+// What ends a run: its budget, or an instruction that is not completed.
+#[derive(Clone, Copy, PartialEq, Eq)]
+pub enum Stop {
+    BudgetUsed,
+    AtEnd,
+    Forbidden,
+    Misaligned,
+    NoInstruction,
+}
 
 // What an instruction makes of its first register and its second operand.
 #[derive(Clone, Copy)]
@@ -66,12 +73,12 @@ pub struct Given {
     pub at: u32,
 }
 
-// After an instruction: the stop, 5 where there is none, the condition code and the counter. 16 bytes on purpose.
+// After an instruction: the condition code, the counter, and the stop where it was not completed. 16 bytes on purpose.
 #[derive(Clone, Copy)]
 pub struct Next {
     pub code: u64,
     pub at: u32,
-    pub stop: u32,
+    pub stop: Option<Stop>,
 }
 
 // The two halves of a byte.
@@ -109,23 +116,23 @@ pub fn address(regs: &[u32; 16], x: usize, b: usize, d: usize) -> u32
     ((part(regs, b) + part(regs, x) + d) % ADDRESSES) as u32
 }
 
-pub fn halt(stop: u32, code: u64, at: u32) -> Next
-    ensures { result ≡ ended stop code at }
+pub fn halt(stop: Stop, code: u64, at: u32) -> Next
+    ensures { result ≡ ended (Some stop) code at }
 {
     Next {
-        code: code,
-        at: at,
-        stop: stop,
+        code,
+        at,
+        stop: Some(stop),
     }
 }
 
 fn go(code: u64, at: u32) -> Next
-    ensures { result ≡ ended completed code at }
+    ensures { result ≡ ended None code at }
 {
     Next {
-        code: code,
-        at: at,
-        stop: COMPLETED,
+        code,
+        at,
+        stop: None,
     }
 }
 
@@ -133,10 +140,7 @@ fn apply(f: Fun, a: u32, b: u32, code: u64) -> Made
     ensures { result ≡ applied f a b code }
 {
     match f {
-        Fun::Load => Made {
-            value: b,
-            code: code,
-        },
+        Fun::Load => Made { value: b, code },
         Fun::Add => alu::add(a, b),
         Fun::Subtract => alu::subtract(a, b),
         Fun::AddLogical => alu::add_logical(a, b),
@@ -153,11 +157,11 @@ fn apply(f: Fun, a: u32, b: u32, code: u64) -> Made
         Fun::Complement => alu::complement(b),
         Fun::MultiplyHalf => Made {
             value: alu::half_product(a, b),
-            code: code,
+            code,
         },
         Fun::Insert => Made {
             value: alu::insert(a, b),
-            code: code,
+            code,
         },
         Fun::Test => alu::test(b),
     }
@@ -174,6 +178,7 @@ pub fn execute(f: Fun, size: u32, g: Given, regs: &mut [u32; 16]) -> Next
     go(v.code, g.at + size)
 }
 
+// Kept: beside `is_writable`, which has another test in other columns; one function with both tests would be no plainer.
 fn is_readable(map: &[usize; MAP], at: usize, n: usize) -> bool
     requires { (0 < n) × (n ≤ room) }
     ensures { (result ≡ readable (space_by 0 map.now) at n) × (result ≡ true → at < needed) }
@@ -215,12 +220,7 @@ fn extend(n: usize, v: u32) -> u32
 fn on(g: Given, b: u32) -> Given
     ensures { result ≡ record { rx = g.rx; b = b; code = g.code; at = g.at } }
 {
-    Given {
-        rx: g.rx,
-        b: b,
-        code: g.code,
-        at: g.at,
-    }
+    Given { b, ..g }
 }
 
 pub fn load_step(
@@ -236,12 +236,12 @@ pub fn load_step(
 {
     let w = g.b as usize;
     if w % n != 0 {
-        return halt(3, g.code, g.at);
+        return halt(Stop::Misaligned, g.code, g.at);
     }
     if is_readable(map, w, n) {
         return execute(f, 4, on(g, extend(n, base::load(s, w, n))), regs);
     }
-    halt(2, g.code, g.at)
+    halt(Stop::Forbidden, g.code, g.at)
 }
 
 // Of a number.
@@ -251,13 +251,13 @@ pub fn put_step(n: usize, v: u32, g: Given, map: &[usize; MAP], s: &mut [u8]) ->
 {
     let w = g.b as usize;
     if w % n != 0 {
-        return halt(3, g.code, g.at);
+        return halt(Stop::Misaligned, g.code, g.at);
     }
     if is_writable(map, w, n) {
         base::store(s, w, n, v);
         return go(g.code, g.at + 4);
     }
-    halt(2, g.code, g.at)
+    halt(Stop::Forbidden, g.code, g.at)
 }
 
 // Of a register.
@@ -280,7 +280,7 @@ pub fn compare_step(g: Given, map: &[usize; MAP], s: &[u8]) -> Next
             g.at + 4,
         );
     }
-    halt(2, g.code, g.at)
+    halt(Stop::Forbidden, g.code, g.at)
 }
 
 // The product of register r + 1 in registers r and r + 1.
@@ -300,7 +300,7 @@ pub fn multiply_step(g: Given, regs: &mut [u32; 16]) -> Next
     ensures { turn result regs.new ≡ multiply_turn (given g regs.old) (g.rx / 16) g.b }
 {
     if g.rx / 16 % 2 != 0 {
-        return halt(4, g.code, g.at);
+        return halt(Stop::NoInstruction, g.code, g.at);
     }
     pair(2, g, regs)
 }
@@ -311,15 +311,15 @@ pub fn multiply_word_step(g: Given, map: &[usize; MAP], regs: &mut [u32; 16], s:
 {
     let w = g.b as usize;
     if g.rx / 16 % 2 != 0 {
-        return halt(4, g.code, g.at);
+        return halt(Stop::NoInstruction, g.code, g.at);
     }
     if w % 4 != 0 {
-        return halt(3, g.code, g.at);
+        return halt(Stop::Misaligned, g.code, g.at);
     }
     if is_readable(map, w, 4) {
         return pair(4, on(g, base::load(s, w, 4)), regs);
     }
-    halt(2, g.code, g.at)
+    halt(Stop::Forbidden, g.code, g.at)
 }
 
 // Whether the mask's bit for the code is set.
@@ -371,12 +371,12 @@ pub fn link_step(g: Given, regs: &mut [u32; 16]) -> Next
 }
 
 pub fn service_step(g: Given) -> Next
-    ensures { result ≡ ended (end_stop g.rx) g.code g.at }
+    ensures { (rs : List ℕ) → turn result rs ≡ halted (end_stop g.rx) (given g rs) }
 {
     if g.rx == 0 {
-        halt(1, g.code, g.at)
+        halt(Stop::AtEnd, g.code, g.at)
     } else {
-        halt(4, g.code, g.at)
+        halt(Stop::NoInstruction, g.code, g.at)
     }
 }
 
@@ -387,11 +387,11 @@ fn shifted(f: Shift, a: u32, n: u32, code: u64) -> Made
     match f {
         Shift::RightLogical => Made {
             value: alu::shift_right_logical(a, n),
-            code: code,
+            code,
         },
         Shift::LeftLogical => Made {
             value: alu::shift_left_logical(a, n),
-            code: code,
+            code,
         },
         Shift::Right => alu::shift_right(a, n),
         Shift::Left => alu::shift_left(a, n),

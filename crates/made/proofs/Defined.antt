@@ -1,14 +1,13 @@
 -- Of a program in which no rule is broken, what is made along its tape is what the definition makes of its tree: `made-as-defined`.
-use mathlib.Core.Path.{◌≡◌, refl, sym, ap, ap₂, subst, ◌∙◌}
-use mathlib.Core.Bool.{Bool, true, false}
-use mathlib.Core.List.{List, [], ◌∷◌, map}
-use Prim.Native.Nat.{ℕ, zero, suc, ◌+◌, ◌-◌, ◌*◌, ◌<◌, ◌≤◌, min}
+use mathlib.Core.Path.{◌≡◌, refl, sym, ap, ap₂, ◌∙◌}
+use mathlib.Core.Bool.{false}
+use mathlib.Core.List.{List, [], map}
+use Prim.Native.Nat.{ℕ, ◌+◌, ◌-◌, ◌*◌, ◌<◌, ◌≤◌}
 use native.Mathlib.Omega.{arith}
-use lib.Dec.{eqb, ltb}
+use lib.Dec.{ltb}
 use lib.ListN.{length, take, get_or, replicate, length-replicate}
 use lib.Seq.{sets}
 use borrow.Author.Tests.{ltb-false}
-use Rattle.base.specs.Choose.{choose, whether◌then◌else◌}
 use Rattle.base.specs.Lists.{All}
 use Rattle.base.proofs.Lists.{all_map}
 use Rattle.base.proofs.Tests.{cases}
@@ -19,11 +18,11 @@ use Rattle.grammar.specs.Derives.{is_program}
 use Rattle.grammar.specs.Events.{events_of}
 use Rattle.grammar.specs.Places.{Along}
 use Rattle.grammar.proofs.Theorems.{program-inside}
+use Rattle.scopes.specs.Broken.{unbroken}
 use Rattle.tape.specs.Tape.{tape_statement}
 use Rattle.scopes.specs.Search.{first_token}
-use Rattle.scopes.specs.Names.{Named}
 use Rattle.scopes.proofs.Bound.{Goes, goes-along}
-use Rattle.static_rules.specs.Meanings.{Filled, Meant, standard}
+use Rattle.static_rules.specs.Meanings.{Meant, standard}
 use Rattle.static_rules.specs.Tables.{Tables, meaning_at}
 use Rattle.static_rules.proofs.Known.{Known}
 use Rattle.static_rules.proofs.Small.{register-small, meaning-small, meant_small, standard-small}
@@ -33,17 +32,15 @@ use Rattle.objtext.specs.Object.{Segment, object_text}
 use Rattle.translation.specs.Instructions.{Instruction, sizes}
 use Rattle.translation.specs.Core.{Core, core_statement}
 use Rattle.translation.specs.Code.{size_of, code, instructions}
-use Rattle.translation.specs.Layout.{Layout, Placed, layout, place_cells, offset_of, segment_limit, round_up, literals_end, literals_from, cells_end}
+use Rattle.translation.specs.Layout.{Layout, Placed, layout, place_cells, offset_of, segment_limit, round_up, literals_end, cells_end}
 use Rattle.translation.specs.Bytes.{encode_all}
-use Rattle.translation.specs.Image as I
-use Rattle.translation.specs.Image.{fill, words, segments}
-use Rattle.translation.specs.Translate.{Answer, accepted, refused, kinds_of, values_of, named, labelled, meant, Made, tables_of, make, finish, in_room}
+use Rattle.translation.specs.Image.{fill, segments}
+use Rattle.translation.specs.Translate.{accepted, kinds_of, values_of, named, labelled, meant, tables_of, make, finish, in_room}
 use Rattle.translation.proofs.Sizes.{length-encode_all, sizes-instructions}
 use Rattle.translation.proofs.Rooms.{ends-fit, offsets-fit}
 use Rattle.translation.proofs.Tables.{length-map, names-found, labels-led}
 use Rattle.translation.proofs.Images.{Fitting}
 use Rattle.translation.proofs.Objects as O
-use Rattle.layout.specs.Along.{Imaging, imaging_of, nowhere, image_event}
 use Rattle.layout.proofs.Laid.{Right, all_right}
 use Rattle.layout.proofs.Images.{image-of-tree, placed-there}
 use Rattle.ledger.specs.Book.{Wide, Thin}
@@ -54,15 +51,14 @@ use Rattle.code.proofs.Laying.{laid-instructions}
 use Rattle.code.proofs.Addresses.{Held}
 use Rattle.code.proofs.Kept.{places-kept, length-same}
 use Rattle.code.proofs.Program.{places-program, code-program}
-use Rattle.frames.specs.Frames.{object_of}
 use Rattle.settled.specs.Texts.{end_of}
 use Rattle.made.specs.Making.{zeros, end_of_first, image_along, object_cut, object_along, start_of, coded_along, made_along}
-use Rattle.made.proofs.Segments.{program-cut, first_bytes, later_bytes, first-cut, later-cut, segments-are}
+use Rattle.made.proofs.Segments.{program-cut, first-cut, later-cut, segments-are}
 
 -- a text of tokens ts that is the program x, with no rule broken, and its tables in arrays
 module _
     (ts : List Token) (x : Statement) (to : ℕ) (small : (t : ℕ) → get_or (kinds_of ts) t 0 ≡ K.NUMBER → get_or (values_of ts) t 0 < 4294967296)
-    (program : is_program (kinds_of ts) x first_token to) (front : first_token ≤ length ts) (quiet : (make ts x).broken.number ≡ 0)
+    (program : is_program (kinds_of ts) x first_token to) (front : first_token ≤ length ts) (quiet : (make ts x).broken ≡ unbroken)
     (means under ends offsets : List ℕ)
     (means-are : meanings_of means under ≡ (meant ts (named ts x) x).means)
     (ends-are : (k : ℕ) → get_or ends k 0 ≡ get_or (place_cells (meant ts (named ts x) x).bases (meant ts (named ts x) x).cells).ends k 0)
@@ -100,7 +96,7 @@ module _
     known : Known to m
     known = O.known ts x to front program quiet
 
-    cells-quiet : (place_cells m.bases m.cells).broken.number ≡ 0
+    cells-quiet : (place_cells m.bases m.cells).broken ≡ unbroken
     cells-quiet = O.cells-quiet ts x to front program quiet
 
     few : m.bases ≤ 2

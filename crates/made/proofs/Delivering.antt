@@ -1,28 +1,27 @@
 -- The object of a text in its buffer, and what is answered. Assumes nothing.
-use mathlib.Core.Path.{◌≡◌, refl, sym, ap, ap₂, ◌∙◌}
-use mathlib.Core.List.{List, [], ◌∷◌, ◌++◌}
-use Prim.Native.Nat.{ℕ, ◌+◌, ◌/◌, ◌%◌, ◌≤◌, ◌<◌}
+use mathlib.Core.Path.{◌≡◌, refl, sym, ap, ◌∙◌}
+use mathlib.Core.List.{List, [], ◌∷◌}
+use Prim.Native.Nat.{ℕ, ◌/◌, ◌%◌, ◌≤◌, ◌<◌}
 use native.Mathlib.Omega.{arith}
 use lib.Dec.{eqb, ltb}
-use lib.ListN.{length, take, drop, get_or, length-take, length-replicate}
+use lib.ListN.{length, take, get_or, length-take, length-replicate}
 use lib.Seq.{sets, length-sets}
 use borrow.Author.Tests.{lt-ltb, le-ltb}
-use Rattle.base.specs.Choose.{whether◌then◌else◌}
 use Rattle.base.specs.Walk.{fold}
 use Rattle.base.specs.Numbers.{bytes_of}
 use Rattle.base.proofs.Tests.{by-test}
 use Rattle.tape.specs.Events as E
 use Rattle.tape.specs.Pass.{on_event, pass}
 use Rattle.ledger.specs.Book.{Wide}
-use Rattle.objtext.specs.Object.{Segment, object_text}
+use Rattle.objtext.specs.Object.{object_text}
 use Rattle.translation.specs.Layout.{segment_limit}
 use Rattle.translation.specs.Image.{words}
-use Rattle.translation.specs.Translate.{accepted, refused, in_room}
+use Rattle.translation.specs.Translate.{accepted, in_room}
 use Rattle.layout.specs.declared.Filling.{Filling}
 use Rattle.layout.specs.Along.{Imaging, imaging_of, nowhere, lay_value, image_event}
 use Rattle.frames.specs.Frames.{object_of, length_for}
 use Rattle.frames.proofs.Objects.{text-length, laid-front}
-use Rattle.made.specs.declared.Answer.TheVariants.{Accepted, Refused}
+use Rattle.std.specs.Prelude.{Ok, Err}
 use Rattle.made.specs.Answers.{Gives}
 use Rattle.settled.specs.Texts.{end_of}
 use Rattle.made.specs.Making.{zeros, end_of_first, image_along, object_cut, object_along}
@@ -92,14 +91,14 @@ module _ (w : Wide) (tape : List ℕ) where
             text-length code _ cells bases _ _ ∙ rw (l, t, h, en)
 
         pub short-room : length out < needed
-            → Gives (in_room (length out) (accepted (object_text (object_along w tape bases ends start code literals)))) out out (Refused 16 needed)
+            → Gives (in_room (length out) (accepted (object_text (object_along w tape bases ends start code literals)))) out out (Err (record { number = 16; place = needed }))
         unfolding in_room
         short-room h =
             let n = text-long in
             rw (← object-is, lt-ltb (length out) (length text) (omega arith)) (record { number_is = refl; place_is = sym n; length-is = refl; buffer-is = refl })
 
         pub enough-room : (out' : List ℕ) → needed ≤ length out → out' ≡ sets out 0 text
-            → Gives (in_room (length out) (accepted (object_text (object_along w tape bases ends start code literals)))) out out' (Accepted needed)
+            → Gives (in_room (length out) (accepted (object_text (object_along w tape bases ends start code literals)))) out out' (Ok needed)
         unfolding in_room
         enough-room out' h e =
             let n = text-long in

@@ -1,22 +1,19 @@
 -- The program and its literals, and refusals 14 and 15. Assumes nothing.
-use mathlib.Core.Path.{◌≡◌, refl, sym, ap, ap₂, subst, ◌∙◌}
+use mathlib.Core.Path.{◌≡◌, refl, sym, ap, ◌∙◌}
 use mathlib.Core.List.{List}
 use Prim.Native.Nat.{ℕ, ◌+◌, ◌*◌, ◌≤◌, ◌<◌}
 use native.Mathlib.Omega.{arith}
 use native.Mathlib.Decide.{dec_le}
-use lib.Dec.{ltb}
 use lib.ListN.{length, take, length-take}
 use borrow.Author.Tests.{lt-ltb, le-ltb}
-use Rattle.base.specs.Choose.{whether◌then◌else◌}
 use Rattle.objtext.specs.Object.{object_text}
 use Rattle.translation.specs.Layout.{segment_limit, round_up}
-use Rattle.translation.specs.Translate.{accepted, refused, in_room}
+use Rattle.translation.specs.Translate.{accepted, in_room}
 use Rattle.ledger.specs.Book.{Wide, Thin}
-use Rattle.code.specs.Places.{Placing, on_marks, places_in}
+use Rattle.code.specs.Places.{on_marks, places_in}
 use Rattle.code.specs.Coding.{Laid, laid_of, Holds, code_in}
-use Rattle.made.specs.declared.Answer.{Answer}
-use Rattle.made.specs.declared.Answer.TheVariants.{Refused}
-use Rattle.made.specs.Answers.{Gives}
+use Rattle.std.specs.Prelude.{Err}
+use Rattle.made.specs.Answers.{Answer, Gives}
 use Rattle.settled.specs.Texts.{end_of}
 use Rattle.made.specs.Making.{zeros, literal_room, start_of, object_along, coded_along, made_along}
 
@@ -50,11 +47,11 @@ module _
         go (yes h) = omega (arith, ec.inside, ec.full (omega (arith, ec.inside)))
         go (no h) = omega (arith, counted, ap (λ (l : Laid). length l.literals) (ec.same (omega arith)))
 
-    pub long-program : (out : List ℕ) → segment_limit < size → Gives (made_along kinds w b ends tape bases (length out)) out out (Refused 14 0)
+    pub long-program : (out : List ℕ) → segment_limit < size → Gives (made_along kinds w b ends tape bases (length out)) out out (Err (record { number = 14; place = 0 }))
     unfolding made_along
     long-program out h = rw (reached, lt-ltb segment_limit size h) (record { number_is = refl; place_is = refl; length-is = refl; buffer-is = refl })
 
-    pub long-literals : (out : List ℕ) → size ≤ segment_limit → segment_limit < start + 4 * count → Gives (made_along kinds w b ends tape bases (length out)) out out (Refused 15 0)
+    pub long-literals : (out : List ℕ) → size ≤ segment_limit → segment_limit < start + 4 * count → Gives (made_along kinds w b ends tape bases (length out)) out out (Err (record { number = 15; place = 0 }))
     unfolding made_along
     long-literals out h q =
         let past : segment_limit < start_of ends + 4 * length (coded_along kinds w b ends tape).literals = omega (arith, many, started) in

@@ -1,14 +1,14 @@
 -- The segments of a text, cut from images of 4,096 bytes.
-use mathlib.Core.Path.{◌≡◌, refl, sym, ap, ap₂, subst, ◌∙◌}
-use mathlib.Core.List.{List, [], ◌∷◌, ◌++◌, append-nil}
-use Prim.Native.Nat.{ℕ, zero, suc, ◌+◌, ◌*◌, ◌%◌, ◌<◌, ◌≤◌}
+use mathlib.Core.Path.{◌≡◌, refl, sym, ap, ap₂, ◌∙◌}
+use mathlib.Core.List.{List, [], ◌∷◌, ◌++◌}
+use Prim.Native.Nat.{ℕ, zero, suc, ◌+◌, ◌%◌, ◌<◌, ◌≤◌}
 use native.Mathlib.Omega.{arith}
 use lib.ListN.{length, take, drop, replicate, length-replicate}
 use lib.Seq.{sets, sets-eq}
 use Rattle.base.specs.Lists.{All}
 use Rattle.objtext.specs.Object.{Segment, program, cells}
 use Rattle.translation.specs.Instructions.{Instruction}
-use Rattle.translation.specs.Layout.{Layout, segment_limit, cells_end, literals_end}
+use Rattle.translation.specs.Layout.{Layout, segment_limit, cells_end}
 use Rattle.translation.specs.Bytes.{encode_all}
 use Rattle.translation.specs.Image.{fill, words, end_of_first, first_data, data_of, data_from, segments}
 use Rattle.translation.proofs.Images.{Fitting, fill-length, end-first}

@@ -14,15 +14,19 @@ ghost use Rattle.settled.specs.Texts.{Ended};
 ghost use Rattle.made.specs.Answers.{Gives};
 ghost use Rattle.made.specs.Making.{end_of_first, object_cut, object_along, made_along};
 
+use emit::Book;
 use layout::SEGMENT_LIMIT;
 use settled::Judged;
 
-// The bytes written; or a refusal's number and place.
-#[derive(Clone, Copy)]
-pub enum Answer {
-    Accepted(usize),
-    Refused(usize, usize),
+// A refusal's number and place.
+#[derive(Clone, Copy, PartialEq, Eq)]
+pub struct Refused {
+    pub number: usize,
+    pub place: usize,
 }
+
+// The bytes written, or a refusal.
+pub type Answer = Result<usize, Refused>;
 
 // ── the segments ──
 
@@ -31,10 +35,8 @@ fn lay_literals(image: &mut [u8], start: usize, literals: &[u64])
     requires { start + 4 * length literals.now ≤ segment_limit }
     ensures { image.new ≡ sets image.old start (words literals.now) }
 {
-    let mut i: usize = 0;
-    while i < literals.len() {
-        layout::lay(image, start + 4 * i, 4, literals[i]);
-        i += 1;
+    for (i, v) in literals.iter().enumerate() {
+        layout::lay(image, start + 4 * i, 4, *v);
     }
 }
 
@@ -107,10 +109,13 @@ fn deliver(
     let last = end_of_first(s.cells, start, literals.len());
     let needed = frames::text_length(code.len(), last, s.bases, s.two, s.three);
     if out.len() < needed {
-        return Answer::Refused(16, needed);
+        return Err(Refused {
+            number: 16,
+            place: needed,
+        });
     }
     write(tape, wide, code, literals, start, last, s, out);
-    Answer::Accepted(needed)
+    Ok(needed)
 }
 
 // "15: literals end past 4,096 … 0": from 16 on there is room for 1,020, so that a room that is full says that they do.
@@ -133,15 +138,22 @@ pub fn make(
     let mut literals = [0u64; LITERALS];
     let start = layout::round_up(4, s.cells as u64);
     code::places(tape, kinds, wide, thin);
-    let e = code::write_code(tape, kinds, wide, thin, start, &mut image, &mut literals);
+    let book = Book { kinds, wide, thin };
+    let e = code::write_code(tape, book, start, &mut image, &mut literals);
     let size = e.length;
     let count = e.literals;
     let from = start as usize;
     if SEGMENT_LIMIT < size {
-        return Answer::Refused(14, 0);
+        return Err(Refused {
+            number: 14,
+            place: 0,
+        });
     }
     if SEGMENT_LIMIT < from + 4 * count {
-        return Answer::Refused(15, 0);
+        return Err(Refused {
+            number: 15,
+            place: 0,
+        });
     }
     deliver(tape, wide, &image[..size], &literals[..count], from, s, out)
 }

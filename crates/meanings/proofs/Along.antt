@@ -1,4 +1,5 @@
 -- The loop along the tape: i events are passed, and what the ledger shows is what the definition has after them.
+use Rattle.std.specs.Prelude.{Option, None}
 use mathlib.Core.Path.{◌≡◌, ap, ◌∙◌}
 use mathlib.Core.Bool.{Bool, false}
 use mathlib.Core.List.{List, []}
@@ -19,7 +20,7 @@ use Rattle.ledger.specs.Bounds.{blocks_open, procedures_open, Nested}
 use Rattle.ledger.proofs.Bounds.{nested-here, nested-on}
 use Rattle.meanings.specs.Flat.{within_of, Moved, Roomy, View, view_of, changed}
 
-abbrev walk : Within → (form target : ℕ) → (first : Bool) → Meant → Meaning-walk
+abbrev walk : Within → (form : ℕ) (target : Option ℕ) → (first : Bool) → Meant → Meaning-walk
 walk w form target first s = record { within = w; form = form; target = target; first = first; meant = s }
 
 -- what is lent keeps its lengths
@@ -33,7 +34,7 @@ module _ (tape kinds : List ℕ) (start : View) where
   abbrev event : (op t : ℕ) → Meaning-walk → Meaning-walk
   event = mean_event kinds start.values start.found
 
-  pub record Going (w : Wide) (b : Thin) (owners outer : List ℕ) (s : Scope) (form target : ℕ) (first : Bool) (bases i : ℕ) : Type 0 where
+  pub record Going (w : Wide) (b : Thin) (owners outer : List ℕ) (s : Scope) (form : ℕ) (target : Option ℕ) (first : Bool) (bases i : ℕ) : Type 0 where
     pub is : pass event (walk (within_of owners outer s) form target first (view_of w b bases).meant) (drop i tape) ≡ pass event (beginning start.meant) tape
     pub still : changed (λ _. start.meant) (view_of w b bases) ≡ start
     pub room : Roomy tape (length owners) (length outer)
@@ -42,7 +43,7 @@ module _ (tape kinds : List ℕ) (start : View) where
     pub few : bases ≤ i
 
   pub going : (w : Wide) (b : Thin) (owners outer : List ℕ) (base : ℕ) → view_of w b 0 ≡ start → based_in base ≡ data_base → Roomy tape (length owners) (length outer)
-      → Going w b owners outer (record { own = 0; owners = 0; base = base; outer = 0 }) 0 0 false 0 0
+      → Going w b owners outer (record { own = 0; owners = 0; base = base; outer = 0 }) 0 None false 0 0
   unfolding stack_of
   going w b owners outer base e f r = record {
     is = rw (f, ← e);
@@ -53,9 +54,9 @@ module _ (tape kinds : List ℕ) (start : View) where
     few = omega arith;
   }
 
-  module _ {w : Wide} {b : Thin} {owners outer : List ℕ} {s : Scope} {form target : ℕ} {first : Bool} {bases i : ℕ} (g : Going w b owners outer s form target first bases i) where
+  module _ {w : Wide} {b : Thin} {owners outer : List ℕ} {s : Scope} {form : ℕ} {target : Option ℕ} {first : Bool} {bases i : ℕ} (g : Going w b owners outer s form target first bases i) where
     pub going_on :
-        {w' : Wide} {b'' : Thin} {owners' outer' : List ℕ} {s' : Scope} {form' target' : ℕ} {first' : Bool} {bases' : ℕ} (b' : Thin) (op t : ℕ) → i < length tape
+        {w' : Wide} {b'' : Thin} {owners' outer' : List ℕ} {s' : Scope} {form' : ℕ} {target' : Option ℕ} {first' : Bool} {bases' : ℕ} (b' : Thin) (op t : ℕ) → i < length tape
         → op ≡ get_or tape i 0 % E.EVENTS → t ≡ get_or tape i 0 / E.EVENTS
         → ((u : List ℕ) → Moved (within_after b.found op t (meanings_of w.means u) bases (within_of owners outer s)) owners' outer' (blocks_open op s.outer) (procedures_open op s.owners) s')
         → form' ≡ form_after w.values op t form

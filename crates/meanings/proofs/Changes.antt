@@ -1,4 +1,5 @@
 -- What each event leaves in the tables.
+use Rattle.std.specs.Prelude.{Option}
 use mathlib.Core.Path.{◌≡◌, refl, sym, ap, ap₂, ◌∙◌}
 use mathlib.Core.Bool.{Bool, false, ◌&&◌, ◌||◌}
 use mathlib.Core.List.{List, []}
@@ -8,13 +9,15 @@ use lib.Dec.{eqb}
 use lib.ListN.{get_or, set, length}
 use Rattle.base.proofs.Tests.{never_true}
 use Rattle.token.specs.Kinds as K
-use Rattle.static_rules.specs.Functions.{Function, function_at, argument_at, is_written}
+use Rattle.static_rules.specs.Functions.{Function, argument_at, is_written}
 use Rattle.static_rules.specs.Meaning.{Meaning, register, routine, meaning_of, register_of, function_of, argument_of, is_long}
 use Rattle.static_rules.specs.Meanings.{mean, call_writes}
 use Rattle.tape.specs.Numbers.{form_at}
 use Rattle.tables.specs.Packed.{REGISTER, ROUTINE, low, packed, is_routine_in, based_in, unpacked, meanings_of, register_in, long_in, packed_at, sets_of}
 use Rattle.tables.proofs.Meanings.{by-sort, low-is, long-is, packed-register, packed-routine, meaning-at, meaning-set, meaning-set-both}
-use Rattle.functions.specs.Arguments.{function_in}
+use Rattle.functions.specs.declared.Function.{Function as Coded}
+use Rattle.functions.specs.Arguments.{argument_by, coded, function_in}
+use Rattle.functions.proofs.Table.{by_code}
 use Rattle.functions.proofs.Packed.{meant_is}
 use Rattle.meanings.specs.Along.{target_of, is_product_at}
 use Rattle.meanings.specs.Flat.{meant_of, standard_meaning, standard_named, target_in}
@@ -26,7 +29,7 @@ module _ (found means bases : List ℕ) (t : ℕ) where
   pub meant-at : meaning_of found (meanings_of means bases) t ≡ unpacked (get_or found t 0) (packed_at found means t) (based_in (get_or bases (get_or found t 0) 0))
   meant-at = meaning-at means bases (get_or found t 0)
 
-  pub target_at : (m g : ℕ) → m ≡ packed_at found means t → g ≡ target_in m → g ≡ target_of (meaning_of found (meanings_of means bases) t)
+  pub target_at : (m : ℕ) (g : Option ℕ) → m ≡ packed_at found means t → g ≡ target_in m → g ≡ target_of (meaning_of found (meanings_of means bases) t)
   unfolding target_in
   target_at m g e f =
       f ∙ (ap target_in e ∙ sym (ap target_of meant-at ∙ by-sort (λ y. target_of y ≡ target_in (packed_at found means t)) _ (packed_at found means t) _ (λ e. rw e)
@@ -34,9 +37,11 @@ module _ (found means bases : List ℕ) (t : ℕ) where
 
   -- "IC, LA and LTR write the first"
   pub first-at :
-      (m k : ℕ) (g : Bool) → m ≡ packed_at found means t → function_at k ≡ function_in m → g ≡ is_written (argument_at (function_at k) 0)
+      (m : ℕ) (r : Coded) (g : Bool) → m ≡ packed_at found means t → r ≡ coded (function_in m) → g ≡ is_written (argument_by r.first)
       → g ≡ is_written (argument_of (meaning_of found (meanings_of means bases) t) 0)
-  first-at m k g e f h = h ∙ ap (λ (y : Function). is_written (argument_at y 0)) (f ∙ (ap function_in e ∙ sym (ap function_of meant-at ∙ meant_is _ _ _)))
+  first-at m r g e f h =
+      h ∙ ap (λ (y : Coded). is_written (argument_by y.first)) f
+      ∙ (ap is_written (by_code (argument_at (function_in m) 0)) ∙ ap (λ (y : Function). is_written (argument_at y 0)) (ap function_in e ∙ sym (ap function_of meant-at ∙ meant_is _ _ _)))
 
   long-at : is_long (meaning_of found (meanings_of means bases) t) ≡ long_in (packed_at found means t)
   long-at = ap is_long meant-at ∙ long-is _ _ _

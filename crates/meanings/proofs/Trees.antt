@@ -4,6 +4,7 @@ use mathlib.Core.Path.{◌≡◌, refl, ap, ap₂, sym, ◌∙◌}
 use mathlib.Core.List.{List, [], ◌∷◌}
 use mathlib.Core.Bool.{Bool, true, false, ◌&&◌}
 use mathlib.Core.Option.{Option, none, some}
+use Rattle.std.specs.Prelude as S
 use Prim.Native.Nat.{ℕ, ◌+◌, ◌-◌, ◌≤◌, ◌<◌}
 use native.Mathlib.Omega.{arith}
 use lib.Dec.{eqb}
@@ -99,21 +100,21 @@ module _ (kinds values found : List ℕ) where
   abbrev Formed : Option ℕ → Width → ℕ → Type 0
   Formed n w form = (t : ℕ) (b : Based) → unpacked t form b ≡ cell (record { name = t; base = b; width = w; elements = count_of values n; array = is_array n })
 
-  abbrev Opens : Context → Meant → (form target : ℕ) → (first : Bool) → Type 0
+  abbrev Opens : Context → Meant → (form : ℕ) (target : S.Option ℕ) → (first : Bool) → Type 0
   Opens nowhere s form target first = Unit {0}
   Opens (aiming d) s form target first = target ≡ target_of (meaning_in found s d.name)
   Opens (applying n p) s form target first = first ≡ is_written (argument_of (meaning_in found s n) p)
   Opens (declaring n w ts) s form target first = Formed n w form
 
   -- behind a target no argument follows
-  aims-still : (d : Designator) (c : Context) (s : Meant) (form target : ℕ) (first : Bool) → Aims d c → Opens c s form target first → Opens c s form target false
+  aims-still : (d : Designator) (c : Context) (s : Meant) (form : ℕ) (target : S.Option ℕ) (first : Bool) → Aims d c → Opens c s form target first → Opens c s form target false
   aims-still d (aiming x) s form target first q o = o
   aims-still d nowhere s form target first q o = elim q [ ]
   aims-still d (applying name position) s form target first q o = elim q [ ]
   aims-still d (declaring count _ _) s form target first q o = elim q [ ]
 
   -- own, owners: the innermost procedure and those around it; s: the tables by which the bases at p are told
-  abbrev walk_from : (own : ℕ) (owners : List ℕ) → Place → Meant → (form target : ℕ) → (first : Bool) → Meant → Meaning-walk
+  abbrev walk_from : (own : ℕ) (owners : List ℕ) → Place → Meant → (form : ℕ) (target : S.Option ℕ) → (first : Bool) → Meant → Meaning-walk
   walk_from own owners p s form target first t = record {
     within = record { own = own; owners = owners; base = base_in found s p; outer = outer_in s p };
     form = form;
@@ -122,7 +123,7 @@ module _ (kinds values found : List ℕ) where
     meant = tabled t;
   }
 
-  abbrev walk : Place → Meant → (form target : ℕ) → (first : Bool) → Meaning-walk
+  abbrev walk : Place → Meant → (form : ℕ) (target : S.Option ℕ) → (first : Bool) → Meaning-walk
   walk p s form target first = walk_from (own_in p) (owners_in p) p s form target first s
 
   abbrev step : ℕ → ℕ → Meaning-walk → Meaning-walk
@@ -133,18 +134,18 @@ module _ (kinds values found : List ℕ) where
 
   -- at a place, for a text of N tokens
   abbrev At : ℕ → Place → Context → Meant → Meaning-walk → Type 0
-  At N p c s m = (form : ℕ) × (target : ℕ) × (first : Bool) × (m ≡ walk p s form target first) × Opens c s form target first × (length s.opens ≡ N)
+  At N p c s m = (form : ℕ) × (target : S.Option ℕ) × (first : Bool) × (m ≡ walk p s form target first) × Opens c s form target first × (length s.opens ≡ N)
 
-  abbrev Next : Event → Place → Context → Meant → (form target : ℕ) → (first : Bool) → Type 0
+  abbrev Next : Event → Place → Context → Meant → (form : ℕ) (target : S.Option ℕ) → (first : Bool) → Type 0
   Next e p c s form target first =
-      (form' : ℕ) × (target' : ℕ) × (first' : Bool) × (step (op_of e) (token_of e) (walk p s form target first) ≡ walk (after e p) (mean_at e p s) form' target' first')
+      (form' : ℕ) × (target' : S.Option ℕ) × (first' : Bool) × (step (op_of e) (token_of e) (walk p s form target first) ≡ walk (after e p) (mean_at e p s) form' target' first')
       × Opens (context_after e c) (mean_at e p s) form' target' first'
 
   -- the tables that an event leaves tell the same bases
   abbrev Settles : Place → Meant → Meant → Type 0
   Settles p s t = (base_in found t p ≡ base_in found s p) × (outer_in t p ≡ outer_in s p)
 
-  settle : (own : ℕ) (owners : List ℕ) (p : Place) (s t : Meant) (form target : ℕ) (x : Meaning-walk) → Settles p s t → x ≡ walk_from own owners p s form target false t
+  settle : (own : ℕ) (owners : List ℕ) (p : Place) (s t : Meant) (form : ℕ) (target : S.Option ℕ) (x : Meaning-walk) → Settles p s t → x ≡ walk_from own owners p s form target false t
       → x ≡ walk_from own owners p t form target false t
   settle own owners p s t form target x g e =
       e ∙ ap₂ (λ (b : Based) (bs : List Based). record {
@@ -157,7 +158,7 @@ module _ (kinds values found : List ℕ) where
 
   -- ── edges and routes ──
 
-  turn-edge : (x : Edge) (p : Place) (c : Context) (s : Meant) (form target : ℕ) (first : Bool) → EdgeFits x p → Settles p s (mean_at (edge x) p s) → (i j : ℕ) → is_event kinds (edge x) i j
+  turn-edge : (x : Edge) (p : Place) (c : Context) (s : Meant) (form : ℕ) (target : S.Option ℕ) (first : Bool) → EdgeFits x p → Settles p s (mean_at (edge x) p s) → (i j : ℕ) → is_event kinds (edge x) i j
       → Next (edge x) p c s form target first
   unfolding D.mean_event mean_event within_after form_after target_after first_after declared_after written_after form_at write_text
   turn-edge (opened t ls) p c s form target first f g i j h = (form, target, false, refl, tt)
@@ -173,7 +174,7 @@ module _ (kinds values found : List ℕ) where
   turn-edge (left n) [] c s form target first f g i j h = elim f [ ]
   turn-edge (left n) (within b ∷ p) c s form target first f g i j h = elim f [ ]
 
-  turn-route : (x : Route) (p : Place) (c : Context) (s : Meant) (form target : ℕ) (first : Bool) → Stands kinds (route x) p 0 → Next (route x) p c s form target first
+  turn-route : (x : Route) (p : Place) (c : Context) (s : Meant) (form : ℕ) (target : S.Option ℕ) (first : Bool) → Stands kinds (route x) p 0 → Next (route x) p c s form target first
   unfolding D.mean_event mean_event within_after form_after target_after first_after declared_after written_after form_at
   turn-route (labelled l) p c s form target first h = labels p h.fits
     where
@@ -190,7 +191,7 @@ module _ (kinds values found : List ℕ) where
     counted-bits : (n : ℕ) (w : Width) (i j : ℕ) → is_event kinds (entry (celled (some n) w)) i j → low (get_or values n 0) ≡ get_or values n 0
     counted-bits n w i j h = low-is _ (small n (rw h.1.1.0 h.1.1.1))
 
-    turn-entry : (d : Entry) (p : Place) (c : Context) (s : Meant) (form target : ℕ) (first : Bool) → InBlock p → Settles p s (mean_at (entry d) p s) → (i j : ℕ) → is_event kinds (entry d) i j
+    turn-entry : (d : Entry) (p : Place) (c : Context) (s : Meant) (form : ℕ) (target : S.Option ℕ) (first : Bool) → InBlock p → Settles p s (mean_at (entry d) p s) → (i j : ℕ) → is_event kinds (entry d) i j
         → j ≤ length s.opens
         → EntrySuits d c → Opens c s form target first → Next (entry d) p c s form target first
     unfolding D.mean_event mean_event within_after form_after target_after first_after declared_after written_after form_at open_base write add_cell low is_register
@@ -255,7 +256,7 @@ module _ (kinds values found : List ℕ) where
   target-same (routine r) own s = refl
   target-same (function k) own s = refl
 
-  argument-same : (b : Bool) (m : Meaning) (own : ℕ) (s : Meant) → write_target own (whether b then target_of m else 0) (tabled s) ≡ tabled (whether b then target_writes m (λ r. r) own s else s)
+  argument-same : (b : Bool) (m : Meaning) (own : ℕ) (s : Meant) → write_target own (whether b then target_of m else S.None) (tabled s) ≡ tabled (whether b then target_writes m (λ r. r) own s else s)
   unfolding write_target
   argument-same false m own s = refl
   argument-same true m own s = target-same m own s
@@ -278,7 +279,7 @@ module _ (kinds values found : List ℕ) where
   call_same (function k) own p s = refl
 
   -- the walk with other tables
-  abbrev tell : Place → Meant → (form target : ℕ) → Meant → Meaning-walk
+  abbrev tell : Place → Meant → (form : ℕ) (target : S.Option ℕ) → Meant → Meaning-walk
   tell p s form target x = record {
     within = record { own = own_in p; owners = owners_in p; base = base_in found s p; outer = outer_in s p };
     form = form;
@@ -287,7 +288,7 @@ module _ (kinds values found : List ℕ) where
     meant = x;
   }
 
-  module _ (p : Place) (s : Meant) (form target : ℕ) (first : Bool) where
+  module _ (p : Place) (s : Meant) (form : ℕ) (target : S.Option ℕ) (first : Bool) where
     abbrev here : Meaning-walk
     here = walk p s form target first
 
@@ -321,14 +322,14 @@ module _ (kinds values found : List ℕ) where
     -- an argument is written where it is to be
     argument_is : (a : Operand)
         → step (E.ARGUED + operand_shape a) (head_of a) here
-        ≡ tell p s form (whether first then target_of (operand_meaning found s.means a) else 0) (write_target (own_in p) (whether first then target_of (operand_meaning found s.means a) else 0) (tabled s))
+        ≡ tell p s form (whether first then target_of (operand_meaning found s.means a) else S.None) (write_target (own_in p) (whether first then target_of (operand_meaning found s.means a) else S.None) (tabled s))
     unfolding mean_event within_after form_after target_after first_after declared_after written_after form_at
     argument_is a = go first a
       where
         go : (first : Bool) (a : Operand)
             → step (E.ARGUED + operand_shape a) (head_of a) (walk p s form target first)
-            ≡ tell p s form (whether first then target_of (operand_meaning found s.means a) else 0) (write_target (own_in p) (whether first then target_of (operand_meaning found s.means a) else 0) (tabled s))
-        go false a = by-operand (λ n. step (E.ARGUED + n) (head_of a) (walk p s form target false) ≡ tell p s form 0 (write_target (own_in p) 0 (tabled s))) refl refl refl refl refl a
+            ≡ tell p s form (whether first then target_of (operand_meaning found s.means a) else S.None) (write_target (own_in p) (whether first then target_of (operand_meaning found s.means a) else S.None) (tabled s))
+        go false a = by-operand (λ n. step (E.ARGUED + n) (head_of a) (walk p s form target false) ≡ tell p s form S.None (write_target (own_in p) S.None (tabled s))) refl refl refl refl refl a
         go true (number t) = refl
         go true (place d) =
             by_shape (λ n. step (E.ARGUED + n) d.name (walk p s form target true)
@@ -339,7 +340,7 @@ module _ (kinds values found : List ℕ) where
   aimed_at n p s form = tell p s form (target_of (meaning_in found s n)) (write_target (own_in p) (target_of (meaning_in found s n)) (tabled s))
 
   aim-is : (n : ℕ) (p : Place) (s t : Meant) (form : ℕ) (x : Meaning-walk) → t ≡ target_writes (meaning_in found s n) (λ r. r) (own_in p) s → Settles p s t → t.means ≡ s.means
-      → x ≡ aimed_at n p s form → (form' : ℕ) × (target' : ℕ) × (first' : Bool) × (x ≡ walk p t form' target' first') × (target' ≡ target_of (meaning_in found t n))
+      → x ≡ aimed_at n p s form → (form' : ℕ) × (target' : S.Option ℕ) × (first' : Bool) × (x ≡ walk p t form' target' first') × (target' ≡ target_of (meaning_in found t n))
   aim-is n p s t form x u g k e =
       let m = meaning_in found s n in (
         form,
@@ -349,7 +350,7 @@ module _ (kinds values found : List ℕ) where
         ap (λ (ms : List Meaning). target_of (meaning_of found ms n)) (sym k),
       )
 
-  turn-phrase : (f : Phrase) (p : Place) (c : Context) (s : Meant) (form target : ℕ) (first : Bool) → Settles p s (mean_at (phrase f) p s) → (i j : ℕ) → is_event kinds (phrase f) i j → PhraseSuits f c
+  turn-phrase : (f : Phrase) (p : Place) (c : Context) (s : Meant) (form : ℕ) (target : S.Option ℕ) (first : Bool) → Settles p s (mean_at (phrase f) p s) → (i j : ℕ) → is_event kinds (phrase f) i j → PhraseSuits f c
       → Opens c s form target first → Next (phrase f) p c s form target first
   unfolding D.mean_event mean_event within_after form_after target_after first_after declared_after written_after form_at
   turn-phrase (aimed d) p c s form target first g i j h q o =
@@ -397,7 +398,7 @@ module _ (kinds values found : List ℕ) where
   turn-phrase (applied n) p c s form target first g i j h q o = (form, target, is_written (argument_of (meaning_in found s n) 0), refl, refl)
   turn-phrase (argued n z a) p (applying m r) s form target first g i j h q o =
       let x = operand_meaning found s.means a in
-      let y = whether first then target_of x else 0 in
+      let y = whether first then target_of x else S.None in
       let e : first ≡ is_written (argument_of (meaning_in found s n) z) = o ∙ ap₂ (λ (k l : ℕ). is_written (argument_of (meaning_in found s k) l)) q.0 q.1 in
       let t = mean_at (phrase (argued n z a)) p s in (
         form,
@@ -420,7 +421,7 @@ module _ (kinds values found : List ℕ) where
 
   -- ── marks ──
 
-  unheeded : (k : Mark) (p : Place) (s : Meant) (form target : ℕ) (first : Bool) → step (op_of (mark k)) (token_of (mark k)) (walk p s form target first) ≡ walk p s form target false
+  unheeded : (k : Mark) (p : Place) (s : Meant) (form : ℕ) (target : S.Option ℕ) (first : Bool) → step (op_of (mark k)) (token_of (mark k)) (walk p s form target first) ≡ walk p s form target false
   unfolding mean_event within_after form_after target_after first_after declared_after written_after form_at
   unheeded (looped t) p s form target first = refl
   unheeded (otherwise t) p s form target first = refl
@@ -435,7 +436,7 @@ module _ (kinds values found : List ℕ) where
   -- ── along the tape ──
 
   module _ (small : Small) (early : Early found) (N : ℕ) where
-    next : (e : Event) (p : Place) (c : Context) (s : Meant) (form target : ℕ) (first : Bool) → Placed kinds N e p → N ≡ length s.opens → Suits e c → Opens c s form target first
+    next : (e : Event) (p : Place) (c : Context) (s : Meant) (form : ℕ) (target : S.Option ℕ) (first : Bool) → Placed kinds N e p → N ≡ length s.opens → Suits e c → Opens c s form target first
         → Next e p c s form target first
     unfolding D.mean_event
     next e p c s form target first x l q o = go e x q o (settles e x)
@@ -475,5 +476,5 @@ meant-program kinds values found small early x i j h s l =
     let N = length s.opens in
     let (c, k, (form, target, first, e, o, w)) = follows-in (mean_event kinds values found) (D.mean_event kinds values found) (At kinds values found N) (Placed kinds N)
     (turn kinds values found small early N) (events_of x) [] nowhere
-    s (beginning (tabled s)) (text-placed kinds N (events_of x) [] i j l (program-text kinds x i j h) tt) (program-coherent x) (0, 0, false, refl, tt, refl) in
+    s (beginning (tabled s)) (text-placed kinds N (events_of x) [] i j l (program-text kinds x i j h) tt) (program-coherent x) (0, S.None, false, refl, tt, refl) in
     ap (λ (l : List ℕ). (pass (mean_event kinds values found) (beginning (tabled s)) l).meant) (tree-tape x) ∙ ap (λ (m : Meaning-walk). m.meant) e

@@ -2,20 +2,18 @@
 use mathlib.Core.Path.{◌≡◌, refl, ap, ◌∙◌}
 use mathlib.Core.Bool.{true, false}
 use mathlib.Core.List.{List, []}
-use Prim.Native.Nat.{ℕ, zero, suc, ◌+◌, ◌-◌, ◌^◌, ◌≤◌, ◌<◌}
+use Prim.Native.Nat.{ℕ, ◌+◌, ◌^◌, ◌≤◌, ◌<◌}
 use native.Mathlib.Omega.{arith}
 use native.Mathlib.Numerals.{add-one}
 use lib.Bits.{bit_or, or_lt}
 use lib.Pow.{pow-lt}
 use lib.ListN.{get_or, length}
-use Rattle.base.proofs.Numbers.{one_less}
 use Rattle.static_rules.specs.Registers.{Registers, add_register}
 use Rattle.static_rules.specs.Meaning.{Meaning, register, routine, meaning_of, register_of}
 use Rattle.static_rules.specs.Meanings.{Meant, mean, write, write_text, call_writes, open_base}
 use Rattle.tables.specs.Packed.{REGISTER, ROUTINE, low, packed, number_in, is_routine_in, based_in, unpacked, meanings_of, register_in, packed_at, set_of, sets_of}
 use Rattle.tables.proofs.Sets.{grown-by, grown-text}
 use Rattle.tables.proofs.Meanings.{as-routine}
-use Rattle.meanings.specs.Along.{write_target, write_lower}
 use Rattle.meanings.proofs.Moves.{register-at}
 use Rattle.meanings.proofs.Changes as changes
 use Rattle.ledger.specs.Book.{Wide, Thin, put_mean, put_under, put_opens, put_written, thin_limit}
@@ -69,18 +67,6 @@ module _ (w : Wide) (b : Thin) (n : ℕ) where
       (own t p m : ℕ) → p ≡ get_or b.found t 0 → m ≡ get_or w.means p 0 → is_routine_in m ≡ false
       → view_of w b n ≡ changed (call_writes (meaning_of b.found (meanings_of w.means w.under) t) own (get_or b.found t 0)) (view_of w b n)
   no_call own t p m e f h = ap (with-meant (view_of w b n)) (changes.no_call w.means w.under b.opens b.written n own b.found t p m e f h)
-
--- ── a target ──
-
-pub some-target : (own target : ℕ) (v : View) → (target ≡ 0 → ⊥) → changed (write own (target - 1)) v ≡ changed (write_target own target) v
-unfolding write_target
-some-target own zero v h = absurd (h refl)
-some-target own (suc r) v h = rw (one_less r)
-
-pub some-lower : (own target l : ℕ) (v : View) → (target ≡ 0 → ⊥) → l ≡ target - 1 - 1 → changed (write own l) v ≡ changed (write_lower own target) v
-unfolding write_lower
-some-lower own zero l v h e = absurd (h refl)
-some-lower own (suc r) l v h e = rw (e, one_less r)
 
 -- ── the names around the program ──
 

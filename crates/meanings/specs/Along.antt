@@ -1,6 +1,6 @@
 -- Meanings along a tape: what names mean and which registers procedures write, event by event. What a statement writes goes to the innermost open procedure;
 -- cells are under the base in force.
-use Rattle.std.specs.Prelude.{List, [], ◌∷◌, Bool, false, ◌&&◌, ◌||◌, not, ℕ, zero, suc, ◌+◌, ◌-◌, ◌%◌, eqb, get_or}
+use Rattle.std.specs.Prelude.{List, [], ◌∷◌, Bool, false, ◌&&◌, ◌||◌, not, ℕ, Option, Some, None, ◌+◌, ◌-◌, ◌%◌, eqb, get_or}
 use Rattle.base.specs.Choose.{whether◌then◌else◌}
 use Rattle.token.specs.Kinds as K
 use Rattle.tape.specs.Events as E
@@ -48,23 +48,23 @@ change_base r bases w = record { own = w.own; owners = w.owners; base = record {
 
 -- ── an event ──
 
--- the register that a target is, and one; 0 where it is none
-abbrev pub target_of : Meaning → ℕ
-target_of nothing = 0
-target_of (register r) = suc r
-target_of (cell c) = 0
-target_of (routine r) = 0
-target_of (function k) = 0
+-- the register that a target is
+abbrev pub target_of : Meaning → Option ℕ
+target_of nothing = None
+target_of (register r) = Some r
+target_of (cell c) = None
+target_of (routine r) = None
+target_of (function k) = None
 
 -- a target is written
-unfoldable pub write_target : ℕ → ℕ → Meant → Meant
-write_target own zero s = s
-write_target own (suc r) s = write own r s
+unfoldable pub write_target : ℕ → Option ℕ → Meant → Meant
+write_target own None s = s
+write_target own (Some r) s = write own r s
 
 -- a product writes the register below the target
-unfoldable pub write_lower : ℕ → ℕ → Meant → Meant
-write_lower own zero s = s
-write_lower own (suc r) s = write own (r - 1) s
+unfoldable pub write_lower : ℕ → Option ℕ → Meant → Meant
+write_lower own None s = s
+write_lower own (Some r) s = write own (r - 1) s
 
 unfoldable pub within_after : (found : List ℕ) (op t : ℕ) → List Meaning → ℕ → Within → Within
 within_after found op t means bases w =
@@ -83,10 +83,10 @@ form_after values op t form =
     form
 
 -- the register of a CASE is a target, as "The case register counts as written", and an argument where it is written; a number is none
-unfoldable pub target_after : (found : List ℕ) (op t : ℕ) → List Meaning → (first : Bool) → ℕ → ℕ
+unfoldable pub target_after : (found : List ℕ) (op t : ℕ) → List Meaning → (first : Bool) → Option ℕ → Option ℕ
 target_after found op t means first target =
     whether ((eqb (family_at op) E.TARGET || eqb (family_at op) E.CONTROL) || eqb op E.CHOSEN) || ((eqb (family_at op) E.ARGUED && first) && not (eqb (form_at op) E.NUMBER)) then target_of (meaning_of found means t) else
-    whether eqb (family_at op) E.ARGUED then 0 else
+    whether eqb (family_at op) E.ARGUED then None else
     target
 
 -- "IC, LA and LTR write the first": the argument that follows is written
@@ -106,10 +106,10 @@ declared_after values found op t own b form s =
 unfoldable pub is_product_at : (kinds found : List ℕ) (op t : ℕ) → List Meaning → Bool
 is_product_at kinds found op t means = eqb (get_or kinds (t - 1) 0) K.TIMES && (eqb (form_at op) E.NUMBER || is_long (meaning_of found means t))
 
-unfoldable pub write_product : (kinds found : List ℕ) (op t own target : ℕ) → Meant → Meant
+unfoldable pub write_product : (kinds found : List ℕ) (op t own : ℕ) → Option ℕ → Meant → Meant
 write_product kinds found op t own target s = whether is_product_at kinds found op t s.means then write_lower own target s else s
 
-unfoldable pub written_after : (kinds found : List ℕ) (op t own target : ℕ) → Meant → Meant
+unfoldable pub written_after : (kinds found : List ℕ) (op t own : ℕ) → Option ℕ → Meant → Meant
 written_after kinds found op t own target s =
     whether ((eqb (family_at op) E.TARGET || eqb (family_at op) E.CONTROL) || eqb op E.CHOSEN) || eqb (family_at op) E.ARGUED then write_target own target s else
     whether eqb (family_at op) E.TERM then write_product kinds found op t own target s else
@@ -121,7 +121,7 @@ written_after kinds found op t own target s =
 pub record Meaning-walk : Type 0 where
   pub within : Within
   pub form : ℕ
-  pub target : ℕ
+  pub target : Option ℕ
   pub first : Bool
   pub meant : Meant
 
@@ -143,4 +143,4 @@ abbrev pub outside : Within
 outside = record { own = 0; owners = []; base = data_base; outer = [] }
 
 abbrev pub beginning : Meant → Meaning-walk
-beginning s = record { within = outside; form = 0; target = 0; first = false; meant = s }
+beginning s = record { within = outside; form = 0; target = None; first = false; meant = s }

@@ -1,5 +1,5 @@
 -- The state of the walk as arrays, and what the ledger shows of the tables.
-use Rattle.std.specs.Prelude.{◌≡◌, List, [], map, ℕ, zero, suc, ◌-◌, ◌<◌, ltb, set, length}
+use Rattle.std.specs.Prelude.{◌≡◌, List, [], map, ℕ, zero, suc, Option, Some, None, ◌-◌, ◌<◌, ltb, set, length}
 use Rattle.base.specs.Choose.{whether◌then◌else◌}
 use Rattle.grammar.specs.Grammar.{nesting}
 use Rattle.ledger.specs.Book.{Wide, Thin, on_wide}
@@ -49,9 +49,9 @@ unfoldable pub standard_named : ℕ → List ℕ → List ℕ
 standard_named zero means = means
 standard_named (suc n) means = set (standard_named n means) (suc n) (standard_meaning n)
 
--- of a packed meaning, the register that it is, and one; 0 where it is none
-unfoldable pub target_in : ℕ → ℕ
-target_in m = whether is_register_in m then suc (number_in m) else 0
+-- of a packed meaning, the register that it is
+unfoldable pub target_in : ℕ → Option ℕ
+target_in m = whether is_register_in m then Some (number_in m) else None
 
 -- ── what the ledger shows: the tables that this pass makes, beside the lists that it leaves ──
 

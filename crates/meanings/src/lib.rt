@@ -16,7 +16,9 @@ ghost use Rattle.meanings.specs.Flat.{within_of, Moved, target_in, view_of, chan
 use arrays::{kind, put_wide};
 use base::less;
 use ledger::{found, mean, meaning, put_mean, put_opens, put_under, put_written, value, written};
-use tables::{is_long, is_register, is_routine, number, packed, register, top};
+use tables::{
+    Sort, Width, is_long, is_register, is_routine, number, packed, register, top, width_by,
+};
 use tape::family;
 
 // The innermost open procedure and how many are around it; the base in force, its register times 2^32 and its segment, and how many blocks are open.
@@ -38,10 +40,8 @@ fn enter_block(outer: &mut [u64], s: Scope) -> Scope
     let base = s.base;
     put_wide(outer, depth, base);
     Scope {
-        own: s.own,
-        owners: s.owners,
-        base,
         outer: depth + 1,
+        ..s
     }
 }
 
@@ -50,10 +50,9 @@ fn leave_block(outer: &[u64], s: Scope) -> Scope
 {
     let depth = s.outer;
     Scope {
-        own: s.own,
-        owners: s.owners,
         base: top(outer, depth),
         outer: less(depth, 1),
+        ..s
     }
 }
 
@@ -67,8 +66,7 @@ fn enter_procedure(owners: &mut [u64], t: usize, s: Scope) -> Scope
     Scope {
         own: t,
         owners: depth + 1,
-        base: s.base,
-        outer: s.outer,
+        ..s
     }
 }
 
@@ -79,8 +77,7 @@ fn leave_procedure(owners: &[u64], s: Scope) -> Scope
     Scope {
         own: top(owners, depth) as usize,
         owners: less(depth, 1),
-        base: s.base,
-        outer: s.outer,
+        ..s
     }
 }
 
@@ -92,10 +89,8 @@ fn change_base(wide: &[u64], thin: &[u16], bases: usize, t: usize, s: Scope) -> 
 {
     let r = register(meaning(wide, thin, t));
     Scope {
-        own: s.own,
-        owners: s.owners,
         base: r * 4294967296 + (bases as u64 + 2),
-        outer: s.outer,
+        ..s
     }
 }
 
@@ -139,28 +134,35 @@ fn form_after(op: u32, t: usize, wide: &[u64], form: u64) -> u64
     ensures { result ≡ form_after (wide_of wide.now).values op t form }
 {
     let k = family(op);
-    let width = (tape::form(op) % 4) as u64;
+    let width = width_by(tape::form(op) as u64);
     if k == tape::SINGLE_FULL {
-        return packed(tables::CELL, width, 1);
+        return packed(Sort::Cell, width, 1);
     }
     if k == tape::ARRAY_FULL {
-        return packed(tables::ARRAY, width, value(wide, t));
+        return packed(Sort::Array, width, value(wide, t));
     }
     form
 }
 
-// The register that a packed meaning is, and one; 0 where it is none.
-fn target_of(m: u64) -> usize
+// The register that a packed meaning is.
+fn target_of(m: u64) -> Option<u64>
     ensures { result ≡ target_in m }
 {
     if is_register(m) {
-        return number(m) as usize + 1;
+        return Some(number(m));
     }
-    0
+    None
 }
 
 // The register of a CASE is a target, as "The case register counts as written", and an argument where it is written; a number is none.
-fn target_after(op: u32, t: usize, wide: &[u64], thin: &[u16], first: bool, target: usize) -> usize
+fn target_after(
+    op: u32,
+    t: usize,
+    wide: &[u64],
+    thin: &[u16],
+    first: bool,
+    target: Option<u64>,
+) -> Option<u64>
     ensures { (under : List ℕ) → result ≡ target_after (thin_of thin.now).found op t (meanings_of (wide_of wide.now).means under) first target }
 {
     let k = family(op);
@@ -174,7 +176,7 @@ fn target_after(op: u32, t: usize, wide: &[u64], thin: &[u16], first: bool, targ
         return target_of(meaning(wide, thin, t));
     }
     if argued {
-        return 0;
+        return None;
     }
     target
 }
@@ -184,7 +186,7 @@ fn first_after(op: u32, t: usize, wide: &[u64], thin: &[u16]) -> bool
     ensures { (under : List ℕ) → result ≡ first_after (thin_of thin.now).found op t (meanings_of (wide_of wide.now).means under) }
 {
     if op == tape::APPLIED {
-        return functions::writes_first(functions::meant(meaning(wide, thin, t)));
+        return functions::meant(meaning(wide, thin, t)).writes_first();
     }
     false
 }
@@ -239,7 +241,7 @@ fn declare_routine(wide: &mut [u64], thin: &[u16], t: usize)
         (view_of (wide_of wide.old) (thin_of thin.now) n) }
 {
     let r = register(meaning(wide, thin, t + 2));
-    put_mean(wide, t, packed(tables::ROUTINE, 0, r));
+    put_mean(wide, t, packed(Sort::Routine, Width::Full, r));
 }
 
 fn declared_after(
@@ -259,7 +261,11 @@ fn declared_after(
     let own = s.own;
     let base = s.base;
     if op == tape::REGISTER {
-        put_mean(wide, t, packed(tables::REGISTER, 0, value(wide, t + 2)));
+        put_mean(
+            wide,
+            t,
+            packed(Sort::Register, Width::Full, value(wide, t + 2)),
+        );
         return bases;
     }
     if op == tape::ITEM {
@@ -283,22 +289,20 @@ fn declared_after(
 
 // ── what statements write ──
 
-fn write_target(thin: &mut [u16], own: usize, target: usize)
+fn write_target(thin: &mut [u16], own: usize, target: Option<u64>)
     ensures { (w : Wide) (n : ℕ) → view_of w (thin_of thin.new) n ≡ changed (write_target own target) (view_of w (thin_of thin.old) n) }
 {
-    if target == 0 {
-        return;
+    if let Some(r) = target {
+        write(thin, own, r);
     }
-    write(thin, own, (target - 1) as u64);
 }
 
-fn write_lower(thin: &mut [u16], own: usize, target: usize)
+fn write_lower(thin: &mut [u16], own: usize, target: Option<u64>)
     ensures { (w : Wide) (n : ℕ) → view_of w (thin_of thin.new) n ≡ changed (write_lower own target) (view_of w (thin_of thin.old) n) }
 {
-    if target == 0 {
-        return;
+    if let Some(r) = target {
+        write(thin, own, r.saturating_sub(1));
     }
-    write(thin, own, less(target - 1, 1) as u64);
 }
 
 // The operator stands before its operand.
@@ -317,7 +321,7 @@ fn write_product(
     wide: &[u64],
     thin: &mut [u16],
     own: usize,
-    target: usize,
+    target: Option<u64>,
 )
     ensures { (n : ℕ) → view_of (wide_of wide.now) (thin_of thin.new) n ≡ changed
         (write_product kinds.now (thin_of thin.old).found op t own target)
@@ -349,7 +353,7 @@ fn written_after(
     wide: &[u64],
     thin: &mut [u16],
     own: usize,
-    target: usize,
+    target: Option<u64>,
 )
     ensures { (n : ℕ) → view_of (wide_of wide.now) (thin_of thin.new) n ≡ changed
         (written_after kinds.now (thin_of thin.old).found op t own target)
@@ -381,19 +385,17 @@ fn standard_meaning(n: usize) -> u64
     ensures { result ≡ standard_meaning n }
 {
     if n < REGISTER_NAMES {
-        return packed(tables::REGISTER, 0, n as u64);
+        return packed(Sort::Register, Width::Full, n as u64);
     }
-    packed(tables::FUNCTION, 0, (n - REGISTER_NAMES) as u64)
+    packed(Sort::Function, Width::Full, (n - REGISTER_NAMES) as u64)
 }
 
 // "R0 to R9 and RA to RF are declared in a block around the program.", and so are the standard functions.
 fn name_standard(wide: &mut [u64])
     ensures { wide_of wide.new ≡ named_to standard_names (wide_of wide.old) }
 {
-    let mut n: usize = 0;
-    while n < STANDARD_NAMES {
+    for n in 0..STANDARD_NAMES {
         put_mean(wide, n + 1, standard_meaning(n));
-        n += 1;
     }
 }
 
@@ -421,14 +423,12 @@ pub fn meanings(
         outer: 0,
     };
     let mut form: u64 = 0;
-    let mut target: usize = 0;
+    let mut target: Option<u64> = None;
     let mut first = false;
     let mut bases: usize = 0;
-    let mut i: usize = 0;
-    while i < tape.len() {
-        let e = tape[i];
-        let op = tape::op(e);
-        let t = tape::token(e);
+    for e in tape {
+        let op = tape::op(*e);
+        let t = tape::token(*e);
         s = within_after(op, t, wide, thin, bases, owners, outer, s);
         form = form_after(op, t, wide, form);
         target = target_after(op, t, wide, thin, first, target);
@@ -436,7 +436,6 @@ pub fn meanings(
         bases = declared_after(op, t, wide, thin, s, form, bases);
         let own = s.own;
         written_after(op, t, kinds, wide, thin, own, target);
-        i += 1;
     }
     bases
 }

@@ -3,11 +3,12 @@
 --       RE := R1;
 --       ^^ the data base: cells without SEGMENT BASE belong to it
 use Rattle.std.specs.Prelude.{ℕ, Bool, List, ◌++◌, eqb, ltb, leb, length, get_or, replicate}
+use Rattle.std.specs.Option.{unwrap_or}
 use Rattle.base.specs.Choose.{choose}
 use Rattle.base.specs.Text.{bytes, within}
 use Rattle.spots.specs.declared.Spot.{Spot}
 use Rattle.figures.specs.Digits.{decimal}
-use Rattle.figures.specs.Parts.{part_of, filled}
+use Rattle.figures.specs.Parts.{filled, entry_of}
 use Rattle.words.specs.Wishes.{register_in}
 use Rattle.excerpts.specs.Lines.{shown_before, shown_line, word_at, wide_at, place_text, line_text}
 use Rattle.messages.specs.Phrases.{headlines, notes, faults}
@@ -45,34 +46,35 @@ note_for number b register ends =
 abbrev pub figure_for : ℕ → ℕ → ℕ → ℕ → ℕ
 figure_for number b register place = choose (eqb number 2) b (choose (eqb number 10) register place)
 
-unfoldable pub head_text : ℕ → ℕ → ℕ → List ℕ
-head_text number k n = bytes ": refusal " ++ decimal number ++ bytes ": " ++ filled n (part_of 10 k headlines) ++ bytes "\n"
+abbrev pub head_text : ℕ → ℕ → ℕ → List ℕ
+head_text number k n = bytes ": refusal " ++ decimal number ++ bytes ": " ++ filled n (entry_of headlines k) ++ bytes "\n"
 
-unfoldable pub caret_text : ℕ → ℕ → ℕ → List ℕ
-caret_text before wide k = replicate before 32 ++ replicate wide 94 ++ filled 0 (part_of 10 k notes) ++ bytes "\n"
+abbrev pub caret_text : ℕ → ℕ → ℕ → List ℕ
+caret_text before wide k = replicate before 32 ++ replicate wide 94 ++ entry_of notes k ++ bytes "\n"
 
 -- what is said of a place of a text
-unfoldable pub register_at : List ℕ → ℕ → ℕ
-register_at text place = register_in (word_at text place)
+-- 16 where the word there names no register
+abbrev pub register_at : List ℕ → ℕ → ℕ
+register_at text place = unwrap_or (register_in (word_at text place)) 16
 
-unfoldable pub headline_at : ℕ → List ℕ → ℕ → ℕ
+abbrev pub headline_at : ℕ → List ℕ → ℕ → ℕ
 headline_at number text place = headline number (get_or text place 0) (register_at text place) (leb (length text) place)
 
-unfoldable pub figure_at : ℕ → List ℕ → ℕ → ℕ
+abbrev pub figure_at : ℕ → List ℕ → ℕ → ℕ
 figure_at number text place = figure_for number (get_or text place 0) (register_at text place) place
 
-unfoldable pub note_at : ℕ → List ℕ → ℕ → ℕ
+abbrev pub note_at : ℕ → List ℕ → ℕ → ℕ
 note_at number text place = note_for number (get_or text place 0) (register_at text place) (leb (length text) place)
 
-unfoldable pub first_line : List ℕ → ℕ → Spot → List ℕ → List ℕ
+abbrev pub first_line : List ℕ → ℕ → Spot → List ℕ → List ℕ
 first_line file number p text =
     place_text file p.line p.column ++ head_text number (headline_at number text p.place) (figure_at number text p.place)
 
-unfoldable pub other_lines : ℕ → Spot → List ℕ → List ℕ
+abbrev pub other_lines : ℕ → Spot → List ℕ → List ℕ
 other_lines number p text =
     line_text (shown_line text p.place p.column) ++ caret_text (shown_before p.column) (wide_at text p.place) (note_at number text p.place)
 
-unfoldable pub placed_text : List ℕ → ℕ → Spot → List ℕ → List ℕ
+abbrev pub placed_text : List ℕ → ℕ → Spot → List ℕ → List ℕ
 placed_text file number p text = first_line file number p text ++ other_lines number p text
 
 -- where no line is reported, nothing of the text is shown
@@ -89,4 +91,4 @@ equal_text source object = object ++ bytes ": the object text of " ++ source ++ 
 
 -- a word of the command line that is wrong
 abbrev pub fault_text : List ℕ → ℕ → List ℕ
-fault_text word why = bytes "tautgaff: `" ++ word ++ bytes "`: " ++ filled 0 (part_of 10 why faults) ++ bytes "\n"
+fault_text word why = bytes "tautgaff: `" ++ word ++ bytes "`: " ++ entry_of faults why ++ bytes "\n"

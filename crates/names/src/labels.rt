@@ -1,7 +1,7 @@
 // Document 01, "Names, cells, protected registers": which label each GOTO means, refusals 6, 7 and 13 of labels, in two loops along the tape. "Labels are a
 // separate set, found forward or backward in enclosing blocks, but never past the edge of a procedure body": so the first loop chains them. The chains stand in
 // two columns of the ledger: labels in `opens`, and in `written` the blocks around each block.
-ghost use Rattle.std.specs.Prelude.{◌≡◌, true, List, ℕ, ◌≤◌, ◌<◌, length, get_or};
+ghost use Rattle.std.specs.Prelude.{◌≡◌, true, List, ℕ, ◌≤◌, ◌<◌, length, get_or, IfSome, unwrap_or};
 ghost use Rattle.ledger.specs.Book.{wide_of, thin_of, on_thin, thin_limit};
 ghost use Rattle.ledger.specs.Bounds.{noted, Narrow};
 ghost use Rattle.scopes.specs.Search.{in_block, find};
@@ -12,7 +12,7 @@ ghost use Rattle.names.specs.Labelling.{label_at, linked, Chained, labelled_by, 
 
 use crate::{entered, sought};
 use ledger::{opens, put_goes, put_opens, put_written, value, written};
-use scopes::{Broken, Noted};
+use scopes::Noted;
 
 // "257th label, in the program".
 const MOST_LABELS: usize = 256;
@@ -27,32 +27,33 @@ fn after(next: usize, t: usize) -> usize
     if next < t { next } else { 0 }
 }
 
-// The first label from one on, along its chain, that has this key, or 0.
-fn in_chain(wide: &[u64], thin: &[u16], wanted: u64, newest: usize) -> usize
+// The first label from one on, along its chain, that has this key.
+fn in_chain(wide: &[u64], thin: &[u16], wanted: u64, newest: usize) -> Option<usize>
     requires { newest < thin_limit }
-    ensures { (result ≡ in_block (wide_of wide.now).values wanted (chain (thin_of thin.now).opens newest) 0) × (result < thin_limit) }
+    ensures is { (further : ℕ) → unwrap_or result further ≡ in_block (wide_of wide.now).values wanted (chain (thin_of thin.now).opens newest) further }
+    ensures small { IfSome result (λ l. l < thin_limit) }
 {
     let mut l = newest;
     while 0 < l {
         if value(wide, l) == wanted {
-            return l;
+            return Some(l);
         }
         l = after(opens(thin, l), l);
     }
-    0
+    None
 }
 
 // The search goes outward from a block, as far as the edge of the procedure body, and ends at the first match.
+// Kept: 0 for none, as the definition `find` (scopes/specs/Search) and the ledger's column `goes` have it.
 fn lookup(wide: &[u64], thin: &[u16], wanted: u64, block: usize) -> usize
     ensures { (result ≡ find (wide_of wide.now).values wanted (blocks_in (thin_of thin.now).opens (thin_of thin.now).written block)) × (result < thin_limit) }
 {
     let mut b = block;
     while 0 < b {
-        let l = in_chain(wide, thin, wanted, opens(thin, b));
-        if 0 < l {
-            return l;
+        match in_chain(wide, thin, wanted, opens(thin, b)) {
+            Some(l) => return l,
+            None => b = after(written(thin, b), b),
         }
-        b = after(written(thin, b), b);
     }
     0
 }
@@ -104,16 +105,13 @@ fn link_all(tape: &[u32], thin: &mut [u16])
     ensures { Chained tape.now (thin_of thin.old) (thin_of thin.new) }
 {
     let mut block: usize = 0;
-    let mut i: usize = 0;
-    while i < tape.len() {
-        let e = tape[i];
-        let op = tape::op(e);
-        let t = tape::token(e);
+    for e in tape {
+        let op = tape::op(*e);
+        let t = tape::token(*e);
         let next = block_after(op, t, thin, block);
         link(op, t, block, thin);
         enclose(op, t, block, thin);
         block = next;
-        i += 1;
     }
 }
 
@@ -125,12 +123,8 @@ fn set_label(wide: &[u64], thin: &[u16], t: usize, n: Noted) -> Noted
         (chain (thin_of thin.now).opens (after_of (thin_of thin.now).opens t)) (labelled_in goes n) }
 {
     let earlier = after(opens(thin, t), t);
-    entered(
-        in_chain(wide, thin, value(wide, t), earlier),
-        MOST_LABELS,
-        t,
-        n,
-    )
+    let first = in_chain(wide, thin, value(wide, t), earlier);
+    entered(first.unwrap_or(0), MOST_LABELS, t, n)
 }
 
 fn bind(wide: &[u64], thin: &mut [u16], block: usize, t: usize, n: Noted) -> Noted
@@ -165,16 +159,13 @@ fn label_all(tape: &[u32], wide: &[u64], thin: &mut [u16]) -> Noted
     let mut block: usize = 0;
     let mut n = Noted {
         count: 0,
-        broken: Broken { number: 0, at: 0 },
+        broken: None,
     };
-    let mut i: usize = 0;
-    while i < tape.len() {
-        let e = tape[i];
-        let op = tape::op(e);
-        let t = tape::token(e);
+    for e in tape {
+        let op = tape::op(*e);
+        let t = tape::token(*e);
         n = label_at(op, t, wide, thin, block, n);
         block = block_after(op, t, thin, block);
-        i += 1;
     }
     n
 }

@@ -4,7 +4,7 @@
 
 pub mod labels;
 
-ghost use Rattle.std.specs.Prelude.{◌≡◌, true, List, [], ◌∷◌, ℕ, ◌+◌, ◌-◌, ◌*◌, ◌/◌, ◌≤◌, ◌<◌, length};
+ghost use Rattle.std.specs.Prelude.{◌≡◌, true, List, [], ◌∷◌, ℕ, ◌+◌, ◌-◌, ◌*◌, ◌/◌, ◌≤◌, ◌<◌, length, IfSome, unwrap_or};
 ghost use Rattle.tape.specs.Pass.{pass};
 ghost use Rattle.ledger.specs.Book.{wide_of, thin_of, thin_limit};
 ghost use Rattle.ledger.specs.Bounds.{noted, Narrow};
@@ -14,9 +14,8 @@ ghost use Rattle.names.specs.Judged.{entered as entered_by, sought as sought_by}
 ghost use Rattle.names.specs.Naming.{outer, blocks_after, declare_at, use_register, use_place, use_at, name_op, beginning};
 ghost use Rattle.names.specs.Flat.{span, blocks_of, blocks_in, named_in, Rising, Roomy, Changed, Stays, search_in, naming, Begun};
 
-use base::less;
 use ledger::{opens, put_found, put_opens, put_written, value, written};
-use scopes::{Broken, Noted, join, rule};
+use scopes::{Noted, Refusal, join, rule};
 
 // "257th declared name … in the program".
 const MOST_NAMES: usize = 256;
@@ -30,43 +29,34 @@ pub struct Blocks {
 
 // ── the search ──
 
-// The newest of the entries from lo up to hi whose name has this key, or 0.
-fn in_block(wide: &[u64], thin: &[u16], wanted: u64, lo: usize, hi: usize) -> usize
-    ensures { result ≡ in_block (wide_of wide.now).values wanted (span (thin_of thin.now).opens lo hi) 0 }
+// The newest of the entries from lo up to hi whose name has this key.
+fn in_block(wide: &[u64], thin: &[u16], wanted: u64, lo: usize, hi: usize) -> Option<usize>
+    ensures is { (further : ℕ) → unwrap_or result further ≡ in_block (wide_of wide.now).values wanted (span (thin_of thin.now).opens lo hi) further }
+    ensures small { IfSome result (λ d. d < thin_limit) }
 {
-    let mut j = hi;
-    while lo < j {
-        j -= 1;
+    for j in (lo..hi).rev() {
         let d = opens(thin, j);
         if value(wide, d) == wanted {
-            return d;
+            return Some(d);
         }
     }
-    0
+    None
 }
 
 // "the search goes outward from the innermost block and ends at the first match"
+// Kept: 0 for none, as the definition `find` (scopes/specs/Search) and the ledger's column `found` have it; so in `entered` and `sought`.
 fn lookup(wide: &[u64], thin: &[u16], wanted: u64, depth: usize, count: usize) -> usize
     ensures { (result ≡ find (wide_of wide.now).values wanted (blocks_of (thin_of thin.now).opens (thin_of thin.now).written depth count)) × (result < thin_limit) }
 {
     let mut end = count;
-    let mut left = depth;
-    let mut found: usize = 0;
-    'search: while 0 < left {
-        left -= 1;
-        let start = written(thin, left);
-        let mut j = end;
-        while start < j {
-            j -= 1;
-            let d = opens(thin, j);
-            if value(wide, d) == wanted {
-                found = d;
-                break 'search;
-            }
+    for b in (0..depth).rev() {
+        let start = written(thin, b);
+        match in_block(wide, thin, wanted, start, end) {
+            Some(d) => return d,
+            None => end = start,
         }
-        end = start;
     }
-    found
+    0
 }
 
 // ── the open blocks ──
@@ -76,12 +66,10 @@ fn open_block(thin: &mut [u16], b: Blocks) -> Blocks
     ensures { Changed ([] ∷ blocks_in (thin_of thin.old) b) (thin_of thin.new) b result
         × Stays (thin_of thin.old) (thin_of thin.new) × ((result.depth ≡ b.depth + 1) × (result.count ≡ b.count)) }
 {
-    let depth = b.depth;
-    let count = b.count;
-    put_written(thin, depth, count);
+    put_written(thin, b.depth, b.count);
     Blocks {
-        depth: depth + 1,
-        count,
+        depth: b.depth + 1,
+        ..b
     }
 }
 
@@ -89,15 +77,12 @@ fn close_block(thin: &[u16], b: Blocks) -> Blocks
     requires { Rising (thin_of thin.now).written b.depth b.count }
     ensures { Changed (outer (blocks_in (thin_of thin.now) b)) (thin_of thin.now) b result }
 {
-    let depth = b.depth;
-    if depth == 0 {
+    if b.depth == 0 {
         return b;
     }
-    let count = written(thin, depth - 1);
-    Blocks {
-        depth: depth - 1,
-        count,
-    }
+    let depth = b.depth - 1;
+    let count = written(thin, depth);
+    Blocks { depth, count }
 }
 
 fn enter_name(thin: &mut [u16], t: usize, b: Blocks) -> Blocks
@@ -105,12 +90,10 @@ fn enter_name(thin: &mut [u16], t: usize, b: Blocks) -> Blocks
     ensures { Changed (enter t (blocks_in (thin_of thin.old) b)) (thin_of thin.new) b result
         × Stays (thin_of thin.old) (thin_of thin.new) × ((result.depth ≡ b.depth) × (result.count ≡ b.count + 1)) }
 {
-    let depth = b.depth;
-    let count = b.count;
-    put_opens(thin, count, t);
+    put_opens(thin, b.count, t);
     Blocks {
-        depth,
-        count: count + 1,
+        count: b.count + 1,
+        ..b
     }
 }
 
@@ -137,13 +120,11 @@ fn entered(earlier: usize, most: usize, t: usize, n: Noted) -> Noted
     requires { n.count < 4294967296 }
     ensures { result ≡ entered_by earlier most t n }
 {
-    let count = n.count;
-    let broken = n.broken;
-    let once = rule(earlier == 0, 7, t);
-    let few = rule(count < most, 13, t);
+    let once = rule(earlier == 0, Refusal::Twice, t);
+    let few = rule(n.count < most, Refusal::TooMany, t);
     Noted {
-        count: count + 1,
-        broken: join(broken, join(once, few)),
+        count: n.count + 1,
+        broken: join(n.broken, join(once, few)),
     }
 }
 
@@ -151,11 +132,9 @@ fn entered(earlier: usize, most: usize, t: usize, n: Noted) -> Noted
 fn sought(d: usize, t: usize, n: Noted) -> Noted
     ensures { result ≡ sought_by d t n }
 {
-    let count = n.count;
-    let broken = n.broken;
     Noted {
-        count,
-        broken: join(broken, rule(0 < d, 6, t)),
+        broken: join(n.broken, rule(0 < d, Refusal::NotFound, t)),
+        ..n
     }
 }
 
@@ -165,29 +144,25 @@ fn sought(d: usize, t: usize, n: Noted) -> Noted
 fn innermost_start(thin: &[u16], b: Blocks) -> usize
     ensures { innermost (blocks_in (thin_of thin.now) b) ≡ span (thin_of thin.now).opens result b.count }
 {
-    let depth = b.depth;
-    let count = b.count;
-    if depth == 0 {
-        return count;
+    if b.depth == 0 {
+        return b.count;
     }
-    written(thin, depth - 1)
+    written(thin, b.depth - 1)
 }
 
 fn declare_name(wide: &[u64], thin: &[u16], b: Blocks, t: usize, n: Noted) -> Noted
     requires { n.count < 4294967296 }
     ensures { (found : List ℕ) → named_in found result ≡ declare_name (wide_of wide.now).values t (blocks_in (thin_of thin.now) b) (named_in found n) }
 {
-    let hi = b.count;
-    let earlier = in_block(wide, thin, value(wide, t), innermost_start(thin, b), hi);
-    entered(earlier, MOST_NAMES, t, n)
+    let start = innermost_start(thin, b);
+    let earlier = in_block(wide, thin, value(wide, t), start, b.count);
+    entered(earlier.unwrap_or(0), MOST_NAMES, t, n)
 }
 
 fn use_name(wide: &[u64], thin: &mut [u16], b: Blocks, t: usize, n: Noted) -> Noted
     ensures { search_in (thin_of thin.new) result ≡ naming b (use_name (wide_of wide.now).values t) (search_in (thin_of thin.old) n) }
 {
-    let depth = b.depth;
-    let hi = b.count;
-    let d = lookup(wide, thin, value(wide, t), depth, hi);
+    let d = lookup(wide, thin, value(wide, t), b.depth, b.count);
     put_found(thin, t, d);
     sought(d, t, n)
 }
@@ -212,7 +187,7 @@ fn use_register(op: u32, t: usize, wide: &[u64], thin: &mut [u16], b: Blocks, n:
         return use_name(wide, thin, b, t + 2, n);
     }
     if tape::family(op) == tape::COMPARED {
-        return use_name(wide, thin, b, less(t, 2), n);
+        return use_name(wide, thin, b, t.saturating_sub(2), n);
     }
     n
 }
@@ -253,10 +228,8 @@ fn open_around(thin: &mut [u16]) -> Blocks
     ensures { Begun (thin_of thin.new) result × Stays (thin_of thin.old) (thin_of thin.new) }
 {
     let mut b = open_block(thin, Blocks { depth: 0, count: 0 });
-    let mut t: usize = STANDARD_NAMES;
-    while 0 < t {
+    for t in (1..=STANDARD_NAMES).rev() {
         b = enter_name(thin, t, b);
-        t -= 1;
     }
     b
 }
@@ -269,17 +242,14 @@ pub fn names(tape: &[u32], wide: &[u64], thin: &mut [u16]) -> Noted
     let mut b = open_around(thin);
     let mut n = Noted {
         count: 0,
-        broken: Broken { number: 0, at: 0 },
+        broken: None,
     };
-    let mut i: usize = 0;
-    while i < tape.len() {
-        let e = tape[i];
-        let op = tape::op(e);
-        let t = tape::token(e);
+    for e in tape {
+        let op = tape::op(*e);
+        let t = tape::token(*e);
         n = declare_at(op, t, wide, thin, b, n);
         b = blocks_after(op, t, thin, b);
         n = use_at(op, t, wide, thin, b, n);
-        i += 1;
     }
     n
 }

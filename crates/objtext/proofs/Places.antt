@@ -5,12 +5,14 @@ use mathlib.Core.Bool.{Bool, true, false, ◌&&◌}
 use mathlib.Core.List.{List, ◌++◌}
 use native.Mathlib.Omega.{arith}
 use native.Mathlib.Decide.{dec_le}
-use lib.Dec.{eqb, leb}
+use lib.Dec.{eqb, leb, ltb, T}
 use lib.ListN.{length, drop, get_or, set, length-append, drop_of_length-le, get_or-append}
 use lib.Seq.{drop-drop, get_or-drop, get_or-append-add, sets}
-use borrow.Author.Tests.{lt-ltb, le-ltb, le-leb, lt-leb}
+use borrow.Author.Tests.{lt-ltb, le-leb, lt-leb}
+use Rattle.std.specs.Prelude as P
 use Rattle.base.proofs.Tests.{cases}
 use Rattle.base.proofs.Parts.{drop-turn}
+use Rattle.base.specs.Choose.{choose}
 use Rattle.objtext.specs.Object.{frames_for, newline, program_limit, data_limit}
 use Rattle.objtext.specs.Reader.{digit_of, join_of, byte_of, front_bytes, two_of, is_line, content_length, is_content_frame, is_content, content_at, head_length, head_from, head_to, is_program_head, is_data_head, also, is_program, after_program, is_data, after_data, frame_line, data_line, program_line, program_head_bytes, data_head_bytes, frame_head_bytes, bytes_place}
 
@@ -22,55 +24,74 @@ byte-place t i =
     let z : i + 0 ≡ i = omega arith in
     rw (get_or-drop i t 0 0, get_or-drop i t 1 0, z)
 
+-- no digit stands first, or second; or both are digits
+pub no-high : (t : List ℕ) (i : ℕ) → digit_of (get_or t i 0) ≡ 16 → byte_of (drop i t) ≡ 256
+no-high t i h = sym (byte-place t i) ∙ rw h
+
+module _ (t : List ℕ) (i high : ℕ) (h : (digit_of (get_or t i 0) ≡ high) × (high < 16)) where
+  joined : (low : ℕ) → digit_of (get_or t (i + 1) 0) ≡ low → byte_of (drop i t) ≡ choose (ltb low 16) (high * 16 + low) 256
+  joined low e = sym (byte-place t i) ∙ rw (h.0, e, lt-ltb high 16 h.1)
+
+  pub no-low : digit_of (get_or t (i + 1) 0) ≡ 16 → byte_of (drop i t) ≡ 256
+  no-low l = joined 16 l
+
+  pub both_digits : (low : ℕ) → (digit_of (get_or t (i + 1) 0) ≡ low) × (low < 16) → (byte_of (drop i t) ≡ high * 16 + low) × (high * 16 + low < 256)
+  both_digits low l = let k = h.1 in let m = l.1 in (joined low l.0 ∙ rw (lt-ltb low 16 m), omega arith)
+
+pub is-byte : (o : P.Option ℕ) (n : ℕ) → P.is_some o ≡ true → P.MatchOption o (n ≡ 256) (λ b. (n ≡ b) × (b < 256)) → n < 256
+is-byte P.None n h m = absurd (subst T (sym h) tt)
+is-byte (P.Some b) n h m = let l = m.1 in omega (arith, m.0)
+
 pub two-place : (t : List ℕ) (i : ℕ) → byte_of (drop i t) * 256 + byte_of (drop (i + 2) t) ≡ two_of (drop i t)
 unfolding two_of
 two-place t i = rw (drop-drop 2 i t)
 
 -- ── lines ──
 
-module _ (t : List ℕ) (at left : ℕ) (h : 0 < left) where
-  pub line_on : byte_of (drop at t) < 256 → {x : Bool} → is_line left (drop at t) ≡ x → is_line (left - 1) (drop (at + 2) t) ≡ x
-  line_on b {x} = go left h
-    where
-      go : (n : ℕ) → 0 < n → is_line n (drop at t) ≡ x → is_line (n - 1) (drop (at + 2) t) ≡ x
-      go zero z e = absurd (omega arith)
-      go (suc n) z e = let w : suc n - 1 ≡ n = omega arith in rw (w, ← drop-drop 2 at t) (rw (lt-ltb (byte_of (drop at t)) 256 b) at e)
+-- the turn at byte j of a line of n bytes
+module _ (t : List ℕ) (i n j : ℕ) (h : j < n) where
+  left : is_line (n - j) (drop (i + 2 * j) t) ≡ (ltb (byte_of (drop (i + 2 * j) t)) 256 && is_line (n - (j + 1)) (drop (i + 2 * (j + 1)) t))
+  left =
+      let w : n - j ≡ suc (n - (j + 1)) = omega arith in
+      let p : i + 2 * j + 2 ≡ i + 2 * (j + 1) = omega arith in
+      rw (w, drop-drop 2 (i + 2 * j) t, p)
 
-  pub line-stop : 256 ≤ byte_of (drop at t) → {x : Bool} → is_line left (drop at t) ≡ x → false ≡ x
-  line-stop b {x} = go left h
-    where
-      go : (n : ℕ) → 0 < n → is_line n (drop at t) ≡ x → false ≡ x
-      go zero z e = absurd (omega arith)
-      go (suc n) z e = rw (le-ltb (byte_of (drop at t)) 256 b) at e
+  pub line_on : byte_of (drop (i + 2 * j) t) < 256 → {x : Bool} → is_line (n - j) (drop (i + 2 * j) t) ≡ x → is_line (n - (j + 1)) (drop (i + 2 * (j + 1)) t) ≡ x
+  line_on b e = rw (left, lt-ltb (byte_of (drop (i + 2 * j) t)) 256 b) at e
 
-pub line-end : (t : List ℕ) (at left : ℕ) → left ≤ 0 → {x : Bool} → is_line left (drop at t) ≡ x → eqb (get_or t at 0) newline ≡ x
-line-end t at zero h e = let z : at + 0 ≡ at = omega arith in rw (get_or-drop at t 0 0, z) at e
-line-end t at (suc n) h e = absurd (omega arith)
+  pub line-stop : byte_of (drop (i + 2 * j) t) ≡ 256 → {x : Bool} → is_line (n - j) (drop (i + 2 * j) t) ≡ x → false ≡ x
+  line-stop b e = rw (left, b) at e
+
+pub line-end : (t : List ℕ) (i n j : ℕ) → j ≡ n → {x : Bool} → is_line (n - j) (drop (i + 2 * j) t) ≡ x → eqb (get_or t (i + 2 * n) 0) newline ≡ x
+line-end t i n j h e =
+    let w : n - j ≡ 0 = omega arith in
+    let p : i + 2 * j + 0 ≡ i + 2 * n = omega arith in
+    rw (w, get_or-drop (i + 2 * j) t 0 0, p) at e
 
 -- ── frames ──
 
-module _ (t : List ℕ) (k at o left m : ℕ) (h : 0 < m) where
-  pub frame_on : is_content_frame k o (min 16 left) (drop at t) ≡ true → {x : Bool} → is_content m k o left (drop at t) ≡ x
-      → is_content (m - 1) k (o + 16) (left - min 16 left) (drop (at + frame_line) t) ≡ x
-  frame_on b {x} = go m h
-    where
-      go : (n : ℕ) → 0 < n → is_content n k o left (drop at t) ≡ x → is_content (n - 1) k (o + 16) (left - min 16 left) (drop (at + frame_line) t) ≡ x
-      go zero z e = absurd (omega arith)
-      go (suc n) z e =
-          let w : suc n - 1 ≡ n = omega arith in
-          let l : left - min 16 left ≡ left - 16 = omega arith in
-          rw (w, l, ← drop-drop frame_line at t) (rw b at e)
+-- the turn at frame m of the frames of n bytes
+module _ (t : List ℕ) (i k n m : ℕ) (h : m < frames_for n) where
+  left_frames : is_content (frames_for n - m) k (16 * m) (n - 16 * m) (drop (i + frame_line * m) t)
+      ≡ (is_content_frame k (16 * m) (min 16 (n - 16 * m)) (drop (i + frame_line * m) t) && is_content (frames_for n - (m + 1)) k (16 * (m + 1)) (n - 16 * (m + 1)) (drop (i + frame_line * (m + 1)) t))
+  left_frames =
+      let w : frames_for n - m ≡ suc (frames_for n - (m + 1)) = omega arith in
+      let o : 16 * m + 16 ≡ 16 * (m + 1) = omega arith in
+      let l : n - 16 * m - 16 ≡ n - 16 * (m + 1) = omega arith in
+      let p : i + frame_line * m + frame_line ≡ i + frame_line * (m + 1) = omega arith in
+      rw (w, drop-drop frame_line (i + frame_line * m) t, o, l, p)
 
-  pub frame-stop : is_content_frame k o (min 16 left) (drop at t) ≡ false → {x : Bool} → is_content m k o left (drop at t) ≡ x → false ≡ x
-  frame-stop b {x} = go m h
-    where
-      go : (n : ℕ) → 0 < n → is_content n k o left (drop at t) ≡ x → false ≡ x
-      go zero z e = absurd (omega arith)
-      go (suc n) z e = rw b at e
+  pub frame_on : is_content_frame k (16 * m) (min 16 (n - 16 * m)) (drop (i + frame_line * m) t) ≡ true
+      → {x : Bool} → is_content (frames_for n - m) k (16 * m) (n - 16 * m) (drop (i + frame_line * m) t) ≡ x
+      → is_content (frames_for n - (m + 1)) k (16 * (m + 1)) (n - 16 * (m + 1)) (drop (i + frame_line * (m + 1)) t) ≡ x
+  frame_on b e = rw (left_frames, b) at e
 
-pub frame-end : (t : List ℕ) (k at o left m : ℕ) → m ≤ 0 → {x : Bool} → is_content m k o left (drop at t) ≡ x → true ≡ x
-frame-end t k at o left zero h e = e
-frame-end t k at o left (suc m) h e = absurd (omega arith)
+  pub frame-stop : is_content_frame k (16 * m) (min 16 (n - 16 * m)) (drop (i + frame_line * m) t) ≡ false
+      → {x : Bool} → is_content (frames_for n - m) k (16 * m) (n - 16 * m) (drop (i + frame_line * m) t) ≡ x → false ≡ x
+  frame-stop b e = rw (left_frames, b) at e
+
+pub frame-end : (t : List ℕ) (i k n m : ℕ) → m ≡ frames_for n → {x : Bool} → is_content (frames_for n - m) k (16 * m) (n - 16 * m) (drop (i + frame_line * m) t) ≡ x → true ≡ x
+frame-end t i k n m h e = let w : frames_for n - m ≡ 0 = omega arith in rw w at e
 
 pub frame-place : (t : List ℕ) (i k o n : ℕ) → is_line (frame_head_bytes + n) (drop i t) ≡ true
     → (eqb (byte_of (drop i t)) 0 && eqb (byte_of (drop (i + 2) t)) k && eqb (two_of (drop (i + 4) t)) o && eqb (byte_of (drop (i + 8) t)) n) ≡ is_content_frame k o n (drop i t)

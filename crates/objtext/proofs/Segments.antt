@@ -8,6 +8,7 @@ use mathlib.Core.Option.{none, some}
 use native.Mathlib.Omega.{arith}
 use native.Mathlib.Numerals.{add-one}
 use lib.ListN.{drop}
+use Rattle.std.specs.Prelude as P
 use Rattle.objtext.specs.Reader.{content_length, head_length, is_program, program_at, after_program, is_data, data_at, after_data, is_last, Read, push, on_segment, at_last, read_data, read_object, data_list, read_as, data_line}
 use Rattle.objtext.proofs.Places.{after-data-place}
 
@@ -45,12 +46,12 @@ pub record Reading (t : List ℕ) (k at : ℕ) : Type 0 where
 
 -- ── the start ──
 
-pub no_program : (t : List ℕ) → is_program 0 t ≡ false → read_as 0 t ≡ read_object t
+pub no_program : (t : List ℕ) → is_program 0 t ≡ false → read_as P.None t ≡ read_object t
 unfolding read_as read_object on_segment
 no_program t h = rw h
 
 module _ (t : List ℕ) (at : ℕ) (p : is_program 0 t ≡ true) (e : drop at t ≡ after_program t) where
-  pub no-data : is_data 1 (drop at t) ≡ false → read_as 0 t ≡ read_object t
+  pub no-data : is_data 1 (drop at t) ≡ false → read_as P.None t ≡ read_object t
   unfolding read_as read_object on_segment push
   no-data h = rw (p, ← e, h)
 
@@ -67,30 +68,30 @@ module _ (t : List ℕ) (k at : ℕ) (l : 1 ≤ k) (g : Reading t k at) where
   next : (r : Read) → read_data (4 - k) k (drop at t) ≡ r → push (program_at t) (push_all (k - 1) (after_program t) r) ≡ read_object t
   next r e = ap (λ (x : Read). push (program_at t) (push_all (k - 1) (after_program t) x)) (sym e) ∙ g.whole
 
-  nothing : read_data (4 - k) k (drop at t) ≡ none → read_as 0 t ≡ read_object t
+  nothing : read_data (4 - k) k (drop at t) ≡ none → read_as P.None t ≡ read_object t
   unfolding read_as push
   nothing e = ap (push (program_at t)) (sym (push-none (k - 1) (after_program t))) ∙ next none e
 
-  pub at_last_lem : is_last (drop at t) ≡ true → read_as k t ≡ read_object t
+  pub at_last_lem : is_last (drop at t) ≡ true → read_as (P.Some k) t ≡ read_object t
   unfolding read_as read_data at_last push
-  at_last_lem h = go k refl (4 - k) refl
+  at_last_lem h = go k refl
     where
       last : (n : ℕ) → read_data n k (drop at t) ≡ some []
       last zero = rw h
       last (suc n) = rw h
 
-      go : (j : ℕ) → j ≡ k → (n : ℕ) → n ≡ 4 - k → read_as j t ≡ read_object t
-      go zero a n b = absurd (omega arith)
-      go (suc j) a n b =
+      go : (j : ℕ) → j ≡ k → read_as (P.Some j) t ≡ read_object t
+      go zero a = absurd (omega arith)
+      go (suc j) a =
           let w : k - 1 ≡ j = omega arith in
           ap (push (program_at t)) (sym (push-all j (after_program t))) ∙ ap (λ (i : ℕ). push (program_at t) (push_all i (after_program t) (some []))) (sym w) ∙ next (some []) (last (4 - k))
 
-  pub not_last : 4 ≤ k → is_last (drop at t) ≡ false → read_as 0 t ≡ read_object t
+  pub not_last : 4 ≤ k → is_last (drop at t) ≡ false → read_as P.None t ≡ read_object t
   unfolding read_data at_last
   not_last m h = let w : 4 - k ≡ 0 = omega arith in nothing (rw (w, h))
 
   module _ (m : k < 4) (h : is_last (drop at t) ≡ false) where
-    pub no_more : is_data k (drop at t) ≡ false → read_as 0 t ≡ read_object t
+    pub no_more : is_data k (drop at t) ≡ false → read_as P.None t ≡ read_object t
     unfolding read_data at_last on_segment
     no_more d = let w : 4 - k ≡ suc (4 - (k + 1)) = omega arith in nothing (rw (w, h, d))
 

@@ -11,6 +11,7 @@ use borrow.Author.Tests.{leb-true}
 use Rattle.base.proofs.Tests.{cases}
 use Rattle.base.proofs.Lists.{none-some}
 use Rattle.objtext.specs.Object.{Segment, frames_for, program_limit, data_limit}
+use Rattle.std.specs.Prelude as P
 use Rattle.objtext.specs.Reader.{byte_of, head_length, head_from, head_to, is_line, is_content, also, is_program, program_at, after_program, is_data, data_at, after_data, is_last, Read, push, on_segment, at_last, read_data, read_object, data_list, segment_list, read_as, data_line, program_line, program_head_bytes, data_head_bytes}
 
 -- n data segments, numbered from k on, stand at the front
@@ -72,10 +73,10 @@ pub length-list : (n : ℕ) (s : List ℕ) → length (data_list n s) ≡ n
 length-list zero s = refl
 length-list (suc n) s = ap suc (length-list n (after_data s))
 
-pub object-walk : (n : ℕ) (t : List ℕ) → 0 < n → read_as n t ≡ read_object t → Walk n t
+pub object-walk : (n : ℕ) (t : List ℕ) → read_as (P.Some n) t ≡ read_object t → Walk n t
 unfolding read_as read_object
-object-walk zero t h e = absurd (omega arith)
-object-walk (suc n) t h e = first (behind (is_program 0 t) second (program_at t) (segment_list (suc n) t) (sym e))
+object-walk zero t e = absurd (let b = behind (is_program 0 t) (λ u. on_segment (is_data 1 (after_program t)) (data_at (after_program t)) (λ v. read_data 2 2 (after_data (after_program t)))) (program_at t) [] (sym e) in let l = ap length b.whole in omega arith)
+object-walk (suc n) t e = first (behind (is_program 0 t) second (program_at t) (segment_list (suc n) t) (sym e))
   where
     third : Unit {0} → Read
     third v = read_data 2 2 (after_data (after_program t))
@@ -96,10 +97,9 @@ object-walk (suc n) t h e = first (behind (is_program 0 t) second (program_at t)
             let q : suc (length d.others) ≡ suc n - 1 = omega arith in
             record { some = omega arith; few = omega arith; program = b.is; data-segments = subst (λ (j : ℕ). Walked j 1 (after_program t)) q (d.is, w.0) }
 
-pub read_as_lem : (n : ℕ) (t : List ℕ) → (n ≡ 0 → ⊥) → read_as n t ≡ read_object t → read_object t ≡ some (segment_list n t)
+pub read_as_lem : (n : ℕ) (t : List ℕ) → read_as (P.Some n) t ≡ read_object t → read_object t ≡ some (segment_list n t)
 unfolding read_as
-read_as_lem zero t h e = absurd (h refl)
-read_as_lem (suc n) t h e = sym e
+read_as_lem n t e = sym e
 
 -- ── lengths ──
 

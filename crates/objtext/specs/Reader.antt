@@ -1,6 +1,7 @@
 -- Document 01, "Runner", refusal 17: "text not exactly of the form above with one program head and one to three data heads, numbered in order, lengths
 -- at most 4,096, from <= to <= length". The reader is a function from a text to its segments, or none; each part reads the front of what it is handed.
 use Rattle.std.specs.Prelude.{List, [], ◌∷◌, ◌++◌, Bool, true, false, ◌&&◌, ℕ, zero, suc, ◌+◌, ◌*◌, ◌-◌, ◌%◌, min, ltb, leb, eqb, length, drop, get_or}
+use Rattle.std.specs.Prelude as P
 use Rattle.std.proofs.Math.Option.{Option, none, some}
 use Rattle.base.specs.Choose.{choose}
 use Rattle.objtext.specs.Object.{Segment, program, cells, frame_bytes, frames_for, newline, program_limit, data_limit, most_data}
@@ -192,7 +193,7 @@ abbrev pub segment_list : ℕ → List ℕ → List Segment
 segment_list zero s = []
 segment_list (suc n) s = program_at s ∷ data_list n (after_program s)
 
--- what n says of a text: its number of segments, 0 where it is no object's
-unfoldable pub read_as : ℕ → List ℕ → Read
-read_as zero s = none
-read_as (suc n) s = some (segment_list (suc n) s)
+-- what a number of segments, or none, says of a text
+unfoldable pub read_as : P.Option ℕ → List ℕ → Read
+read_as P.None s = none
+read_as (P.Some n) s = some (segment_list n s)

@@ -1,10 +1,10 @@
 // The reader of the object text: how many segments it has, and where their bytes stand. A place past the text's end reads as no digit.
 #![tactic(auto)]
 
-ghost use Rattle.std.specs.Prelude.{◌≡◌, true, ◌+◌, ◌*◌, ◌/◌, ◌%◌, ◌<◌, ◌≤◌, length, get_or, drop};
+ghost use Rattle.std.specs.Prelude.{◌≡◌, true, ◌+◌, ◌*◌, ◌/◌, ◌%◌, ◌<◌, ◌≤◌, length, get_or, drop, MatchOption};
 ghost use Rattle.std.proofs.lemmas.List.Edits.{sets};
 ghost use Rattle.objtext.specs.Object.{frames_for, program_limit, data_limit, content_limit};
-ghost use Rattle.objtext.specs.Reader.{digit_of, join_of, byte_of, two_of, is_line, program_line, data_line, content_length, is_content_frame, is_content, content_at, head_length, is_program, is_data, is_last, read_as, read_object};
+ghost use Rattle.objtext.specs.Reader.{digit_of, byte_of, two_of, is_line, program_line, data_line, content_length, is_content_frame, is_content, content_at, head_length, is_program, is_data, is_last, read_as, read_object};
 
 use base::least;
 
@@ -51,47 +51,40 @@ const COUNT_PLACE: usize = 8;
 // One program and up to three data segments.
 const MOST_SEGMENTS: usize = 4;
 
+// Kept: a text and a place in it, since a place may lie behind the text's end, from where no slice can be cut.
 fn char_at(t: &[u8], i: usize) -> u8
     ensures { result ≡ get_or t.now i 0 }
 {
     if i < t.len() { t[i] } else { 0 }
 }
 
-fn digit(c: u8) -> usize
-    ensures { (result ≡ digit_of c) × (result ≤ 16) }
+// The value of a capital hexadecimal digit.
+fn digit(c: u8) -> Option<usize>
+    ensures { MatchOption result (digit_of c ≡ 16) (λ d. (digit_of c ≡ d) × (d < 16)) }
 {
-    if c < 48 {
-        return 16;
+    match c {
+        b'0'..=b'9' => Some((c - b'0') as usize),
+        b'A'..=b'F' => Some((c - b'A') as usize + 10),
+        _ => None,
     }
-    if c <= 57 {
-        return (c - 48) as usize;
-    }
-    if c < 65 {
-        return 16;
-    }
-    if c <= 70 {
-        return (c - 55) as usize;
-    }
-    16
 }
 
-fn join(h: usize, l: usize) -> usize
-    ensures { (result ≡ join_of h l) × (result ≤ 256) }
+// The byte in two digits.
+fn byte(t: &[u8], i: usize) -> Option<usize>
+    requires { i < 1000000 }
+    ensures { MatchOption result (byte_of (drop i t.now) ≡ 256) (λ b. (byte_of (drop i t.now) ≡ b) × (b < 256)) }
 {
-    if h < 16 {
-        if l < 16 {
-            return h * 16 + l;
-        }
-        return 256;
-    }
-    256
+    let high = digit(char_at(t, i))?;
+    let low = digit(char_at(t, i + 1))?;
+    Some(high * 16 + low)
 }
 
+// The byte at a place, 256 where there is none.
 pub fn byte_at(t: &[u8], i: usize) -> usize
     requires { i < 1000000 }
     ensures { (result ≡ byte_of (drop i t.now)) × (result ≤ 256) }
 {
-    join(digit(char_at(t, i)), digit(char_at(t, i + 1)))
+    byte(t, i).unwrap_or(256)
 }
 
 pub fn two_at(t: &[u8], i: usize) -> usize
@@ -105,16 +98,12 @@ fn is_line(t: &[u8], i: usize, n: usize) -> bool
     requires { (i < 800000) × (n < 100) }
     ensures { result ≡ is_line n (drop i t.now) }
 {
-    let mut left = n;
-    let mut at = i;
-    while 0 < left {
-        if 256 <= byte_at(t, at) {
+    for j in 0..n {
+        if byte(t, i + 2 * j).is_none() {
             return false;
         }
-        at += 2;
-        left -= 1;
     }
-    char_at(t, at) == NEWLINE
+    char_at(t, i + 2 * n) == NEWLINE
 }
 
 fn is_content_frame(t: &[u8], i: usize, k: usize, o: usize, n: usize) -> bool
@@ -134,19 +123,11 @@ fn is_content(t: &[u8], i: usize, k: usize, n: usize) -> bool
     requires { (i < 600000) × (n ≤ content_limit) }
     ensures { result ≡ is_content (frames_for n) k 0 n (drop i t.now) }
 {
-    let mut frames = (n + 15) / FRAME_BYTES;
-    let mut at = i;
-    let mut o: usize = 0;
-    let mut left = n;
-    while 0 < frames {
-        let b = least(FRAME_BYTES, left);
-        if !is_content_frame(t, at, k, o, b) {
+    for m in 0..(n + 15) / FRAME_BYTES {
+        let o = FRAME_BYTES * m;
+        if !is_content_frame(t, i + FRAME_LINE * m, k, o, least(FRAME_BYTES, n - o)) {
             return false;
         }
-        at += FRAME_LINE;
-        o += FRAME_BYTES;
-        left -= b;
-        frames -= 1;
     }
     true
 }
@@ -158,6 +139,7 @@ pub fn content_length(n: usize) -> usize
     2 * n + FRAME_HEAD_LINE * ((n + 15) / FRAME_BYTES)
 }
 
+// Kept: beside `is_data`, since one function for both would be handed the head's kind, bytes and limit, and `is_data` would still make its own tests.
 fn is_program(t: &[u8], i: usize, k: usize) -> bool
     requires { i < 500000 }
     ensures { (result ≡ is_program k (drop i t.now)) × (result ≡ true → head_length (drop i t.now) ≤ program_limit) }
@@ -219,33 +201,32 @@ pub fn after_program(t: &[u8]) -> usize
     PROGRAM_HEAD + content_length(two_at(t, LENGTH_PLACE))
 }
 
-// The number of segments, 0 where the text is not of the form.
-pub fn read(t: &[u8]) -> usize
+// The number of segments, where the text is of the form.
+pub fn read(t: &[u8]) -> Option<usize>
     ensures { read_as result t.now ≡ read_object t.now }
 {
     if !is_program(t, 0, 0) {
-        return 0;
+        return None;
     }
     let mut at = after_program(t);
     if !is_data(t, at, 1) {
-        return 0;
+        return None;
     }
     at = after_data(t, at);
-    let mut k: usize = 2;
-    while k < MOST_SEGMENTS {
+    for k in 2..MOST_SEGMENTS {
         if is_last(t, at) {
-            return k;
+            return Some(k);
         }
         if !is_data(t, at, k) {
-            return 0;
+            return None;
         }
         at = after_data(t, at);
-        k += 1;
     }
     if is_last(t, at) {
-        return k;
+        Some(MOST_SEGMENTS)
+    } else {
+        None
     }
-    0
 }
 
 // Lays the n bytes of the content whose frames stand at place i of the text from `at`.
@@ -253,12 +234,11 @@ pub fn fill(t: &[u8], i: usize, n: usize, s: &mut [u8], at: usize)
     requires { (i < 500000) × (n ≤ content_limit) × (at < 1000000) × (at + n ≤ length s.old) }
     ensures { s.new ≡ sets s.old at (content_at (frames_for n) n (drop i t.now)) }
 {
-    let mut j: usize = 0;
-    while j < n {
-        s[at + j] = (byte_at(
+    for j in 0..n {
+        let byte = byte_at(
             t,
             i + j / FRAME_BYTES * FRAME_LINE + BYTES_PLACE + j % FRAME_BYTES * 2,
-        ) % 256) as u8;
-        j += 1;
+        );
+        s[at + j] = (byte % 256) as u8;
     }
 }

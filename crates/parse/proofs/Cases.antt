@@ -12,11 +12,12 @@ use Rattle.spots.specs.Spots.{spot, unplaced}
 use Rattle.token.specs.Kinds as K
 use Rattle.token.specs.Text.{word_kind, comment, name_or_word, number, begins, sign, lexeme, next_step, next_token, read_from, tokens_of}
 use Rattle.token.specs.Answers.{kind_of}
-use Rattle.grammar.specs.Reader.{and_then, look, next, want, want_one}
+use Rattle.grammar.specs.Tree.{Statement}
+use Rattle.grammar.specs.Reader.{Result, ok, bad, and_then, look, next, want, want_one}
 use Rattle.grammar.specs.Grammar.{designator_of, operand, condition, terms, sign_of, assigned_to, assignment_of, numbers, cell_item, register_item, list_of, type_of, cells_of, after_type, declaration, arguments, target_of, assign_or, after_name, statement_of, items_of, choices_of, body_of, if_of, construct_of, statement, procedure_of, program}
 use Rattle.tape.specs.Events as E
 use Rattle.tape.specs.Tape.{event, tape_designator, tape_operand, tape_condition, tape_sign, tape_each, tape_assignment, tape_item, tape_declaration, tape_statement, tape_body, tape_items, tape_choices}
-use Rattle.parse.specs.Programs.{told_of, says, judged}
+use Rattle.parse.specs.Programs.{says, judged}
 
 -- number and place
 abbrev verdict : String → ℕ × ℕ
@@ -66,6 +67,16 @@ unfolding same_bytes run_len number_from walk fold word_kind comment name_or_wor
     want want_one designator_of operand condition terms sign_of assigned_to assignment_of numbers cell_item register_item list_of type_of cells_of after_type declaration
     arguments target_of assign_or after_name statement_of items_of body_of if_of construct_of statement procedure_of program
 spots = refl
+
+-- number, token and events: 0, the token after the program and the tape of its tree; or the refusal
+record Told : Type 0 where
+  number : ℕ
+  token : ℕ
+  events : List ℕ
+
+abbrev told_of : Result Statement → Told
+told_of (ok x j) = record { number = 0; token = j; events = tape_statement x [] }
+told_of (bad n t) = record { number = n; token = t; events = [] }
 
 abbrev tape : String → List ℕ
 tape s = (told_of (program (map kind_of (tokens_of (bytes s)).tokens) 0)).events

@@ -1,5 +1,4 @@
 -- The files of this crate's proofs.
-pub mod Answers
 pub mod Texts
 pub mod Cases
 pub mod Theorems

@@ -1,8 +1,8 @@
 -- From the tokens of a text to its verdict. Assumes nothing.
+use Rattle.std.proofs.Common.{Ok, Err}
 use mathlib.Core.Path.{◌≡◌, ◌∙◌, sym, ap, subst}
 use mathlib.Core.List.{List, map}
 use Prim.Native.Nat.{ℕ, suc, ◌+◌, ◌≤◌, ◌<◌}
-use mathlib.Core.Logic.{◌⊎◌, inl, inr}
 use native.Mathlib.Omega.{arith}
 use borrow.Author.Tests.{lt-leb, lt-ltb}
 use lib.Dec.{ltb}
@@ -13,15 +13,14 @@ use Rattle.base.proofs.Tests.{cases}
 use Rattle.spots.specs.declared.Spot.{Spot}
 use Rattle.spots.specs.Spots.{unplaced}
 use Rattle.token.specs.Text.{Reading, tokens_of, TEXT-LIMIT}
-use Rattle.token.specs.Answers.{Summary, summary_of, Kinds, kind_of, spot_of, read_into}
-use Rattle.token.specs.declared.Tokens.{Tokens}
+use Rattle.token.specs.Answers.{Tokens, Summary, summary_of, Kinds, kind_of, spot_of, read_into}
 use Rattle.token.proofs.Readings.{tokens-few}
 use Rattle.token.proofs.Theorems.{Refusal, all_read, one, two, three, refusal}
 use Rattle.grammar.specs.Tree.{Statement}
-use Rattle.grammar.specs.Reader.{Result, ok, bad}
+use Rattle.grammar.specs.Reader.{ok, bad}
 use Rattle.grammar.specs.Grammar.{program}
-use Rattle.parse.specs.Programs.{Told, told_of, says, judged_by, judged, KindsRead}
-use Rattle.token.specs.declared.Tokens.TheVariants as S
+use Rattle.parse.specs.Programs.{says, judged_by, judged, KindsRead}
+use Rattle.token.specs.declared.Unread.TheVariants as U
 
 -- a text is refused by 1, 2 or 3
 pub tokens-small : (s : List ℕ) → (tokens_of s).number ≤ 3
@@ -47,7 +46,7 @@ module _ (s : List ℕ) {k k' : List ℕ} {answer : Tokens} (d : Kinds (read_int
   number_is = ap (λ (x : Summary). x.number) whole.is
 
   -- all of them were read
-  module _ {c : ℕ} (e : answer ≡ S.Read c) where
+  module _ {c : ℕ} (e : answer ≡ Ok c) where
     accepted : (tokens_of s).number ≡ 0
     accepted = sym number_is ∙ ap (λ (x : Tokens). (summary_of x).number) e
 
@@ -74,7 +73,7 @@ module _ (s : List ℕ) {k k' : List ℕ} {answer : Tokens} (d : Kinds (read_int
       let f : (tokens_of s).number ≡ suc m = sym number_is ∙ (ap (λ (x : Tokens). (summary_of x).number) e ∙ z) in
       rw (f, sym (ap (λ (x : Tokens). (summary_of x).spot) e) ∙ ap (λ (x : Summary). x.spot) whole.is)
 
-  pub some-room : {c : ℕ} → answer ≡ S.Room c → ⊥
+  pub some-room : {c : ℕ} → answer ≡ Err (U.Room c) → ⊥
   some-room e = let f = sym (ap (λ (x : Tokens). (summary_of x).number) e) ∙ number_is in let g = tokens-small s in omega arith
 
 pub too_long : (s : List ℕ) → TEXT-LIMIT < length s → says 1 (unplaced TEXT-LIMIT) ≡ judged s
@@ -91,18 +90,9 @@ module _ (s kinds : List ℕ) (n : ℕ) (r : KindsRead s kinds n) where
   unfolding judged
   by-program = rw (r.accepted, r.are)
 
-  pub accepted-as : {j : ℕ} → (x : Statement) × (program (take n kinds) 0 ≡ ok x j) → says 0 (unplaced 0) ≡ judged s
-  accepted-as (x, e) = rw (by-program, e)
+  pub accepted-as : {x : Statement} {j : ℕ} → program (take n kinds) 0 ≡ ok x j → says 0 (unplaced 0) ≡ judged s
+  accepted-as e = rw (by-program, e)
 
-  pub refused_as : {t : Told} (m : ℕ) {spot : Spot} → t ≡ told_of (program (take n kinds) 0) → t.number ≡ suc m
-      → spot ≡ get_or (map spot_of (tokens_of s).tokens) t.token (unplaced 0) → says (suc m) spot ≡ judged s
-  refused_as {t} m {spot} e z q = rw by-program (go (program (take n kinds) 0) e)
-    where
-      go : (p : Result Statement) → t ≡ told_of p → says (suc m) spot ≡ judged_by (map spot_of (tokens_of s).tokens) p
-      go (ok x j) e = absurd (let f = ap (λ (y : Told). y.number) e in omega arith)
-      go (bad k u) e = rw (q, ap (λ (y : Told). y.token) e, sym (ap (λ (y : Told). y.number) e) ∙ z)
-
-pub five : {n : ℕ} → (n ≡ 0) ⊎ ((n ≡ 4) ⊎ (n ≡ 5)) → (n ≡ 0 → ⊥) → (n ≡ 4 → ⊥) → n ≡ 5
-five (inl e) a b = absurd (a e)
-five (inr (inl e)) a b = absurd (b e)
-five (inr (inr e)) a b = e
+  pub refused_as : (m : ℕ) {t : ℕ} {spot : Spot} → program (take n kinds) 0 ≡ bad m t → spot ≡ get_or (map spot_of (tokens_of s).tokens) t (unplaced 0)
+      → says m spot ≡ judged s
+  refused_as m e q = rw (by-program, e, q)

@@ -1,185 +1,148 @@
 // "declaration", but for procedures, which hold a statement.
-ghost use Rattle.std.specs.Prelude.{◌≤◌, length};
 ghost use Rattle.grammar.specs.Grammar as G;
 ghost use Rattle.tape.specs.Tape.{tape_each, tape_value, tape_item, tape_register, tape_declaration};
-ghost use Rattle.readers.specs.Reads.{Typed, Ready, Wrote};
+ghost use Rattle.readers.specs.Reads.{SameTape, Typed, Still, Wrote};
 ghost use Rattle.phrases.specs.Parts.{base_of, array_of, typed_of};
 
-use readers::events::write;
-use readers::tokens::{Answer, in_parens, kind_at, read, refused, wanted};
+use readers::reader::{Answer, Reader};
+use readers::tokens::Why;
 use token::kinds;
 
 // The initial values of a cell.
-fn numbers(kinds: &[u8], i: usize, tape: &mut [u32], p: usize) -> Answer
-    requires { Ready kinds.now tape.old i p }
-    ensures { Wrote (tape_each tape_value) kinds.now i p tape.old tape.new result (G.fuelled G.numbers kinds.now i) }
+fn numbers(r: &mut Reader) -> Answer
+    ensures read { Wrote (tape_each tape_value) (G.fuelled G.numbers) r.old r.new result }
+    ensures same { SameTape r.old r.new }
 {
-    let mut at = i;
-    let mut q = p;
-    while kind_at(kinds, at) == kinds::OPEN {
-        let one = in_parens(kinds, at, kinds::NUMBER);
-        if one.number != 0 {
-            return one;
-        }
-        write(tape, q, tape::VALUE, at + 1);
-        at = one.at;
-        q += 1;
+    while r.kind() == kinds::OPEN {
+        let number = r.in_parens(kinds::NUMBER)?;
+        r.write(tape::VALUE, number);
     }
-    read(at, q)
+    Ok(())
 }
 
-fn cell_item(kinds: &[u8], i: usize, tape: &mut [u32], p: usize) -> Answer
-    requires { Ready kinds.now tape.old i p }
-    ensures { Wrote tape_item kinds.now i p tape.old tape.new result (G.cell_item kinds.now i) }
+fn cell_item(r: &mut Reader) -> Answer
+    ensures read { Wrote tape_item G.cell_item r.old r.new result }
+    ensures same { SameTape r.old r.new }
 {
-    let name = wanted(kinds, i, kinds::NAME);
-    if name.number != 0 {
-        return name;
-    }
-    write(tape, p, tape::ITEM, i);
-    numbers(kinds, name.at, tape, p + 1)
+    let name = r.wanted(kinds::NAME)?;
+    r.write(tape::ITEM, name);
+    numbers(r)
 }
 
-fn cells(kinds: &[u8], i: usize, tape: &mut [u32], p: usize) -> Answer
-    requires { Ready kinds.now tape.old i p }
-    ensures { Wrote (tape_each tape_item) kinds.now i p tape.old tape.new result (G.fuelled (G.list_of G.cell_item) kinds.now i) }
+fn cells(r: &mut Reader) -> Answer
+    ensures read { Wrote (tape_each tape_item) (G.fuelled (G.list_of G.cell_item)) r.old r.new result }
+    ensures same { SameTape r.old r.new }
 {
-    let mut at = i;
-    let mut q = p;
     loop {
-        let item = cell_item(kinds, at, tape, q);
-        if item.number != 0 {
-            return item;
+        cell_item(r)?;
+        if r.kind() != kinds::COMMA {
+            return Ok(());
         }
-        if kind_at(kinds, item.at) != kinds::COMMA {
-            return item;
-        }
-        at = item.at + 1;
-        q = item.value;
+        r.take();
     }
 }
 
-fn register_item(kinds: &[u8], i: usize, tape: &mut [u32], p: usize) -> Answer
-    requires { Ready kinds.now tape.old i p }
-    ensures { Wrote tape_register kinds.now i p tape.old tape.new result (G.register_item kinds.now i) }
+fn register_item(r: &mut Reader) -> Answer
+    ensures read { Wrote tape_register G.register_item r.old r.new result }
+    ensures same { SameTape r.old r.new }
 {
-    let name = wanted(kinds, i, kinds::NAME);
-    if name.number != 0 {
-        return name;
-    }
-    let number = in_parens(kinds, name.at, kinds::NUMBER);
-    if number.number != 0 {
-        return number;
-    }
-    write(tape, p, tape::REGISTER, i);
-    read(number.at, p + 1)
+    let name = r.wanted(kinds::NAME)?;
+    r.in_parens(kinds::NUMBER)?;
+    r.write(tape::REGISTER, name);
+    Ok(())
 }
 
-fn registers(kinds: &[u8], i: usize, tape: &mut [u32], p: usize) -> Answer
-    requires { Ready kinds.now tape.old i p }
-    ensures { Wrote (tape_each tape_register) kinds.now i p tape.old tape.new result (G.fuelled (G.list_of G.register_item) kinds.now i) }
+// Kept: beside `cells`, since a trait for the two readers of an item would name what each reads, its definition and its tape, three ghost members for two lists.
+fn registers(r: &mut Reader) -> Answer
+    ensures read { Wrote (tape_each tape_register) (G.fuelled (G.list_of G.register_item)) r.old r.new result }
+    ensures same { SameTape r.old r.new }
 {
-    let mut at = i;
-    let mut q = p;
     loop {
-        let item = register_item(kinds, at, tape, q);
-        if item.number != 0 {
-            return item;
+        register_item(r)?;
+        if r.kind() != kinds::COMMA {
+            return Ok(());
         }
-        if kind_at(kinds, item.at) != kinds::COMMA {
-            return item;
-        }
-        at = item.at + 1;
-        q = item.value;
+        r.take();
     }
 }
 
 // "type = INTEGER, LOGICAL or SHORT INTEGER", BYTE or CHARACTER, as its width on the tape.
-fn type_at(kinds: &[u8], i: usize) -> Answer
-    requires { i ≤ length kinds.now }
-    ensures { Typed kinds.now i result }
+// Kept: the width is a number, since `array` and `typed` add it to the event's number, for which an enum would be cast back at once.
+fn width(r: &mut Reader) -> Answer<u32>
+    ensures read { Typed r.old r.new result }
+    ensures still { Still r.old r.new }
 {
-    let k = kind_at(kinds, i);
+    let k = r.kind();
     if k == kinds::INTEGER {
-        return read(i + 1, 0);
+        r.take();
+        return Ok(0);
     }
     if k == kinds::LOGICAL {
-        return read(i + 1, 0);
+        r.take();
+        return Ok(0);
     }
     if k == kinds::BYTE {
-        return read(i + 1, 2);
+        r.take();
+        return Ok(2);
     }
     if k == kinds::CHARACTER {
-        return read(i + 1, 3);
+        r.take();
+        return Ok(3);
     }
     if k != kinds::SHORT {
-        return refused(4, i);
+        return Err(Why::Unexpected);
     }
-    let integer = wanted(kinds, i + 1, kinds::INTEGER);
-    if integer.number != 0 {
-        return integer;
-    }
-    read(integer.at, 1)
+    r.take();
+    r.wanted(kinds::INTEGER)?;
+    Ok(1)
 }
 
-fn base(kinds: &[u8], i: usize, tape: &mut [u32], p: usize) -> Answer
-    requires { Ready kinds.now tape.old i p }
-    ensures { Wrote tape_declaration kinds.now i p tape.old tape.new result (base_of kinds.now i) }
+fn base(r: &mut Reader) -> Answer
+    ensures read { Wrote tape_declaration base_of r.old r.new result }
+    ensures same { SameTape r.old r.new }
 {
-    let word = wanted(kinds, i, kinds::BASE);
-    if word.number != 0 {
-        return word;
-    }
-    let name = wanted(kinds, word.at, kinds::NAME);
-    if name.number != 0 {
-        return name;
-    }
-    write(tape, p, tape::BASE, word.at);
-    read(name.at, p + 1)
+    r.wanted(kinds::BASE)?;
+    let name = r.wanted(kinds::NAME)?;
+    r.write(tape::BASE, name);
+    Ok(())
 }
 
-fn array(kinds: &[u8], i: usize, tape: &mut [u32], p: usize) -> Answer
-    requires { Ready kinds.now tape.old i p }
-    ensures { Wrote tape_declaration kinds.now i p tape.old tape.new result (array_of kinds.now i) }
+fn array(r: &mut Reader) -> Answer
+    ensures read { Wrote tape_declaration array_of r.old r.new result }
+    ensures same { SameTape r.old r.new }
 {
-    let count = in_parens(kinds, i, kinds::NUMBER);
-    if count.number != 0 {
-        return count;
-    }
-    let width = type_at(kinds, count.at);
-    if width.number != 0 {
-        return refused(width.number, width.at);
-    }
-    write(tape, p, tape::ARRAY_FULL + width.value as u32, i + 1);
-    cells(kinds, width.at, tape, p + 1)
+    let count = r.in_parens(kinds::NUMBER)?;
+    let width = width(r)?;
+    r.write(tape::ARRAY_FULL + width, count);
+    cells(r)
 }
 
 // What begins with a type: registers or cells.
-fn typed(kinds: &[u8], i: usize, tape: &mut [u32], p: usize) -> Answer
-    requires { Ready kinds.now tape.old i p }
-    ensures { Wrote tape_declaration kinds.now i p tape.old tape.new result (typed_of kinds.now i) }
+fn typed(r: &mut Reader) -> Answer
+    ensures read { Wrote tape_declaration typed_of r.old r.new result }
+    ensures same { SameTape r.old r.new }
 {
-    let width = type_at(kinds, i);
-    if width.number != 0 {
-        return refused(width.number, width.at);
+    let width = width(r)?;
+    if (width == 0) & (r.kind() == kinds::REGISTER) {
+        r.take();
+        return registers(r);
     }
-    if (width.value == 0) & (kind_at(kinds, width.at) == kinds::REGISTER) {
-        return registers(kinds, width.at + 1, tape, p);
-    }
-    write(tape, p, tape::SINGLE_FULL + width.value as u32, 0);
-    cells(kinds, width.at, tape, p + 1)
+    r.write(tape::SINGLE_FULL + width, 0);
+    cells(r)
 }
 
-pub fn declaration(kinds: &[u8], i: usize, tape: &mut [u32], p: usize) -> Answer
-    requires { Ready kinds.now tape.old i p }
-    ensures { Wrote tape_declaration kinds.now i p tape.old tape.new result (G.declaration kinds.now i) }
+pub fn declaration(r: &mut Reader) -> Answer
+    ensures read { Wrote tape_declaration G.declaration r.old r.new result }
+    ensures same { SameTape r.old r.new }
 {
-    let k = kind_at(kinds, i);
+    let k = r.kind();
     if k == kinds::SEGMENT {
-        return base(kinds, i + 1, tape, p);
+        r.take();
+        return base(r);
     }
     if k == kinds::ARRAY {
-        return array(kinds, i + 1, tape, p);
+        r.take();
+        return array(r);
     }
-    typed(kinds, i, tape, p)
+    typed(r)
 }

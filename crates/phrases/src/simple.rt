@@ -5,188 +5,133 @@ ghost use Rattle.grammar.specs.Reader.{refuse};
 ghost use Rattle.grammar.specs.Grammar as G;
 ghost use Rattle.tape.specs.Events as E;
 ghost use Rattle.tape.specs.Tape.{tape_operand, tape_condition, tape_each, tape_argument, tape_assignment, tape_statement};
-ghost use Rattle.readers.specs.Reads.{Ready, Wrote};
+ghost use Rattle.readers.specs.Reads.{SameTape, Wrote, WroteNamed, WroteFewer};
 ghost use Rattle.phrases.specs.Parts.{used_of, head_of, case_head, control_of, limit_of, procedure_head, tape_chosen, tape_opening};
 
 use crate::assignments::{assignment, condition, is_target, operand};
-use readers::events::write;
-use readers::tokens::{Answer, in_parens, kind_at, read, refused, wanted};
+use readers::reader::{Answer, Reader};
+use readers::tokens::Why;
 use token::kinds;
 
-// The arguments of a use, "each in its own parentheses"; one stands at i.
-fn arguments(kinds: &[u8], i: usize, tape: &mut [u32], p: usize) -> Answer
-    requires { Ready kinds.now tape.old i p × (get_or kinds.now i 0 ≡ K.OPEN) }
-    ensures { Wrote (tape_each tape_argument) kinds.now i p tape.old tape.new result (G.fuelled G.arguments kinds.now i) × (result.value + i < result.at + p + result.number) }
+// The arguments of a use, "each in its own parentheses"; one stands here.
+fn arguments(r: &mut Reader) -> Answer
+    requires { get_or r.old.kinds.now r.old.at 0 ≡ K.OPEN }
+    ensures read { WroteFewer (tape_each tape_argument) (G.fuelled G.arguments) r.old r.new result }
+    ensures same { SameTape r.old r.new }
 {
-    let mut at = i;
-    let mut q = p;
-    while kind_at(kinds, at) == kinds::OPEN {
-        let a = operand(kinds, at + 1, tape::ARGUED, tape, q);
-        if a.number != 0 {
-            return a;
-        }
-        let close = wanted(kinds, a.at, kinds::CLOSE);
-        if close.number != 0 {
-            return close;
-        }
-        at = close.at;
-        q = a.value;
+    while r.kind() == kinds::OPEN {
+        r.take();
+        operand(r, tape::ARGUED)?;
+        r.wanted(kinds::CLOSE)?;
     }
-    read(at, q)
+    Ok(())
 }
 
-// A call or a use that begins with the name n.
-fn used(kinds: &[u8], n: usize, tape: &mut [u32], p: usize) -> Answer
-    requires { Ready kinds.now tape.old n p × (n < length kinds.now) }
-    ensures { Wrote tape_statement kinds.now n p tape.old tape.new result (used_of n kinds.now (n + 1)) }
+// A call or a use whose name stands before.
+fn used(r: &mut Reader, name: usize) -> Answer
+    requires { (r.old.events < r.old.at) × (name < r.old.at) }
+    ensures read { WroteNamed tape_statement used_of name r.old r.new result }
+    ensures same { SameTape r.old r.new }
 {
-    let next = n + 1;
-    if kind_at(kinds, next) != kinds::OPEN {
-        write(tape, p, tape::CALL, n);
-        return read(next, p + 1);
+    if r.kind() != kinds::OPEN {
+        r.write(tape::CALL, name);
+        return Ok(());
     }
-    write(tape, p, tape::APPLIED, n);
-    let row = arguments(kinds, next, tape, p + 1);
-    if row.number != 0 {
-        return refused(row.number, row.at);
-    }
-    write(tape, row.value, tape::COUNTED, n);
-    read(row.at, row.value + 1)
+    r.write(tape::APPLIED, name);
+    arguments(r)?;
+    r.write(tape::COUNTED, name);
+    Ok(())
 }
 
-// An assignment, a call or a use that begins with the name n.
-pub fn after_name(kinds: &[u8], n: usize, tape: &mut [u32], p: usize) -> Answer
-    requires { Ready kinds.now tape.old n p × ((n < length kinds.now) × (get_or kinds.now n 0 ≡ K.NAME)) }
-    ensures { Wrote tape_statement kinds.now n p tape.old tape.new result (G.after_name n kinds.now (n + 1)) }
+// An assignment, a call or a use whose name stands before.
+pub fn after_name(r: &mut Reader, name: usize) -> Answer
+    requires { (r.old.events < r.old.at) × ((r.old.at ≡ name + 1) × (get_or r.old.kinds.now name 0 ≡ K.NAME)) }
+    ensures read { WroteNamed tape_statement G.after_name name r.old r.new result }
+    ensures same { SameTape r.old r.new }
 {
-    if is_target(kinds, n) {
-        return assignment(kinds, n, tape::TARGET, tape, p);
+    if is_target(r, name) {
+        return assignment(r, name, tape::TARGET);
     }
-    used(kinds, n, tape, p)
+    used(r, name)
 }
 
 // A statement that is not BEGIN, IF, WHILE, CASE or FOR.
-pub fn simple(kinds: &[u8], i: usize, tape: &mut [u32], p: usize) -> Answer
-    requires { Ready kinds.now tape.old i p }
-    ensures { Wrote tape_statement kinds.now i p tape.old tape.new result (G.statement_of (refuse 4) kinds.now i) }
+pub fn simple(r: &mut Reader) -> Answer
+    ensures read { Wrote tape_statement (G.statement_of (refuse 4)) r.old r.new result }
+    ensures same { SameTape r.old r.new }
 {
-    let k = kind_at(kinds, i);
+    let k = r.kind();
     if k == kinds::NAME {
-        return after_name(kinds, i, tape, p);
+        let name = r.take();
+        return after_name(r, name);
     }
     if k == kinds::NULL {
-        return read(i + 1, p);
+        r.take();
+        return Ok(());
     }
     if k != kinds::GOTO {
-        return refused(4, i);
+        return Err(Why::Unexpected);
     }
-    let label = i + 1;
-    let name = wanted(kinds, label, kinds::NAME);
-    if name.number != 0 {
-        return name;
-    }
-    write(tape, p, tape::GOTO, label);
-    read(name.at, p + 1)
+    r.take();
+    let label = r.wanted(kinds::NAME)?;
+    r.write(tape::GOTO, label);
+    Ok(())
 }
 
 // A condition and the word after it, THEN or DO.
-pub fn head(kinds: &[u8], i: usize, word: u8, tape: &mut [u32], p: usize) -> Answer
-    requires { Ready kinds.now tape.old i p × (0 < word) }
-    ensures { Wrote tape_condition kinds.now i p tape.old tape.new result (head_of word kinds.now i) × (result.value + i < result.at + p + result.number) }
+pub fn head(r: &mut Reader, word: u8) -> Answer
+    requires { 0 < word }
+    ensures read { WroteFewer tape_condition (head_of word) r.old r.new result }
+    ensures same { SameTape r.old r.new }
 {
-    let c = condition(kinds, i, tape, p);
-    if c.number != 0 {
-        return c;
-    }
-    let w = wanted(kinds, c.at, word);
-    if w.number != 0 {
-        return w;
-    }
-    read(w.at, c.value)
+    condition(r)?;
+    r.wanted(word)?;
+    Ok(())
 }
 
 // "name OF BEGIN"
-pub fn case_head(kinds: &[u8], i: usize, tape: &mut [u32], p: usize) -> Answer
-    requires { Ready kinds.now tape.old i p }
-    ensures { Wrote tape_chosen kinds.now i p tape.old tape.new result (case_head kinds.now i) }
+pub fn case_head(r: &mut Reader) -> Answer
+    ensures read { Wrote tape_chosen case_head r.old r.new result }
+    ensures same { SameTape r.old r.new }
 {
-    let name = wanted(kinds, i, kinds::NAME);
-    if name.number != 0 {
-        return name;
-    }
-    let of = wanted(kinds, name.at, kinds::OF);
-    if of.number != 0 {
-        return of;
-    }
-    let begin = wanted(kinds, of.at, kinds::BEGIN);
-    if begin.number != 0 {
-        return begin;
-    }
-    write(tape, p, tape::CHOSEN, i);
-    read(begin.at, p + 1)
+    let name = r.wanted(kinds::NAME)?;
+    r.wanted(kinds::OF)?;
+    r.wanted(kinds::BEGIN)?;
+    r.write(tape::CHOSEN, name);
+    Ok(())
 }
 
 // "assignment STEP"
-pub fn control(kinds: &[u8], i: usize, tape: &mut [u32], p: usize) -> Answer
-    requires { Ready kinds.now tape.old i p }
-    ensures { Wrote (tape_assignment E.CONTROL) kinds.now i p tape.old tape.new result (control_of kinds.now i) × (result.value + i < result.at + p + result.number) }
+pub fn control(r: &mut Reader) -> Answer
+    ensures read { WroteFewer (tape_assignment E.CONTROL) control_of r.old r.new result }
+    ensures same { SameTape r.old r.new }
 {
-    let name = wanted(kinds, i, kinds::NAME);
-    if name.number != 0 {
-        return name;
-    }
-    let a = assignment(kinds, i, tape::CONTROL, tape, p);
-    if a.number != 0 {
-        return a;
-    }
-    let step = wanted(kinds, a.at, kinds::STEP);
-    if step.number != 0 {
-        return step;
-    }
-    read(step.at, a.value)
+    let name = r.wanted(kinds::NAME)?;
+    assignment(r, name, tape::CONTROL)?;
+    r.wanted(kinds::STEP)?;
+    Ok(())
 }
 
 // "number UNTIL operand DO"
-pub fn limit(kinds: &[u8], i: usize, tape: &mut [u32], p: usize) -> Answer
-    requires { Ready kinds.now tape.old i p }
-    ensures { Wrote (tape_operand E.LIMIT) kinds.now i p tape.old tape.new result (limit_of kinds.now i) × (result.value + i < result.at + p + result.number) }
+pub fn limit(r: &mut Reader) -> Answer
+    ensures read { WroteFewer (tape_operand E.LIMIT) limit_of r.old r.new result }
+    ensures same { SameTape r.old r.new }
 {
-    let number = wanted(kinds, i, kinds::NUMBER);
-    if number.number != 0 {
-        return number;
-    }
-    let until = wanted(kinds, number.at, kinds::UNTIL);
-    if until.number != 0 {
-        return until;
-    }
-    let a = operand(kinds, until.at, tape::LIMIT, tape, p);
-    if a.number != 0 {
-        return a;
-    }
-    let word = wanted(kinds, a.at, kinds::DO);
-    if word.number != 0 {
-        return word;
-    }
-    read(word.at, a.value)
+    r.wanted(kinds::NUMBER)?;
+    r.wanted(kinds::UNTIL)?;
+    operand(r, tape::LIMIT)?;
+    r.wanted(kinds::DO)?;
+    Ok(())
 }
 
 // "name(name) ;"
-pub fn procedure_head(kinds: &[u8], i: usize, tape: &mut [u32], p: usize) -> Answer
-    requires { Ready kinds.now tape.old i p }
-    ensures { Wrote (tape_opening i) kinds.now i p tape.old tape.new result (procedure_head kinds.now i) × (result.value + i < result.at + p + result.number) }
+pub fn procedure_head(r: &mut Reader) -> Answer
+    ensures read { WroteFewer (tape_opening r.old.at) procedure_head r.old r.new result }
+    ensures same { SameTape r.old r.new }
 {
-    let name = wanted(kinds, i, kinds::NAME);
-    if name.number != 0 {
-        return name;
-    }
-    let register = in_parens(kinds, name.at, kinds::NAME);
-    if register.number != 0 {
-        return register;
-    }
-    let semicolon = wanted(kinds, register.at, kinds::SEMICOLON);
-    if semicolon.number != 0 {
-        return semicolon;
-    }
-    write(tape, p, tape::PROCEDURE, i);
-    read(semicolon.at, p + 1)
+    let name = r.wanted(kinds::NAME)?;
+    r.in_parens(kinds::NAME)?;
+    r.wanted(kinds::SEMICOLON)?;
+    r.write(tape::PROCEDURE, name);
+    Ok(())
 }

@@ -1,29 +1,32 @@
 -- Readers joined: what one reads after another. Assumes nothing.
-use mathlib.Core.Path.{◌≡◌, refl, ◌∙◌, sym, ap, subst}
+use mathlib.Core.Path.{◌≡◌, refl, sym, ap, ◌∙◌}
 use mathlib.Core.List.{List, [], ◌∷◌, ◌++◌, append_assoc}
-use mathlib.Core.Bool.{Bool, true, false, ◌&&◌}
+use mathlib.Core.Bool.{Bool, true, false, true≢false}
+use lib.Dec.{eqb}
+use Rattle.base.specs.Choose.{whether◌then◌else◌}
 use Prim.Native.Nat.{ℕ, ◌+◌, ◌*◌, ◌≤◌, ◌<◌}
 use native.Mathlib.Omega.{arith}
 use native.Mathlib.Nat.{mod-eq_of_lt}
 use native.Mathlib.Numerals.{add-one}
 use borrow.Author.Tests.{eq-eqb, ne_eqb}
-use lib.Dec.{T, eqb, leb, leb→le}
 use lib.ListN.{get_or, length, take, set, length-take, length-append, get_or-eq_default}
 use lib.Seq.{take-suc-set, take-set-lt, set-append_left, length-take-le}
-use Rattle.base.proofs.Tests.{and_left, and_right}
-use Rattle.base.specs.Choose.{whether◌then◌else◌}
+use Rattle.std.specs.Prelude.{Ok, Err, IsErr, IsErrAnd}
 use Rattle.grammar.specs.Reader.{Result, ok, bad, and_then, want}
-use Rattle.readers.specs.declared.tokens.Answer.{Answer}
+use Rattle.readers.specs.declared.reader.Reader.{Reader}
+use Rattle.readers.specs.declared.tokens.Why.{Why}
 use Rattle.tape.specs.Events as E
 use Rattle.tape.specs.Tape.{event}
-use Rattle.readers.specs.Reads.{Tells, Reads, Laid, Is, Pushed, Kind, Took}
+use Rattle.readers.specs.Refusals.{number_of}
+use Rattle.readers.specs.Kinds.{Kind}
+use Rattle.readers.specs.Reads.{Answer, Refuses, Laid, Written, WroteFrom, Seen, Still}
 
 -- ── one event more ──
 pub event-is : (op token : ℕ) → op < E.EVENTS → token * E.EVENTS + op ≡ event op token
 unfolding event
 event-is op token h = rw (mod-eq_of_lt h)
 
-pub pushed : (l : List ℕ) (p e : ℕ) → p < length l → Pushed e p l (set l p e)
+pub pushed : (l : List ℕ) (p e : ℕ) → p < length l → (k : List ℕ) → take (p + 1) (set l p e) ++ k ≡ take p l ++ (e ∷ k)
 pushed l p e h k = rw (add-one p, take-suc-set l p e h) (append_assoc (take p l) (e ∷ []) k)
 
 -- an event put before the place q
@@ -31,89 +34,72 @@ pub put-before : (l : List ℕ) (p q e : ℕ) (k : List ℕ) → p < q → q ≤
 put-before l p q e k h g = rw (take-set-lt q l p e h) (sym (set-append_left (take q l) k p e (omega (arith, length-take-le q l g))))
 
 -- what has been laid reaches at least as far as what stood before it
-pub reaches : {A : Type 0} (out : A → List ℕ → List ℕ) (p : ℕ) (before after : List ℕ) {ks : List ℕ} {i : ℕ} {r : Answer} {m : Result A}
-    → Reads (Laid out p before after) ks i r m → r.number ≡ 0 → p ≤ length before → p ≤ r.value
-reaches out p before after {r} {m = ok a j} h e l =
-    let s = ap length (h.tells.2 []) in
-    omega (arith, length-append (take r.value after) [], length-append (take p before) (out a []), length-take r.value after, length-take-le p before l)
-reaches out p before after {m = bad n t} h e l = absurd (let l = h.tells.2 in let g = h.tells.0 in omega arith)
+pub reaches : {A : Type 0} (out : A → List ℕ → List ℕ) (p q : ℕ) (before after : List ℕ) (a : A) → Laid out p before q after a → p ≤ length before → p ≤ q
+reaches out p q before after a h l =
+    let s = ap length (h []) in
+    omega (arith, length-append (take q after) [], length-append (take p before) (out a []), length-take q after, length-take-le p before l)
 
--- ── one reader after another ──
+-- ── answers ──
 
-module _ {A : Type 0} {P : A → ℕ → Type 0} {ks : List ℕ} where
-  -- from an earlier token on
-  pub since : {i j : ℕ} {r : Answer} {m : Result A} → i ≤ j → Reads P ks j r m → Reads P ks i r m
-  since h d = let o = d.onward in record { tells = d.tells; onward = omega arith; inside = d.inside }
+-- what `?` answers of a refusal
+pub passed : {T : Type 0} {r : Answer T} {e : Why} → IsErr r × IsErrAnd r (λ y. y ≡ e) → r ≡ Err e
+passed {r = Ok x} (h, g) = absurd (true≢false (sym h))
+passed {r = Err y} (h, g) = ap (λ (x : Why). Err x) g
 
-  -- read
-  pub done : {i j v : ℕ} {r : Answer} {a : A} → Is 0 j v r → i ≤ j → j ≤ length ks → P a v → Reads P ks i r (ok a j)
-  done {a} s l h p = record { tells = (s.number_is, s.at-is, rw s.value-is p); onward = rw s.at-is l; inside = rw s.at-is h }
+-- what a part refuses
+pub stays : {A B : Type 0} {ks : List ℕ} {i j : ℕ} {e : Why} {new : Reader} {m : Result A} → Refuses ks j new e m → i ≤ j
+    → Refuses {A = B} ks i new e (bad (number_of e) new.at)
+stays h l = let o = h.onward in record { is = refl; same = h.same; onward = omega arith }
 
-  -- refused here
-  pub no : {i n : ℕ} {r : Answer} → Is n i 0 r → T (leb 4 n && leb n 5) → i ≤ length ks → Reads P ks i r (bad n i)
-  no {n} s l h = record { tells = (s.number_is, s.at-is, leb→le 4 n (and_left (leb 4 n) (leb n 5) l), leb→le n 5 (and_right (leb 4 n) (leb n 5) l)); onward = omega arith; inside = omega arith }
+-- something read, the last event of which stands on the tape
+pub wrote : {A : Type 0} {out : A → List ℕ → List ℕ} {i p : ℕ} {before : List ℕ} {new : Reader} {a : A} → Laid out p before new.events new.tape.now a
+    → i ≤ new.at → new.events + i ≤ new.at + p → Written out new.kinds.now i p before new (ok a new.at)
+wrote {a} l o w = record { what = a; is = refl; laid = l; same = refl; onward = o; low = w }
 
-  -- what a part answers is answered again: its refusal, or what it read with another value
-  pub refuses : {Q : A → ℕ → Type 0} {i : ℕ} {r s : Answer} {m : Result A} → Reads P ks i r m → (r.number ≡ 0 → ⊥) → Is r.number r.at 0 s → Reads Q ks i s m
-  refuses {m = ok a j} h e s = absurd (e h.tells.0)
-  refuses {m = bad n t} h e s =
+pub seen : {A : Type 0} {P : A → Type 0} {i : ℕ} {new : Reader} {a : A} → P a → i ≤ new.at → Seen P new.kinds.now i new (ok a new.at)
+seen {a} f o = record { what = a; is = refl; fits = f; same = refl; onward = o }
+
+-- a part is the last, whatever it answers
+module _ {A B : Type 0} (f : A → List ℕ → List ℕ) (out : B → List ℕ → List ℕ) (g : A → B) (ks : List ℕ) (i j p q : ℕ) (before now : List ℕ) (new : Reader) where
+  pub gives : (r : Answer Unit) (m : Result A) → i ≤ j → q + i ≤ j + p
+      → ((a : A) → Laid f q now new.events new.tape.now a → Laid out p before new.events new.tape.now (g a))
+      → WroteFrom f ks j q now new r m → WroteFrom out ks i p before new r (and_then m (λ a n. ok (g a) n))
+  unfolding and_then
+  gives (Ok x) m l w e h =
       let o = h.onward in
-      let l = h.inside in
-      record { tells = (s.number_is ∙ h.tells.0, s.at-is ∙ h.tells.1, h.tells.2, h.tells.3); onward = omega arith; inside = omega arith }
+      let y = h.low in
+      record { what = g h.what; is = rw h.is; laid = e _ h.laid; same = h.same; onward = omega arith; low = omega arith }
+  gives (Err x) m l w e h = let o = h.onward in record { is = rw h.is; same = h.same; onward = omega arith }
 
-  pub turns : {Q : A → ℕ → Type 0} {i v : ℕ} {r s : Answer} {m : Result A} → Reads P ks i r m → r.number ≡ 0 → ((a : A) → P a r.value → Q a v) → Is 0 r.at v s → Reads Q ks i s m
-  turns {m = ok a j} h e f s =
-      let o = h.onward in
-      let l = h.inside in
-      record { tells = (s.number_is, s.at-is ∙ h.tells.1, rw s.value-is (f a h.tells.2)); onward = omega arith; inside = omega arith }
-  turns {m = bad n t} h e f s = absurd (let l = h.tells.2 in let g = h.tells.0 in omega arith)
-
-module _ {A B : Type 0} {P : A → ℕ → Type 0} {Q : B → ℕ → Type 0} {ks : List ℕ} {i : ℕ} {r : Answer} where
-  -- a part is refused
-  pub stops : {m : Result A} (f : A → ℕ → Result B) → Reads P ks i r m → (r.number ≡ 0 → ⊥) → Reads Q ks i r (and_then m f)
-  unfolding and_then
-  stops {m = ok a j} f h e = absurd (e h.tells.0)
-  stops {m = bad n t} f h e = record { tells = h.tells; onward = h.onward; inside = h.inside }
-
-  -- a part is read, and then the rest
-  pub goes : {s : Answer} {m : Result A} (f : A → ℕ → Result B) → Reads P ks i r m → r.number ≡ 0 → ((a : A) → P a r.value → Reads Q ks r.at s (f a r.at)) → Reads Q ks i s (and_then m f)
-  unfolding and_then
-  goes {s} {m = ok a j} f h e k = subst (λ (x : ℕ). Reads Q ks i s (f a x)) h.tells.1 (since h.onward (k a h.tells.2))
-  goes {m = bad n t} f h e k = absurd (let l = h.tells.2 in let g = h.tells.0 in omega arith)
-
-  -- a part is the last, whatever it answers
-  pub gives : {m : Result A} (g : A → B) → ((a : A) → P a r.value → Q (g a) r.value) → Reads P ks i r m → Reads Q ks i r (and_then m (λ a j. ok (g a) j))
-  unfolding and_then
-  gives {m = ok a j} g f h = record { tells = (h.tells.0, h.tells.1, f a h.tells.2); onward = h.onward; inside = h.inside }
-  gives {m = bad n t} g f h = record { tells = h.tells; onward = h.onward; inside = h.inside }
-
-module _ {A B : Type 0} {P : A → ℕ → Type 0} {Q : B → ℕ → Type 0} {ks : List ℕ} {i : ℕ} {r : Answer} where
-  -- a part is refused, and its value dropped
-  pub halts : {s : Answer} {m : Result A} (f : A → ℕ → Result B) → Reads P ks i r m → (r.number ≡ 0 → ⊥) → Is r.number r.at 0 s → Reads Q ks i s (and_then m f)
-  halts f h e s = stops {P = P} f (refuses h e s) (λ z. e (sym s.number_is ∙ z))
+-- from an earlier token on
+pub later : {A : Type 0} (out : A → List ℕ → List ℕ) (ks : List ℕ) (i j p : ℕ) (before : List ℕ) (new : Reader) (r : Answer Unit) (m : Result A) → i ≤ j
+    → WroteFrom out ks j p before new r m → WroteFrom out ks i p before new r m
+later out ks i j p before new (Ok x) m l h =
+    let o = h.onward in
+    let y = h.low in
+    record { what = h.what; is = h.is; laid = h.laid; same = h.same; onward = omega arith; low = omega arith }
+later out ks i j p before new (Err x) m l h = let o = h.onward in record { is = h.is; same = h.same; onward = omega arith }
 
 -- ── tokens ──
+pub stills : {r s t : Reader} → Still r s → Still s t → Still r t
+stills a b = let x = a.onward in let y = b.onward in record { same = b.same ∙ a.same; onward = omega arith; tape = b.tape ∙ a.tape; events = b.events ∙ a.events; name = b.name ∙ a.name }
+
 pub past : (ks : List ℕ) (i : ℕ) → length ks ≤ i → i ≤ length ks → Kind ks i 0
 past ks i h l = record { is = sym (get_or-eq_default ks 0 h); within = omega arith }
 
-pub hit : {ks : List ℕ} {k i : ℕ} {r : Answer} → get_or ks i 0 ≡ k → i < length ks → Is 0 (i + 1) 0 r → Took ks i r (want k ks i)
+pub want-yes : {k : ℕ} {ks : List ℕ} {i x : ℕ} → Kind ks i x → x ≡ k → want k ks i ≡ ok i (i + 1)
 unfolding want
-hit e l s = record { read = rw (eq-eqb _ _ e) (done s (omega arith) (omega arith) refl); moved = omega arith; none = s.value-is }
+want-yes h e = rw (eq-eqb _ _ (sym h.is ∙ e))
 
-pub miss : {ks : List ℕ} {k i : ℕ} {r : Answer} → (get_or ks i 0 ≡ k → ⊥) → i ≤ length ks → Is 4 i 0 r → Took ks i r (want k ks i)
+pub want-no : {k : ℕ} {ks : List ℕ} {i x : ℕ} → Kind ks i x → (x ≡ k → ⊥) → want k ks i ≡ bad 4 i
 unfolding want
-miss e l s = record { read = rw (ne_eqb _ _ e) (no s tt l); moved = omega arith; none = s.value-is }
+want-no h n = rw (ne_eqb _ _ (λ e. n (h.is ∙ e)))
 
--- the token i is taken, and then the rest is read
-pub takes : {B : Type 0} {Q : B → ℕ → Type 0} {ks : List ℕ} {i : ℕ} {r s : Answer} (k : ℕ) (f : ℕ → ℕ → Result B) → Took ks i r (want k ks i) → r.number ≡ 0
-    → Reads Q ks i s (f i (i + 1)) → Reads Q ks i s (and_then (want k ks i) f)
-unfolding want and_then
-takes {Q} {ks} {i} {r} {s} k f h e d = go (eqb (get_or ks i 0) k) h.read.tells
+-- what was wanted is the next token
+pub want-is : (k : ℕ) (ks : List ℕ) (i n j : ℕ) → want k ks i ≡ ok n j → n ≡ i
+unfolding want
+want-is k ks i n j h = go (eqb (get_or ks i 0) k) h
   where
-    go : (t : Bool) → Tells (λ t v. t ≡ i) r (whether t then ok i (i + 1) else bad 4 i) → Reads Q ks i s (and_then (whether t then ok i (i + 1) else bad 4 i) f)
-    go true x = d
-    go false x = absurd (let g = x.0 in omega arith)
-
--- a reader that makes the same
-pub along : {A : Type 0} {P : A → ℕ → Type 0} {ks : List ℕ} {i : ℕ} {r : Answer} {m n : Result A} → m ≡ n → Reads P ks i r m → Reads P ks i r n
-along {P} {ks} {i} {r} e d = subst (λ x. Reads P ks i r x) e d
+    go : (t : Bool) → (whether t then ok i (i + 1) else bad 4 i) ≡ ok n j → n ≡ i
+    go true e = cc
+    go false e = cc

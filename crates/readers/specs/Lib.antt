@@ -1,2 +1,4 @@
 -- What readers promise.
+pub mod Refusals
+pub mod Kinds
 pub mod Reads

@@ -1,82 +1,85 @@
 // The report of a run: why it stopped, how far it came, what it left in the registers; and a value by its name.
-#![tactic(auto)]
+#![tactic(auto, using(figures::proofs::Writing::then, figures::proofs::Writing::from_front))]
 
-ghost use Rattle.std.specs.Prelude.{◌+◌, ◌≤◌, length};
+ghost use Rattle.std.specs.Prelude.{map};
 ghost use Rattle.base.specs.Text.{bytes};
-ghost use Rattle.figures.specs.Writing.{Adds, Holds};
+ghost use Rattle.figures.specs.Writing.{Holds, Puts};
 ghost use Rattle.reports.specs.Reports.{stops, figure_text, register_text, registers_text, report_text, told_text, value_text};
 
-use figures::{put_all, put_decimal, put_hexadecimal, put_phrase, put_signed};
+use figures::{Text, entry};
 
 // Why a run stopped, by the number of the stop.
-const STOPS: [u8; 108] = *b"the budget is used up\n\
-    the program's end\n\
-    a forbidden operand\n\
-    a misaligned operand\n\
-    no instruction to carry out";
+const STOPS: [&[u8]; 5] = [
+    b"the budget is used up",
+    b"the program's end",
+    b"a forbidden operand",
+    b"a misaligned operand",
+    b"no instruction to carry out",
+];
 
 // What a condition code says, and which conditions hold in it.
-const CODES: [u8; 143] = *b"zero, equal: =, <= and >= hold\n\
-    negative, less: <, <= and ^= hold\n\
-    positive, greater: >, >= and ^= hold\n\
-    overflow: OVERFLOW holds, and no relation";
+const CODES: [&[u8]; 4] = [
+    b"zero, equal: =, <= and >= hold",
+    b"negative, less: <, <= and ^= hold",
+    b"positive, greater: >, >= and ^= hold",
+    b"overflow: OVERFLOW holds, and no relation",
+];
 
-const REGISTERS: [u8; 47] = *b"R0 R1 R2 R3 R4 R5 R6 R7 R8 R9 RA RB RC RD RE RF";
+const REGISTERS: [&[u8]; 16] = [
+    b"R0", b"R1", b"R2", b"R3", b"R4", b"R5", b"R6", b"R7", b"R8", b"R9", b"RA", b"RB", b"RC",
+    b"RD", b"RE", b"RF",
+];
 
-fn put_told(out: &mut [u8], at: usize, name: &[u8], n: usize, phrases: &[u8]) -> usize
-    ensures { Adds (told_text name.now n phrases.now) out.old at out.new result }
+fn put_told(text: &mut Text, name: &[u8], n: usize, meanings: &[&[u8]])
+    ensures { Puts (told_text name.now n (map (λ m. m.now) meanings.now)) text.old text.new }
 {
-    let named = put_all(out, at, name);
-    let numbered = put_decimal(out, named, n);
-    let parted = put_all(out, numbered, b": ");
-    let told = put_phrase(out, parted, phrases, n, n);
-    put_all(out, told, b"\n")
+    text.put_all(name);
+    text.put_decimal(n);
+    text.put_all(b": ");
+    text.put_all(entry(meanings, n));
+    text.put_all(b"\n");
 }
 
-fn put_figure(out: &mut [u8], at: usize, name: &[u8], n: usize) -> usize
-    ensures { Adds (figure_text name.now n) out.old at out.new result }
+fn put_figure(text: &mut Text, name: &[u8], n: usize)
+    ensures { Puts (figure_text name.now n) text.old text.new }
 {
-    let named = put_all(out, at, name);
-    let numbered = put_decimal(out, named, n);
-    put_all(out, numbered, b"\n")
+    text.put_all(name);
+    text.put_decimal(n);
+    text.put_all(b"\n");
 }
 
 // Why a run stopped, as a line.
-pub fn put_stop(out: &mut [u8], at: usize, stop: usize) -> usize
-    ensures { Adds (told_text (bytes "stop ") stop stops) out.old at out.new result }
+// Kept: the number of a stop, here and in `report`, and of a code there: they answer for any number, and a narrower type asks more of who calls.
+pub fn put_stop(text: &mut Text, stop: usize)
+    ensures { Puts (told_text (bytes "stop ") stop stops) text.old text.new }
 {
-    put_told(out, at, b"stop ", stop, &STOPS)
+    put_told(text, b"stop ", stop, &STOPS);
 }
 
 // A value by its name, as a line.
-pub fn put_value(out: &mut [u8], at: usize, name: &[u8], v: u32) -> usize
-    ensures { Adds (value_text name.now v) out.old at out.new result }
+pub fn put_value(text: &mut Text, name: &[u8], v: u32)
+    ensures { Puts (value_text name.now v) text.old text.new }
 {
-    let named = put_all(out, at, name);
-    let parted = put_all(out, named, b" ");
-    let numbered = put_signed(out, parted, v);
-    let marked = put_all(out, numbered, b" #");
-    let written = put_hexadecimal(out, marked, v);
-    put_all(out, written, b"\n")
+    text.put_all(name);
+    text.put_all(b" ");
+    text.put_signed(v);
+    text.put_all(b" #");
+    text.put_hexadecimal(v);
+    text.put_all(b"\n");
 }
 
-fn put_register(out: &mut [u8], at: usize, i: usize, v: u32) -> usize
-    ensures { Adds (register_text i v) out.old at out.new result }
+fn put_register(text: &mut Text, i: usize, v: u32)
+    ensures { Puts (register_text i v) text.old text.new }
 {
-    let name = figures::part(&REGISTERS, b' ', i);
-    put_value(out, at, name, v)
+    put_value(text, entry(&REGISTERS, i), v);
 }
 
-fn put_registers(out: &mut [u8], at: usize, regs: &[u32]) -> usize
-    ensures { Adds (registers_text 0 regs.now) out.old at out.new result }
+fn put_registers(text: &mut Text, regs: &[u32])
+    ensures { Puts (registers_text 0 regs.now) text.old text.new }
 {
-    let mut end = at;
-    let mut i: usize = 0;
-    while i < regs.len() {
-        end = put_register(out, end, i, regs[i]);
-        i += 1;
+    for (i, v) in regs.iter().enumerate() {
+        put_register(text, i, *v);
     }
-    end
 }
 
 // The whole report into lent room; how many bytes it has there.
@@ -90,9 +93,11 @@ pub fn report(
 ) -> usize
     ensures { Holds out.old (report_text stop counter code count regs.now) out.new result }
 {
-    let stopped = put_told(out, 0, b"stop ", stop, &STOPS);
-    let counted = put_figure(out, stopped, b"count ", count);
-    let placed = put_figure(out, counted, b"counter ", counter);
-    let coded = put_told(out, placed, b"code ", code, &CODES);
-    put_registers(out, coded, regs)
+    let mut text = Text::new(out);
+    put_stop(&mut text, stop);
+    put_figure(&mut text, b"count ", count);
+    put_figure(&mut text, b"counter ", counter);
+    put_told(&mut text, b"code ", code, &CODES);
+    put_registers(&mut text, regs);
+    text.end()
 }

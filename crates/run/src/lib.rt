@@ -8,12 +8,13 @@ ghost use Rattle.machine.specs.Run.{run as run_of};
 ghost use Rattle.run.specs.Lent.{ran};
 
 use instruction::step;
-use machine::{COMPLETED, MAP};
+use machine::{MAP, Stop};
 
+// How a run ended: its stop, the counter, the condition code, the count of completed instructions, the registers.
 #[derive(Clone, Copy)]
 pub struct Ran {
-    pub stop: u32,
-    pub at: u32,
+    pub stop: Stop,
+    pub counter: u32,
     pub code: u64,
     pub count: u32,
     pub regs: [u32; 16],
@@ -34,27 +35,25 @@ pub fn run(
     let mut regs = given;
     let mut code = first;
     let mut at = start;
-    let mut count: u32 = 0;
-    while count < budget {
-        let q = step(program, map, &mut regs, s, code, at);
-        code = q.code;
-        at = q.at;
-        if q.stop != COMPLETED {
+    for count in 0..budget {
+        let next = step(program, map, &mut regs, s, code, at);
+        code = next.code;
+        at = next.at;
+        if let Some(stop) = next.stop {
             return Ran {
-                stop: q.stop,
-                at: at,
-                code: code,
-                count: count,
-                regs: regs,
+                stop,
+                counter: at,
+                code,
+                count,
+                regs,
             };
         }
-        count += 1;
     }
     Ran {
-        stop: 0,
-        at: at,
-        code: code,
-        count: count,
-        regs: regs,
+        stop: Stop::BudgetUsed,
+        counter: at,
+        code,
+        count: budget,
+        regs,
     }
 }

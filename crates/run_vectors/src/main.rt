@@ -1,7 +1,7 @@
 // Every stored run through the proved runner: the line that it answers against the stored line.
 #![tactic(auto)]
 
-ghost use Rattle.std.specs.Prelude.{◌+◌, ◌≤◌, length};
+ghost use Rattle.std.specs.Prelude.{◌≤◌, length};
 
 use lines::{tally, window};
 use std::io::Print;
@@ -10,6 +10,9 @@ use std::{fs, io};
 
 // No vector is longer.
 const VECTOR: usize = 32768;
+
+// A proved loop has to end, and nothing says that a file does: no file has so many vectors.
+const MOST: u64 = 1000000;
 
 // How many bytes a vector has, 0 where there is none, and whether the answer is the stored one.
 #[derive(Clone, Copy)]
@@ -22,27 +25,15 @@ fn compare(input: &[u8], store: &mut [u8], out: &mut [u8]) -> Compared
     ensures { result.used ≤ length input.now }
 {
     let told = run_cases::answer(input, store, out);
-    let used = told.used;
-    let size = told.size;
+    let (used, size) = told.map_or((0, 0), |told| (told.used, told.size));
     let rest = &input[used..];
     let line = window::line(rest);
-    let is_equal = check::same(&rest[..line], &out[..size]);
     Compared {
         used: used + line,
-        is_equal: is_equal,
+        is_equal: &rest[..line] == &out[..size],
     }
 }
 
-// The vector that begins at a place of what was read.
-fn compare_at(input: &[u8], at: usize, to: usize, store: &mut [u8], out: &mut [u8]) -> Compared
-    requires { (at ≤ to) × (to ≤ length input.now) }
-    ensures { at + result.used ≤ to }
-{
-    let read = &input[..to];
-    compare(&read[at..], store, out)
-}
-
-// A proved loop has to end, and nothing says that a file does: so the vectors are counted, up to a number that no file reaches.
 fn compare_all<R: Files + Print>(
     rt: &R,
     name: &str,
@@ -55,12 +46,13 @@ fn compare_all<R: Files + Print>(
     let mut to = window::refill(&mut file, input, 0, 0);
     let mut compared: u64 = 0;
     let mut equal: u64 = 0;
-    while compared < 1000000 && at < to {
-        let c = compare_at(input, at, to, store, out);
-        let used = c.used;
-        let is_equal = c.is_equal;
-        compared += 1;
-        equal = tally::counted(rt, is_equal, compared, equal);
+    for number in 1..=MOST {
+        if at == to {
+            break;
+        }
+        let Compared { used, is_equal } = compare(&input[at..to], store, out);
+        compared = number;
+        equal = tally::counted(rt, is_equal, number, equal);
         let next = window::keep(&mut file, input, at + used, to, VECTOR);
         at = next.at;
         to = next.to;

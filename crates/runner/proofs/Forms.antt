@@ -2,10 +2,11 @@
 use Prim.Native.Nat.{ℕ, ◌<◌, ◌≤◌}
 use mathlib.Core.Path.{◌≡◌, refl, sym, ap, ◌∙◌}
 use mathlib.Core.List.{List}
-use mathlib.Core.Option.{none, some}
+use mathlib.Core.Option.{some}
 use lib.ListN.{length}
 use borrow.Author.Tests.{lt-ltb, le-ltb}
 use Rattle.objtext.specs.Object.{Segment, Object, object_text, Form, of-object, of_none}
+use Rattle.std.specs.Prelude as P
 use Rattle.objtext.specs.Reader.{read_object, read_as, segment_list}
 use Rattle.objtext.proofs.Written.{written_once}
 use Rattle.objtext.proofs.Exact.{exactly, form}
@@ -39,21 +40,21 @@ module _ (text regs : List ℕ) (k budget : ℕ) (s : List ℕ) where
   runner-read gs e = let f = (exactly text gs).0 e in runner-object gs f.0 f.1
 
   -- by the count of segments that the code reads
-  pub runner-counted : (n : ℕ) → (n ≡ 0 → ⊥) → read_as n text ≡ read_object text → runner text regs k budget s ≡ on_object (segment_list n text) regs k budget s
-  runner-counted n h e = runner-read (segment_list n text) (read_as_lem n text h e)
+  pub runner-counted : (n : ℕ) → read_as (P.Some n) text ≡ read_object text → runner text regs k budget s ≡ on_object (segment_list n text) regs k budget s
+  runner-counted n e = runner-read (segment_list n text) (read_as_lem n text e)
 
-  pub runner-uncounted : (n : ℕ) → n ≡ 0 → read_as n text ≡ read_object text → runner text regs k budget s ≡ refused 17 regs k s
+  pub runner-uncounted : read_as P.None text ≡ read_object text → runner text regs k budget s ≡ refused 17 regs k s
   unfolding read_as
-  runner-uncounted n h e = let u : none ≡ read_object text = rw h at e in runner-none (λ gs o q. none-some gs (u ∙ (exactly text gs).1 (o, q)))
+  runner-uncounted e = runner-none (λ gs o q. none-some gs (e ∙ (exactly text gs).1 (o, q)))
 
   -- what is left where a count was read: 18, 19, or the run
-  module _ (n : ℕ) (h : n ≡ 0 → ⊥) (e : read_as n text ≡ read_object text) where
+  module _ (n : ℕ) (e : read_as (P.Some n) text ≡ read_object text) where
     pub runner-18 : 3 < k → runner text regs k budget s ≡ refused 18 regs k s
-    runner-18 l = runner-counted n h e ∙ rw (lt-ltb 3 k l)
+    runner-18 l = runner-counted n e ∙ rw (lt-ltb 3 k l)
 
     pub runner-19 : k ≤ 3 → length s < needed → runner text regs k budget s ≡ refused 19 regs k s
-    runner-19 l m = runner-counted n h e ∙ rw (le-ltb 3 k l, lt-ltb (length s) needed m)
+    runner-19 l m = runner-counted n e ∙ rw (le-ltb 3 k l, lt-ltb (length s) needed m)
 
     pub runner-runs : k ≤ 3 → needed ≤ length s
         → runner text regs k budget s ≡ accepted (run budget (space_of (segment_list n text)) (started regs k) (loaded (segment_list n text) s))
-    runner-runs l m = runner-counted n h e ∙ rw (le-ltb 3 k l, le-ltb (length s) needed m)
+    runner-runs l m = runner-counted n e ∙ rw (le-ltb 3 k l, le-ltb (length s) needed m)

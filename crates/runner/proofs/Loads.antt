@@ -1,15 +1,14 @@
 -- Loading, in the form of its loops' invariants: what is left to be placed, charted or entered in the table, from where the loop stands, makes the whole.
 -- Assumes nothing.
 use Prim.Native.Nat.{ℕ, zero, suc, ◌+◌, ◌-◌, ◌*◌, ◌<◌, ◌≤◌}
-use mathlib.Core.Path.{◌≡◌, refl, sym, ap, ◌∙◌, subst}
+use mathlib.Core.Path.{◌≡◌, refl, sym, ◌∙◌, subst}
 use mathlib.Core.Bool.{Bool, true, false}
 use mathlib.Core.List.{List, [], ◌∷◌, ◌++◌}
 use native.Mathlib.Omega.{arith}
 use native.Mathlib.Numerals.{add-one}
 use lib.Dec.{leb}
-use lib.ListN.{length, drop, set, replicate, length-append, length-drop, length-replicate}
-use lib.Seq.{drop-drop, sets, length-sets}
-use borrow.Author.Fill.{fill_more}
+use lib.ListN.{length, take, drop, set, replicate, length-append, length-drop, length-replicate}
+use lib.Seq.{drop-drop, sets, length-sets, length-take-le}
 use borrow.Author.Tests.{le-leb, lt-leb}
 use Rattle.base.specs.Choose.{choose}
 use Rattle.base.specs.Numbers.{stored, bytes_of}
@@ -68,7 +67,7 @@ module _ (count k : ℕ) (h : count ≤ k) where
   table-end l s e = rw none_left at e
 
 -- the program first
-pub placed-all : (t : List ℕ) (count : ℕ) (s : List ℕ) {r : List ℕ} → 0 < count
+pub placed-all : (t : List ℕ) (count : ℕ) (s : List ℕ) {r : List ℕ} → 2 ≤ count
     → r ≡ placed 1 (data_list (count - 1) (after_program t)) (sets s (origin 0) (content_at (frames_for (head_length t)) (head_length t) (drop 9 t))) → r ≡ placed 0 (segment_list count t) s
 unfolding program_at
 placed-all t zero s h e = absurd (omega arith)
@@ -99,11 +98,8 @@ word_out l k s h = rw (lt-leb (4 * k + 4) l h)
 
 -- ── zeros ──
 
-pub clear-on : (s d : List ℕ) (i : ℕ) → i < length d → s ≡ replicate i 0 ++ drop i d → set s i 0 ≡ replicate (i + 1) 0 ++ drop (i + 1) d
-clear-on s d i h e = ap (λ (l : List ℕ). set l i 0) e ∙ fill_more i 0 d h
-
-pub clear-end : (s d : List ℕ) (i n : ℕ) → i ≤ n → n ≤ i → s ≡ replicate i 0 ++ drop i d → s ≡ replicate n 0 ++ drop n d
-clear-end s d i n h l e = let q : i ≡ n = omega arith in rw q at e
+pub zeros : (n : ℕ) (s z : List ℕ) → n ≤ length s → z ≡ replicate (length (take n s)) 0 → z ++ drop n s ≡ replicate n 0 ++ drop n s
+zeros n s z h e = rw (e, length-take-le n s h)
 
 -- ── lengths ──
 

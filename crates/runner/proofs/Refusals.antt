@@ -13,11 +13,12 @@ use Rattle.objtext.specs.Object.{Segment, Object, object_text, Form, of-object, 
 use Rattle.objtext.proofs.Exact.{form}
 use Rattle.machine.specs.Space.{needed}
 use Rattle.machine.specs.Run.{run}
-use Rattle.runner.specs.declared.Answer.{Answer}
-use Rattle.runner.specs.declared.Verdict.{Verdict}
-use Rattle.runner.specs.declared.Verdict.TheVariants.{Ran, NoObject, BadCode, SmallStorage}
-use Rattle.runner.specs.declared.Stop.{Stop}
-use Rattle.runner.specs.declared.Stop.TheVariants.{BudgetUsed, AtEnd, Forbidden, Misaligned, NoInstruction}
+use Rattle.std.specs.Prelude.{Result, Ok, Err}
+use Rattle.machine.specs.declared.Stop.{Stop}
+use Rattle.machine.specs.declared.Stop.TheVariants.{BudgetUsed, AtEnd, Forbidden, Misaligned, NoInstruction}
+use Rattle.run.specs.declared.Ran.{Ran}
+use Rattle.runner.specs.declared.Refusal.{Refusal}
+use Rattle.runner.specs.declared.Refusal.TheVariants.{NoObject, BadCode, SmallStorage}
 use Rattle.runner.specs.Load.{loaded, space_of, started}
 use Rattle.runner.specs.Numbers.{number_of, stop_of}
 use Rattle.runner.specs.Runner.{Outcome, refused, accepted, on_object, on_form, runner, outcome}
@@ -92,15 +93,19 @@ module _ (text regs : List ℕ) (k budget : ℕ) (s : List ℕ) where
 
 -- ── an answer is told by its outcome ──
 
-verdict_of : ℕ → Verdict
-verdict_of n = choose (eqb n 0) Ran (choose (eqb n 17) NoObject (choose (eqb n 18) BadCode SmallStorage))
+refusal_of : ℕ → Refusal
+refusal_of n = choose (eqb n 17) NoObject (choose (eqb n 18) BadCode SmallStorage)
 
-verdict-back : (v : Verdict) → verdict_of (number_of v) ≡ v
-unfolding verdict_of
-verdict-back Ran = refl
-verdict-back NoObject = refl
-verdict-back BadCode = refl
-verdict-back SmallStorage = refl
+refusal-back : (v : Refusal) → refusal_of (number_of v) ≡ v
+unfolding refusal_of
+refusal-back NoObject = refl
+refusal-back BadCode = refl
+refusal-back SmallStorage = refl
+
+pub refuses : (v : Refusal) → 0 ≡ number_of v → ⊥
+refuses NoObject e = omega arith
+refuses BadCode e = omega arith
+refuses SmallStorage e = omega arith
 
 stop_by : ℕ → Stop
 stop_by n = choose (eqb n 0) BudgetUsed (choose (eqb n 1) AtEnd (choose (eqb n 2) Forbidden (choose (eqb n 3) Misaligned NoInstruction)))
@@ -113,8 +118,19 @@ stop-back Forbidden = refl
 stop-back Misaligned = refl
 stop-back NoInstruction = refl
 
-pub answer-told : (a b : Answer) (s t : List ℕ) → outcome a s ≡ outcome b t → (a ≡ b) × (s ≡ t)
-answer-told a b s t e =
-    let v : a.verdict ≡ b.verdict = sym (verdict-back a.verdict) ∙ ap (λ (o : Outcome). verdict_of o.number) e ∙ verdict-back b.verdict in
-    let p : a.stop ≡ b.stop = sym (stop-back a.stop) ∙ ap (λ (o : Outcome). stop_by o.stop) e ∙ stop-back b.stop in
-    ((λ i. record { verdict = v i; spot = (e i).spot; stop = p i; counter = (e i).counter; regs = (e i).regs; code = (e i).code; count = (e i).count }), ap (λ (o : Outcome). o.store) e)
+pub answer-told : (a b : Result Ran Refusal) (regs rs : List ℕ) (k j : ℕ) (s t : List ℕ) → outcome a regs k s ≡ outcome b rs j t → (a ≡ b) × (s ≡ t)
+answer-told (Ok q) (Ok r) regs rs k j s t e =
+    let p : q.stop ≡ r.stop = sym (stop-back q.stop) ∙ ap (λ (o : Outcome). stop_by o.stop) e ∙ stop-back r.stop in
+    ((λ i. Ok (record { stop = p i; counter = (e i).counter; code = (e i).code; count = (e i).count; regs = (e i).regs })), ap (λ (o : Outcome). o.store) e)
+answer-told (Ok q) (Err u) regs rs k j s t e = absurd (refuses u (ap (λ (o : Outcome). o.number) e))
+answer-told (Err v) (Ok r) regs rs k j s t e = absurd (refuses v (sym (ap (λ (o : Outcome). o.number) e)))
+answer-told (Err v) (Err u) regs rs k j s t e =
+    (ap Err (sym (refusal-back v) ∙ ap (λ (o : Outcome). refusal_of o.number) e ∙ refusal-back u), ap (λ (o : Outcome). o.store) e)
+
+-- a refusal says the registers and the code that it was given
+pub handed-back : (a b : Result Ran Refusal) (regs rs : List ℕ) (k j : ℕ) (s t : List ℕ) → outcome a regs k s ≡ outcome b rs j t → a ≡ b
+    → (r : Refusal) → a ≡ Err r → (regs ≡ rs) × (k ≡ j)
+handed-back a b regs rs k j s t e p r h =
+    let f : outcome (Err r) regs k s ≡ outcome (Err r) rs j t =
+    ap (λ (x : Result Ran Refusal). outcome x regs k s) (sym h) ∙ e ∙ ap (λ (x : Result Ran Refusal). outcome x rs j t) (sym p ∙ h) in
+    (ap (λ (o : Outcome). o.regs) f, ap (λ (o : Outcome). o.code) f)

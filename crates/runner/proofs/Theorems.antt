@@ -6,17 +6,19 @@ use mathlib.Core.Bool.{false}
 use mathlib.Core.List.{List}
 use mathlib.Core.Logic.{◌↔◌}
 use native.Mathlib.Omega.{arith}
+use Rattle.std.specs.Prelude.{Result, Err}
 use lib.ListN.{length, get_or}
 use Rattle.objtext.specs.Object.{Segment, Object, object_text}
 use Rattle.machine.specs.Space.{Space, room, needed, writable}
 use Rattle.machine.specs.Step.{Cpu, completed, address, link, step}
 use Rattle.machine.specs.Run.{result, counted, run}
 use Rattle.machine.proofs.Outside.{run-keeps}
-use Rattle.runner.specs.declared.Answer.{Answer}
+use Rattle.run.specs.declared.Ran.{Ran}
+use Rattle.runner.specs.declared.Refusal.{Refusal}
 use Rattle.runner.specs.Load.{loaded, space_of, started}
 use Rattle.runner.specs.Runner.{refused, accepted, runner, outcome}
 use Rattle.runner.specs.Stops.{is_none, is_end, is_misaligned, is_forbidden, first_of, reached}
-use Rattle.runner.proofs.Refusals.{verdicts, answer-told}
+use Rattle.runner.proofs.Refusals.{verdicts, answer-told, handed-back}
 use Rattle.runner.proofs.Stopping.{first-cause, stops-run, counts-on, Counts, run-counts, reached-24}
 
 -- a text that is exactly of the form
@@ -43,9 +45,13 @@ module _ (text regs : List ℕ) (k budget : ℕ) (s : List ℕ) where
       → runner text regs k budget s ≡ accepted (run budget (space_of gs) (started regs k) (loaded gs s))
   runs = (verdicts text regs k budget s).ran
 
--- no second answer fits: two answers that say the same in the paper's numbers are the same answer, with the same storage
-pub one_answer : (a b : Answer) (s t : List ℕ) → outcome a s ≡ outcome b t → (a ≡ b) × (s ≡ t)
-one_answer = answer-told
+-- no second answer fits: two answers that say the same in the paper's numbers are the same answer, with the same storage, and a refusal hands back the same
+-- registers and the same code
+pub one_answer : (a b : Result Ran Refusal) (regs rs : List ℕ) (k j : ℕ) (s t : List ℕ) → outcome a regs k s ≡ outcome b rs j t
+    → (a ≡ b) × (s ≡ t) × ((r : Refusal) → a ≡ Err r → (regs ≡ rs) × (k ≡ j))
+one_answer a b regs rs k j s t e =
+    let told = answer-told a b regs rs k j s t e in
+    (told.0, told.1, handed-back a b regs rs k j s t e told.0)
 
 module _ (m : Space) (c : Cpu) (s : List ℕ) where
   -- "Several at once: 0 first, then 4, 1, 3, 2."

@@ -1,15 +1,15 @@
 -- Document 01, "Runner": the whole answer to an object text, 16 registers, a condition code, a budget and storage.
-use Rattle.std.specs.Prelude.{List, ℕ, ltb, length}
+use Rattle.std.specs.Prelude.{List, ℕ, ltb, length, Result, Ok, Err}
 use Rattle.base.specs.Choose.{choose}
 use Rattle.spots.specs.declared.Spot.{Spot}
 use Rattle.spots.specs.Spots.{unplaced}
 use Rattle.objtext.specs.Object.{Segment, Form, of-object, of_none}
 use Rattle.objtext.proofs.Exact.{form}
 use Rattle.machine.specs.Space.{needed}
-use Rattle.machine.specs.Run.{Result, run}
-use Rattle.runner.specs.declared.Answer.{Answer}
-use Rattle.runner.specs.declared.Verdict.{Verdict}
-use Rattle.runner.specs.declared.Stop.TheVariants.{BudgetUsed}
+use Rattle.machine.specs.Run as M
+use Rattle.machine.specs.Run.{run}
+use Rattle.run.specs.declared.Ran.{Ran}
+use Rattle.runner.specs.declared.Refusal.{Refusal}
 use Rattle.runner.specs.Load.{loaded, space_of, started}
 use Rattle.runner.specs.Numbers.{number_of, stop_of}
 
@@ -29,7 +29,7 @@ abbrev pub refused : ℕ → List ℕ → ℕ → List ℕ → Outcome
 refused n regs k s = record { number = n; spot = unplaced 0; stop = 0; counter = 0; regs = regs; code = k; count = 0; store = s }
 
 -- "The result gives stop, counter, registers, code and the count of completed instructions."
-abbrev pub accepted : Result → Outcome
+abbrev pub accepted : M.Result → Outcome
 accepted r =
     record {
       number = 0;
@@ -57,20 +57,27 @@ on_form (of_none n) regs k budget s = refused 17 regs k s
 unfoldable pub runner : List ℕ → List ℕ → ℕ → ℕ → List ℕ → Outcome
 runner text regs k budget s = on_form (form text) regs k budget s
 
--- the answer of a refusal
-abbrev pub refusal : Verdict → List ℕ → ℕ → Answer
-refusal v regs k = record { verdict = v; spot = unplaced 0; stop = BudgetUsed; counter = 0; regs = regs; code = k; count = 0 }
-
--- the code's answer in the paper's numbers
-abbrev pub outcome : Answer → List ℕ → Outcome
-outcome a s =
+-- the code's answer in the paper's numbers, to the registers regs and the code k, with the storage as it is left
+abbrev pub outcome : Result Ran Refusal → List ℕ → ℕ → List ℕ → Outcome
+outcome (Ok q) regs k s =
     record {
-      number = number_of a.verdict;
-      spot = a.spot;
-      stop = stop_of a.stop;
-      counter = a.counter;
-      regs = a.regs;
-      code = a.code;
-      count = a.count;
+      number = 0;
+      spot = unplaced 0;
+      stop = stop_of q.stop;
+      counter = q.counter;
+      regs = q.regs;
+      code = q.code;
+      count = q.count;
+      store = s;
+    }
+outcome (Err r) regs k s =
+    record {
+      number = number_of r;
+      spot = unplaced 0;
+      stop = 0;
+      counter = 0;
+      regs = regs;
+      code = k;
+      count = 0;
       store = s;
     }

@@ -2,30 +2,17 @@
 // gives; the report, and what `--show` asks for; and of a source where in it a stop at an operand is.
 #![tactic(auto)]
 
-ghost use Rattle.std.specs.Prelude.{◌≡◌};
-ghost use Rattle.runner.specs.Numbers.{stop_of};
-
 use base::less;
 use files::Host;
-use runner::{Stop, Verdict};
+use runner::{Ran, Refusal, Stop};
+use saying::ExitStatus;
 use spots::unplaced;
+use words::Fault;
 
 const STORAGE: usize = machine::ROOM * machine::PAGES;
 
 // Where the program lies.
 const PROGRAM: usize = machine::ROOM;
-
-fn stop_number(stop: Stop) -> usize
-    ensures { result ≡ stop_of stop }
-{
-    match stop {
-        Stop::BudgetUsed => 0,
-        Stop::AtEnd => 1,
-        Stop::Forbidden => 2,
-        Stop::Misaligned => 3,
-        Stop::NoInstruction => 4,
-    }
-}
 
 // A stop at an operand, in the words of the source, if there is one.
 fn tell_stop<R: Host>(
@@ -38,18 +25,16 @@ fn tell_stop<R: Host>(
     storage: &[u8],
 ) {
     let at = counter as usize;
-    let seen = listing::look(source, 0, less(at, PROGRAM));
-    let from = seen.from;
-    if from == 0 {
+    let Some(operand) = listing::look(source, 0, less(at, PROGRAM)).operand else {
         return;
-    }
+    };
     let mut out = [0u8; saying::MESSAGE_ROOM];
     let n = halts::stopped(
         &mut out,
         name,
         stop,
-        from,
-        seen.to,
+        operand.from,
+        operand.to,
         cells::address(regs, storage, counter),
         figures::byte(storage, at),
         source,
@@ -57,27 +42,31 @@ fn tell_stop<R: Host>(
     files::complain(rt, figures::front(&out, n));
 }
 
+// A word that is wrong, on standard error.
+fn complain<R: Host>(rt: &R, words: &[u8], fault: Fault) -> ExitStatus {
+    saying::complain(rt, words, fault.word, fault.why as usize)
+}
+
 fn tell_run<R: Host>(
     rt: &R,
     words: &[u8],
     name: &[u8],
     source: &[u8],
-    a: runner::Answer,
+    ran: Ran,
     storage: &[u8],
-) -> u8 {
+) -> ExitStatus {
     let mut out = [0u8; saying::MESSAGE_ROOM];
-    let halted = a.stop;
-    let stop = stop_number(halted);
-    let regs = a.regs;
-    if (stop == 2) | (stop == 3) {
-        tell_stop(rt, name, source, stop, a.counter, &regs, storage);
+    let stop = ran.stop as usize;
+    let regs = ran.regs;
+    if matches!(ran.stop, Stop::Forbidden | Stop::Misaligned) {
+        tell_stop(rt, name, source, stop, ran.counter, &regs, storage);
     }
     let n = reports::report(
         &mut out,
         stop,
-        a.counter as usize,
-        a.code as usize,
-        a.count as usize,
+        ran.counter as usize,
+        ran.code as usize,
+        ran.count as usize,
         &regs,
     );
     let end = cells::put_all_asked(&mut out, n, words, source, &regs, storage);
@@ -91,61 +80,59 @@ fn tell_run<R: Host>(
 fn run_text<R: Host>(
     rt: &R,
     words: &[u8],
-    w: words::Wish,
+    run: words::Run,
     name: &[u8],
     source: &[u8],
     object: &[u8],
-) -> u8 {
-    let begun = settings::start(words, 0 < source.len());
-    let why = begun.why;
-    if 0 < why {
-        return saying::complain(rt, words, begun.word, why as usize);
-    }
-    let regs = begun.values;
+) -> ExitStatus {
+    let regs = match settings::start(words, 0 < source.len()) {
+        Ok(regs) => regs,
+        Err(fault) => return complain(rt, words, fault),
+    };
     let mut storage = [0u8; STORAGE];
-    let wrong = cells::lay(source, words, &mut storage);
-    let fault = wrong.why;
-    if 0 < fault {
-        return saying::complain(rt, words, wrong.word, fault as usize);
+    if let Some(fault) = cells::lay(source, words, &mut storage) {
+        return complain(rt, words, fault);
     }
-    let a = cells::run_set(
+    let answer = cells::run_set(
         source,
         words,
         object,
         regs,
-        w.options.code as u64,
-        w.options.budget,
+        run.code as u64,
+        run.budget,
         &mut storage,
     );
-    let verdict = a.verdict;
-    match verdict {
-        Verdict::Ran => tell_run(rt, words, name, source, a, &storage),
-        Verdict::NoObject => saying::refuse(rt, name, 17, unplaced(0), object),
-        Verdict::BadCode => saying::refuse(rt, name, 18, unplaced(w.options.code as usize), object),
-        Verdict::SmallStorage => saying::refuse(rt, name, 19, unplaced(0), object),
+    match answer {
+        Ok(ran) => tell_run(rt, words, name, source, ran, &storage),
+        Err(Refusal::NoObject) => saying::refuse(rt, name, 17, unplaced(0), object),
+        Err(Refusal::BadCode) => {
+            saying::refuse(rt, name, 18, unplaced(run.code as usize), object)
+        }
+        Err(Refusal::SmallStorage) => saying::refuse(rt, name, 19, unplaced(0), object),
     }
 }
 
-fn run_source<R: Host>(rt: &R, words: &[u8], w: words::Wish, name: &[u8], text: &[u8]) -> u8 {
+fn run_source<R: Host>(
+    rt: &R,
+    words: &[u8],
+    run: words::Run,
+    name: &[u8],
+    text: &[u8],
+) -> ExitStatus {
     let mut out = [0u8; files::OBJECT_ROOM];
-    let n = sources::object(rt, name, text, &mut out);
-    if n == 0 {
-        return saying::REFUSED;
+    match sources::object(rt, name, text, &mut out) {
+        Some(object) => run_text(rt, words, run, name, text, object),
+        None => ExitStatus::Refused,
     }
-    run_text(rt, words, w, name, text, figures::front(&out, n))
 }
 
 // An object text begins with a digit, as no program does.
-pub fn run_file<R: Host>(rt: &R, words: &[u8], w: words::Wish) -> u8 {
-    let name = figures::part(words, 0, w.names.file);
+pub fn run_file<R: Host>(rt: &R, words: &[u8], run: words::Run) -> ExitStatus {
+    let name = figures::part(words, 0, run.file);
     let mut room = [0u8; files::OBJECT_ROOM];
-    let got = files::load(rt, name, &mut room);
-    if got.failed {
-        return saying::WRONG;
+    match files::load(rt, name, &mut room) {
+        Some(object @ [b'0', ..]) => run_text(rt, words, run, name, b"", object),
+        Some(text) => run_source(rt, words, run, name, text),
+        None => ExitStatus::Wrong,
     }
-    let text = figures::front(&room, got.size);
-    if figures::first(text) == b'0' {
-        return run_text(rt, words, w, name, figures::front(text, 0), text);
-    }
-    run_source(rt, words, w, name, text)
 }

@@ -1,4 +1,5 @@
 -- Signs by their first byte: one byte that begins no longer sign, one that may, and one that begins none. Assumes nothing.
+use Rattle.std.proofs.Common.{Result, Ok, Err}
 use Prim.Native.Nat.{ℕ, suc, ◌<◌}
 use Prim.Native.String.{String}
 use mathlib.Core.Path.{◌≡◌, refl, sym, ap, ◌∙◌}
@@ -15,17 +16,19 @@ use Rattle.token.specs.Kinds as K
 use Rattle.token.specs.Text.{begins, sign}
 use Rattle.scanner.specs.Inner.{two_or}
 use Rattle.token.specs.declared.Lexeme.{Lexeme}
-use Rattle.token.specs.declared.Lexeme.TheVariants.{Token, NoToken}
+use Rattle.token.specs.declared.Lexeme.TheVariants.{Token}
+use Rattle.token.specs.declared.Why.{Why}
+use Rattle.token.specs.declared.Why.TheVariants.{NoToken}
 
 -- the byte begins no sign of two bytes
-pub one : (s : List ℕ) (b : ℕ) {l : Lexeme} → 0 < length s → b ≡ get_or s 0 0 → ((t : List ℕ) → sign K.signs (b ∷ t) ≡ l) → l ≡ sign K.signs s
+pub one : (s : List ℕ) (b : ℕ) {l : Result Lexeme Why} → 0 < length s → b ≡ get_or s 0 0 → ((t : List ℕ) → sign K.signs (b ∷ t) ≡ l) → l ≡ sign K.signs s
 one [] b h e f = absurd (omega arith)
 one (x ∷ t) b h e f = sym (ap (λ (y : ℕ). sign K.signs (y ∷ t)) (sym e) ∙ f t)
 
 -- the byte begins a sign of two bytes, and `other` alone
-pub two : (s : List ℕ) (b second k : ℕ) (other : Lexeme) → 0 < length s → b ≡ get_or s 0 0
+pub two : (s : List ℕ) (b second k : ℕ) (other : Result Lexeme Why) → 0 < length s → b ≡ get_or s 0 0
     → sign K.signs (b ∷ []) ≡ other
-    → ((t : List ℕ) → sign K.signs (b ∷ second ∷ t) ≡ Token k 0 2)
+    → ((t : List ℕ) → sign K.signs (b ∷ second ∷ t) ≡ Ok (Token k 0 2))
     → ((y : ℕ) (t : List ℕ) → eqb second y ≡ false → sign K.signs (b ∷ y ∷ t) ≡ other)
     → two_or s second k other ≡ sign K.signs s
 two [] b second k other h e p q r = absurd (omega arith)
@@ -37,7 +40,7 @@ two (x ∷ y ∷ t) b second k other h e p q r =
     (λ f. rw f (sym (r y t (ne_eqb second y (λ g. eqb-false y second f (sym g)))))))
 
 -- no sign begins with the byte
-others : (x : ℕ) (t : List ℕ) (ws : List (ℕ × String)) → All (λ w. begins (bytes w.1) (x ∷ t) ≡ false) ws → sign ws (x ∷ t) ≡ NoToken
+others : (x : ℕ) (t : List ℕ) (ws : List (ℕ × String)) → All (λ w. begins (bytes w.1) (x ∷ t) ≡ false) ws → sign ws (x ∷ t) ≡ Err NoToken
 unfolding sign
 others x t [] a = refl
 others x t (w ∷ ws) a = rw (a.0, sign) (others x t ws a.1)
@@ -49,7 +52,7 @@ begins-not x y ys t n = rw (ne_eqb y x (λ e. n (sym e)))
 pub none : (s : List ℕ) → 0 < length s
     → let b = get_or s 0 0 in
     (b ≡ 40 → ⊥) → (b ≡ 41 → ⊥) → (b ≡ 42 → ⊥) → (b ≡ 43 → ⊥) → (b ≡ 44 → ⊥) → (b ≡ 45 → ⊥) → (b ≡ 58 → ⊥) → (b ≡ 59 → ⊥) → (b ≡ 60 → ⊥) → (b ≡ 61 → ⊥) → (b ≡ 62 → ⊥) → (b ≡ 64 → ⊥) → (b ≡ 94 → ⊥)
-    → NoToken ≡ sign K.signs s
+    → Err NoToken ≡ sign K.signs s
 none [] h n40 n41 n42 n43 n44 n45 n58 n59 n60 n61 n62 n64 n94 = absurd (omega arith)
 none (x ∷ t) h n40 n41 n42 n43 n44 n45 n58 n59 n60 n61 n62 n64 n94 =
     sym (others x t K.signs (

@@ -1,5 +1,6 @@
 -- Bytes as digits: the classes of bytes are the digits to the bases 10, 16 and 36, a name's key is
 -- never cut off, and what digits at the front make. Assumes nothing.
+use Rattle.std.proofs.Common.{Ok, Err}
 use Prim.Native.Nat.{ℕ, ◌+◌, ◌*◌, ◌^◌, ◌≤◌, ◌<◌, min}
 use mathlib.Core.Path.{◌≡◌, refl, sym, ap, ◌∙◌}
 use mathlib.Core.Bool.{Bool, true, false, and-false, beq}
@@ -22,7 +23,8 @@ use Rattle.base.proofs.Tables.{all-below}
 use Rattle.token.specs.Text.{is_digit, is_hexadecimal, in_name, digit_of, key_of, number}
 use Rattle.scanner.specs.Inner.{in_base, Digited, longer_by}
 use Rattle.token.specs.Kinds as K
-use Rattle.token.specs.declared.Lexeme.TheVariants.{Token, NoToken, OutOfRange}
+use Rattle.token.specs.declared.Lexeme.TheVariants.{Token}
+use Rattle.token.specs.declared.Why.TheVariants.{NoToken, OutOfRange}
 use Rattle.scanner.specs.declared.Spelled.{Spelled}
 
 alike : (a b : Bool) → T (beq a b) → a ≡ b
@@ -93,7 +95,7 @@ key-small s i h =
 
 -- what the digits at the front make: none, a number out of range, or a number
 module _ {base : ℕ} {s : List ℕ} {d : Spelled} (most : ℕ) (bits : ℕ → ℕ) (mark : ℕ) (g : Digited base s d) where
-  pub no_number : d.size ≡ 0 → NoToken ≡ number (in_base base) base most bits mark s
+  pub no_number : d.size ≡ 0 → Err NoToken ≡ number (in_base base) base most bits mark s
   unfolding number
   no_number e = rw (← g.size, eq-eqb d.size 0 e)
 
@@ -105,11 +107,11 @@ module _ {base : ℕ} {s : List ℕ} {d : Spelled} (most : ℕ) (bits : ℕ → 
     unfolding v
     cut = g.value
 
-    pub big-number : most < d.value → OutOfRange ≡ number (in_base base) base most bits mark s
+    pub big-number : most < d.value → Err OutOfRange ≡ number (in_base base) base most bits mark s
     unfolding number v
     big-number h = rw (← g.size, ne_eqb d.size 0 some, lt-ltb most v (omega (arith, cut)))
 
-    pub a-number : d.value ≤ most → Token K.NUMBER (bits d.value) (mark + d.size) ≡ number (in_base base) base most bits mark s
+    pub a-number : d.value ≤ most → Ok (Token K.NUMBER (bits d.value) (mark + d.size)) ≡ number (in_base base) base most bits mark s
     unfolding number v
     a-number h =
         let e : v ≡ d.value = omega (arith, cut) in

@@ -1,5 +1,5 @@
 -- What the inner functions of the token reader promise, in the terms of the definition.
-use Rattle.std.specs.Prelude.{ℕ, ◌+◌, ◌*◌, ◌≤◌, ◌^◌, min, ◌≡◌, Bool, true, false, not, List, [], ◌∷◌, eqb, ltb, length, take, get_or}
+use Rattle.std.specs.Prelude.{ℕ, ◌+◌, ◌*◌, ◌≤◌, ◌^◌, min, ◌≡◌, Bool, true, false, not, List, [], ◌∷◌, eqb, ltb, length, take, get_or, Result, Ok}
 use Prim.Native.Char.{code}
 use Prim.Native.String.{String}
 use Rattle.base.specs.Choose.{whether◌then◌else◌}
@@ -11,6 +11,7 @@ use Rattle.token.specs.Text.{separates, in_name, digit_of, key_of, plain, negate
 use Rattle.scanner.specs.declared.Spelled.{Spelled}
 use Rattle.token.specs.declared.Lexeme.{Lexeme}
 use Rattle.token.specs.declared.Lexeme.TheVariants.{Token}
+use Rattle.token.specs.declared.Why.{Why}
 use Rattle.scanner.specs.declared.Class.{Class}
 use Rattle.scanner.specs.declared.Class.TheVariants.{Blank, Separator, InComment}
 
@@ -19,10 +20,6 @@ abbrev pub in_class : Class → ℕ → Bool
 in_class Blank b = eqb b 32
 in_class Separator b = separates b
 in_class InComment b = not (eqb b (code ";"))
-
-pub record Ran (c : Class) (s : List ℕ) (n : ℕ) : Type 0 where
-  pub is : n ≡ run_len (in_class c) s
-  pub fits : n ≤ length s
 
 -- a byte is a digit to the base
 abbrev pub in_base : ℕ → ℕ → Bool
@@ -59,5 +56,5 @@ bits_of true v = negated v
 bits_of false v = plain v
 
 -- a sign of two bytes where the second follows, or else what is given
-abbrev pub two_or : List ℕ → ℕ → ℕ → Lexeme → Lexeme
-two_or s second two other = whether ltb (length s) 2 then other else whether eqb (get_or s 1 0) second then Token two 0 2 else other
+abbrev pub two_or : List ℕ → ℕ → ℕ → Result Lexeme Why → Result Lexeme Why
+two_or s second two other = whether ltb (length s) 2 then other else whether eqb (get_or s 1 0) second then Ok (Token two 0 2) else other

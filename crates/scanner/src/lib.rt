@@ -4,15 +4,16 @@
 mod entries;
 
 ghost use Rattle.std.specs.Prelude.{◌≡◌, true, ◌+◌, ◌≤◌, ◌<◌, ◌^◌, min, length, take, get_or};
+ghost use Rattle.std.specs.List.{prefix_len};
 ghost use Rattle.spots.specs.Spots.{spot_at, NoNewline};
 ghost use Rattle.token.specs.Kinds as K;
 ghost use Rattle.token.specs.Text as T;
 ghost use Rattle.token.specs.Answers.{outcome_of};
-ghost use Rattle.scanner.specs.Inner.{in_class, Ran, Digited, Named, key_kind, in_base, bits_of, two_or, longer_by};
+ghost use Rattle.scanner.specs.Inner.{in_class, Digited, Named, key_kind, in_base, bits_of, two_or, longer_by};
 
 use crate::entries::{entry, place};
 use spots::{Spot, spot_at};
-use token::{Lexeme, Next, Token, kinds};
+use token::{Lexeme, Refusal, Token, Why, kinds};
 
 // The classes of bytes that runs are made of.
 #[derive(Clone, Copy)]
@@ -34,46 +35,26 @@ fn in_class(c: Class, b: u8) -> bool
 
 // How many bytes at the front are of the class.
 fn run(c: Class, s: &[u8]) -> usize
-    ensures { Ran c s.now result }
+    ensures is { result ≡ prefix_len (in_class c) s.now }
+    ensures fits { result ≤ length s.now }
 {
-    let mut i = 0;
-    while i < s.len() {
-        if in_class(c, s[i]) {
-            i += 1;
-        } else {
-            return i;
-        }
-    }
-    i
+    s.iter().take_while(|b| in_class(c, **b)).count()
 }
 
 // What a digit or a capital stands for, and 36 for any other byte.
+// Kept: the definition `digit_of` (token/specs/Text) says 36, by which a name's key and a number to any base are one definition.
 fn digit(b: u8) -> u64
     ensures { (result ≡ T.digit_of b) × (result ≤ 36) }
 {
-    if b < b'0' {
-        return 36;
+    match b {
+        b'0'..=b'9' => u64::from(b - b'0'),
+        b'A'..=b'Z' => u64::from(b - 55),
+        _ => 36,
     }
-    if b <= b'9' {
-        return (b - b'0') as u64;
-    }
-    if b < b'A' {
-        return 36;
-    }
-    if b <= b'Z' {
-        return (b - 55) as u64;
-    }
-    36
 }
 
 // Numbers are cut off here: every limit of the language and every name's key lies below.
 const CAP: u64 = 4503599627370496;
-
-fn cap(x: u64) -> u64
-    ensures { result ≡ min (2 ^ 52) x }
-{
-    if x < CAP { x } else { CAP }
-}
 
 // How many digits or characters, and the number or the key that they make.
 #[derive(Clone, Copy)]
@@ -87,17 +68,18 @@ fn digits(base: u64, s: &[u8]) -> Spelled
     requires { base ≤ 36 }
     ensures { Digited base s.now result }
 {
-    let mut v: u64 = 0;
-    let mut i = 0;
-    while i < s.len() {
-        let d = digit(s[i]);
+    let mut value: u64 = 0;
+    for (size, b) in s.iter().enumerate() {
+        let d = digit(*b);
         if base <= d {
-            return Spelled { size: i, value: v };
+            return Spelled { size, value };
         }
-        v = cap(v * base + d);
-        i += 1;
+        value = CAP.min(value * base + d);
     }
-    Spelled { size: i, value: v }
+    Spelled {
+        size: s.len(),
+        value,
+    }
 }
 
 // The kind of the word with this key, or of a name.
@@ -112,15 +94,15 @@ fn word(key: u64) -> u8
 }
 
 // A comment whose word has n bytes.
-fn comment(n: usize, s: &[u8]) -> Lexeme
+fn comment(n: usize, s: &[u8]) -> Result<Lexeme, Why>
     requires { n ≤ length s.now }
     ensures { result ≡ T.comment n s.now }
 {
     let m = n + run(Class::InComment, &s[n..]);
     if m < s.len() {
-        return Lexeme::Gap(m + 1);
+        return Ok(Lexeme::Gap(m + 1));
     }
-    Lexeme::NoToken
+    Err(Why::NoToken)
 }
 
 // "the first 10 characters count"
@@ -138,26 +120,21 @@ fn longer(key: u64, i: usize, d: u64) -> u64
 fn name(s: &[u8]) -> Spelled
     ensures { Named s.now result }
 {
-    let mut key: u64 = 0;
-    let mut i = 0;
-    while i < s.len() {
-        let d = digit(s[i]);
+    let mut value: u64 = 0;
+    for (size, b) in s.iter().enumerate() {
+        let d = digit(*b);
         if 36 <= d {
-            return Spelled {
-                size: i,
-                value: key,
-            };
+            return Spelled { size, value };
         }
-        key = longer(key, i, d);
-        i += 1;
+        value = longer(value, size, d);
     }
     Spelled {
-        size: i,
-        value: key,
+        size: s.len(),
+        value,
     }
 }
 
-fn name_or_word(s: &[u8]) -> Lexeme
+fn name_or_word(s: &[u8]) -> Result<Lexeme, Why>
     requires { (0 < length s.now) × (T.is_capital (get_or s.now 0 0) ≡ true) }
     ensures { result ≡ T.name_or_word s.now }
 {
@@ -169,13 +146,13 @@ fn name_or_word(s: &[u8]) -> Lexeme
         return comment(size, s);
     }
     if kind == kinds::NAME {
-        return Lexeme::Token(kind, key, size);
+        return Ok(Lexeme::Token(kind, key, size));
     }
-    Lexeme::Token(kind, 0, size)
+    Ok(Lexeme::Token(kind, 0, size))
 }
 
 // The digits after a mark of some bytes.
-fn number(base: u64, most: u64, negative: bool, mark: usize, s: &[u8]) -> Lexeme
+fn number(base: u64, most: u64, negative: bool, mark: usize, s: &[u8]) -> Result<Lexeme, Why>
     requires { (base ≤ 36) × (most < 2 ^ 32) × (mark ≤ 1) }
     ensures { result ≡ T.number (in_base base) base most (bits_of negative) mark s.now }
 {
@@ -183,71 +160,86 @@ fn number(base: u64, most: u64, negative: bool, mark: usize, s: &[u8]) -> Lexeme
     let size = d.size;
     let v = d.value;
     if size == 0 {
-        return Lexeme::NoToken;
+        return Err(Why::NoToken);
     }
     if most < v {
-        return Lexeme::OutOfRange;
+        return Err(Why::OutOfRange);
     }
     if negative {
-        return Lexeme::Token(kinds::NUMBER, (4294967296 - v) % 4294967296, mark + size);
+        return Ok(Lexeme::Token(kinds::NUMBER, (4294967296 - v) % 4294967296, mark + size));
     }
-    Lexeme::Token(kinds::NUMBER, v, mark + size)
+    Ok(Lexeme::Token(kinds::NUMBER, v, mark + size))
 }
 
 // A sign of two bytes where the second follows, or else `other`.
-fn two_or(s: &[u8], second: u8, two: u8, other: Lexeme) -> Lexeme
+fn two_or(s: &[u8], second: u8, two: u8, other: Result<Lexeme, Why>) -> Result<Lexeme, Why>
     ensures { result ≡ two_or s.now second two other }
 {
     if s.len() < 2 {
         return other;
     }
     if s[1] == second {
-        return Lexeme::Token(two, 0, 2);
+        return Ok(Lexeme::Token(two, 0, 2));
     }
     other
 }
 
-fn sign(s: &[u8]) -> Lexeme
+fn sign(s: &[u8]) -> Result<Lexeme, Why>
     requires { 0 < length s.now }
     ensures { result ≡ T.sign K.signs s.now }
 {
     let b = s[0];
     match b {
-        b'(' => Lexeme::Token(kinds::OPEN, 0, 1),
-        b')' => Lexeme::Token(kinds::CLOSE, 0, 1),
-        b'*' => Lexeme::Token(kinds::TIMES, 0, 1),
+        b'(' => Ok(Lexeme::Token(kinds::OPEN, 0, 1)),
+        b')' => Ok(Lexeme::Token(kinds::CLOSE, 0, 1)),
+        b'*' => Ok(Lexeme::Token(kinds::TIMES, 0, 1)),
         b'+' => two_or(
             s,
             b'+',
             kinds::ADD_LOGICAL,
-            Lexeme::Token(kinds::PLUS, 0, 1),
+            Ok(Lexeme::Token(kinds::PLUS, 0, 1)),
         ),
-        b',' => Lexeme::Token(kinds::COMMA, 0, 1),
+        b',' => Ok(Lexeme::Token(kinds::COMMA, 0, 1)),
         b'-' => two_or(
             s,
             b'-',
             kinds::SUBTRACT_LOGICAL,
-            Lexeme::Token(kinds::MINUS, 0, 1),
+            Ok(Lexeme::Token(kinds::MINUS, 0, 1)),
         ),
-        b':' => two_or(s, b'=', kinds::BECOMES, Lexeme::Token(kinds::COLON, 0, 1)),
-        b';' => Lexeme::Token(kinds::SEMICOLON, 0, 1),
-        b'<' => two_or(s, b'=', kinds::AT_MOST, Lexeme::Token(kinds::LESS, 0, 1)),
-        b'=' => Lexeme::Token(kinds::EQUAL, 0, 1),
-        b'>' => two_or(s, b'=', kinds::AT_LEAST, Lexeme::Token(kinds::MORE, 0, 1)),
-        b'@' => Lexeme::Token(kinds::AT, 0, 1),
-        b'^' => two_or(s, b'=', kinds::UNEQUAL, Lexeme::NoToken),
-        _ => Lexeme::NoToken,
+        b':' => two_or(
+            s,
+            b'=',
+            kinds::BECOMES,
+            Ok(Lexeme::Token(kinds::COLON, 0, 1)),
+        ),
+        b';' => Ok(Lexeme::Token(kinds::SEMICOLON, 0, 1)),
+        b'<' => two_or(
+            s,
+            b'=',
+            kinds::AT_MOST,
+            Ok(Lexeme::Token(kinds::LESS, 0, 1)),
+        ),
+        b'=' => Ok(Lexeme::Token(kinds::EQUAL, 0, 1)),
+        b'>' => two_or(
+            s,
+            b'=',
+            kinds::AT_LEAST,
+            Ok(Lexeme::Token(kinds::MORE, 0, 1)),
+        ),
+        b'@' => Ok(Lexeme::Token(kinds::AT, 0, 1)),
+        b'^' => two_or(s, b'=', kinds::UNEQUAL, Err(Why::NoToken)),
+        _ => Err(Why::NoToken),
     }
 }
 
 // What stands at the front.
-fn front(s: &[u8]) -> Lexeme
+fn front(s: &[u8]) -> Result<Lexeme, Why>
     requires { 0 < length s.now }
     ensures { result ≡ T.lexeme s.now }
 {
     let b = s[0];
     if (b == b' ') | (b == b'\n') {
-        return Lexeme::Gap(run(Class::Separator, s));
+        return Ok(Lexeme::Gap(run(Class::Separator, s)));
     }
     if (b'A' <= b) & (b <= b'Z') {
         return name_or_word(s);
@@ -279,8 +271,8 @@ fn stands(s: &[u8], blanks: usize, at: usize) -> Spot
     spot_at(s, at)
 }
 
-// The next token of what remains of a text.
-pub fn next_token(s: &[u8]) -> Next
+// The next token of what remains of a text, and where it ended.
+pub fn next_token(s: &[u8]) -> Result<(Token, usize), Refusal>
     ensures { outcome_of result ≡ T.next_token s.now }
 {
     let blanks = run(Class::Blank, s);
@@ -288,24 +280,23 @@ pub fn next_token(s: &[u8]) -> Next
     while at < s.len() {
         let l = front(&s[at..]);
         match l {
-            Lexeme::Gap(n) => {
+            Ok(Lexeme::Gap(n)) => {
                 at += n;
             }
-            Lexeme::Token(kind, value, size) => {
+            Ok(Lexeme::Token(kind, value, size)) => {
                 let spot = stands(s, blanks, at);
-                return Next::Token(Token { kind, value, spot }, at + size);
+                return Ok((Token { kind, value, spot }, at + size));
             }
-            Lexeme::NoToken => return Next::NoToken(stands(s, blanks, at)),
-            Lexeme::OutOfRange => return Next::OutOfRange(stands(s, blanks, at)),
+            Err(why) => {
+                let spot = stands(s, blanks, at);
+                return Err(Refusal { why, spot });
+            }
         }
     }
-    let spot = stands(s, blanks, at);
-    Next::Token(
-        Token {
-            kind: kinds::END_OF_TEXT,
-            value: 0,
-            spot,
-        },
-        at,
-    )
+    let end = Token {
+        kind: kinds::END_OF_TEXT,
+        value: 0,
+        spot: stands(s, blanks, at),
+    };
+    Ok((end, at))
 }

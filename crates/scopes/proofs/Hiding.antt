@@ -9,6 +9,7 @@ use lib.ListN.{get_or}
 use borrow.Author.Tests.{eq-eqb, lt-ltb}
 use Rattle.base.proofs.Tests.{cases}
 use Rattle.grammar.specs.Places.{Block, within, Place}
+use Rattle.scopes.specs.declared.Refusal.TheVariants.{Twice, TooMany}
 use Rattle.scopes.specs.Broken.{unbroken}
 use Rattle.scopes.specs.Search.{in_block, find, innermost}
 use Rattle.scopes.specs.Names.{Named, most_names, declare_name}
@@ -33,5 +34,5 @@ module _ (keys : List ℕ) where
   pub may-repeat : (t : ℕ) (bs : List (List ℕ)) (s : Named) → in_block keys (get_or keys t 0) (innermost bs) 0 ≡ 0 → s.count < most_names → (declare_name keys t bs s).broken ≡ s.broken
   unfolding declare_name
   may-repeat t bs s e h =
-      let once = rule-true (eqb (in_block keys (get_or keys t 0) (innermost bs) 0) 0) 7 t (eq-eqb _ 0 e) in
-      rw (once, rule-true (ltb s.count most_names) 13 t (lt-ltb _ _ h), join-right unbroken) (join-right s.broken)
+      let once = rule-true (eqb (in_block keys (get_or keys t 0) (innermost bs) 0) 0) Twice t (eq-eqb _ 0 e) in
+      rw (once, rule-true (ltb s.count most_names) TooMany t (lt-ltb _ _ h), join-right unbroken) (join-right s.broken)

@@ -1,54 +1,71 @@
 -- Of two broken rules the join is the one that is answered: "Inside a group the smallest place wins, then the smaller number." Assumes nothing.
+use Rattle.std.specs.Prelude.{Some, None}
 use mathlib.Core.Path.{◌≡◌, refl, sym}
 use mathlib.Core.Logic.{◌⊎◌, inl, inr}
 use mathlib.Core.Bool.{Bool, true, false, ◌&&◌, ◌||◌}
 use Prim.Native.Nat.{◌≤◌}
 use native.Mathlib.Omega.{arith}
 use lib.Dec.{eqb, leb, ltb}
-use borrow.Author.Tests.{ltb-false, eqb-true, eqb-false, leb-false, le-ltb, le-leb, eq-eqb}
+use borrow.Author.Tests.{ltb-false, leb-false, le-ltb, le-leb, eq-eqb}
 use Rattle.base.proofs.Tests.{cases, never_true}
 use Rattle.scopes.specs.declared.Broken.{Broken}
-use Rattle.scopes.specs.Broken.{before, ◌⊕◌}
+use Rattle.scopes.specs.Broken.{refusal_number, Ruling, unbroken, before, ◌⊕◌}
+use Rattle.scopes.proofs.Joins.{some-none, is_some}
+
+-- r is broken, and not after a
+pub record Leads (r : Ruling) (a : Broken) : Type 0 where
+  pub one : Broken
+  pub is : r ≡ Some one
+  pub before_it : before one a ≡ true
 
 -- r is unbroken only if both are; else it is one of them, and no broken one comes before it
-pub record LeastOf (a b r : Broken) : Type 0 where
-  pub unbroken : r.number ≡ 0 → (a.number ≡ 0) × (b.number ≡ 0)
+pub record LeastOf (a b r : Ruling) : Type 0 where
+  pub unbroken : r ≡ unbroken → (a ≡ unbroken) × (b ≡ unbroken)
   pub one_of : (r ≡ a) ⊎ (r ≡ b)
-  pub not-before-first : (a.number ≡ 0 → ⊥) → before r a ≡ true
-  pub not-before-second : (b.number ≡ 0 → ⊥) → before r b ≡ true
+  pub not-before-first : (x : Broken) → a ≡ Some x → Leads r x
+  pub not-before-second : (x : Broken) → b ≡ Some x → Leads r x
 
 before_self : (a : Broken) → before a a ≡ true
-before_self a = rw (le-ltb a.at a.at (omega arith), eq-eqb a.at a.at refl, le-leb a.number a.number (omega arith))
+before_self a = rw (le-ltb a.at a.at (omega arith), eq-eqb a.at a.at refl, le-leb (refusal_number a.refusal) (refusal_number a.refusal) (omega arith))
 
 -- one of two comes before the other
 before-other : (a b : Broken) → before a b ≡ false → before b a ≡ true
 before-other a b h = cases (ltb b.at a.at) (λ e. rw e) (λ e. go (ltb a.at b.at) refl (ltb-false b.at a.at e) h)
   where
-    go : (x : Bool) → ltb a.at b.at ≡ x → a.at ≤ b.at → (x || (eqb a.at b.at && leb a.number b.number)) ≡ false → before b a ≡ true
+    go : (x : Bool) → ltb a.at b.at ≡ x → a.at ≤ b.at → (x || (eqb a.at b.at && leb (refusal_number a.refusal) (refusal_number b.refusal))) ≡ false → before b a ≡ true
     go true p l q = never_true (sym q)
     go false p l q =
         let m = ltb-false a.at b.at p in
         let s : a.at ≡ b.at = omega arith in
-        let n : leb a.number b.number ≡ false = rw (eq-eqb a.at b.at s) at q in
-        rw (le-ltb b.at a.at l, eq-eqb b.at a.at (sym s), le-leb b.number a.number (omega (arith, leb-false a.number b.number n)))
+        let n : leb (refusal_number a.refusal) (refusal_number b.refusal) ≡ false = rw (eq-eqb a.at b.at s) at q in
+        rw (le-ltb b.at a.at l, eq-eqb b.at a.at (sym s), le-leb (refusal_number b.refusal) (refusal_number a.refusal) (omega (arith, leb-false _ _ n)))
 
-pub join-least : (a b : Broken) → LeastOf a b (a ⊕ b)
+-- a broken rule leads itself, and all that it comes before
+leads : (a b c : Broken) → before a c ≡ true → ◌≡◌ {A = Ruling} (Some c) (Some b) → Leads (Some a) b
+leads a b c h e = record { one = a; is = refl; before_it = rw (sym (is_some e)) h }
+
+pub join-least : (a b : Ruling) → LeastOf a b (a ⊕ b)
 unfolding ◌⊕◌
-join-least a b =
-    cases (eqb b.number 0)
-    (λ e.
-    let z = eqb-true b.number 0 e in
-    rw e (record { unbroken = λ u. (u, z); one_of = inl refl; not-before-first = λ n. before_self a; not-before-second = λ n. absurd (n z) }))
-    (λ e.
-    cases (eqb a.number 0)
-    (λ f.
-    let z = eqb-true a.number 0 f in
-    rw (e, f) (record { unbroken = λ u. (z, u); one_of = inr refl; not-before-first = λ n. absurd (n z); not-before-second = λ n. before_self b }))
-    (λ f.
+join-least None None = record { unbroken = λ u. (u, u); one_of = inl refl; not-before-first = λ x e. absurd (some-none (sym e)); not-before-second = λ x e. absurd (some-none (sym e)) }
+join-least (Some a) None =
+    record { unbroken = λ u. (u, refl); one_of = inl refl; not-before-first = λ x e. leads a x a (before_self a) e; not-before-second = λ x e. absurd (some-none (sym e)) }
+join-least None (Some b) =
+    record { unbroken = λ u. (refl, u); one_of = inr refl; not-before-first = λ x e. absurd (some-none (sym e)); not-before-second = λ x e. leads b x b (before_self b) e }
+join-least (Some a) (Some b) =
     cases (before a b)
     (λ g.
-    rw (e, f, g)
-    (record { unbroken = λ u. absurd (eqb-false a.number 0 f u); one_of = inl refl; not-before-first = λ n. before_self a; not-before-second = λ n. g }))
+    rw g
+    (record {
+      unbroken = λ u. absurd (some-none u);
+      one_of = inl refl;
+      not-before-first = λ x e. leads a x a (before_self a) e;
+      not-before-second = λ x e. leads a x b g e;
+    }))
     (λ g.
-    rw (e, f, g)
-    (record { unbroken = λ u. absurd (eqb-false b.number 0 e u); one_of = inr refl; not-before-first = λ n. before-other a b g; not-before-second = λ n. before_self b }))))
+    rw g
+    (record {
+      unbroken = λ u. absurd (some-none u);
+      one_of = inr refl;
+      not-before-first = λ x e. leads b x a (before-other a b g) e;
+      not-before-second = λ x e. leads b x b (before_self b) e;
+    }))

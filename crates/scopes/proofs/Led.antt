@@ -3,7 +3,6 @@
 use mathlib.Core.Path.{◌≡◌}
 use mathlib.Core.List.{List, [], ◌∷◌}
 use Prim.Native.Nat.{ℕ, ◌<◌}
-use native.Mathlib.Omega.{arith}
 use lib.Dec.{ltb}
 use lib.ListN.{get_or}
 use borrow.Author.Tests.{ltb-true}
@@ -11,7 +10,8 @@ use Rattle.base.specs.Lists.{All}
 use Rattle.base.proofs.Lists.{all_map}
 use Rattle.grammar.specs.Events.{labelled, sent, Event, edge, route, entry, phrase, mark, uses}
 use Rattle.grammar.specs.Places.{body, Place, after, along, Along}
-use Rattle.scopes.specs.Broken.{rule}
+use Rattle.scopes.specs.declared.Refusal.TheVariants.{NotFound}
+use Rattle.scopes.specs.Broken.{unbroken, rule}
 use Rattle.scopes.specs.Search.{find}
 use Rattle.scopes.specs.Names.{names_in}
 use Rattle.scopes.specs.Labels.{Labelled, labels_in, note_label, set_label, label_event}
@@ -37,18 +37,18 @@ module _ (keys : List ℕ) where
   LabelFound (phrase f) p = Unit {0}
   LabelFound (mark m) p = Unit {0}
 
-  event-found : (e : Event) (p : Place) (s : Labelled) → (label_event keys e p s).broken.number ≡ 0 → (s.broken.number ≡ 0) × LabelFound e p
+  event-found : (e : Event) (p : Place) (s : Labelled) → (label_event keys e p s).broken ≡ unbroken → (s.broken ≡ unbroken) × LabelFound e p
   unfolding label_event set_label note_label
   event-found (edge x) p s h = (h, tt)
   event-found (route (labelled l)) p s h = (quiet-left s.broken _ h, tt)
   event-found (route (sent t n)) p s h =
       let d = find keys (get_or keys n 0) (labels_in p) in
-      (quiet-left s.broken (rule (ltb 0 d) 6 n) h, ltb-true 0 d (rule-holds (ltb 0 d) 6 n (omega arith) (quiet-right s.broken (rule (ltb 0 d) 6 n) h)))
+      (quiet-left s.broken (rule (ltb 0 d) NotFound n) h, ltb-true 0 d (rule-holds (ltb 0 d) NotFound n (quiet-right s.broken (rule (ltb 0 d) NotFound n) h)))
   event-found (entry d) p s h = (h, tt)
   event-found (phrase f) p s h = (h, tt)
   event-found (mark m) p s h = (h, tt)
 
-  pub labels-found : (es : List Event) (p : Place) (s : Labelled) → (along (label_event keys) es p s).broken.number ≡ 0 → (s.broken.number ≡ 0) × Along LabelFound es p
+  pub labels-found : (es : List Event) (p : Place) (s : Labelled) → (along (label_event keys) es p s).broken ≡ unbroken → (s.broken ≡ unbroken) × Along LabelFound es p
   unfolding along Along
   labels-found [] p s h = (h, tt)
   labels-found (e ∷ es) p s h =

@@ -1,23 +1,42 @@
 -- Document 01, "Numbers answered": broken rules, of which one is answered. Rules are judged over the whole text, and joined.
-use Rattle.std.specs.Prelude.{Bool, ◌&&◌, ◌||◌, ℕ, eqb, leb, ltb}
+use Rattle.std.specs.Prelude.{Bool, ◌&&◌, ◌||◌, ℕ, eqb, leb, ltb, Option, Some, None}
 use Rattle.base.specs.Choose.{whether◌then◌else◌}
+use Rattle.scopes.specs.declared.Refusal.{Refusal}
+use Rattle.scopes.specs.declared.Refusal.TheVariants.{NotFound, Twice, Misfit, WrongRegister, Protected, OutOfBounds, NoRoom, TooMany}
 use Rattle.scopes.specs.declared.Broken.{Broken}
 
-abbrev pub unbroken : Broken
-unbroken = record { number = 0; at = 0 }
+-- "6 to 13", the refusals of rules
+abbrev pub refusal_number : Refusal → ℕ
+refusal_number NotFound = 6
+refusal_number Twice = 7
+refusal_number Misfit = 8
+refusal_number WrongRegister = 9
+refusal_number Protected = 10
+refusal_number OutOfBounds = 11
+refusal_number NoRoom = 12
+refusal_number TooMany = 13
 
--- refusal `number` at a token, unless the rule holds
-unfoldable pub rule : Bool → ℕ → ℕ → Broken
-rule holds number token = whether holds then unbroken else record { number = number; at = token }
+-- a rule that is broken, at a token, or none
+abbrev pub Ruling : Type 0
+Ruling = Option Broken
+
+abbrev pub unbroken : Ruling
+unbroken = None
 
 -- a rule that is broken at a token
-abbrev pub broken : ℕ → ℕ → Broken
-broken number token = record { number = number; at = token }
+abbrev pub broken : Refusal → ℕ → Ruling
+broken refusal token = Some (record { at = token; refusal = refusal })
+
+-- a refusal at a token, unless the rule holds
+unfoldable pub rule : Bool → Refusal → ℕ → Ruling
+rule holds refusal token = whether holds then unbroken else broken refusal token
 
 -- "the smallest place wins, then the smaller number": a later token stands at a greater place
 abbrev pub before : Broken → Broken → Bool
-before a b = ltb a.at b.at || (eqb a.at b.at && leb a.number b.number)
+before a b = ltb a.at b.at || (eqb a.at b.at && leb (refusal_number a.refusal) (refusal_number b.refusal))
 
 infixr 25 ◌⊕◌
-unfoldable pub ◌⊕◌ : Broken → Broken → Broken
-◌⊕◌ a b = whether eqb b.number 0 then a else whether eqb a.number 0 then b else whether before a b then a else b
+unfoldable pub ◌⊕◌ : Ruling → Ruling → Ruling
+◌⊕◌ a None = a
+◌⊕◌ None (Some b) = Some b
+◌⊕◌ (Some a) (Some b) = whether before a b then Some a else Some b

@@ -4,8 +4,8 @@ use Rattle.std.specs.Prelude.{List, [], ◌∷◌, ℕ, suc, eqb, ltb, get_or, s
 use Rattle.grammar.specs.Tree.{Statement}
 use Rattle.grammar.specs.Events.{Route, labelled, sent, Event, edge, route, entry, phrase, mark, events_of}
 use Rattle.grammar.specs.Places.{within, body, Place, along}
-use Rattle.scopes.specs.declared.Broken.{Broken}
-use Rattle.scopes.specs.Broken.{rule, ◌⊕◌}
+use Rattle.scopes.specs.declared.Refusal.TheVariants.{NotFound, Twice, TooMany}
+use Rattle.scopes.specs.Broken.{Ruling, rule, ◌⊕◌}
 use Rattle.scopes.specs.Search.{in_block, find}
 
 -- "257th label, in the program"
@@ -16,7 +16,7 @@ most_labels = 256
 pub record Labelled : Type 0 where
   pub goes : List ℕ
   pub count : ℕ
-  pub broken : Broken
+  pub broken : Ruling
 
 -- the labels in force at a place, innermost block first: "found forward or backward in enclosing blocks", so all labels of each; "never past the edge of a procedure body"
 abbrev pub labels_in : Place → List (List ℕ)
@@ -32,7 +32,7 @@ labels_set (body n r ∷ p) = []
 
 -- "6: … label not found"
 unfoldable pub note_label : ℕ → ℕ → Labelled → Labelled
-note_label t l s = record { goes = set s.goes t l; count = s.count; broken = s.broken ⊕ rule (ltb 0 l) 6 t }
+note_label t l s = record { goes = set s.goes t l; count = s.count; broken = s.broken ⊕ rule (ltb 0 l) NotFound t }
 
 module _ (keys : List ℕ) where
   -- "7: … label set, twice in a block", among those set before in it; "13: … 257th label"
@@ -40,7 +40,7 @@ module _ (keys : List ℕ) where
   set_label l earlier s = record {
     goes = s.goes;
     count = suc s.count;
-    broken = s.broken ⊕ rule (eqb (in_block keys (get_or keys l 0) earlier 0) 0) 7 l ⊕ rule (ltb s.count most_labels) 13 l;
+    broken = s.broken ⊕ rule (eqb (in_block keys (get_or keys l 0) earlier 0) 0) Twice l ⊕ rule (ltb s.count most_labels) TooMany l;
   }
 
   abbrev pub label_route : Route → Place → Labelled → Labelled

@@ -4,8 +4,8 @@ use Rattle.std.specs.Prelude.{List, [], ◌∷◌, ℕ, suc, eqb, ltb, get_or, s
 use Rattle.grammar.specs.Tree.{Statement}
 use Rattle.grammar.specs.Events.{Event, uses, declares, events_of}
 use Rattle.grammar.specs.Places.{within, body, Place, after, along}
-use Rattle.scopes.specs.declared.Broken.{Broken}
-use Rattle.scopes.specs.Broken.{rule, ◌⊕◌}
+use Rattle.scopes.specs.declared.Refusal.TheVariants.{NotFound, Twice, TooMany}
+use Rattle.scopes.specs.Broken.{Ruling, rule, ◌⊕◌}
 use Rattle.scopes.specs.Search.{around, in_block, find, innermost, enter}
 
 -- "257th declared name … in the program"
@@ -16,7 +16,7 @@ most_names = 256
 pub record Named : Type 0 where
   pub found : List ℕ
   pub count : ℕ
-  pub broken : Broken
+  pub broken : Ruling
 
 -- the names in force at a place, innermost block first, by the tokens that declare them: "R0 to R9 and RA to RF are declared in a block around the program", and the
 -- standard functions beside them
@@ -27,7 +27,7 @@ names_in (body n r ∷ p) = names_in p
 
 -- "6: name … not found"
 unfoldable pub note_found : ℕ → ℕ → Named → Named
-note_found t d s = record { found = set s.found t d; count = s.count; broken = s.broken ⊕ rule (ltb 0 d) 6 t }
+note_found t d s = record { found = set s.found t d; count = s.count; broken = s.broken ⊕ rule (ltb 0 d) NotFound t }
 
 module _ (keys : List ℕ) where
   -- "For a name's earlier declaration the search goes outward": only what stands earlier has been entered
@@ -39,7 +39,7 @@ module _ (keys : List ℕ) where
   declare_name t bs s = record {
     found = s.found;
     count = suc s.count;
-    broken = s.broken ⊕ rule (eqb (in_block keys (get_or keys t 0) (innermost bs) 0) 0) 7 t ⊕ rule (ltb s.count most_names) 13 t;
+    broken = s.broken ⊕ rule (eqb (in_block keys (get_or keys t 0) (innermost bs) 0) 0) Twice t ⊕ rule (ltb s.count most_names) TooMany t;
   }
 
   unfoldable pub declare_names : List ℕ → List (List ℕ) → Named → Named

@@ -2,44 +2,67 @@
 #![tactic(auto)]
 
 ghost use Rattle.std.specs.Prelude.{◌≡◌};
-ghost use Rattle.scopes.specs.Broken.{rule as rule_of, ◌⊕◌};
+ghost use Rattle.scopes.specs.Broken.{refusal_number, rule as rule_of, broken, ◌⊕◌};
 
-// Of the broken rules the one that is answered: its refusal's number, 0 for none, and its token.
-#[derive(Clone, Copy)]
-pub struct Broken {
-    pub number: usize,
-    pub at: usize,
+// "6 to 13": what a rule is refused with. The smaller number comes first.
+#[derive(Clone, Copy, PartialEq, Eq, PartialOrd, Ord)]
+pub enum Refusal {
+    NotFound = 6,
+    Twice = 7,
+    Misfit = 8,
+    WrongRegister = 9,
+    Protected = 10,
+    OutOfBounds = 11,
+    NoRoom = 12,
+    TooMany = 13,
 }
 
-// How many names were declared, or labels set, and the broken rules.
+impl Refusal {
+    pub fn number(self) -> usize
+        ensures { result ≡ refusal_number self }
+    {
+        self as usize
+    }
+
+    // A rule that is broken at a token.
+    pub fn at(self, token: usize) -> Option<Broken>
+        ensures { result ≡ broken self token }
+    {
+        Some(Broken {
+            at: token,
+            refusal: self,
+        })
+    }
+}
+
+// A broken rule: its token, and its refusal. Of several the least is answered: "the smallest place wins, then the smaller number".
+#[derive(Clone, Copy, PartialEq, Eq, PartialOrd, Ord)]
+pub struct Broken {
+    pub at: usize,
+    pub refusal: Refusal,
+}
+
+// How many names were declared, or labels set, and the broken rule that is answered.
 #[derive(Clone, Copy)]
 pub struct Noted {
     pub count: usize,
-    pub broken: Broken,
+    pub broken: Option<Broken>,
 }
 
-// Refusal `number` at a token, unless the rule holds.
-pub fn rule(holds: bool, number: usize, token: usize) -> Broken
-    ensures { result ≡ rule_of holds number token }
+// A refusal at a token, unless the rule holds.
+pub fn rule(holds: bool, refusal: Refusal, token: usize) -> Option<Broken>
+    ensures { result ≡ rule_of holds refusal token }
 {
-    if holds {
-        return Broken { number: 0, at: 0 };
-    }
-    Broken { number, at: token }
+    if holds { None } else { refusal.at(token) }
 }
 
-// Which of two is answered: "the smallest place wins, then the smaller number".
-pub fn join(a: Broken, b: Broken) -> Broken
+// Which of two is answered.
+pub fn join(a: Option<Broken>, b: Option<Broken>) -> Option<Broken>
     ensures { result ≡ a ⊕ b }
 {
-    if b.number == 0 {
-        return a;
+    match (a, b) {
+        (Some(x), Some(y)) => Some(x.min(y)),
+        (Some(x), None) => Some(x),
+        (None, y) => y,
     }
-    if a.number == 0 {
-        return b;
-    }
-    if (a.at < b.at) | ((a.at == b.at) & (a.number <= b.number)) {
-        return a;
-    }
-    b
 }

@@ -4,10 +4,12 @@ use mathlib.Core.Path.{◌≡◌, sym, ◌∙◌}
 use mathlib.Core.List.{List}
 use native.Mathlib.Omega.{arith}
 use Rattle.figures.specs.Parts.{part_of}
+use Rattle.std.specs.Prelude.{Option}
+use Rattle.words.specs.declared.Awaited.{Awaited}
 use Rattle.words.specs.Wishes.{run_option}
 use Rattle.settings.specs.Setting.{words_from}
 
-module _ {A : Type 0} (step : ℕ → ℕ → List ℕ → A → A) (words : List ℕ) (count n : ℕ) (x : A) {whole : A} (inv : whole ≡ words_from step words (count - n) n x) where
+module _ {A : Type 0} (step : Option Awaited → ℕ → List ℕ → A → A) (words : List ℕ) (count n : ℕ) (x : A) {whole : A} (inv : whole ≡ words_from step words (count - n) n x) where
   pub word_on : n < count → whole ≡ words_from step words (count - (n + 1)) (n + 1) (step (run_option (part_of 0 (n - 1) words)) n (part_of 0 n words) x)
   unfolding words_from
   word_on h =

@@ -1,2 +1,3 @@
--- How the words are gone along.
+-- How the words are gone along, and what they say of registers.
 pub mod Going
+pub mod Said

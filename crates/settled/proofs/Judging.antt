@@ -17,9 +17,8 @@ use Rattle.tape.specs.Written.{op_of, token_of}
 use Rattle.tape.proofs.Written.{tree-tape}
 use Rattle.ledger.specs.Book.{Wide, Thin, thin_of, thin_column, on_thin, zeros}
 use Rattle.ledger.proofs.Columns.{thin-length}
-use Rattle.scopes.specs.declared.Broken.{Broken}
 use Rattle.scopes.specs.declared.Noted.{Noted}
-use Rattle.scopes.specs.Broken.{unbroken, ◌⊕◌}
+use Rattle.scopes.specs.Broken.{Ruling, unbroken, ◌⊕◌}
 use Rattle.scopes.specs.Search.{standard_names, first_token}
 use Rattle.scopes.specs.Names.{Named}
 use Rattle.scopes.specs.Labels.{Labelled}
@@ -84,7 +83,7 @@ module _ (ts : List Token) (x : Statement) (values tape : List ℕ) (t : Text ts
 
   -- names are found in b₁, labels in b₂, and other columns are cleared in b₃
   pub bound :
-      (b₀ b₁ b₂ b₃ : Thin) (n l : Noted) (r : Broken) → length values ≤ length b₁.opens → length values ≤ length b₁.written → Blank ts b₀.found → Blank ts b₀.goes
+      (b₀ b₁ b₂ b₃ : Thin) (n l : Noted) (r : Ruling) → length values ≤ length b₁.opens → length values ≤ length b₁.written → Blank ts b₀.found → Blank ts b₀.goes
       → (named_in b₁.found n ≡ (pass (name_op values) (beginning b₀.found) tape).named) × (b₁.goes ≡ b₀.goes)
       → (labelled_in b₂.goes l ≡ labelled_along tape values b₁.opens b₁.written b₁.goes) × (b₂.found ≡ b₁.found)
       → b₃.found ≡ b₂.found → b₃.goes ≡ b₂.goes → r ≡ n.broken ⊕ l.broken → Bound ts x b₃ r
@@ -99,7 +98,7 @@ module _ (ts : List Token) (x : Statement) (values tape : List ℕ) (t : Text ts
       record {
         found-is = ef ∙ (el.1 ∙ ap (λ (s : Named). s.found) p);
         goes-is = eg ∙ ap (λ (s : Labelled). s.goes) q;
-        broken-is = er ∙ ap₂ (λ (a c : Broken). a ⊕ c) (ap (λ (s : Named). s.broken) p) (ap (λ (s : Labelled). s.broken) q);
+        broken-is = er ∙ ap₂ (λ (a c : Ruling). a ⊕ c) (ap (λ (s : Named). s.broken) p) (ap (λ (s : Labelled). s.broken) q);
       }
 
 pub cleared : (before after : List ℕ) (b₁ b₂ : Thin) → b₁ ≡ on_thin 2 zeros (thin_of after) → b₂ ≡ on_thin 3 zeros b₁ → length after ≡ length before → Cleared before b₂
@@ -174,7 +173,7 @@ module _ (ts : List Token) (x : Statement) (kinds tape : List ℕ) (w₀ : Wide)
 
       -- the rules are judged, with the offsets worked in; these are cleared in w₂; the cells are placed in w₃ and b₃, in N rows
       module _
-          (w₂ w₃ : Wide) (b₃ : Thin) (offsets : List ℕ) (N : ℕ) (others ruled placed : Broken) (r : Judged) (wide : length tape + 2 ≤ N)
+          (w₂ w₃ : Wide) (b₃ : Thin) (offsets : List ℕ) (N : ℕ) (others ruled placed : Ruling) (r : Judged) (wide : length tape + 2 ≤ N)
           (ej : (f : Tables) → Shown f kinds w₁ b₁ → ruled ≡ (pass (judge_event f) (J.beginning others) tape).broken)
           (ec : w₂ ≡ with_offsets offsets w₁) (bl : Blank ts offsets) (el : book_of w₃ b₃ placed ≡ layout_in N tape (book_of w₂ b₁ unbroken))
           (eb : r.bases ≡ bases) (er : r.broken ≡ ruled ⊕ placed)
@@ -201,8 +200,8 @@ module _ (ts : List Token) (x : Statement) (kinds tape : List ℕ) (w₀ : Wide)
               t.to known means-are N (length ts) within (omega arith))
 
           -- where nothing is broken
-          right : r.broken.number ≡ 0 → laid ≡ exact
-          right q = as-capped.same (sym (ap (λ (b : Broken). b.number) as-capped.broken) ∙ quiet-right ruled placed (sym (ap (λ (b : Broken). b.number) er) ∙ q))
+          right : r.broken ≡ unbroken → laid ≡ exact
+          right q = as-capped.same (sym as-capped.broken ∙ quiet-right ruled placed (sym er ∙ q))
 
           pub settled : Settled ts x w₃ b₃ others r
           unfolding is_program
@@ -215,13 +214,13 @@ module _ (ts : List Token) (x : Statement) (kinds tape : List ℕ) (w₀ : Wide)
                 means-are = ap₂ (λ (a c : List ℕ). meanings_of a c) em eu ∙ means-are;
                 opens-are = ap (λ (l : Book). l.thin.opens) el ∙ ap (λ (s : Meant). s.opens) tables;
                 bases-are = eb ∙ ap (λ (s : Meant). s.bases) tables;
-                broken-is = er ∙ ap₂ (λ (a c : Broken). a ⊕ c) (ej (tables_in ts x) shown ∙ d) (as-capped.broken ∙ as-defined.broken);
+                broken-is = er ∙ ap₂ (λ (a c : Ruling). a ⊕ c) (ej (tables_in ts x) shown ∙ d) (as-capped.broken ∙ as-defined.broken);
                 ends-are = λ q k. ap (λ (l : Laying). get_or l.ends k 0) (right q) ∙ as-defined.ends k;
                 offsets_are = λ q u. ap (λ (l : Laying). get_or l.offsets u 0) (right q) ∙ as-defined.offsets u;
               }
 
 -- what stays
-pub stays : (kinds tape : List ℕ) (w₀ w₁ w₂ w₃ : Wide) (b₀ b₁ b₃ : Thin) (bases N : ℕ) (offsets : List ℕ) (placed : Broken)
+pub stays : (kinds tape : List ℕ) (w₀ w₁ w₂ w₃ : Wide) (b₀ b₁ b₃ : Thin) (bases N : ℕ) (offsets : List ℕ) (placed : Ruling)
     → view_of w₁ b₁ bases ≡ changed (λ (s : Meant). (pass (mean_event kinds w₀.values b₀.found) (M.beginning s) tape).meant) (view_of (named_to standard_names w₀) b₀ 0)
     → w₂ ≡ with_offsets offsets w₁ → book_of w₃ b₃ placed ≡ layout_in N tape (book_of w₂ b₁ unbroken) → Stays w₀ w₃ b₀ b₃
 stays kinds tape w₀ w₁ w₂ w₃ b₀ b₁ b₃ bases N offsets placed e ec el = record {

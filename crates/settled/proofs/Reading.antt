@@ -1,4 +1,5 @@
 -- The tokens of a text behind the standard names: laid one after the other, and then together. Assumes nothing.
+use Rattle.std.proofs.Common.{Ok}
 use mathlib.Core.Path.{◌≡◌, refl, sym, ap, ap₂, subst, ◌∙◌}
 use mathlib.Core.Bool.{true, false}
 use mathlib.Core.List.{List, [], ◌∷◌, ◌++◌, map}
@@ -12,12 +13,8 @@ use Rattle.base.proofs.Parts.{part-sets}
 use Rattle.spots.specs.declared.Spot.{Spot}
 use Rattle.spots.specs.Spots.{spot_at}
 use Rattle.token.specs.Text.{Reading, moved, next_token, refused, is_last, read_from, tokens_of, TEXT-LIMIT}
-use Rattle.token.specs.Answers.{outcome_of, Summary, summary, summary_of, summed, laid, kind_of, value_of}
+use Rattle.token.specs.Answers.{Next, Tokens, outcome_of, Summary, summary, summary_of, summed, laid, kind_of, value_of}
 use Rattle.token.specs.declared.Token.{Token}
-use Rattle.token.specs.declared.Next.{Next}
-use Rattle.token.specs.declared.Next.TheVariants as N
-use Rattle.token.specs.declared.Tokens.{Tokens}
-use Rattle.token.specs.declared.Tokens.TheVariants as S
 use Rattle.token.proofs.Readings.{few-tokens, all-read-from, Reads, reads-start, reads_on, reads-last, reads-no, LaidOn, Answered, laid_on, laid-last, refused-inside, laid-no}
 use Rattle.ledger.specs.Book.{Wide, on_wide, put_value}
 use Rattle.scopes.specs.Search.{in_front, first_token}
@@ -28,7 +25,7 @@ pub read_whole : (s : List ℕ) → length s ≤ TEXT-LIMIT → tokens_of s ≡ 
 unfolding tokens_of
 read_whole s h = rw (le-ltb TEXT-LIMIT (length s) h)
 
-module _ (s : List ℕ) (answer : Tokens) (is : summary_of answer ≡ summed (tokens_of s)) (n : ℕ) (e : answer ≡ S.Read n) where
+module _ (s : List ℕ) (answer : Tokens) (is : summary_of answer ≡ summed (tokens_of s)) (n : ℕ) (e : answer ≡ Ok n) where
   pub all_read : (tokens_of s).number ≡ 0
   all_read = sym (ap (λ (x : Summary). x.number) is) ∙ ap (λ (x : Tokens). (summary_of x).number) e
 
@@ -51,7 +48,7 @@ pub record Laying (part : Token → ℕ) (s old now : List ℕ) (at n : ℕ) : T
 pub laying-start : (part : Token → ℕ) (s l : List ℕ) → Laying part s l l 0 0
 laying-start part s l = record { front = refl; on = refl }
 
-module _ {s : List ℕ} {at n : ℕ} {r : Next} {t : Token} {end : ℕ} (g : Answered s at n r) (q : r ≡ N.Token t end) (part : Token → ℕ) (old now : List ℕ) (w : Laying part s old now at n) where
+module _ {s : List ℕ} {at n : ℕ} {r : Next} {t : Token} {end : ℕ} (g : Answered s at n r) (q : r ≡ Ok (t, end)) (part : Token → ℕ) (old now : List ℕ) (w : Laying part s old now at n) where
   front-stays : take first_token (set now (first_token + n) (part (moved s at t))) ≡ take first_token old
   front-stays = take-set-le first_token now (first_token + n) (part (moved s at t)) (omega arith) ∙ w.front
 
@@ -104,7 +101,7 @@ module _
     pub answered : Answered s at n r
     answered = record { reads = u.reads; next = e }
 
-    module _ {t : Token} {end : ℕ} (q : r ≡ N.Token t end) (w' : Wide) (ew : w' ≡ put_value (first_token + n) t.value w) where
+    module _ {t : Token} {end : ℕ} (q : r ≡ Ok (t, end)) (w' : Wide) (ew : w' ≡ put_value (first_token + n) t.value w) where
       ev : set w.values (first_token + n) t.value ≡ w'.values
       ev = sym (ap (λ (y : Wide). y.values) ew)
 
@@ -116,7 +113,7 @@ module _
         same = values-more w₀ w w' (first_token + n) t.value u.same ew;
       }
 
-      pub underway-last : length s ≤ TEXT-LIMIT → is_last t.kind ≡ true → Behind s kinds₀ (set kinds (first_token + n) t.kind) w₀ w' (S.Read (n + 1))
+      pub underway-last : length s ≤ TEXT-LIMIT → is_last t.kind ≡ true → Behind s kinds₀ (set kinds (first_token + n) t.kind) w₀ w' (Ok (n + 1))
       underway-last h l = record {
         is = reads-last answered q l ∙ ap summed (sym (read_whole s h));
         kinds-laid = laying-last answered q kind_of kinds₀ kinds u.kinds-on h l;
@@ -176,5 +173,5 @@ fronted-all src kinds kinds₁ kinds' w w₁ w' answer hk hv ek ew d = (
   d.same ∙ ap (on_wide 0 (λ (l : List ℕ). w'.values)) ew,
 )
   where
-    fits : (n : ℕ) → answer ≡ S.Read n → (N : ℕ) → rows_for (length src) ≤ N → first_token + length (tokens_of src).tokens ≤ N
+    fits : (n : ℕ) → answer ≡ Ok n → (N : ℕ) → rows_for (length src) ≤ N → first_token + length (tokens_of src).tokens ≤ N
     fits n e N h = let p = few-read src answer d.is n e in let q = count-is src answer d.is n e in omega arith

@@ -1,4 +1,5 @@
 -- Room for a text: lists of zeros, and their rows cut to its tokens. Assumes nothing.
+use Rattle.std.proofs.Common.{Ok}
 use mathlib.Core.Path.{◌≡◌, refl, sym, ap, ◌∙◌}
 use mathlib.Core.List.{List, ◌∷◌}
 use Prim.Native.Nat.{ℕ, zero, suc, ◌+◌, ◌*◌, ◌/◌, ◌≤◌, ◌<◌}
@@ -6,10 +7,8 @@ use native.Mathlib.Omega.{arith}
 use lib.ListN.{length, take, replicate, length-replicate}
 use lib.Seq.{length-take-le}
 use Rattle.token.specs.Text.{tokens_of, TEXT-LIMIT}
-use Rattle.token.specs.Answers.{summary_of, summed}
+use Rattle.token.specs.Answers.{Tokens, summary_of, summed}
 use Rattle.token.specs.declared.Token.{Token}
-use Rattle.token.specs.declared.Tokens.{Tokens}
-use Rattle.token.specs.declared.Tokens.TheVariants as S
 use Rattle.ledger.specs.Book.{Wide, wide_of, thin_of, thin_column, thin_limit}
 use Rattle.ledger.proofs.Cutting.{wide-take, wide-zeros, thin-take, thin-zeros}
 use Rattle.scopes.specs.Search.{first_token}
@@ -25,7 +24,7 @@ take-zeros (suc k) zero h = absurd (omega arith)
 take-zeros (suc k) (suc m) h = ap (λ (l : List ℕ). 0 ∷ l) (take-zeros k m (omega arith))
 
 -- the rows of a text's tokens, of a ledger that was zeros but for the values
-module _ (src : List ℕ) (answer : Tokens) (is : summary_of answer ≡ summed (tokens_of src)) (n : ℕ) (e : answer ≡ S.Read n) where
+module _ (src : List ℕ) (answer : Tokens) (is : summary_of answer ≡ summed (tokens_of src)) (n : ℕ) (e : answer ≡ Ok n) where
   abbrev m : ℕ
   m = first_token + n
 
@@ -59,7 +58,7 @@ rows_are ts kinds wide thin ek l = let e = ap length ek ∙ length-map (λ (t : 
 -- the rows of the tokens that were read fit into what was lent
 pub read_fits :
     {src kinds kinds' tape values wide wide' thin : List ℕ} {answer : Tokens} {n : ℕ} → Rooms (length src) kinds tape wide thin → Fronted src kinds' values answer
-    → length kinds' ≡ length kinds → length wide' ≡ length wide → answer ≡ S.Read n → Fits (first_token + n) kinds' tape wide' thin
+    → length kinds' ≡ length kinds → length wide' ≡ length wide → answer ≡ Ok n → Fits (first_token + n) kinds' tape wide' thin
 read_fits {src} {answer = answer} {n = n} r d ek ew e =
     let h = few-read src answer d.is n e in
     record { few = omega arith; for-kinds = omega arith; for-tape = omega arith; for-wide = omega arith; for-thin = omega arith }

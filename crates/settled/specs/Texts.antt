@@ -1,17 +1,14 @@
 -- A text that is a program, as the ledger and the tape have it; and the tables of the definition as the passes leave them there.
-use Rattle.std.specs.Prelude.{◌≡◌, List, [], ◌++◌, map, ℕ, ◌+◌, ◌*◌, ◌/◌, ◌≤◌, ◌<◌, min, length, take, drop, get_or, replicate}
+use Rattle.std.specs.Prelude.{◌≡◌, List, [], ◌++◌, map, ℕ, ◌+◌, ◌*◌, ◌/◌, ◌≤◌, ◌<◌, min, length, take, drop, get_or, replicate, Ok}
 use Rattle.token.specs.Kinds as K
 use Rattle.token.specs.Text.{tokens_of, TEXT-LIMIT}
-use Rattle.token.specs.Answers.{summary_of, summed, laid, kind_of, value_of}
+use Rattle.token.specs.Answers.{Tokens, summary_of, summed, laid, kind_of, value_of}
 use Rattle.token.specs.declared.Token.{Token}
-use Rattle.token.specs.declared.Tokens.{Tokens}
-use Rattle.token.specs.declared.Tokens.TheVariants.{Read}
 use Rattle.grammar.specs.Tree.{Statement}
 use Rattle.grammar.specs.Derives.{is_program}
 use Rattle.tape.specs.Tape.{tape_statement}
 use Rattle.ledger.specs.Book.{Wide, Thin, on_wide, thin_limit}
-use Rattle.scopes.specs.declared.Broken.{Broken}
-use Rattle.scopes.specs.Broken.{◌⊕◌}
+use Rattle.scopes.specs.Broken.{Ruling, unbroken, ◌⊕◌}
 use Rattle.scopes.specs.Search.{in_front, first_token}
 use Rattle.static_rules.specs.Meanings.{Meant}
 use Rattle.static_rules.specs.Tables.{Tables}
@@ -48,8 +45,8 @@ pub record Behind (source kinds kinds' : List ℕ) (w w' : Wide) (r : Tokens) : 
 -- the tokens of a source behind the standard names, or its refusal
 pub record Fronted (source kinds values : List ℕ) (r : Tokens) : Type 0 where
   pub is : summary_of r ≡ summed (tokens_of source)
-  pub kinds-are : (n : ℕ) → r ≡ Read n → take (first_token + n) kinds ≡ kinds_of (all_tokens source)
-  pub values-are : (n : ℕ) → r ≡ Read n → take (first_token + n) values ≡ values_of (all_tokens source)
+  pub kinds-are : (n : ℕ) → r ≡ Ok n → take (first_token + n) kinds ≡ kinds_of (all_tokens source)
+  pub values-are : (n : ℕ) → r ≡ Ok n → take (first_token + n) values ≡ values_of (all_tokens source)
 
 -- ── a program ──
 
@@ -74,7 +71,7 @@ pub record Blanks (ts : List Token) (w : Wide) (b : Thin) : Type 0 where
   pub no-goes : Blank ts b.goes
 
 -- which declaration each name and which label each GOTO means, and the rules that are broken by them
-pub record Bound (ts : List Token) (x : Statement) (b : Thin) (r : Broken) : Type 0 where
+pub record Bound (ts : List Token) (x : Statement) (b : Thin) (r : Ruling) : Type 0 where
   pub found-is : b.found ≡ (named ts x).found
   pub goes-is : b.goes ≡ (labelled ts x).goes
   pub broken-is : r ≡ (named ts x).broken ⊕ (labelled ts x).broken
@@ -92,13 +89,13 @@ tables_in ts x = tables_of ts (named ts x) (labelled ts x) (meant_in ts x)
 
 -- What names mean, and the rules that are broken by it and by where cells stand, with others. Where none is broken, the ends of segments stand in the column of
 -- what procedures write, and where cells stand is right.
-pub record Settled (ts : List Token) (x : Statement) (w : Wide) (b : Thin) (others : Broken) (r : Judged) : Type 0 where
+pub record Settled (ts : List Token) (x : Statement) (w : Wide) (b : Thin) (others : Ruling) (r : Judged) : Type 0 where
   pub means-are : meanings_of w.means w.under ≡ (meant_in ts x).means
   pub opens-are : b.opens ≡ (meant_in ts x).opens
   pub bases-are : r.bases ≡ (meant_in ts x).bases
   pub broken-is : r.broken ≡ (others ⊕ rules_of (tables_in ts x) x) ⊕ (place_cells (meant_in ts x).bases (meant_in ts x).cells).broken
-  pub ends-are : r.broken.number ≡ 0 → (k : ℕ) → get_or b.written k 0 ≡ get_or (place_cells (meant_in ts x).bases (meant_in ts x).cells).ends k 0
-  pub offsets_are : r.broken.number ≡ 0 → (t : ℕ) → get_or w.offsets t 0 ≡ offset_of (place_cells (meant_in ts x).bases (meant_in ts x).cells).placed t
+  pub ends-are : r.broken ≡ unbroken → (k : ℕ) → get_or b.written k 0 ≡ get_or (place_cells (meant_in ts x).bases (meant_in ts x).cells).ends k 0
+  pub offsets_are : r.broken ≡ unbroken → (t : ℕ) → get_or w.offsets t 0 ≡ offset_of (place_cells (meant_in ts x).bases (meant_in ts x).cells).placed t
 
 -- what stays while that is settled
 pub record Stays (w w' : Wide) (b b' : Thin) : Type 0 where

@@ -19,16 +19,14 @@ use layout::SEGMENT_LIMIT;
 use ledger::{clear_offsets, clear_opens, clear_written, put_value, written};
 use scopes::{Broken, join};
 use spots::spot_at;
-use token::{Next, Tokens};
+pub use token::TEXT_LIMIT;
+use token::{Refusal, Unread};
 use token_lists::{is_last, spot_in};
 
 // ── the tokens ──
 
 // The standard names stand in front of the text's own tokens: those of the registers, then those of the functions.
 pub const FIRST_TOKEN: usize = 26;
-
-// "source over 32,768 bytes".
-pub const TEXT_LIMIT: usize = 32768;
 
 // The rows that a text needs beside one for each byte: the names in front, and the end.
 pub const MORE_ROWS: usize = FIRST_TOKEN + 1;
@@ -47,16 +45,14 @@ fn put_front(kinds: &mut [u8], wide: &mut [u64])
     ensures { (kinds.new ≡ sets kinds.old 0 (kinds_of in_front))
         × (wide_of wide.new ≡ on_wide 0 (λ values. sets values 0 (values_of in_front)) (wide_of wide.old)) }
 {
-    let mut t: usize = 0;
-    while t < FIRST_TOKEN {
+    for t in 0..FIRST_TOKEN {
         kinds[t] = FRONT_KINDS[t];
         put_value(wide, t, FRONT_KEYS[t]);
-        t += 1;
     }
 }
 
 // The text's own tokens, one after the other as far as a refusal.
-fn lay_tokens(src: &[u8], kinds: &mut [u8], wide: &mut [u64]) -> Tokens
+fn lay_tokens(src: &[u8], kinds: &mut [u8], wide: &mut [u64]) -> Result<usize, Unread>
     requires { (length src.now ≤ TEXT-LIMIT) × (rows_for (length src.now) ≤ length kinds.old) }
     ensures { Behind src.now kinds.old kinds.new (wide_of wide.old) (wide_of wide.new) result }
 {
@@ -65,23 +61,24 @@ fn lay_tokens(src: &[u8], kinds: &mut [u8], wide: &mut [u64]) -> Tokens
     loop {
         let next = scanner::next_token(&src[at..]);
         match next {
-            Next::Token(t, end) => {
-                let kind = t.kind;
-                kinds[FIRST_TOKEN + n] = kind;
+            Ok((t, end)) => {
+                kinds[FIRST_TOKEN + n] = t.kind;
                 put_value(wide, FIRST_TOKEN + n, t.value);
                 n += 1;
-                if is_last(kind) {
-                    return Tokens::Read(n);
+                if is_last(t.kind) {
+                    return Ok(n);
                 }
                 at += end;
             }
-            Next::NoToken(there) => return Tokens::NoToken(spot_at(src, at + there.place)),
-            Next::OutOfRange(there) => return Tokens::OutOfRange(spot_at(src, at + there.place)),
+            Err(refusal) => {
+                let spot = spot_at(src, at + refusal.spot.place);
+                return Err(Unread::Refused(Refusal { spot, ..refusal }));
+            }
         }
     }
 }
 
-pub fn read(src: &[u8], kinds: &mut [u8], wide: &mut [u64]) -> Tokens
+pub fn read(src: &[u8], kinds: &mut [u8], wide: &mut [u64]) -> Result<usize, Unread>
     requires { (length src.now ≤ TEXT-LIMIT) × (rows_for (length src.now) ≤ length kinds.old) × (4 * rows_for (length src.now) ≤ length wide.old) }
     ensures { Fronted src.now kinds.new (wide_of wide.new).values result × ButValues (wide_of wide.old) (wide_of wide.new) }
 {
@@ -106,7 +103,7 @@ pub fn place_of(src: &[u8], t: usize) -> usize
 // ── the rules ──
 
 // Which declaration each name and which label each GOTO means; the broken rules. Two columns are worked in, and left as zeros.
-pub fn bind(tape: &[u32], wide: &[u64], thin: &mut [u16]) -> Broken
+pub fn bind(tape: &[u32], wide: &[u64], thin: &mut [u16]) -> Option<Broken>
     requires { Narrow tape.now × (4 * (first_token + length tape.now) ≤ length thin.old) × (length thin.old ≤ 4 * thin_limit) × (length wide.now ≤ length thin.old) }
     ensures { Cleared thin.old (thin_of thin.new)
         × ((ts : List Token) (x : Statement) → Text ts x (wide_of wide.now).values tape.now → Blank ts (thin_of thin.old).found
@@ -122,7 +119,7 @@ pub fn bind(tape: &[u32], wide: &[u64], thin: &mut [u16]) -> Broken
 // The broken rule that is answered, how many base declarations there are, and where the cells of segments 1 to 3 end.
 #[derive(Clone, Copy)]
 pub struct Judged {
-    pub broken: Broken,
+    pub broken: Option<Broken>,
     pub bases: usize,
     pub cells: usize,
     pub two: usize,
@@ -149,7 +146,7 @@ pub fn settle(
     kinds: &[u8],
     wide: &mut [u64],
     thin: &mut [u16],
-    others: Broken,
+    others: Option<Broken>,
 ) -> Judged
     requires { Nested nesting 0 0 tape.now × (length tape.now + 2 < thin_limit) × (4 * (length tape.now + 2) ≤ length wide.old) × (4 * (length tape.now + 2) ≤ length thin.old) }
     ensures { Ended (thin_of thin.new).written result × Stays (wide_of wide.old) (wide_of wide.new) (thin_of thin.old)

@@ -2,32 +2,36 @@
 #![tactic(auto)]
 
 use files::Host;
-use translate::Answer;
+use saying::ExitStatus;
 
-// How long the object text is that is now at the front of the room. 0 says that the source is refused, which has been said on standard error.
-pub fn object<R: Host>(rt: &R, name: &[u8], text: &[u8], room: &mut [u8]) -> usize {
+// The object text, at the front of the room; none where the source is refused, which has been said on standard error.
+pub fn object<'a, R: Host>(
+    rt: &R,
+    name: &[u8],
+    text: &[u8],
+    room: &'a mut [u8],
+) -> Option<&'a [u8]> {
     let answer = translate::translate(text, room);
     match answer {
-        Answer::Accepted(n) => n,
-        Answer::Refused(number, spot) => {
-            saying::refuse(rt, name, number, spot, text);
-            0
+        Ok(n) => Some(figures::front(room, n)),
+        Err(refused) => {
+            saying::refuse(rt, name, refused.number, refused.spot, text);
+            None
         }
     }
 }
 
-fn tell_accepted<R: Host>(rt: &R, name: &[u8], size: usize) -> u8 {
+fn tell_accepted<R: Host>(rt: &R, name: &[u8], size: usize) -> ExitStatus {
     let mut out = [0u8; saying::MESSAGE_ROOM];
     let n = messages::accepted(&mut out, name, size);
-    saying::said(files::print(rt, figures::front(&out, n)), saying::DONE)
+    saying::said(files::print(rt, figures::front(&out, n)), ExitStatus::Done)
 }
 
 // What the translator says of a text, on standard output.
-pub fn check<R: Host>(rt: &R, name: &[u8], text: &[u8]) -> u8 {
+pub fn check<R: Host>(rt: &R, name: &[u8], text: &[u8]) -> ExitStatus {
     let mut out = [0u8; files::OBJECT_ROOM];
-    let answer = translate::translate(text, &mut out);
-    match answer {
-        Answer::Accepted(n) => tell_accepted(rt, name, n),
-        Answer::Refused(number, spot) => saying::tell_refusal(rt, name, number, spot, text),
+    match translate::translate(text, &mut out) {
+        Ok(n) => tell_accepted(rt, name, n),
+        Err(refused) => saying::tell_refusal(rt, name, refused.number, refused.spot, text),
     }
 }

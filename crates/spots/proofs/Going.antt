@@ -1,13 +1,13 @@
 -- From one place of a text to another: `onward-is` for a place that is counted from another, `along-is` past bytes that end no line; `near` bounds both numbers.
 -- Assumes nothing.
-use Prim.Native.Nat.{ℕ, suc, ◌+◌, ◌-◌, ◌≤◌, ◌<◌}
-use mathlib.Core.Path.{◌≡◌, refl, sym, ap, ◌∙◌}
+use Prim.Native.Nat.{ℕ, suc, ◌+◌, ◌-◌, ◌≤◌}
+use mathlib.Core.Path.{◌≡◌, refl, ap, ◌∙◌}
 use mathlib.Core.Bool.{false}
 use mathlib.Core.List.{List, [], ◌∷◌, ◌++◌}
 use native.Mathlib.Omega.{arith}
 use lib.Dec.{eqb}
-use lib.ListN.{length, get_or, take, drop, length-take, length-drop, take-append-drop}
-use lib.Seq.{drop-cons, take-add}
+use lib.ListN.{length, take, drop, length-take}
+use lib.Seq.{take-add}
 use borrow.Author.Tests.{eq-eqb, ne_eqb, eqb-true}
 use Rattle.base.specs.Choose.{choose}
 use Rattle.base.specs.Walk.{fold}
@@ -118,19 +118,6 @@ module _ (s : List ℕ) where
               let u' : line_from l t ≡ l + line_from 1 t - 1 = omega arith in
               let v' : column_from c t ≡ column_from 1 t = rw e at v in
               rw (e, u', v'))
-
-  -- one byte nearer to the front
-  module _ (i : ℕ) (h : 0 < i) (k : i ≤ length s) (f : NoNewline (drop i s)) where
-    split : drop (i - 1) s ≡ get_or s (i - 1) 0 ∷ drop i s
-    split = let e : suc (i - 1) ≡ i = omega arith in drop-cons s (i - 1) 0 (omega arith) ∙ rw e
-
-    pub none-nearer : (get_or s (i - 1) 0 ≡ 10 → ⊥) → NoNewline (drop (i - 1) s)
-    none-nearer e = rw split (ne_eqb (get_or s (i - 1) 0) 10 e, f)
-
-    pub last-nearer : (n : ℕ) → get_or s (i - 1) 0 ≡ 10 → column_from n s ≡ length s - (i - 1)
-    last-nearer n e =
-        let p : s ≡ take (i - 1) s ++ 10 ∷ drop i s = sym (take-append-drop (i - 1) s) ∙ rw (split, e) in
-        ap (column_from n) p ∙ since-last n (take (i - 1) s) (drop i s) f ∙ omega (arith, length-drop i s)
 
   -- past n bytes that end no line
   pub along-is : (a n : ℕ) → a + n ≤ length s → NoNewline (take n (drop a s)) → along (spot_at s a) n ≡ spot_at s (a + n)

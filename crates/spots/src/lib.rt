@@ -1,8 +1,9 @@
 // Document 02, 2/13: where a byte of a text stands, by place, line and column.
 #![tactic(auto)]
 
-ghost use Rattle.std.specs.Prelude.{◌≡◌, ◌+◌, ◌-◌, ◌≤◌, ◌<◌, length};
-ghost use Rattle.spots.specs.Spots.{spot, spot_at, next_line, line_from, column_from, unplaced as unplaced_at, first as first_of};
+ghost use Rattle.std.specs.Prelude.{◌≡◌, ◌+◌, ◌-◌, ◌≤◌, ◌<◌, not, eqb, length};
+ghost use Rattle.std.specs.List.{count_by, suffix_len};
+ghost use Rattle.spots.specs.Spots.{spot, spot_at, line_from, column_from, unplaced as unplaced_at, first as first_of};
 ghost use Rattle.spots.specs.Going.{Near, onward as onward_by, along as along_by};
 
 // "A place is the offset of the first byte of what is named"; "line and column, both from 1".
@@ -39,46 +40,27 @@ pub fn unplaced(place: usize) -> Spot
 
 // ── by the bytes before a place ──
 
-fn next_line(line: usize, b: u8) -> usize
-    requires { line < 9223372036854775808 }
-    ensures { (result ≡ next_line line b) × (result ≤ line + 1) }
+// How many of these bytes end a line.
+fn newlines(s: &[u8]) -> usize
+    ensures is { result ≡ count_by (λ b. eqb b 10) s.now }
+    ensures fits { result ≤ length s.now }
 {
-    if b == NEWLINE { line + 1 } else { line }
+    s.iter().filter(|b| **b == NEWLINE).count()
 }
 
-// The line behind these bytes.
-fn line_behind(s: &[u8]) -> usize
-    ensures { result ≡ line_from 1 s.now }
+// How many of these bytes stand behind the last that ends a line; all, where none does.
+fn since_newline(s: &[u8]) -> usize
+    ensures is { result ≡ suffix_len (λ b. not (eqb b 10)) s.now }
+    ensures fits { result ≤ length s.now }
 {
-    let mut line: usize = 1;
-    let mut i: usize = 0;
-    while i < s.len() {
-        line = next_line(line, s[i]);
-        i += 1;
-    }
-    line
-}
-
-// The column behind these bytes, looked for from their end.
-fn column_behind(s: &[u8]) -> usize
-    ensures { result ≡ column_from 1 s.now }
-{
-    let mut i = s.len();
-    while 0 < i {
-        let last = i - 1;
-        if s[last] == NEWLINE {
-            return s.len() - last;
-        }
-        i = last;
-    }
-    s.len() + 1
+    s.iter().rev().take_while(|b| **b != NEWLINE).count()
 }
 
 // The place behind these bytes.
 fn behind(s: &[u8], place: usize) -> Spot
     ensures { result ≡ spot place (line_from 1 s.now) (column_from 1 s.now) }
 {
-    let line = line_behind(s);
+    let line = 1 + newlines(s);
     if line == 1 {
         return Spot {
             place,
@@ -89,7 +71,7 @@ fn behind(s: &[u8], place: usize) -> Spot
     Spot {
         place,
         line,
-        column: column_behind(s),
+        column: since_newline(s) + 1,
     }
 }
 

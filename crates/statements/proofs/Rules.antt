@@ -1,5 +1,5 @@
 -- The rules that hold statements, as the code reads them. Assumes nothing.
-use mathlib.Core.Path.{◌≡◌, refl, ◌∙◌, sym, subst}
+use mathlib.Core.Path.{◌≡◌, refl, ◌∙◌, sym, ap, subst}
 use mathlib.Core.Bool.{Bool, true, false, not, ◌&&◌}
 use mathlib.Core.List.{List, [], ◌∷◌, ◌++◌}
 use Prim.Native.Nat.{ℕ, zero, suc, ◌+◌, ◌-◌, ◌≤◌, ◌<◌}
@@ -17,13 +17,12 @@ use Rattle.grammar.specs.Events.{choices_count}
 use Rattle.grammar.specs.Reader.{Result, ok, bad, Reader, and_then, look, next, want, refuse}
 use Rattle.grammar.specs.Grammar.{fuelled, openers, choices_of, after_name, statement_of, items_of, if_of, construct_of, statement, procedure_of}
 use Rattle.grammar.proofs.Tests.{real}
-use Rattle.readers.specs.declared.tokens.Answer.{Answer}
-use Rattle.readers.specs.Reads.{Reads, Kind}
+use Rattle.readers.specs.Kinds.{Kind}
 use Rattle.phrases.specs.Parts.{head_of, case_head, control_of, limit_of, procedure_head}
 use Rattle.tape.specs.Events as E
 use Rattle.tape.specs.Tape.{event, tape_statement, tape_choices}
 use Rattle.readers.proofs.Choices.{among}
-use Rattle.readers.proofs.Reading.{pushed, put-before, along}
+use Rattle.readers.proofs.Reading.{pushed, put-before}
 use Rattle.statements.specs.Parts.{if_part, while_part, case_part, for_part}
 
 -- ── readers regrouped ──
@@ -131,20 +130,16 @@ module _ (ks : List ℕ) (i : ℕ) {b : Bool} (e : b ≡ (eqb (get_or ks i 0) K.
 
 -- ── the list of a CASE ──
 
--- what a reader gives that always gives b
-given : {A B : Type 0} {P : B → ℕ → Type 0} {ks : List ℕ} {i : ℕ} {r : Answer} {b : B} (m : Result A) → Reads P ks i r (and_then m (λ _ j. ok b j)) → r.number ≡ 0 → P b r.value
-unfolding and_then
-given (ok a j) h e = h.tells.2
-given (bad n t) h e = absurd (let l = h.tells.2 in let g = h.tells.0 in omega arith)
-
 -- the name before the list is the token at which its head begins
-pub case-name : {P : ℕ → ℕ → Type 0} (ks : List ℕ) (i : ℕ) {r : Answer} → Reads P ks i r (case_head ks i) → r.number ≡ 0 → P i r.value
+pub case-name : (ks : List ℕ) (i : ℕ) {a j : ℕ} → case_head ks i ≡ ok a j → a ≡ i
 unfolding and_then
-case-name ks i h e = given (case_head ks i) (along (simp (assoc, its-number)) h) e
+case-name ks i {a} {j} h =
+    let e : case_head ks i ≡ and_then (case_head ks i) (λ _ n. ok i n) = simp (assoc, its-number) in
+    let f : ok a j ≡ ok i j = sym h ∙ (e ∙ ap (λ (m : Result ℕ). and_then m (λ _ n. ok i n)) h) in cc
 
 -- the rest of a list, c of whose statements stand before the place q, with how many there are in all put at p
-abbrev pub Counted : (n p c q : ℕ) (now after : List ℕ) → Choices → ℕ → Type 0
-Counted n p c q now after xs v = (k : List ℕ) → take v after ++ k ≡ set (take q now ++ tape_choices n xs (event E.END-CASE n ∷ k)) p (event E.LISTED (c + choices_count xs))
+abbrev pub Counted : (n p c q : ℕ) (now : List ℕ) (v : ℕ) (after : List ℕ) → Choices → Type 0
+Counted n p c q now v after xs = (k : List ℕ) → take v after ++ k ≡ set (take q now ++ tape_choices n xs (event E.END-CASE n ∷ k)) p (event E.LISTED (c + choices_count xs))
 
 -- the number put at p, the list being over
 pub count-over : (p c q : ℕ) (now k : List ℕ) → p < q → q ≤ length now → take q (set now p (event E.LISTED c)) ++ k ≡ set (take q now ++ k) p (event E.LISTED (c + 0))

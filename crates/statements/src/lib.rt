@@ -4,231 +4,177 @@
 ghost use Rattle.std.specs.Prelude.{◌+◌, ◌<◌, length};
 ghost use Rattle.grammar.specs.Grammar as G;
 ghost use Rattle.tape.specs.Tape.{tape_statement, tape_body, tape_items};
-ghost use Rattle.readers.specs.Reads.{Ready, Wrote};
+ghost use Rattle.readers.specs.Reads.{SameTape, Wrote, WroteNamed};
 ghost use Rattle.statements.specs.Parts.{if_part, while_part, case_part, for_part, tape_procedure, tape_block};
 
 use phrases::declarations::declaration;
 use phrases::simple::{case_head, control, head, limit, procedure_head, simple};
 use readers::classes::{declares, has_else, has_label, opens};
-use readers::events::{put, write};
-use readers::tokens::{Answer, kind_at, read, refused, wanted};
+use readers::reader::{Answer, Reader};
+use readers::tokens::Why;
 use token::kinds;
 
 // A statement, with room for so many constructs one inside the other.
-#[cycle(body_case_of_for_do_if_then_items_procedure_statement_while_do)]
-pub fn statement(kinds: &[u8], i: usize, room: usize, tape: &mut [u32], p: usize) -> Answer
-    requires { Ready kinds.now tape.old i p }
-    ensures { Wrote tape_statement kinds.now i p tape.old tape.new result (G.statement room kinds.now i) }
+#[cycle(statements)]
+pub fn statement(r: &mut Reader, room: usize) -> Answer
+    ensures read { Wrote tape_statement (G.statement room) r.old r.new result }
+    ensures same { SameTape r.old r.new }
 {
-    let k = kind_at(kinds, i);
+    let k = r.kind();
     if opens(k) {
         if room == 0 {
-            return refused(5, i);
+            return Err(Why::TooDeep);
         }
+        let word = r.take();
         if k == kinds::BEGIN {
-            write(tape, p, tape::BLOCK, i);
-            return body(kinds, i + 1, i, room - 1, tape, p + 1);
+            r.write(tape::BLOCK, word);
+            return body(r, word, room - 1);
         }
         if k == kinds::IF {
-            return if_then(kinds, i, room - 1, tape, p);
+            return if_then(r, word, room - 1);
         }
         if k == kinds::WHILE {
-            return while_do(kinds, i, room - 1, tape, p);
+            return while_do(r, word, room - 1);
         }
         if k == kinds::CASE {
-            return case_of(kinds, i, room - 1, tape, p);
+            return case_of(r, word, room - 1);
         }
-        return for_do(kinds, i, room - 1, tape, p);
+        return for_do(r, word, room - 1);
     }
-    simple(kinds, i, tape, p)
+    simple(r)
 }
 
-#[cycle(body_case_of_for_do_if_then_items_procedure_statement_while_do)]
-fn if_then(kinds: &[u8], i: usize, room: usize, tape: &mut [u32], p: usize) -> Answer
-    requires { Ready kinds.now tape.old i p × (i < length kinds.now) }
-    ensures { Wrote tape_statement kinds.now i p tape.old tape.new result (if_part (G.statement room) i kinds.now (i + 1)) }
+// What follows the IF at the token `word`.
+#[cycle(statements)]
+fn if_then(r: &mut Reader, word: usize, room: usize) -> Answer
+    requires { word < r.old.at }
+    ensures read { WroteNamed tape_statement (if_part (G.statement room)) word r.old r.new result }
+    ensures same { SameTape r.old r.new }
 {
-    let h = head(kinds, i + 1, kinds::THEN, tape, p);
-    if h.number != 0 {
-        return h;
+    head(r, kinds::THEN)?;
+    let k = r.kind();
+    statement(r, room)?;
+    if has_else(r, k) {
+        r.take();
+        r.write(tape::ELSE, word);
+        statement(r, room)?;
+        r.write(tape::END_ELSE, word);
+        return Ok(());
     }
-    let k = kind_at(kinds, h.at);
-    let s = statement(kinds, h.at, room, tape, h.value);
-    if s.number != 0 {
-        return s;
-    }
-    if has_else(kinds, s.at, k) {
-        write(tape, s.value, tape::ELSE, i);
-        let u = statement(kinds, s.at + 1, room, tape, s.value + 1);
-        if u.number != 0 {
-            return u;
-        }
-        write(tape, u.value, tape::END_ELSE, i);
-        return read(u.at, u.value + 1);
-    }
-    write(tape, s.value, tape::END_IF, i);
-    read(s.at, s.value + 1)
+    r.write(tape::END_IF, word);
+    Ok(())
 }
 
-#[cycle(body_case_of_for_do_if_then_items_procedure_statement_while_do)]
-fn while_do(kinds: &[u8], i: usize, room: usize, tape: &mut [u32], p: usize) -> Answer
-    requires { Ready kinds.now tape.old i p × (i < length kinds.now) }
-    ensures { Wrote tape_statement kinds.now i p tape.old tape.new result (while_part (G.statement room) i kinds.now (i + 1)) }
+// What follows the WHILE at the token `word`.
+#[cycle(statements)]
+fn while_do(r: &mut Reader, word: usize, room: usize) -> Answer
+    requires { (r.old.events < r.old.at) × (word < r.old.at) }
+    ensures read { WroteNamed tape_statement (while_part (G.statement room)) word r.old r.new result }
+    ensures same { SameTape r.old r.new }
 {
-    write(tape, p, tape::WHILE, i);
-    let h = head(kinds, i + 1, kinds::DO, tape, p + 1);
-    if h.number != 0 {
-        return h;
-    }
-    let s = statement(kinds, h.at, room, tape, h.value);
-    if s.number != 0 {
-        return s;
-    }
-    write(tape, s.value, tape::END_WHILE, i);
-    read(s.at, s.value + 1)
+    r.write(tape::WHILE, word);
+    head(r, kinds::DO)?;
+    statement(r, room)?;
+    r.write(tape::END_WHILE, word);
+    Ok(())
 }
 
-// "CASE register OF BEGIN {statement ;} END": how many statements there are stands first on the tape and is known last.
-#[cycle(body_case_of_for_do_if_then_items_procedure_statement_while_do)]
-fn case_of(kinds: &[u8], i: usize, room: usize, tape: &mut [u32], p: usize) -> Answer
-    requires { Ready kinds.now tape.old i p × (i < length kinds.now) }
-    ensures { Wrote tape_statement kinds.now i p tape.old tape.new result (case_part (G.statement room) i kinds.now (i + 1)) }
+// What follows the CASE at the token `word`, "register OF BEGIN {statement ;} END": how many statements there are stands first on the tape and is known last.
+#[cycle(statements)]
+fn case_of(r: &mut Reader, word: usize, room: usize) -> Answer
+    requires { (r.old.events < r.old.at) × (word < r.old.at) }
+    ensures read { WroteNamed tape_statement (case_part (G.statement room)) word r.old r.new result }
+    ensures same { SameTape r.old r.new }
 {
-    let name = i + 1;
-    let h = case_head(kinds, name, tape, p + 1);
-    if h.number != 0 {
-        return h;
-    }
-    let mut at = h.at;
-    let mut q = h.value;
+    let place = r.skip();
+    let name = r.at();
+    case_head(r)?;
     let mut n: usize = 0;
-    while kind_at(kinds, at) != kinds::END {
-        let s = statement(kinds, at, room, tape, q);
-        if s.number != 0 {
-            return s;
-        }
-        let semicolon = wanted(kinds, s.at, kinds::SEMICOLON);
-        if semicolon.number != 0 {
-            return semicolon;
-        }
-        write(tape, s.value, tape::END_CHOICE, name);
-        at = semicolon.at;
-        q = s.value + 1;
+    while r.kind() != kinds::END {
+        statement(r, room)?;
+        r.wanted(kinds::SEMICOLON)?;
+        r.write(tape::END_CHOICE, name);
         n += 1;
     }
-    put(tape, p, tape::LISTED, n);
-    write(tape, q, tape::END_CASE, name);
-    read(at + 1, q + 1)
+    r.take();
+    r.put(place, tape::LISTED, n);
+    r.write(tape::END_CASE, name);
+    Ok(())
 }
 
-#[cycle(body_case_of_for_do_if_then_items_procedure_statement_while_do)]
-fn for_do(kinds: &[u8], i: usize, room: usize, tape: &mut [u32], p: usize) -> Answer
-    requires { Ready kinds.now tape.old i p × (i < length kinds.now) }
-    ensures { Wrote tape_statement kinds.now i p tape.old tape.new result (for_part (G.statement room) i kinds.now (i + 1)) }
+// What follows the FOR at the token `word`.
+#[cycle(statements)]
+fn for_do(r: &mut Reader, word: usize, room: usize) -> Answer
+    requires { word < r.old.at }
+    ensures read { WroteNamed tape_statement (for_part (G.statement room)) word r.old r.new result }
+    ensures same { SameTape r.old r.new }
 {
-    let a = control(kinds, i + 1, tape, p);
-    if a.number != 0 {
-        return a;
-    }
-    let l = limit(kinds, a.at, tape, a.value);
-    if l.number != 0 {
-        return l;
-    }
-    let s = statement(kinds, l.at, room, tape, l.value);
-    if s.number != 0 {
-        return s;
-    }
-    write(tape, s.value, tape::END_FOR, a.at);
-    read(s.at, s.value + 1)
+    control(r)?;
+    let number = r.at();
+    limit(r)?;
+    statement(r, room)?;
+    r.write(tape::END_FOR, number);
+    Ok(())
 }
 
-#[cycle(body_case_of_for_do_if_then_items_procedure_statement_while_do)]
-fn procedure(kinds: &[u8], i: usize, room: usize, tape: &mut [u32], p: usize) -> Answer
-    requires { Ready kinds.now tape.old i p × (i < length kinds.now) }
-    ensures { Wrote tape_procedure kinds.now i p tape.old tape.new result (G.procedure_of room kinds.now i) }
+// A procedure, whose word is the next token.
+#[cycle(statements)]
+fn procedure(r: &mut Reader, room: usize) -> Answer
+    requires { r.old.at < length r.old.kinds.now }
+    ensures read { Wrote tape_procedure (G.procedure_of room) r.old r.new result }
+    ensures same { SameTape r.old r.new }
 {
     if room == 0 {
-        return refused(5, i);
+        return Err(Why::TooDeep);
     }
-    let h = procedure_head(kinds, i + 1, tape, p);
-    if h.number != 0 {
-        return h;
-    }
-    let s = statement(kinds, h.at, room - 1, tape, h.value);
-    if s.number != 0 {
-        return s;
-    }
-    write(tape, s.value, tape::END_PROCEDURE, i + 1);
-    read(s.at, s.value + 1)
+    r.take();
+    let name = r.at();
+    procedure_head(r)?;
+    statement(r, room - 1)?;
+    r.write(tape::END_PROCEDURE, name);
+    Ok(())
 }
 
-// What follows the BEGIN at the token t.
-#[cycle(body_case_of_for_do_if_then_items_procedure_statement_while_do)]
-fn body(kinds: &[u8], i: usize, t: usize, room: usize, tape: &mut [u32], p: usize) -> Answer
-    requires { Ready kinds.now tape.old i p × (t < length kinds.now) }
-    ensures { Wrote (tape_block tape_body t) kinds.now i p tape.old tape.new result
-        (G.fuelled (G.body_of (G.statement room) (G.procedure_of room)) kinds.now i) }
+// What follows the BEGIN at the token `begin`.
+#[cycle(statements)]
+fn body(r: &mut Reader, begin: usize, room: usize) -> Answer
+    requires { begin < r.old.at }
+    ensures read { Wrote (tape_block tape_body begin) (G.fuelled (G.body_of (G.statement room) (G.procedure_of room))) r.old r.new result }
+    ensures same { SameTape r.old r.new }
 {
-    let mut at = i;
-    let mut q = p;
     loop {
-        let k = kind_at(kinds, at);
+        let k = r.kind();
         if declares(k) {
-            let d = declaration(kinds, at, tape, q);
-            if d.number != 0 {
-                return d;
-            }
-            let semicolon = wanted(kinds, d.at, kinds::SEMICOLON);
-            if semicolon.number != 0 {
-                return semicolon;
-            }
-            at = semicolon.at;
-            q = d.value;
+            declaration(r)?;
+            r.wanted(kinds::SEMICOLON)?;
             continue;
         }
         if k != kinds::PROCEDURE {
-            return items(kinds, at, t, room, tape, q);
+            return items(r, begin, room);
         }
-        let d = procedure(kinds, at, room, tape, q);
-        if d.number != 0 {
-            return d;
-        }
-        let semicolon = wanted(kinds, d.at, kinds::SEMICOLON);
-        if semicolon.number != 0 {
-            return semicolon;
-        }
-        at = semicolon.at;
-        q = d.value;
+        procedure(r, room)?;
+        r.wanted(kinds::SEMICOLON)?;
     }
 }
 
-// "{statement ; or name :} END" of the block whose BEGIN is the token t.
-#[cycle(body_case_of_for_do_if_then_items_procedure_statement_while_do)]
-fn items(kinds: &[u8], i: usize, t: usize, room: usize, tape: &mut [u32], p: usize) -> Answer
-    requires { Ready kinds.now tape.old i p × (t < length kinds.now) }
-    ensures { Wrote (tape_block tape_items t) kinds.now i p tape.old tape.new result (G.fuelled (G.items_of (G.statement room)) kinds.now i) }
+// "{statement ; or name :} END" of the block whose BEGIN is the token `begin`.
+#[cycle(statements)]
+fn items(r: &mut Reader, begin: usize, room: usize) -> Answer
+    requires { begin < r.old.at }
+    ensures read { Wrote (tape_block tape_items begin) (G.fuelled (G.items_of (G.statement room))) r.old r.new result }
+    ensures same { SameTape r.old r.new }
 {
-    let mut at = i;
-    let mut q = p;
-    while kind_at(kinds, at) != kinds::END {
-        if has_label(kinds, at) {
-            write(tape, q, tape::LABEL, at);
-            let colon = at + 1;
-            at = colon + 1;
-            q += 1;
+    while r.kind() != kinds::END {
+        if has_label(r) {
+            let label = r.take();
+            r.take();
+            r.write(tape::LABEL, label);
             continue;
         }
-        let s = statement(kinds, at, room, tape, q);
-        if s.number != 0 {
-            return s;
-        }
-        let semicolon = wanted(kinds, s.at, kinds::SEMICOLON);
-        if semicolon.number != 0 {
-            return semicolon;
-        }
-        at = semicolon.at;
-        q = s.value;
+        statement(r, room)?;
+        r.wanted(kinds::SEMICOLON)?;
     }
-    write(tape, q, tape::END_BLOCK, t);
-    read(at + 1, q + 1)
+    r.take();
+    r.write(tape::END_BLOCK, begin);
+    Ok(())
 }

@@ -12,6 +12,8 @@ use Rattle.grammar.specs.Events.{Event}
 use Rattle.grammar.specs.Places.{Place, after, along, Along}
 use Rattle.grammar.specs.Texts.{Stands, Text}
 use Rattle.grammar.proofs.Texts.{text-rises}
+use Rattle.scopes.specs.declared.Refusal.TheVariants.{NoRoom}
+use Rattle.scopes.specs.Broken.{unbroken}
 use Rattle.scopes.proofs.Joins.{quiet-right, rule-holds}
 use Rattle.static_rules.specs.Meanings.{Meant, write, open_base, add_cell, mean_event}
 use Rattle.static_rules.specs.Tables.{Tables}
@@ -23,10 +25,10 @@ use Rattle.static_rules.proofs.Unbroken.{Unbroken}
 
 module _ (f : Tables) where
   -- "12: … a third base declaration"
-  pub base-segment : (kept : List ℕ) (n : ℕ) → (base_rules f kept n).number ≡ 0 → get_or f.opens n 0 ≤ last_segment
+  pub base-segment : (kept : List ℕ) (n : ℕ) → base_rules f kept n ≡ unbroken → get_or f.opens n 0 ≤ last_segment
   unfolding base_rules
   base-segment kept n q =
-      leb-true _ _ (rule-holds (leb (get_or f.opens n 0) last_segment) 12 n (omega arith) (quiet-right (taken_rules f kept n) _ q))
+      leb-true _ _ (rule-holds (leb (get_or f.opens n 0) last_segment) NoRoom n (quiet-right (taken_rules f kept n) _ q))
 
   -- the segments that are opened are those of the whole text
   heeds-few : {p : Place} {s t : Meant} {e : Event} → Heeds f.kinds f.values f.found p s e t → (i : ℕ) (x : Stands f.kinds e p i) → Unbroken f e p → x.to ≤ length s.opens

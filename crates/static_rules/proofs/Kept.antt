@@ -5,11 +5,12 @@ use mathlib.Core.Logic.{inl, inr}
 use mathlib.Core.Bool.{true}
 use mathlib.Core.List.{List, [], ◌∷◌, map}
 use Prim.Native.Nat.{ℕ}
-use native.Mathlib.Omega.{arith}
 use lib.ListN.{get_or}
 use Rattle.base.specs.Lists.{◌∈◌}
 use Rattle.base.proofs.Lists.{in_left, in_right}
 use Rattle.grammar.specs.Places.{Block, within, body, Place}
+use Rattle.scopes.specs.declared.Refusal.TheVariants.{Protected}
+use Rattle.scopes.specs.Broken.{unbroken}
 use Rattle.scopes.proofs.Joins.{quiet-right, rule-holds}
 use Rattle.static_rules.specs.Registers.{no_registers, spares}
 use Rattle.static_rules.specs.Meaning.{routine, register_of}
@@ -45,5 +46,5 @@ module _ (f : Tables) where
   kept-in-body n r p s h = inr h
 
   -- "No … call may write a protected register", by what the called procedure's text writes
-  pub called-spares : (r : ℕ) (kept : List ℕ) (n : ℕ) → (call_by f (routine r) kept n).number ≡ 0 → spares (get_or f.written (get_or f.found n 0) no_registers) kept ≡ true
-  called-spares r kept n e = rule-holds _ 10 n (omega arith) (quiet-right (write_rule kept r n) _ e)
+  pub called-spares : (r : ℕ) (kept : List ℕ) (n : ℕ) → call_by f (routine r) kept n ≡ unbroken → spares (get_or f.written (get_or f.found n 0) no_registers) kept ≡ true
+  called-spares r kept n e = rule-holds _ Protected n (quiet-right (write_rule kept r n) _ e)

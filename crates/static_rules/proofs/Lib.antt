@@ -8,7 +8,6 @@ pub mod Small
 pub mod Known
 pub mod Stays
 pub mod Bases
-pub mod Numbers
 pub mod Told
 pub mod Kept
 pub mod Uses

@@ -23,6 +23,7 @@ use Rattle.static_rules.specs.Rules.{in_range, most_elements}
 use Rattle.static_rules.proofs.Elements.{in-range}
 use Rattle.static_rules.proofs.Heeds.{Heeds, enters, names, adds, opens, other, heeds}
 use Rattle.static_rules.proofs.Unbroken.{Unbroken}
+use Rattle.scopes.specs.declared.Refusal.TheVariants.{WrongRegister, OutOfBounds}
 
 abbrev pub Small : Meaning → Type 0
 Small nothing = Unit {0}
@@ -81,7 +82,7 @@ module _ (f : Tables) where
   counted-entry : (d : Entry) (p : Place) (c : Context) → Unbroken f (entry d) p → Suits (entry d) c → Counted c → Counted (context_after (entry d) c)
   counted-entry (named r) p c q u h = tt
   counted-entry (celled none w) p c q u h = omega arith
-  counted-entry (celled (some t) w) p c q u h = (in-range 1 most_elements (value_at f t) (rule-holds (in_range 1 most_elements (value_at f t)) 11 t (omega arith) q)).0
+  counted-entry (celled (some t) w) p c q u h = (in-range 1 most_elements (value_at f t) (rule-holds (in_range 1 most_elements (value_at f t)) OutOfBounds t q)).0
   counted-entry (itemed n w i) p (declaring m v ts) q u h = subst (λ (k : Option ℕ). 1 ≤ count_of f.values k) u.0 h
   counted-entry (valued t) p (declaring m v (x ∷ ts)) q u h = h
   counted-entry (based n) p c q u h = tt
@@ -122,7 +123,7 @@ module _ (f : Tables) where
   unfolding open_base write add_cell
   heeds-small {p} {s} (enters n r) c q u h = all_set Small s.means n (routine (register_of (meaning_in f.found s r))) h.means (named_small s r h.means)
   heeds-small {p} {s} (names r) c q u h =
-      let e : get_or f.values r.number 0 ≤ 15 = (in-range 0 15 (value_at f r.number) (rule-holds (in_range 0 15 (value_at f r.number)) 9 r.number (omega arith) q)).1 in
+      let e : get_or f.values r.number 0 ≤ 15 = (in-range 0 15 (value_at f r.number) (rule-holds (in_range 0 15 (value_at f r.number)) WrongRegister r.number q)).1 in
       all_set Small s.means r.name (register (get_or f.values r.number 0)) h.means (omega arith)
   heeds-small {p} {s} (adds n w i) c q u h =
       all_set Small s.means i.name (cell (cell_of f.values n w (base_in f.found s p) i)) h.means (base-small s p h.means, counted-entry (itemed n w i) p c q u h.count)

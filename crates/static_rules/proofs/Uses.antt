@@ -9,12 +9,13 @@ use lib.ListN.{get_or}
 use borrow.Author.Tests.{ne_eqb}
 use Rattle.base.specs.Lists.{All}
 use Rattle.base.proofs.Lists.{all_get_d}
+use Rattle.scopes.specs.declared.Refusal.TheVariants.{Misfit}
 use Rattle.scopes.specs.Broken.{rule, broken}
 use Rattle.static_rules.specs.Functions.{Function, Argument, read_register, indexed_cell, plain_cell, surplus, function_table, nine, no_function, function_at, arity, argument_at, is_written}
 use Rattle.static_rules.specs.Meaning.{Meaning, nothing, register, cell, routine, function, function_of, argument_of}
 use Rattle.static_rules.specs.Rules.{count_by}
 
-pub wrong-count : (k n count : ℕ) → (count ≡ arity (function_at k) → ⊥) → count_by (function k) n count ≡ broken 8 n
+pub wrong-count : (k n count : ℕ) → (count ≡ arity (function_at k) → ⊥) → count_by (function k) n count ≡ broken Misfit n
 unfolding rule
 wrong-count k n count h = rw (ne_eqb count (arity (function_at k)) h)
 

@@ -12,7 +12,9 @@ use borrow.Author.Tests.{eqb-true, ne_eqb, le-leb}
 use Rattle.base.proofs.Tests.{cases, by-test, never_true}
 use Rattle.grammar.specs.Tree.{Width, full, short, byte}
 use Rattle.static_rules.specs.Meaning.{Meaning, nothing, register, cell, routine, function, Based, register_of, is_full, is_half, is_byte, is_long}
-use Rattle.tables.specs.Packed.{REGISTER, ROUTINE, CELL, ARRAY, FUNCTION, SORTS, WIDTHS, low, packed, sort_in, number_in, is_register_in, is_routine_in, is_array_in, is_cell_in, is_function_in, width_number_in, width_by, based_in, cell_in, unpacked, meanings_from, meanings_of, register_in, long_in}
+use Rattle.tables.specs.declared.Width as W
+use Rattle.tables.specs.declared.Width.TheVariants.{Full, Short, Byte, Character}
+use Rattle.tables.specs.Packed.{width_number, coded_width, REGISTER, ROUTINE, CELL, ARRAY, FUNCTION, SORTS, WIDTHS, low, packed, sort_in, number_in, is_register_in, is_routine_in, is_array_in, is_cell_in, is_function_in, width_number_in, width_by, based_in, cell_in, unpacked, meanings_from, meanings_of, register_in, long_in}
 
 pub low-low : (v : ℕ) → low (low v) ≡ low v
 unfolding low
@@ -81,6 +83,12 @@ half_is w = by_width (λ n x. is_half x ≡ eqb n 1) w refl refl (λ h. sym (ne_
 
 pub byte-is : (w : ℕ) → is_byte (width_by w) ≡ leb 2 w
 byte-is w = by_width (λ n x. is_byte x ≡ leb 2 n) w refl refl (λ h. sym (le-leb 2 w h))
+
+pub width_coded : (w : W.Width) → coded_width (width_number w) ≡ w
+width_coded Full = refl
+width_coded Short = refl
+width_coded Byte = refl
+width_coded Character = refl
 
 -- ── by what it is ──
 

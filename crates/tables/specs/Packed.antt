@@ -5,6 +5,10 @@ use Rattle.base.specs.Choose.{whether◌then◌else◌}
 use Rattle.grammar.specs.Tree.{Width, full, short, byte}
 use Rattle.static_rules.specs.Registers.{Registers, flags, no_registers}
 use Rattle.static_rules.specs.Meaning.{Meaning, nothing, register, cell, routine, function, Based, Cell}
+use Rattle.tables.specs.declared.Sort as S
+use Rattle.tables.specs.declared.Sort.TheVariants.{Register, Routine, Cell as OneCell, Array, Function}
+use Rattle.tables.specs.declared.Width as W
+use Rattle.tables.specs.declared.Width.TheVariants.{Full, Short, Byte, Character}
 
 -- ── meanings ──
 
@@ -24,6 +28,13 @@ ARRAY = 4
 abbrev pub FUNCTION : ℕ
 FUNCTION = 5
 
+abbrev pub sort_number : S.Sort → ℕ
+sort_number Register = REGISTER
+sort_number Routine = ROUTINE
+sort_number OneCell = CELL
+sort_number Array = ARRAY
+sort_number Function = FUNCTION
+
 -- as many as there is room for
 abbrev pub SORTS : ℕ
 SORTS = 16
@@ -38,6 +49,15 @@ WIDTHS = 4
 
 unfoldable pub packed : (sort width number : ℕ) → ℕ
 packed sort w v = (low v * WIDTHS + w) * SORTS + sort
+
+abbrev pub width_number : W.Width → ℕ
+width_number Full = 0
+width_number Short = 1
+width_number Byte = 2
+width_number Character = 3
+
+abbrev pub coded_width : ℕ → W.Width
+coded_width n = whether eqb n 0 then Full else whether eqb n 1 then Short else whether eqb n 2 then Byte else Character
 
 abbrev pub sort_in : ℕ → ℕ
 sort_in m = m % SORTS

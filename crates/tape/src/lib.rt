@@ -1,4 +1,6 @@
 // The events of a tape, as specs/Events.antt numbers them. To those of designators and operands their shape is added.
+// Kept: numbers and no enum, since an event and its token share 32 bits of the lent tape, of which `parse::program` and all passes speak as a list of numbers; an
+// enum beside its token would take twice the room, 131,180 bytes more of a thread's stack.
 #![tactic(auto)]
 
 ghost use Rattle.std.specs.Prelude.{◌≡◌, ◌/◌, ◌%◌, ◌<◌, ◌≤◌};

@@ -2,6 +2,7 @@
 #![tactic(auto)]
 
 use files::Host;
+use saying::ExitStatus;
 use std::alloc::AllocError;
 use std::env::FillError;
 use std::process::ExitCode;
@@ -10,20 +11,13 @@ use std::rt::Env;
 // The room that a word gets at first; it is doubled for a longer one.
 const WORD_ROOM: usize = 256;
 
-// A word put whole, longer than its room, or not there at all.
-enum Put {
-    Whole,
-    TooLong,
-    NoWord,
-}
-
 // Puts the word with this number behind the others, ended by a zero byte, where it has room.
 fn put_word<R: Host + Env>(
     rt: &R,
     words: &mut Vec<u8, R::A>,
     i: usize,
     room: usize,
-) -> Result<Put, AllocError> {
+) -> Result<Result<(), FillError>, AllocError> {
     let end = words.len();
     words.resize(end.saturating_add(room), 0u8)?;
     let put = rt.arg(i, &mut words.as_mut_slice()[end..]);
@@ -31,15 +25,11 @@ fn put_word<R: Host + Env>(
         Ok(n) => {
             words.truncate(end.saturating_add(n));
             words.push(0u8)?;
-            Ok(Put::Whole)
+            Ok(Ok(()))
         }
-        Err(FillError::TooLong) => {
+        Err(why) => {
             words.truncate(end);
-            Ok(Put::TooLong)
-        }
-        Err(FillError::NotPresent) => {
-            words.truncate(end);
-            Ok(Put::NoWord)
+            Ok(Err(why))
         }
     }
 }
@@ -53,15 +43,16 @@ fn add_word<R: Host + Env>(
     let mut room = WORD_ROOM;
     for _ in 0..usize::BITS {
         match put_word(rt, words, i, room)? {
-            Put::Whole => return Ok(true),
-            Put::TooLong => room = room.saturating_add(room),
-            Put::NoWord => return Ok(false),
+            Ok(()) => return Ok(true),
+            Err(FillError::TooLong) => room = room.saturating_add(room),
+            Err(FillError::NotPresent) => return Ok(false),
         }
     }
     Ok(false)
 }
 
 // All words but the program's own name.
+// Kept: `env::args` refuses words that are not UTF-8, and a file's name may be such a word.
 fn read_words<R: Host + Env>(rt: &R) -> Result<Vec<u8, R::A>, AllocError> {
     let mut words = Vec::new(rt.alloc());
     for i in 1..usize::MAX {
@@ -77,7 +68,7 @@ fn main(rt: HostRuntime) -> ExitCode {
         Ok(words) => ExitCode::from(tautgaff::tautgaff_main(&rt, words.as_slice()) as u8),
         Err(_) => {
             files::complain(&rt, b"tautgaff: no memory\n");
-            ExitCode::from(saying::WRONG)
+            ExitCode::from(u8::from(ExitStatus::Wrong))
         }
     }
 }

@@ -2,15 +2,17 @@
 // refusals 1 to 5.
 #![tactic(auto)]
 
-ghost use Rattle.std.specs.Prelude.{◌≡◌, ◌+◌, ◌≤◌, ◌<◌, length};
+ghost use Rattle.std.specs.Prelude.{◌≡◌, ◌≤◌, length, IfSome};
 ghost use Rattle.parse.specs.Programs.{says, judged};
 
 use lines::decimal;
-use parse::Verdict;
+use parse::Refusal;
 use spots::{Spot, unplaced};
+use std::ops::Range;
 use token_lists::TEXT_LIMIT;
 
 // Number and place of the paper, with line and column.
+// Kept: tautgaff_grammatical, which C calls, answers 0 as the number of a program, and its place.
 #[derive(Clone, Copy)]
 pub struct Said {
     pub number: u64,
@@ -20,56 +22,37 @@ pub struct Said {
 pub fn judge(text: &[u8]) -> Said
     ensures { says result.number result.spot ≡ judged text.now }
 {
-    let v = parse::grammatical(text);
-    match v {
-        Verdict::Program => Said {
+    match parse::grammatical(text) {
+        Ok(()) => Said {
             number: 0,
             spot: unplaced(0),
         },
-        Verdict::TooLong => Said {
-            number: 1,
-            spot: unplaced(TEXT_LIMIT),
+        Err(refusal) => match refusal {
+            Refusal::TooLong => Said {
+                number: 1,
+                spot: unplaced(TEXT_LIMIT),
+            },
+            Refusal::NoToken(spot) => Said { number: 2, spot },
+            Refusal::OutOfRange(spot) => Said { number: 3, spot },
+            Refusal::Unexpected(spot) => Said { number: 4, spot },
+            Refusal::TooDeep(spot) => Said { number: 5, spot },
         },
-        Verdict::NoToken(spot) => Said { number: 2, spot },
-        Verdict::OutOfRange(spot) => Said { number: 3, spot },
-        Verdict::Unexpected(spot) => Said { number: 4, spot },
-        Verdict::TooDeep(spot) => Said { number: 5, spot },
     }
 }
 
-// Where the text stands behind its line of numbers, which are put into `fields`: from `from` to `to`, or 0 and 0 where no whole case with its newline is there.
-#[derive(Clone, Copy)]
-pub struct Span {
-    pub from: usize,
-    pub to: usize,
-}
-
-fn nowhere() -> Span
-    ensures { (result.from ≡ 0) × (result.to ≡ 0) }
+// Where the text stands behind its line of numbers, which are put into `fields`, if a whole case with its newline is there.
+pub fn text_in(input: &[u8], fields: &mut [u64]) -> Option<Range<usize>>
+    ensures { IfSome result (λ text. (text.start ≤ text.end) × (text.end ≤ length input.now)) }
 {
-    Span { from: 0, to: 0 }
-}
-
-pub fn text_in(input: &[u8], fields: &mut [u64]) -> Span
-    ensures { (result.from ≤ result.to) × (result.to ≤ length input.now) }
-{
-    let head = decimal::fields(input, fields);
-    if head == 0 {
-        return nowhere();
-    }
-    if fields.len() == 0 {
-        return nowhere();
-    }
+    let head = decimal::fields(input, fields)?;
+    let length = *fields.first()?;
     let text = &input[head..];
-    if text.len() as u64 <= fields[0] {
-        return nowhere();
+    if text.len() as u64 <= length {
+        return None;
     }
-    let length = fields[0] as usize;
+    let length = length as usize;
     if text[length] != b'\n' {
-        return nowhere();
+        return None;
     }
-    Span {
-        from: head,
-        to: head + length,
-    }
+    Some(head..head + length)
 }

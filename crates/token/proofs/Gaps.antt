@@ -1,4 +1,5 @@
 -- The way to the next token: one step past a gap or to a token, from what stands at a place; and where the next token ends. Assumes nothing.
+use Rattle.std.proofs.Common.{Result, Ok, Err}
 use Prim.Native.Nat.{ℕ, zero, suc, ◌+◌, ◌-◌, ◌≤◌, ◌<◌}
 use mathlib.Core.Path.{◌≡◌, refl, ap, sym, ◌∙◌}
 use mathlib.Core.Bool.{Bool, true, false}
@@ -15,9 +16,11 @@ use Rattle.base.proofs.Walk.{walk_end, walk-stop, walk-pass}
 use Rattle.spots.specs.declared.Spot.{Spot}
 use Rattle.spots.specs.Spots.{spot_at, NoNewline}
 use Rattle.token.specs.Kinds as K
-use Rattle.token.specs.Text.{separates, lexeme, token, Outcome, read, refused, next_step, next_token, is_last}
+use Rattle.token.specs.Text.{number_of, separates, lexeme, token, Outcome, read, refused, next_step, next_token, is_last}
 use Rattle.token.specs.declared.Lexeme.{Lexeme}
-use Rattle.token.specs.declared.Lexeme.TheVariants.{Gap, Token, NoToken, OutOfRange}
+use Rattle.token.specs.declared.Lexeme.TheVariants.{Gap, Token}
+use Rattle.token.specs.declared.Why.{Why}
+use Rattle.token.specs.declared.Why.TheVariants.{NoToken, OutOfRange}
 use Rattle.token.proofs.Sizes.{size_of, spelling, Sized, lexeme-sized}
 
 abbrev pub ending : List ℕ → ℕ → Outcome
@@ -34,7 +37,7 @@ start s = refl
 pub at-end : (s : List ℕ) (at : ℕ) → length s ≤ at → from at s ≡ read (token K.END-OF-TEXT 0 (spot_at s at)) at
 at-end s at h = walk_end (next_step s) (ending s) s at h
 
-module _ (s : List ℕ) (at : ℕ) (l : Lexeme) (h : at < length s) (e : l ≡ lexeme (take (length s - at) (drop at s))) where
+module _ (s : List ℕ) (at : ℕ) (l : Result Lexeme Why) (h : at < length s) (e : l ≡ lexeme (take (length s - at) (drop at s))) where
   stands : lexeme (drop at s) ≡ l
   stands = ap lexeme (sym (to_end s at)) ∙ sym e
 
@@ -50,27 +53,23 @@ module _ (s : List ℕ) (at : ℕ) (l : Lexeme) (h : at < length s) (e : l ≡ l
   pub one_line : NoNewline (spelling l (drop at s))
   one_line = sized.one_line
 
-  pub past : (n : ℕ) → l ≡ Gap n → from at s ≡ from (at + n) s
+  pub past : (n : ℕ) → l ≡ Ok (Gap n) → from at s ≡ from (at + n) s
   unfolding next_step
   past n q =
       let z : size_of l ≡ n = ap size_of q in
       walk-pass (next_step s) (ending s) s at n h (rw (stands, q)) (omega (arith, some)) (omega (arith, fits))
 
-  pub found : (kind value n : ℕ) → l ≡ Token kind value n → from at s ≡ read (token kind value (spot_at s at)) (at + n)
+  pub found : (kind value n : ℕ) → l ≡ Ok (Token kind value n) → from at s ≡ read (token kind value (spot_at s at)) (at + n)
   unfolding next_step
   found kind value n q = walk-stop (next_step s) (ending s) s at (read (token kind value (spot_at s at)) (at + n)) h (rw (stands, q))
 
-  pub no-token : l ≡ NoToken → from at s ≡ refused 2 (spot_at s at)
+  pub refused-here : (why : Why) → l ≡ Err why → from at s ≡ refused (number_of why) (spot_at s at)
   unfolding next_step
-  no-token q = walk-stop (next_step s) (ending s) s at (refused 2 (spot_at s at)) h (rw (stands, q))
-
-  pub out_of_range : l ≡ OutOfRange → from at s ≡ refused 3 (spot_at s at)
-  unfolding next_step
-  out_of_range q = walk-stop (next_step s) (ending s) s at (refused 3 (spot_at s at)) h (rw (stands, q))
+  refused-here why q = walk-stop (next_step s) (ending s) s at (refused (number_of why) (spot_at s at)) h (rw (stands, q))
 
 -- the next token may be looked for from anywhere in the separators at the front
 module _ (s : List ℕ) where
-  separators : (t : List ℕ) → 0 < run_len separates t → Gap (run_len separates t) ≡ lexeme t
+  separators : (t : List ℕ) → 0 < run_len separates t → ◌≡◌ {A = Result Lexeme Why} (Ok (Gap (run_len separates t))) (lexeme t)
   unfolding lexeme
   separators t h = rw (run-first separates t h)
 
@@ -85,8 +84,8 @@ module _ (s : List ℕ) where
       go (no l) =
           let b : k < length s = omega (arith, run-le separates s) in
           let n = run_len separates (drop k s) in
-          let e : Gap n ≡ lexeme (take (length s - k) (drop k s)) = separators (drop k s) (omega (arith, left)) ∙ ap lexeme (sym (to_end s k)) in
-          past s k (Gap n) b e n refl ∙ ap (λ (i : ℕ). from i s) (sym left)
+          let e : ◌≡◌ {A = Result Lexeme Why} (Ok (Gap n)) (lexeme (take (length s - k) (drop k s))) = separators (drop k s) (omega (arith, left)) ∙ ap lexeme (sym (to_end s k)) in
+          past s k (Ok (Gap n)) b e n refl ∙ ap (λ (i : ℕ). from i s) (sym left)
 
   pub from-separators : (k : ℕ) → k ≤ run_len separates s → next_token s ≡ from k s
   from-separators k h = start s ∙ to-their-end 0 (omega arith) ∙ sym (to-their-end k h)
@@ -124,6 +123,11 @@ pub record Held (s : List ℕ) (o : Outcome) : Type 0 where
 none : (s : List ℕ) (at : ℕ) → NoNewline (take (at - at) (drop at s))
 none s at = let z : at - at ≡ 0 = omega arith in rw z tt
 
+-- no refusal is numbered 0
+some_number : (why : Why) → 0 < number_of why
+some_number NoToken = omega arith
+some_number OutOfRange = omega arith
+
 -- n is enough for what is left
 held-from : (n : ℕ) (s : List ℕ) (at : ℕ) → at ≤ length s → length s ≤ at + n → Held s (from at s)
 held-from zero s at h m = rw (at-end s at (omega arith)) (record { before = omega arith; fits = h; some = λ e. never_true (sym e); real = omega arith; one_line = none s at; stands = refl })
@@ -136,19 +140,20 @@ held-from (suc n) s at h m = go (held-from n s) (dec_le (length s) at)
         b : at < length s
         b = omega arith
 
-        by : (x : Lexeme) → x ≡ lexeme (take (length s - at) (drop at s)) → Held s (from at s)
-        by (Gap k) e =
-            let p = some s at (Gap k) b e in
-            let f = fits s at (Gap k) b e in
-            rw (past s at (Gap k) b e k refl) (ih (at + k) f (omega arith))
-        by (Token kind value k) e =
-            let p = some s at (Token kind value k) b e in
-            let f = fits s at (Token kind value k) b e in
+        by : (x : Result Lexeme Why) → x ≡ lexeme (take (length s - at) (drop at s)) → Held s (from at s)
+        by (Ok (Gap k)) e =
+            let p = some s at (Ok (Gap k)) b e in
+            let f = fits s at (Ok (Gap k)) b e in
+            rw (past s at (Ok (Gap k)) b e k refl) (ih (at + k) f (omega arith))
+        by (Ok (Token kind value k)) e =
+            let p = some s at (Ok (Token kind value k)) b e in
+            let f = fits s at (Ok (Token kind value k)) b e in
             let j : at + k - at ≡ k = omega arith in
-            rw (found s at (Token kind value k) b e kind value k refl)
-            (record { before = omega arith; fits = f; some = λ z. omega arith; real = omega arith; one_line = rw j (one_line s at (Token kind value k) b e); stands = refl })
-        by NoToken e = rw (no-token s at NoToken b e refl) (record { before = omega arith; fits = h; some = λ z. never_true (sym z); real = omega arith; one_line = none s at; stands = refl })
-        by OutOfRange e = rw (out_of_range s at OutOfRange b e refl) (record { before = omega arith; fits = h; some = λ z. never_true (sym z); real = omega arith; one_line = none s at; stands = refl })
+            rw (found s at (Ok (Token kind value k)) b e kind value k refl)
+            (record { before = omega arith; fits = f; some = λ z. omega arith; real = omega arith; one_line = rw j (one_line s at (Ok (Token kind value k)) b e); stands = refl })
+        by (Err why) e =
+            rw (refused-here s at (Err why) b e why refl)
+            (record { before = omega arith; fits = h; some = λ z. never_true (sym z); real = some_number why; one_line = none s at; stands = refl })
 
 pub held : (s : List ℕ) → Held s (next_token s)
 held s = rw (start s) (held-from (length s) s 0 (omega arith) (omega arith))

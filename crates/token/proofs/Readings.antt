@@ -1,4 +1,5 @@
 -- The loop over the tokens of a text: what is read from a place on, one token more, and what is laid into the lent lists. Assumes nothing.
+use Rattle.std.proofs.Common.{Ok, Err}
 use Prim.Native.Nat.{ℕ, zero, suc, pred, ◌+◌, ◌-◌, ◌≤◌, ◌<◌}
 use mathlib.Core.Path.{◌≡◌, refl, ap, sym, ◌∙◌}
 use mathlib.Core.Bool.{Bool, true, false}
@@ -18,13 +19,13 @@ use Rattle.spots.specs.Spots.{spot_at, unplaced, NoNewline}
 use Rattle.spots.specs.Going.{Near, onward, along}
 use Rattle.spots.proofs.Going.{near, onward-is, along-is}
 use Rattle.token.specs.Kinds as K
-use Rattle.token.specs.Text.{token, Outcome, read, refused, next_token, Reading, ended, refused_at, after, is_last, moved, read_by, read_from, TEXT-LIMIT, tokens_of}
-use Rattle.token.specs.Answers.{outcome_of, summary, summary_of, summed, laid, laid_from, laid_over, Summary, Lists, LaidBy, Laid, read_into, tokens_into}
+use Rattle.token.specs.Text.{number_of, token, Outcome, read, refused, next_token, Reading, ended, refused_at, after, is_last, moved, read_by, read_from, TEXT-LIMIT, tokens_of}
+use Rattle.token.specs.Answers.{Next, Tokens, refusal_of, outcome_of, summary, summary_of, summed, laid, laid_from, laid_over, Summary, Lists, LaidBy, Laid, read_into, tokens_into}
 use Rattle.token.specs.declared.Token.{Token}
-use Rattle.token.specs.declared.Next.{Next}
-use Rattle.token.specs.declared.Next.TheVariants as N
-use Rattle.token.specs.declared.Tokens.{Tokens}
-use Rattle.token.specs.declared.Tokens.TheVariants as S
+use Rattle.token.specs.declared.Unread.{Unread}
+use Rattle.token.specs.declared.Unread.TheVariants as U
+use Rattle.token.specs.declared.Why.{Why}
+use Rattle.token.specs.declared.Why.TheVariants.{NoToken, OutOfRange}
 use Rattle.token.proofs.Gaps.{start, at-end, placed, spot_in, ends, is_final, Held, held}
 
 -- what is read from a place on
@@ -151,7 +152,7 @@ pub record Answered (s : List ℕ) (at n : ℕ) (r : Next) : Type 0 where
   pub next : outcome_of r ≡ next_token (take (length s - at) (drop at s))
 
 -- it answered with a token
-module _ {s : List ℕ} {at n : ℕ} {r : Next} {t : Token} {end : ℕ} (g : Answered s at n r) (q : r ≡ N.Token t end) where
+module _ {s : List ℕ} {at n : ℕ} {r : Next} {t : Token} {end : ℕ} (g : Answered s at n r) (q : r ≡ Ok (t, end)) where
   is : outcome_of r ≡ read t end
   is = ap outcome_of q
 
@@ -291,12 +292,12 @@ tokens-few s =
 
 -- what the entries answer before they read, when nothing is laid, and that they read
 module _ {A : Type 0} {over : List Token → A → A} (s : List ℕ) {l : A} where
-  pub too_long : (n : ℕ) → TEXT-LIMIT < length s → LaidBy over (read_into n s) l (over [] l) S.TooLong
+  pub too_long : (n : ℕ) → TEXT-LIMIT < length s → LaidBy over (read_into n s) l (over [] l) (Err U.TooLong)
   unfolding read_into
   too_long n h = rw (lt-ltb TEXT-LIMIT (length s) h) (record { is = refl; are-laid = refl })
 
   module _ {m n : ℕ} (e : m ≡ n) (h : length s ≤ TEXT-LIMIT) where
-    pub no_room : m ≤ length s → LaidBy over (read_into n s) l (over [] l) (S.Room (length s + 1))
+    pub no_room : m ≤ length s → LaidBy over (read_into n s) l (over [] l) (Err (U.Room (length s + 1)))
     unfolding read_into
     no_room q = rw (le-ltb TEXT-LIMIT (length s) h, le-leb n (length s) (rw (← e) q)) (record { is = refl; are-laid = refl })
 
@@ -305,7 +306,7 @@ module _ {A : Type 0} {over : List Token → A → A} (s : List ℕ) {l : A} whe
     in-room q d = rw (le-ltb TEXT-LIMIT (length s) h, lt-leb n (length s) (rw (← e) q)) d
 
 -- a checked text without a refusal: how many tokens it has
-module _ (s : List ℕ) (c : ℕ) (e : summary_of (S.Read c) ≡ summed (tokens_of s)) where
+module _ (s : List ℕ) (c : ℕ) (e : summary_of (Ok c) ≡ summed (tokens_of s)) where
   none-refused : (tokens_of s).number ≡ 0
   none-refused = sym (ap (λ (x : Summary). x.number) e)
 
@@ -323,7 +324,7 @@ module _ (s : List ℕ) (c : ℕ) (e : summary_of (S.Read c) ≡ summed (tokens_
 
   -- there is no room for them, or there is
   module _ (n : ℕ) {l : Lists} where
-    pub too_many : n < c → Laid (tokens_into n s) l l (S.Room c)
+    pub too_many : n < c → Laid (tokens_into n s) l l (Err (U.Room c))
     unfolding tokens_into
     too_many q =
         rw (none-refused, counted, lt-ltb n c q)
@@ -334,6 +335,16 @@ module _ (s : List ℕ) (c : ℕ) (e : summary_of (S.Read c) ≡ summed (tokens_
     all_read q d =
         let y : eqb (tokens_of s).number 0 ≡ true = eq-eqb _ _ none-refused in
         rw (y, counted, le-ltb n c q, whole) d
+
+-- no refusal is numbered 0
+pub refused-some : (why : Why) → eqb (number_of why) 0 ≡ false
+refused-some NoToken = refl
+refused-some OutOfRange = refl
+
+pub unread-some : (e : Unread) → eqb (refusal_of e).number 0 ≡ false
+unread-some U.TooLong = refl
+unread-some (U.Refused r) = refused-some r.why
+unread-some (U.Room needed) = refl
 
 -- a checked text with a refusal
 pub stays : (s : List ℕ) (n : ℕ) {l : Lists} (a : Tokens) → summary_of a ≡ summed (tokens_of s) → eqb (summary_of a).number 0 ≡ false → Laid (tokens_into n s) l l a

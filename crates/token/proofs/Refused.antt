@@ -1,4 +1,5 @@
 -- Reading a text lexeme by lexeme: what is read from a place on is told by what stands there (`rest-by`), so a refusal stands where reading comes to. Assumes nothing.
+use Rattle.std.proofs.Common.{Result, Ok, Err}
 use Prim.Native.Nat.{ℕ, zero, suc, pred, ◌+◌, ◌-◌, ◌≤◌, ◌<◌}
 use mathlib.Core.Path.{◌≡◌, refl, ap, sym, ◌∙◌}
 use mathlib.Core.Bool.{Bool, true, false, not}
@@ -15,10 +16,12 @@ use Rattle.spots.specs.declared.Spot.{Spot}
 use Rattle.spots.specs.Spots.{spot_at}
 use Rattle.token.specs.declared.Token as T
 use Rattle.token.specs.declared.Lexeme.{Lexeme}
-use Rattle.token.specs.declared.Lexeme.TheVariants.{Gap, Token, NoToken, OutOfRange}
-use Rattle.token.specs.Text.{lexeme, token, Outcome, read, refused, next_step, next_token, Reading, ended, refused_at, after, is_last, moved, read_from}
+use Rattle.token.specs.declared.Lexeme.TheVariants.{Gap, Token}
+use Rattle.token.specs.declared.Why.{Why}
+use Rattle.token.specs.declared.Why.TheVariants.{NoToken, OutOfRange}
+use Rattle.token.specs.Text.{number_of, lexeme, token, Outcome, read, refused, next_step, next_token, Reading, ended, refused_at, after, is_last, moved, read_from}
 use Rattle.token.specs.Refusals.{passes, goes_on, Leads, here, on}
-use Rattle.token.proofs.Gaps.{ending, from, start, past, found, no-token, out_of_range, some, fits}
+use Rattle.token.proofs.Gaps.{ending, from, start, past, found, refused-here, some, fits}
 use Rattle.token.proofs.Readings.{rest, read-on, read-last, read_no}
 
 -- ── places counted from an earlier place ──
@@ -37,26 +40,24 @@ walk-shift text part n at (suc k) (x ∷ xs) =
 walk-shift text part n at zero (x ∷ xs) =
     by (lexeme (x ∷ xs)) refl (λ m. ap (λ (i : ℕ). walk (next_step text) (ending text) i m xs) (let e : suc (n + at) ≡ n + suc at = omega arith in e) ∙ walk-shift text part n (suc at) m xs)
   where
-    by : (l : Lexeme) → lexeme (x ∷ xs) ≡ l
+    by : (l : Result Lexeme Why) → lexeme (x ∷ xs) ≡ l
         → ((m : ℕ) → walk (next_step text) (ending text) (suc (n + at)) m xs ≡ shifted text n (walk (next_step part) (ending part) (suc at) m xs))
         → walk (next_step text) (ending text) (n + at) zero (x ∷ xs) ≡ shifted text n (walk (next_step part) (ending part) at zero (x ∷ xs))
-    by (Gap m) e ih = rw (e, walk) (ih (pred m))
-    by (Token kind value m) e ih =
+    by (Ok (Gap m)) e ih = rw (e, walk) (ih (pred m))
+    by (Ok (Token kind value m)) e ih =
         let j : n + at + m ≡ n + (at + m) = omega arith in
         rw (e, walk) (ap (λ (i : ℕ). read (token kind value (spot_at text (n + at))) i) j)
-    by NoToken e ih = rw (e, walk)
-    by OutOfRange e ih = rw (e, walk)
+    by (Err why) e ih = rw (e, walk)
 
 -- ── what is read from a place on, by what stands there ──
 
 abbrev standing : (kind value at : ℕ) → List ℕ → T.Token
 standing kind value at s = token kind value (spot_at s at)
 
-abbrev by_lexeme : Lexeme → ℕ → List ℕ → Reading
-by_lexeme (Gap n) at s = rest (at + n) s
-by_lexeme (Token kind value n) at s = choose (is_last kind) (ended (standing kind value at s ∷ [])) (after (standing kind value at s) (rest (at + n) s))
-by_lexeme NoToken at s = refused_at 2 (spot_at s at)
-by_lexeme OutOfRange at s = refused_at 3 (spot_at s at)
+abbrev by_lexeme : Result Lexeme Why → ℕ → List ℕ → Reading
+by_lexeme (Ok (Gap n)) at s = rest (at + n) s
+by_lexeme (Ok (Token kind value n)) at s = choose (is_last kind) (ended (standing kind value at s ∷ [])) (after (standing kind value at s) (rest (at + n) s))
+by_lexeme (Err why) at s = refused_at (number_of why) (spot_at s at)
 
 module _ (s : List ℕ) (at : ℕ) (h : at < length s) where
   t : List ℕ
@@ -66,7 +67,7 @@ module _ (s : List ℕ) (at : ℕ) (h : at < length s) where
   long = omega (arith, length-drop at s)
 
   -- the front of what remains, as the laws of gaps have it
-  front : (l : Lexeme) → lexeme (drop at s) ≡ l → l ≡ lexeme (take (length (drop at s) - 0) (drop 0 (drop at s)))
+  front : (l : Result Lexeme Why) → lexeme (drop at s) ≡ l → l ≡ lexeme (take (length (drop at s) - 0) (drop 0 (drop at s)))
   front l e = sym (ap lexeme (to_end (drop at s) 0) ∙ e)
 
   whole : (o : Outcome) → from 0 (drop at s) ≡ o → o ≡ next_token (take (length s - at) (drop at s))
@@ -109,19 +110,19 @@ module _ (s : List ℕ) (at : ℕ) (h : at < length s) where
   rest-by : rest at s ≡ by_lexeme (lexeme (drop at s)) at s
   rest-by = go (lexeme (drop at s)) refl
     where
-      go : (l : Lexeme) → lexeme (drop at s) ≡ l → rest at s ≡ by_lexeme l at s
-      go (Gap n) e =
-          let p = past (drop at s) 0 (Gap n) long (front (Gap n) e) n refl in
+      go : (l : Result Lexeme Why) → lexeme (drop at s) ≡ l → rest at s ≡ by_lexeme l at s
+      go (Ok (Gap n)) e =
+          let p = past (drop at s) 0 (Ok (Gap n)) long (front (Ok (Gap n)) e) n refl in
           let z : 0 + n ≡ n + 0 = omega arith in
-          let f = fits (drop at s) 0 (Gap n) long (front (Gap n) e) in
+          let f = fits (drop at s) 0 (Ok (Gap n)) long (front (Ok (Gap n)) e) in
           by-outcome (from 0 (drop at s)) refl n (omega (arith, length-drop at s))
           (p ∙ ap (λ (i : ℕ). walk (next_step (drop at s)) (ending (drop at s)) i 0 (drop (0 + n) (drop at s))) z
           ∙ walk-shift (drop at s) (drop (at + n) s) n 0 0 (drop (0 + n) (drop at s))
           ∙ ap (λ (l : List ℕ). shifted (drop at s) n (walk (next_step (drop (at + n) s)) (ending (drop (at + n) s)) 0 0 l)) (let y : 0 + n ≡ n = omega arith in rw y (drop-drop n at s)))
-      go (Token kind value n) e = last (is_last kind) refl
+      go (Ok (Token kind value n)) e = last (is_last kind) refl
         where
           a : from 0 (drop at s) ≡ read (standing kind value 0 (drop at s)) (0 + n)
-          a = found (drop at s) 0 (Token kind value n) long (front (Token kind value n) e) kind value n refl
+          a = found (drop at s) 0 (Ok (Token kind value n)) long (front (Ok (Token kind value n)) e) kind value n refl
 
           last : (b : Bool) → is_last kind ≡ b → rest at s ≡ choose (is_last kind) (ended (standing kind value at s ∷ [])) (after (standing kind value at s) (rest (at + n) s))
           last true z =
@@ -131,41 +132,36 @@ module _ (s : List ℕ) (at : ℕ) (h : at < length s) where
               let j : at + 0 ≡ at = omega arith in
               let i : at + (0 + n) ≡ at + n = omega arith in
               rw z (read-on s at (read (standing kind value 0 (drop at s)) (0 + n)) (omega arith) (whole (read (standing kind value 0 (drop at s)) (0 + n)) a) (standing kind value 0 (drop at s)) (0 + n) refl z ∙ rw (j, i))
-      go NoToken e =
+      go (Err why) e =
           let j : at + 0 ≡ at = omega arith in
           let u : Spot = spot_at (drop at s) 0 in
-          read_no s at (refused 2 u) (omega arith) (whole (refused 2 u) (no-token (drop at s) 0 NoToken long (front NoToken e) refl)) 2 u refl ∙ rw j
-      go OutOfRange e =
-          let j : at + 0 ≡ at = omega arith in
-          let u : Spot = spot_at (drop at s) 0 in
-          read_no s at (refused 3 u) (omega arith) (whole (refused 3 u) (out_of_range (drop at s) 0 OutOfRange long (front OutOfRange e) refl)) 3 u refl ∙ rw j
+          let n = number_of why in
+          read_no s at (refused n u) (omega arith) (whole (refused n u) (refused-here (drop at s) 0 (Err why) long (front (Err why) e) why refl)) n u refl ∙ rw j
 
-  passed : (l : Lexeme) → lexeme (drop at s) ≡ l → goes_on l ≡ true → (0 < passes l) × (at + passes l ≤ length s)
-  passed (Gap n) e g =
-      let p = some (drop at s) 0 (Gap n) long (front (Gap n) e) in
-      let f = fits (drop at s) 0 (Gap n) long (front (Gap n) e) in
+  passed : (l : Result Lexeme Why) → lexeme (drop at s) ≡ l → goes_on l ≡ true → (0 < passes l) × (at + passes l ≤ length s)
+  passed (Ok (Gap n)) e g =
+      let p = some (drop at s) 0 (Ok (Gap n)) long (front (Ok (Gap n)) e) in
+      let f = fits (drop at s) 0 (Ok (Gap n)) long (front (Ok (Gap n)) e) in
       (p, omega (arith, length-drop at s))
-  passed (Token kind value n) e g =
-      let p = some (drop at s) 0 (Token kind value n) long (front (Token kind value n) e) in
-      let f = fits (drop at s) 0 (Token kind value n) long (front (Token kind value n) e) in
+  passed (Ok (Token kind value n)) e g =
+      let p = some (drop at s) 0 (Ok (Token kind value n)) long (front (Ok (Token kind value n)) e) in
+      let f = fits (drop at s) 0 (Ok (Token kind value n)) long (front (Ok (Token kind value n)) e) in
       (p, omega (arith, length-drop at s))
-  passed NoToken e g = never_true g
-  passed OutOfRange e g = never_true g
+  passed (Err why) e g = never_true g
 
 -- what reading from a place on answers is what reading from a later place answers
 pub record Answers (r q : Reading) : Type 0 where
   pub number : r.number ≡ q.number
   pub spot : r.spot ≡ q.spot
 
-goes_on_lem : (s : List ℕ) (at : ℕ) (l : Lexeme) → goes_on l ≡ true → Answers (by_lexeme l at s) (rest (at + passes l) s)
-goes_on_lem s at (Gap n) g = record { number = refl; spot = refl }
-goes_on_lem s at (Token kind value n) g = go (is_last kind) g
+goes_on_lem : (s : List ℕ) (at : ℕ) (l : Result Lexeme Why) → goes_on l ≡ true → Answers (by_lexeme l at s) (rest (at + passes l) s)
+goes_on_lem s at (Ok (Gap n)) g = record { number = refl; spot = refl }
+goes_on_lem s at (Ok (Token kind value n)) g = go (is_last kind) g
   where
     go : (b : Bool) → not b ≡ true → Answers (choose b (ended (standing kind value at s ∷ [])) (after (standing kind value at s) (rest (at + n) s))) (rest (at + n) s)
     go true e = never_true e
     go false e = record { number = refl; spot = refl }
-goes_on_lem s at NoToken g = never_true g
-goes_on_lem s at OutOfRange g = never_true g
+goes_on_lem s at (Err why) g = never_true g
 
 step-on : (s : List ℕ) (at : ℕ) → at < length s → goes_on (lexeme (drop at s)) ≡ true → Answers (rest at s) (rest (at + passes (lexeme (drop at s))) s)
 step-on s at h g = rw (rest-by s at h) (goes_on_lem s at (lexeme (drop at s)) g)
@@ -178,8 +174,8 @@ led s (on {p} h g l) = let a = step-on s p h g in let b = led s l in record { nu
 
 pub data Told (s : List ℕ) (at : ℕ) (r : Reading) : Type 0 where
   none : r.number ≡ 0 → Told s at r
-  at-no-token : (p : ℕ) → Leads s at p → p < length s → lexeme (drop p s) ≡ NoToken → r.number ≡ 2 → r.spot ≡ spot_at s p → Told s at r
-  at-out-of-range : (p : ℕ) → Leads s at p → p < length s → lexeme (drop p s) ≡ OutOfRange → r.number ≡ 3 → r.spot ≡ spot_at s p → Told s at r
+  at-no-token : (p : ℕ) → Leads s at p → p < length s → lexeme (drop p s) ≡ Err NoToken → r.number ≡ 2 → r.spot ≡ spot_at s p → Told s at r
+  at-out-of-range : (p : ℕ) → Leads s at p → p < length s → lexeme (drop p s) ≡ Err OutOfRange → r.number ≡ 3 → r.spot ≡ spot_at s p → Told s at r
 
 earlier : (s : List ℕ) (at : ℕ) (r : Reading) → at < length s → goes_on (lexeme (drop at s)) ≡ true → Answers r (rest (at + passes (lexeme (drop at s))) s)
     → Told s (at + passes (lexeme (drop at s))) (rest (at + passes (lexeme (drop at s))) s) → Told s at r
@@ -204,27 +200,24 @@ told-from (suc m) s at h = by (dec_le (length s) at) (λ p l. told-from m s p l)
             let p = passed s at b (lexeme (drop at s)) refl g in
             earlier s at (rest at s) b g (step-on s at b g) (ih (at + passes (lexeme (drop at s))) (omega arith))
 
-        go : (l : Lexeme) → lexeme (drop at s) ≡ l → Told s at (rest at s)
-        go (Gap n) e = further (ap goes_on e)
-        go (Token kind value n) e = last (is_last kind) refl
+        go : (l : Result Lexeme Why) → lexeme (drop at s) ≡ l → Told s at (rest at s)
+        go (Ok (Gap n)) e = further (ap goes_on e)
+        go (Ok (Token kind value n)) e = last (is_last kind) refl
           where
             last : (c : Bool) → is_last kind ≡ c → Told s at (rest at s)
             last true z =
                 let q : rest at s ≡ ended (standing kind value at s ∷ []) = rest-by s at b ∙ (rw (e, z)) in
                 none (ap (λ (r : Reading). r.number) q)
             last false z = further (ap goes_on e ∙ ap not z)
-        go NoToken e =
-            let q : rest at s ≡ refused_at 2 (spot_at s at) = rest-by s at b ∙ ap (λ (l : Lexeme). by_lexeme l at s) e in
+        go (Err NoToken) e =
+            let q : rest at s ≡ refused_at 2 (spot_at s at) = rest-by s at b ∙ ap (λ (l : Result Lexeme Why). by_lexeme l at s) e in
             at-no-token at here b e (ap (λ (r : Reading). r.number) q) (ap (λ (r : Reading). r.spot) q)
-        go OutOfRange e =
-            let q : rest at s ≡ refused_at 3 (spot_at s at) = rest-by s at b ∙ ap (λ (l : Lexeme). by_lexeme l at s) e in
+        go (Err OutOfRange) e =
+            let q : rest at s ≡ refused_at 3 (spot_at s at) = rest-by s at b ∙ ap (λ (l : Result Lexeme Why). by_lexeme l at s) e in
             at-out-of-range at here b e (ap (λ (r : Reading). r.number) q) (ap (λ (r : Reading). r.spot) q)
 
 pub told : (s : List ℕ) → Told s 0 (rest 0 s)
 told s = told-from (length s) s 0 (omega arith)
 
-pub stands-no : (s : List ℕ) (p : ℕ) → p < length s → lexeme (drop p s) ≡ NoToken → rest p s ≡ refused_at 2 (spot_at s p)
-stands-no s p h e = rest-by s p h ∙ ap (λ (l : Lexeme). by_lexeme l p s) e
-
-pub stands-out : (s : List ℕ) (p : ℕ) → p < length s → lexeme (drop p s) ≡ OutOfRange → rest p s ≡ refused_at 3 (spot_at s p)
-stands-out s p h e = rest-by s p h ∙ ap (λ (l : Lexeme). by_lexeme l p s) e
+pub stands-refused : (s : List ℕ) (p : ℕ) (why : Why) → p < length s → lexeme (drop p s) ≡ Err why → rest p s ≡ refused_at (number_of why) (spot_at s p)
+stands-refused s p why h e = rest-by s p h ∙ ap (λ (l : Result Lexeme Why). by_lexeme l p s) e

@@ -1,4 +1,5 @@
 -- Where a token stands, found by reading the text again: what is known on the way, and where it ends. Assumes nothing.
+use Rattle.std.proofs.Common.{Ok}
 use Prim.Native.Nat.{ℕ, suc, ◌+◌, ◌-◌, ◌≤◌}
 use mathlib.Core.Path.{◌≡◌, sym, ap, ◌∙◌}
 use mathlib.Core.Bool.{true, false}
@@ -11,10 +12,8 @@ use Rattle.base.proofs.Tests.{cases}
 use Rattle.spots.specs.declared.Spot.{Spot}
 use Rattle.spots.specs.Spots.{spot_at, unplaced}
 use Rattle.token.specs.Text.{Reading, refused, is_last, read_from, tokens_of}
-use Rattle.token.specs.Answers.{outcome_of, spot_of, Summary}
+use Rattle.token.specs.Answers.{Next, outcome_of, spot_of, Summary}
 use Rattle.token.specs.declared.Token.{Token}
-use Rattle.token.specs.declared.Next.{Next}
-use Rattle.token.specs.declared.Next.TheVariants as N
 use Rattle.token.proofs.Readings.{rest, Answered, one_more, the_last, reads-no, all-read-from}
 
 abbrev among : ℕ → Reading → Spot
@@ -30,7 +29,7 @@ seek-start s wanted h =
     let e : wanted ≡ wanted - 0 = omega arith in
     record { before = omega arith; is = ap (among wanted) (all-read-from s h) ∙ ap (λ (i : ℕ). among i (read_from s 0 0 s)) e }
 
-module _ {s : List ℕ} {wanted at n : ℕ} {r : Next} {t : Token} {end : ℕ} (g : Seeking s wanted at n) (a : Answered s at n r) (q : r ≡ N.Token t end) where
+module _ {s : List ℕ} {wanted at n : ℕ} {r : Next} {t : Token} {end : ℕ} (g : Seeking s wanted at n) (a : Answered s at n r) (q : r ≡ Ok (t, end)) where
   -- it is this one
   pub seek_found : n ≡ wanted → spot_at s (at + t.spot.place) ≡ among wanted (tokens_of s)
   seek_found z =

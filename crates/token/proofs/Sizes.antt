@@ -1,4 +1,5 @@
 -- What stands at the front of a text has at least one byte, and ends in the text; no token holds a byte 10, which ends a line. Assumes nothing.
+use Rattle.std.proofs.Common.{Result, Ok, Err}
 use Prim.Native.Nat.{ℕ, suc, ◌+◌, ◌≤◌, ◌<◌}
 use Prim.Native.String.{String}
 use mathlib.Core.Path.{◌≡◌, refl, sym, ap, ◌∙◌}
@@ -21,23 +22,22 @@ use Rattle.spots.specs.Spots.{NoNewline}
 use Rattle.token.specs.Kinds as K
 use Rattle.token.specs.Text.{separates, is_capital, is_digit, is_hexadecimal, in_name, digit_of, word_kind, comment, name_or_word, number, plain, negated, begins, sign, lexeme, in_comment, most_decimal, most_negated, most_hexadecimal}
 use Rattle.token.specs.declared.Lexeme.{Lexeme}
-use Rattle.token.specs.declared.Lexeme.TheVariants.{Gap, Token, NoToken, OutOfRange}
+use Rattle.token.specs.declared.Lexeme.TheVariants.{Gap, Token}
+use Rattle.token.specs.declared.Why.{Why}
 
 -- what is refused is refused at one byte
-abbrev pub size_of : Lexeme → ℕ
-size_of (Gap n) = n
-size_of (Token kind value n) = n
-size_of NoToken = 1
-size_of OutOfRange = 1
+abbrev pub size_of : Result Lexeme Why → ℕ
+size_of (Ok (Gap n)) = n
+size_of (Ok (Token kind value n)) = n
+size_of (Err why) = 1
 
 -- the bytes of a token
-abbrev pub spelling : Lexeme → List ℕ → List ℕ
-spelling (Gap n) s = []
-spelling (Token kind value n) s = take n s
-spelling NoToken s = []
-spelling OutOfRange s = []
+abbrev pub spelling : Result Lexeme Why → List ℕ → List ℕ
+spelling (Ok (Gap n)) s = []
+spelling (Ok (Token kind value n)) s = take n s
+spelling (Err why) s = []
 
-pub record Sized (s : List ℕ) (l : Lexeme) : Type 0 where
+pub record Sized (s : List ℕ) (l : Result Lexeme Why) : Type 0 where
   pub some : 0 < size_of l
   pub fits : size_of l ≤ length s
   pub one_line : NoNewline (spelling l s)

@@ -1,5 +1,6 @@
 -- What a reader of document 01's "Text and tokens" may rely on, over the reading of a text: refusals 1 to 3 are given exactly when and where the table says, and
 -- no second answer fits. Assumes nothing.
+use Rattle.std.proofs.Common.{Ok, Err}
 use Prim.Native.Nat.{ℕ, ◌≤◌, ◌<◌}
 use mathlib.Core.Path.{◌≡◌, refl, sym, ap, ◌∙◌, subst}
 use mathlib.Core.List.{List}
@@ -13,16 +14,16 @@ use Rattle.base.specs.Lists.{All}
 use Rattle.base.proofs.Tests.{cases}
 use Rattle.spots.specs.declared.Spot.{Spot}
 use Rattle.spots.specs.Spots.{spot_at, unplaced}
-use Rattle.token.specs.declared.Next.{Next}
-use Rattle.token.specs.declared.Next.TheVariants as N
-use Rattle.token.specs.declared.Tokens.{Tokens}
-use Rattle.token.specs.declared.Tokens.TheVariants as S
-use Rattle.token.specs.Text.{Outcome, read, refused, Reading, TEXT-LIMIT, refused_at, tokens_of}
-use Rattle.token.specs.Answers.{outcome_of, Summary, summary_of}
+use Rattle.token.specs.declared.Why.{Why}
+use Rattle.token.specs.declared.Why.TheVariants.{NoToken, OutOfRange}
+use Rattle.token.specs.declared.Refusal as R
+use Rattle.token.specs.declared.Unread.TheVariants as U
+use Rattle.token.specs.Text.{number_of, Outcome, read, refused, Reading, TEXT-LIMIT, refused_at, tokens_of}
+use Rattle.token.specs.Answers.{Next, Tokens, outcome_of, Summary, summary_of}
 use Rattle.token.specs.Refusals.{TwoAt, ThreeAt}
 use Rattle.token.proofs.Readings.{rest}
 use Rattle.token.proofs.Shape.{tokens-stand}
-use Rattle.token.proofs.Refused.{led, Told, none, at-no-token, at-out-of-range, told, stands-no, stands-out}
+use Rattle.token.proofs.Refused.{led, Told, none, at-no-token, at-out-of-range, told, stands-refused}
 
 -- which refusal reading a text answers, and where
 pub data Refusal (s : List ℕ) (r : Reading) : Type 0 where
@@ -74,7 +75,7 @@ module _ (s : List ℕ) where
       back : TwoAt s p → ((tokens_of s).number ≡ 2) × ((tokens_of s).spot ≡ spot_at s p)
       back h =
           let a = led s h.reached in
-          let q = stands-no s p h.inside h.stands in
+          let q = stands-refused s p NoToken h.inside h.stands in
           rw (not-long h.short) (a.number ∙ ap (λ (r : Reading). r.number) q, a.spot ∙ ap (λ (r : Reading). r.spot) q)
 
   -- "3: number out of range … token"
@@ -90,7 +91,7 @@ module _ (s : List ℕ) where
       back : ThreeAt s p → ((tokens_of s).number ≡ 3) × ((tokens_of s).spot ≡ spot_at s p)
       back h =
           let a = led s h.reached in
-          let q = stands-out s p h.inside h.stands in
+          let q = stands-refused s p OutOfRange h.inside h.stands in
           rw (not-long h.short) (a.number ∙ ap (λ (r : Reading). r.number) q, a.spot ∙ ap (λ (r : Reading). r.spot) q)
 
   -- document 02, 2/13: "Each token carries its line and column": those of its place in the text
@@ -99,32 +100,44 @@ module _ (s : List ℕ) where
 
 -- ── no second answer fits: answers that say the same are the same ──
 
+why_of : ℕ → Why
+why_of n = choose (eqb n 2) NoToken OutOfRange
+
+refused_back : ℕ → Spot → R.Refusal
+refused_back n spot = record { why = why_of n; spot = spot }
+
 next_back : Outcome → Next
-next_back (read t end) = N.Token t end
-next_back (refused number spot) = choose (eqb number 2) (N.NoToken spot) (N.OutOfRange spot)
+next_back (read t end) = Ok (t, end)
+next_back (refused number spot) = Err (refused_back number spot)
 
 next-back : (a : Next) → next_back (outcome_of a) ≡ a
-unfolding next_back
-next-back (N.Token t end) = refl
-next-back (N.NoToken spot) = refl
-next-back (N.OutOfRange spot) = refl
+unfolding next_back refused_back why_of
+next-back (Ok found) = refl
+next-back (Err r) = by r.why
+  where
+    by : (why : Why) → ◌≡◌ {A = Next} (Err (record { why = why_of (number_of why); spot = r.spot })) (Err (record { why = why; spot = r.spot }))
+    by NoToken = refl
+    by OutOfRange = refl
 
 pub one-next : (a b : Next) → outcome_of a ≡ outcome_of b → a ≡ b
 one-next a b e = sym (next-back a) ∙ ap next_back e ∙ next-back b
 
 tokens_back : Summary → Tokens
 tokens_back s =
-    choose (eqb s.number 0) (S.Read s.count)
-    (choose (eqb s.number 1) S.TooLong
-    (choose (eqb s.number 2) (S.NoToken s.spot) (choose (eqb s.number 3) (S.OutOfRange s.spot) (S.Room s.spot.place))))
+    choose (eqb s.number 0) (Ok s.count)
+    (choose (eqb s.number 1) (Err U.TooLong)
+    (choose (eqb s.number 16) (Err (U.Room s.spot.place)) (Err (U.Refused (refused_back s.number s.spot)))))
 
 tokens-back : (a : Tokens) → tokens_back (summary_of a) ≡ a
-unfolding tokens_back
-tokens-back (S.Read count) = refl
-tokens-back S.TooLong = refl
-tokens-back (S.NoToken spot) = refl
-tokens-back (S.OutOfRange spot) = refl
-tokens-back (S.Room needed) = refl
+unfolding tokens_back refused_back why_of
+tokens-back (Ok count) = refl
+tokens-back (Err U.TooLong) = refl
+tokens-back (Err (U.Refused r)) = by r.why
+  where
+    by : (why : Why) → tokens_back (summary_of (Err (U.Refused (record { why = why; spot = r.spot })))) ≡ Err (U.Refused (record { why = why; spot = r.spot }))
+    by NoToken = refl
+    by OutOfRange = refl
+tokens-back (Err (U.Room needed)) = refl
 
 pub one-tokens : (a b : Tokens) → summary_of a ≡ summary_of b → a ≡ b
 one-tokens a b e = sym (tokens-back a) ∙ ap tokens_back e ∙ tokens-back b

@@ -1,4 +1,5 @@
 -- A number's value has 32 bits, in every text. Assumes nothing.
+use Rattle.std.proofs.Common.{Result, Ok, Err}
 use Prim.Native.Nat.{ℕ, zero, suc, pred, ◌+◌, ◌≤◌, ◌<◌}
 use Prim.Native.String.{String}
 use mathlib.Core.Path.{◌≡◌, refl}
@@ -20,6 +21,7 @@ use Rattle.token.specs.Answers.{kind_of, value_of}
 use Rattle.token.specs.declared.Token.{Token}
 use Rattle.token.specs.declared.Lexeme.{Lexeme}
 use Rattle.token.specs.declared.Lexeme.TheVariants as L
+use Rattle.token.specs.declared.Why.{Why}
 use Rattle.token.proofs.Gaps.{ending}
 
 -- 32 bits hold the value that goes with the kind
@@ -31,11 +33,10 @@ Fits t = Bits t.kind t.value
 
 -- ── what stands at the front of a text ──
 
-abbrev LexemeFits : Lexeme → Type 0
-LexemeFits (L.Gap n) = Unit {0}
-LexemeFits (L.Token kind value n) = Bits kind value
-LexemeFits L.NoToken = Unit {0}
-LexemeFits L.OutOfRange = Unit {0}
+abbrev LexemeFits : Result Lexeme Why → Type 0
+LexemeFits (Ok (L.Gap n)) = Unit {0}
+LexemeFits (Ok (L.Token kind value n)) = Bits kind value
+LexemeFits (Err why) = Unit {0}
 
 comment-fits : (n : ℕ) (s : List ℕ) → LexemeFits (comment n s)
 unfolding comment
@@ -89,12 +90,11 @@ walk-fits text at k [] = λ q. omega arith
 walk-fits text at (suc k) (x ∷ xs) = walk-fits text (suc at) k xs
 walk-fits text at zero (x ∷ xs) = by (λ n. walk-fits text (suc at) (pred n) xs) (lexeme (x ∷ xs)) refl (lexeme-fits (x ∷ xs))
   where
-    by : ((n : ℕ) → OutcomeFits (walk (next_step text) (ending text) (suc at) (pred n) xs)) → (l : Lexeme) → lexeme (x ∷ xs) ≡ l → LexemeFits l
+    by : ((n : ℕ) → OutcomeFits (walk (next_step text) (ending text) (suc at) (pred n) xs)) → (l : Result Lexeme Why) → lexeme (x ∷ xs) ≡ l → LexemeFits l
         → OutcomeFits (walk (next_step text) (ending text) at 0 (x ∷ xs))
-    by ih (L.Gap n) e h = rw (e, walk) (ih n)
-    by ih (L.Token kind value n) e h = rw (e, walk) h
-    by ih L.NoToken e h = rw (e, walk) tt
-    by ih L.OutOfRange e h = rw (e, walk) tt
+    by ih (Ok (L.Gap n)) e h = rw (e, walk) (ih n)
+    by ih (Ok (L.Token kind value n)) e h = rw (e, walk) h
+    by ih (Err why) e h = rw (e, walk) tt
 
 next_fits : (s : List ℕ) → OutcomeFits (next_token s)
 unfolding next_token

@@ -1,21 +1,22 @@
--- The numbers and values of the paper for each case of the enums that the token reader answers with, and what is laid into lent storage.
-use Rattle.std.specs.Prelude.{ℕ, ◌+◌, min, ◌≡◌, not, List, map, eqb, leb, ltb, length}
+-- The numbers and values of the paper for what the token reader answers, and what is laid into lent storage.
+use Rattle.std.specs.Prelude.{ℕ, ◌+◌, min, ◌≡◌, not, List, map, eqb, leb, ltb, length, Result, Ok, Err}
 use Rattle.std.proofs.lemmas.List.Edits.{sets}
 use Rattle.base.specs.Choose.{whether◌then◌else◌}
 use Rattle.spots.specs.declared.Spot.{Spot}
 use Rattle.spots.specs.Spots.{unplaced}
-use Rattle.token.specs.Text.{Outcome, read, refused, Reading, refused_at, read_from, tokens_of, TEXT-LIMIT}
+use Rattle.token.specs.Text.{number_of, Outcome, read, refused, Reading, refused_at, read_from, tokens_of, TEXT-LIMIT}
 use Rattle.token.specs.declared.Token as T
-use Rattle.token.specs.declared.Next.{Next}
-use Rattle.token.specs.declared.Next.TheVariants.{Token, NoToken, OutOfRange}
-use Rattle.token.specs.declared.Tokens.{Tokens}
-use Rattle.token.specs.declared.Tokens.TheVariants as S
+use Rattle.token.specs.declared.Refusal.{Refusal}
+use Rattle.token.specs.declared.Unread.{Unread}
+use Rattle.token.specs.declared.Unread.TheVariants as U
 
--- "2: byte in no token, unclosed comment"; "3: number out of range"
+-- the next token and where it ended, or why there is none
+abbrev pub Next : Type 0
+Next = Result (T.Token × ℕ) Refusal
+
 abbrev pub outcome_of : Next → Outcome
-outcome_of (Token t end) = read t end
-outcome_of (NoToken spot) = refused 2 spot
-outcome_of (OutOfRange spot) = refused 3 spot
+outcome_of (Ok found) = read found.0 found.1
+outcome_of (Err r) = refused (number_of r.why) r.spot
 
 -- what is said of the tokens of a text: number, place with line and column, and how many tokens there are
 pub record Summary : Type 0 where
@@ -27,12 +28,18 @@ abbrev pub summary : ℕ → Spot → ℕ → Summary
 summary number spot count = record { number = number; spot = spot; count = count }
 
 -- the paper has no number for lent lists that are too short; as with its own buffer it is 16, and the place is the length needed
+abbrev pub refusal_of : Unread → Summary
+refusal_of U.TooLong = summary 1 (unplaced TEXT-LIMIT) 0
+refusal_of (U.Refused r) = summary (number_of r.why) r.spot 0
+refusal_of (U.Room needed) = summary 16 (unplaced needed) 0
+
+-- how many tokens a text has, or why they are not read
+abbrev pub Tokens : Type 0
+Tokens = Result ℕ Unread
+
 abbrev pub summary_of : Tokens → Summary
-summary_of (S.Read count) = summary 0 (unplaced 0) count
-summary_of S.TooLong = summary 1 (unplaced TEXT-LIMIT) 0
-summary_of (S.NoToken spot) = summary 2 spot 0
-summary_of (S.OutOfRange spot) = summary 3 spot 0
-summary_of (S.Room needed) = summary 16 (unplaced needed) 0
+summary_of (Ok count) = summary 0 (unplaced 0) count
+summary_of (Err e) = refusal_of e
 
 -- a refusal counts no token
 abbrev pub summed : Reading → Summary

@@ -1,5 +1,5 @@
 -- Document 01, "Text and tokens", in its order: what stands at the front of what remains of a text, the next token, all tokens of a text.
-use Rattle.std.specs.Prelude.{ℕ, zero, suc, pred, ◌+◌, ◌-◌, ◌%◌, Bool, true, false, not, ◌&&◌, ◌||◌, List, [], ◌∷◌, eqb, ltb, length, take, drop, get_or}
+use Rattle.std.specs.Prelude.{ℕ, zero, suc, pred, ◌+◌, ◌-◌, ◌%◌, Bool, true, false, not, ◌&&◌, ◌||◌, List, [], ◌∷◌, eqb, ltb, length, take, drop, get_or, Result, Ok, Err}
 use Prim.Native.Char.{code}
 use Prim.Native.String.{String}
 use Rattle.base.specs.Choose.{whether◌then◌else◌}
@@ -12,8 +12,15 @@ use Rattle.spots.specs.declared.Spot.{Spot}
 use Rattle.spots.specs.Spots.{spot_at, unplaced}
 use Rattle.token.specs.Kinds as K
 use Rattle.token.specs.declared.Lexeme.{Lexeme}
-use Rattle.token.specs.declared.Lexeme.TheVariants.{Gap, Token, NoToken, OutOfRange}
+use Rattle.token.specs.declared.Lexeme.TheVariants.{Gap, Token}
+use Rattle.token.specs.declared.Why.{Why}
+use Rattle.token.specs.declared.Why.TheVariants.{NoToken, OutOfRange}
 use Rattle.token.specs.declared.Token as T
+
+-- why the language has nothing that stands there: "2: byte in no token, unclosed comment"; "3: number out of range"
+abbrev pub number_of : Why → ℕ
+number_of NoToken = 2
+number_of OutOfRange = 3
 
 -- "Blank (32) and newline (10) separate tokens."
 abbrev pub separates : ℕ → Bool
@@ -50,25 +57,25 @@ abbrev pub in_comment : ℕ → Bool
 in_comment b = not (eqb b (code ";"))
 
 -- its word has n bytes; "unclosed comment: its first byte"
-unfoldable pub comment : ℕ → List ℕ → Lexeme
+unfoldable pub comment : ℕ → List ℕ → Result Lexeme Why
 comment n s =
     let m : ℕ = n + run_len in_comment (drop n s) in
-    whether ltb m (length s) then Gap (m + 1) else NoToken
+    whether ltb m (length s) then Ok (Gap (m + 1)) else Err NoToken
 
-unfoldable pub name_or_word : List ℕ → Lexeme
+unfoldable pub name_or_word : List ℕ → Result Lexeme Why
 name_or_word s =
     let n : ℕ = run_len in_name s in
     let kind : ℕ = word_kind K.words (take n s) in
     whether eqb kind K.COMMENT then comment n s else
-    whether eqb kind K.NAME then Token kind (key_of (take n s)) n else Token kind 0 n
+    whether eqb kind K.NAME then Ok (Token kind (key_of (take n s)) n) else Ok (Token kind 0 n)
 
 -- digits to a base, after a mark of some bytes, with a value of at most `most`; bits gives the 32 bits that it is taken as
-unfoldable pub number : (ℕ → Bool) → ℕ → ℕ → (ℕ → ℕ) → ℕ → List ℕ → Lexeme
+unfoldable pub number : (ℕ → Bool) → ℕ → ℕ → (ℕ → ℕ) → ℕ → List ℕ → Result Lexeme Why
 number inside base most bits mark s =
     let n : ℕ = run_len inside s in
     let v : ℕ = number_from digit_of base 0 (take n s) in
-    whether eqb n 0 then NoToken else
-    whether ltb most v then OutOfRange else Token K.NUMBER (bits v) (mark + n)
+    whether eqb n 0 then Err NoToken else
+    whether ltb most v then Err OutOfRange else Ok (Token K.NUMBER (bits v) (mark + n))
 
 -- "decimal 0 to 2147483647"
 abbrev pub most_decimal : ℕ
@@ -95,17 +102,17 @@ begins (x ∷ xs) [] = false
 begins (x ∷ xs) (y ∷ ys) = eqb x y && begins xs ys
 
 -- "Signs, longest first": the first of the table with which the text begins
-unfoldable pub sign : List (ℕ × String) → List ℕ → Lexeme
-sign [] s = NoToken
-sign (w ∷ ws) s = elim (begins (bytes w.1) s) [ true ↦ Token w.0 0 (length (bytes w.1)) | false ↦ sign ws s ]
+unfoldable pub sign : List (ℕ × String) → List ℕ → Result Lexeme Why
+sign [] s = Err NoToken
+sign (w ∷ ws) s = elim (begins (bytes w.1) s) [ true ↦ Ok (Token w.0 0 (length (bytes w.1))) | false ↦ sign ws s ]
 
--- what stands at the front of a text that is not empty, and how many bytes it has: a gap between tokens; a token; or what is refused at its first byte,
--- "byte in no token, unclosed comment" as 2, "number out of range" as 3. Numbers are "decimal 0 to 2147483647; with `_` directly in front, `_0` to
+-- what stands at the front of a text that is not empty, and how many bytes it has: a gap between tokens; a token; or why it is refused, at its
+-- first byte. Numbers are "decimal 0 to 2147483647; with `_` directly in front, `_0` to
 -- `_2147483648`; or `#` and one or more hexadecimal digits with a value below 2^32, taken as 32 bits".
-unfoldable pub lexeme : List ℕ → Lexeme
+unfoldable pub lexeme : List ℕ → Result Lexeme Why
 lexeme s =
     let b : ℕ = get_or s 0 0 in
-    whether separates b then Gap (run_len separates s) else
+    whether separates b then Ok (Gap (run_len separates s)) else
     whether is_capital b then name_or_word s else
     whether is_digit b then number is_digit 10 most_decimal plain 0 s else
     whether eqb b (code "_") then number is_digit 10 most_negated negated 1 (drop 1 s) else
@@ -122,11 +129,10 @@ pub data Outcome : Type 0 where
   read : (token : T.Token) (end : ℕ) → Outcome
   refused : (number : ℕ) (spot : Spot) → Outcome
 
-abbrev pub next_by : List ℕ → Lexeme → ℕ → Step Outcome
-next_by s (Gap n) at = pass n
-next_by s (Token kind value n) at = stop (read (token kind value (spot_at s at)) (at + n))
-next_by s NoToken at = stop (refused 2 (spot_at s at))
-next_by s OutOfRange at = stop (refused 3 (spot_at s at))
+abbrev pub next_by : List ℕ → Result Lexeme Why → ℕ → Step Outcome
+next_by s (Ok (Gap n)) at = pass n
+next_by s (Ok (Token kind value n)) at = stop (read (token kind value (spot_at s at)) (at + n))
+next_by s (Err why) at = stop (refused (number_of why) (spot_at s at))
 
 -- at a place of what remains of a text, s, where this is left of it
 unfoldable pub next_step : List ℕ → ℕ → List ℕ → Step Outcome

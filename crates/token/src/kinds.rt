@@ -1,4 +1,5 @@
 // The kinds of tokens, as specs/Kinds.antt numbers them.
+// Kept: numbers and no enum, since `token_lists::read_tokens`, `tokens_of` and `read_kinds` lay them into lists of bytes that C lends (`tautgaff_tokens`).
 pub const END_OF_TEXT: u8 = 0;
 
 pub const NAME: u8 = 1;

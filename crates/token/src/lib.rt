@@ -3,16 +3,39 @@
 
 pub mod kinds;
 
-use spots::Spot;
+ghost use Rattle.std.specs.Prelude.{◌≡◌};
+ghost use Rattle.token.specs.Text.{number_of};
+ghost use Rattle.token.specs.Answers.{refusal_of};
 
-// What stands at the front of what remains of a text: a gap between tokens, with its bytes; a token, with its kind, value and bytes; or nothing that the
-// language has.
+use spots::{Spot, unplaced};
+
+// "source over 32,768 bytes".
+pub const TEXT_LIMIT: usize = 32768;
+
+// What stands at the front of what remains of a text: a gap between tokens, with its bytes; or a token, with its kind, value and bytes.
 #[derive(Clone, Copy)]
 pub enum Lexeme {
     Gap(usize),
     Token(u8, u64, usize),
+}
+
+// Why the language has nothing that stands there: "byte in no token, unclosed comment"; "number out of range".
+#[derive(Clone, Copy)]
+pub enum Why {
     NoToken,
     OutOfRange,
+}
+
+impl Why {
+    // The paper's number.
+    pub fn number(self) -> usize
+        ensures { result ≡ number_of self }
+    {
+        match self {
+            Why::NoToken => 2,
+            Why::OutOfRange => 3,
+        }
+    }
 }
 
 // A token: its kind, one of `kinds`; its value, a number's 32 bits or a name's key; its place, line and column in the text.
@@ -23,20 +46,41 @@ pub struct Token {
     pub spot: Spot,
 }
 
-// The next token and where it ended, or why there is none and where.
+// Why there is no next token, and where.
 #[derive(Clone, Copy)]
-pub enum Next {
-    Token(Token, usize),
-    NoToken(Spot),
-    OutOfRange(Spot),
+pub struct Refusal {
+    pub why: Why,
+    pub spot: Spot,
 }
 
-// How many tokens a text has; or that it is too long; or where a token is refused; or how long the lent lists have to be.
+// Why the tokens of a text are not read: it is too long; or one is refused; or the lent lists have to be longer, and how long.
 #[derive(Clone, Copy)]
-pub enum Tokens {
-    Read(usize),
+pub enum Unread {
     TooLong,
-    NoToken(Spot),
-    OutOfRange(Spot),
+    Refused(Refusal),
     Room(usize),
+}
+
+impl Unread {
+    // The paper's number; for the lent lists, as with its own buffer, 16.
+    pub fn number(self) -> usize
+        ensures { result ≡ (refusal_of self).number }
+    {
+        match self {
+            Unread::TooLong => 1,
+            Unread::Refused(refusal) => refusal.why.number(),
+            Unread::Room(_) => 16,
+        }
+    }
+
+    // Where that is; for the lent lists the length that is needed.
+    pub fn spot(self) -> Spot
+        ensures { result ≡ (refusal_of self).spot }
+    {
+        match self {
+            Unread::TooLong => unplaced(TEXT_LIMIT),
+            Unread::Refused(refusal) => refusal.spot,
+            Unread::Room(needed) => unplaced(needed),
+        }
+    }
 }

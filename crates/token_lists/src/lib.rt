@@ -7,13 +7,11 @@ ghost use Rattle.spots.specs.Going.{Near};
 ghost use Rattle.token.specs.Text as T;
 ghost use Rattle.token.specs.Answers.{summary_of, summed, spot_of, lists, room, laid_from, Laid, Kinds, read_into, tokens_into};
 
-use base::{least, put_byte};
+use base::put_byte;
 use scanner::next_token;
 use spots::{Spot, along, first, onward, spot_at, unplaced};
-use token::{Next, Token, Tokens, kinds};
-
-// "source over 32,768 bytes".
-pub const TEXT_LIMIT: usize = 32768;
+pub use token::TEXT_LIMIT;
+use token::{Refusal, Token, Unread, kinds};
 
 pub fn is_last(kind: u8) -> bool
     ensures { result ≡ T.is_last kind }
@@ -54,7 +52,7 @@ fn lay_tokens(
     places: &mut [u32],
     lines: &mut [u32],
     columns: &mut [u32],
-) -> Tokens
+) -> Result<usize, Unread>
     requires { (length src.now ≤ T.TEXT-LIMIT)
         × (length (T.read_from src.now 0 0 src.now).tokens ≤ room (lists kinds.old values.old places.old lines.old columns.old)) }
     ensures { Laid (T.read_from src.now 0 0 src.now)
@@ -67,16 +65,10 @@ fn lay_tokens(
         let from = at.place;
         let next = next_token(&src[from..]);
         match next {
-            Next::Token(t, end) => {
-                let kind = t.kind;
-                let there = t.spot;
-                let spot = onward(at, there);
+            Ok((t, end)) => {
+                let spot = onward(at, t.spot);
                 lay_token(
-                    Token {
-                        kind,
-                        value: t.value,
-                        spot,
-                    },
+                    Token { spot, ..t },
                     n,
                     kinds,
                     values,
@@ -85,13 +77,15 @@ fn lay_tokens(
                     columns,
                 );
                 n += 1;
-                if is_last(kind) {
-                    return Tokens::Read(n);
+                if is_last(t.kind) {
+                    return Ok(n);
                 }
-                at = along(spot, end - there.place);
+                at = along(spot, end - t.spot.place);
             }
-            Next::NoToken(there) => return Tokens::NoToken(onward(at, there)),
-            Next::OutOfRange(there) => return Tokens::OutOfRange(onward(at, there)),
+            Err(refusal) => {
+                let spot = onward(at, refusal.spot);
+                return Err(Unread::Refused(Refusal { spot, ..refusal }));
+            }
         }
     }
 }
@@ -99,13 +93,8 @@ fn lay_tokens(
 fn room_in(kinds: &[u8], values: &[u64], places: &[u32], lines: &[u32], columns: &[u32]) -> usize
     ensures { result ≡ room (lists kinds.now values.now places.now lines.now columns.now) }
 {
-    least(
-        kinds.len(),
-        least(
-            values.len(),
-            least(places.len(), least(lines.len(), columns.len())),
-        ),
-    )
+    let placed = places.len().min(lines.len().min(columns.len()));
+    kinds.len().min(values.len().min(placed))
 }
 
 // The tokens of a text into lent lists, in one pass: those before a refusal are laid.
@@ -116,16 +105,16 @@ pub fn read_tokens(
     places: &mut [u32],
     lines: &mut [u32],
     columns: &mut [u32],
-) -> Tokens
+) -> Result<usize, Unread>
     ensures { let before = lists kinds.old values.old places.old lines.old columns.old in
         Laid (read_into (room before) src.now) before
         (lists kinds.new values.new places.new lines.new columns.new) result }
 {
     if TEXT_LIMIT < src.len() {
-        return Tokens::TooLong;
+        return Err(Unread::TooLong);
     }
     if room_in(kinds, values, places, lines, columns) <= src.len() {
-        return Tokens::Room(src.len() + 1);
+        return Err(Unread::Room(src.len() + 1));
     }
     lay_tokens(src, kinds, values, places, lines, columns)
 }
@@ -138,30 +127,22 @@ pub fn tokens_of(
     places: &mut [u32],
     lines: &mut [u32],
     columns: &mut [u32],
-) -> Tokens
+) -> Result<usize, Unread>
     ensures { let before = lists kinds.old values.old places.old lines.old columns.old in
         Laid (tokens_into (room before) src.now) before
         (lists kinds.new values.new places.new lines.new columns.new) result }
 {
-    let checked = check_text(src);
-    match checked {
-        Tokens::Read(count) => {
-            if room_in(kinds, values, places, lines, columns) < count {
-                return Tokens::Room(count);
-            }
-            lay_tokens(src, kinds, values, places, lines, columns)
-        }
-        Tokens::TooLong => Tokens::TooLong,
-        Tokens::NoToken(spot) => Tokens::NoToken(spot),
-        Tokens::OutOfRange(spot) => Tokens::OutOfRange(spot),
-        Tokens::Room(needed) => Tokens::Room(needed),
+    let count = check_text(src)?;
+    if room_in(kinds, values, places, lines, columns) < count {
+        return Err(Unread::Room(count));
     }
+    lay_tokens(src, kinds, values, places, lines, columns)
 }
 
 // ── kinds alone, and where one token stands ──
 
 // The kinds of a text's tokens, laid over a list as far as there is room, one after the other as far as a refusal.
-fn lay_kinds(src: &[u8], kinds: &mut [u8]) -> Tokens
+fn lay_kinds(src: &[u8], kinds: &mut [u8]) -> Result<usize, Unread>
     requires { length src.now ≤ T.TEXT-LIMIT }
     ensures { Kinds (T.read_from src.now 0 0 src.now) kinds.old kinds.new result }
 {
@@ -170,41 +151,44 @@ fn lay_kinds(src: &[u8], kinds: &mut [u8]) -> Tokens
     loop {
         let next = next_token(&src[at..]);
         match next {
-            Next::Token(t, end) => {
-                put_byte(kinds, n, t.kind);
+            Ok((t, end)) => {
+                let kind = t.kind;
+                put_byte(kinds, n, kind);
                 n += 1;
-                if is_last(t.kind) {
-                    return Tokens::Read(n);
+                if is_last(kind) {
+                    return Ok(n);
                 }
                 at += end;
             }
-            Next::NoToken(there) => return Tokens::NoToken(spot_at(src, at + there.place)),
-            Next::OutOfRange(there) => return Tokens::OutOfRange(spot_at(src, at + there.place)),
+            Err(refusal) => {
+                let spot = spot_at(src, at + refusal.spot.place);
+                return Err(Unread::Refused(Refusal { spot, ..refusal }));
+            }
         }
     }
 }
 
 // How many tokens a text has, or its refusal.
-pub fn check_text(src: &[u8]) -> Tokens
+pub fn check_text(src: &[u8]) -> Result<usize, Unread>
     ensures { summary_of result ≡ summed (T.tokens_of src.now) }
 {
     if TEXT_LIMIT < src.len() {
-        return Tokens::TooLong;
+        return Err(Unread::TooLong);
     }
     let mut unread = [0u8; 1];
     lay_kinds(src, &mut unread)
 }
 
 // The kinds of a text's tokens into a lent list, in one pass: those before a refusal are laid.
-pub fn read_kinds(src: &[u8], kinds: &mut [u8]) -> Tokens
+pub fn read_kinds(src: &[u8], kinds: &mut [u8]) -> Result<usize, Unread>
     ensures { Kinds (read_into (length kinds.old) src.now) kinds.old kinds.new result }
 {
     if TEXT_LIMIT < src.len() {
-        return Tokens::TooLong;
+        return Err(Unread::TooLong);
     }
     let needed = src.len() + 1;
     if kinds.len() < needed {
-        return Tokens::Room(needed);
+        return Err(Unread::Room(needed));
     }
     lay_kinds(src, kinds)
 }
@@ -219,20 +203,17 @@ pub fn spot_in(src: &[u8], wanted: usize) -> Spot
     loop {
         let next = next_token(&src[at..]);
         match next {
-            Next::Token(t, end) => {
-                let kind = t.kind;
-                let there = t.spot;
+            Ok((t, end)) => {
                 if n == wanted {
-                    return spot_at(src, at + there.place);
+                    return spot_at(src, at + t.spot.place);
                 }
-                if is_last(kind) {
+                if is_last(t.kind) {
                     return unplaced(0);
                 }
                 n += 1;
                 at += end;
             }
-            Next::NoToken(there) => return unplaced(0),
-            Next::OutOfRange(there) => return unplaced(0),
+            Err(_) => return unplaced(0),
         }
     }
 }

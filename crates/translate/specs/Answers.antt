@@ -1,12 +1,13 @@
 -- Document 01, "Numbers answered": number, place and length for each case of the translator's answer, and what is left in the buffer; document 02, 2/13: line and column.
-use Rattle.std.specs.Prelude.{List, ℕ, length}
+use Rattle.std.specs.Prelude.{List, ℕ, length, Result, Ok, Err}
 use Rattle.spots.specs.declared.Spot.{Spot}
 use Rattle.spots.specs.Spots.{unplaced}
 use Rattle.translation.specs.Translate as T
-use Rattle.made.specs.declared.Answer as M
-use Rattle.made.specs.declared.Answer.TheVariants as W
-use Rattle.translate.specs.declared.Answer.{Answer}
-use Rattle.translate.specs.declared.Answer.TheVariants.{Accepted, Refused}
+use Rattle.made.specs.Answers as M
+use Rattle.translate.specs.declared.Refused.{Refused}
+
+abbrev pub Answer : Type 0
+Answer = Result ℕ Refused
 
 -- number, place with line and column, length, and the buffer
 pub record Outcome : Type 0 where
@@ -17,16 +18,16 @@ pub record Outcome : Type 0 where
 
 -- of an answer, with the buffer after it: "Accepted is 0, place 0, bytes written … A refusal has length 0."
 abbrev pub number_of : Answer → ℕ
-number_of (Accepted n) = 0
-number_of (Refused n p) = n
+number_of (Ok n) = 0
+number_of (Err e) = e.number
 
 abbrev pub spot_of : Answer → Spot
-spot_of (Accepted n) = unplaced 0
-spot_of (Refused n p) = p
+spot_of (Ok n) = unplaced 0
+spot_of (Err e) = e.spot
 
 abbrev pub length_of : Answer → ℕ
-length_of (Accepted n) = n
-length_of (Refused n p) = 0
+length_of (Ok n) = n
+length_of (Err e) = 0
 
 abbrev pub outcome : Answer → List ℕ → Outcome
 outcome r after = record { number = number_of r; spot = spot_of r; length = length_of r; buffer = after }
@@ -41,5 +42,5 @@ defined source before = answered source (T.translate source (length before)) bef
 
 -- the last step: what was made of a source, with the line and the column of its place
 abbrev pub stood : List ℕ → M.Answer → Answer
-stood source (W.Accepted n) = Accepted n
-stood source (W.Refused n p) = Refused n (T.spot_for source n p)
+stood source (Ok n) = Ok n
+stood source (Err e) = Err (record { number = e.number; spot = T.spot_for source e.number e.place })

@@ -6,8 +6,7 @@ use Rattle.ledger.specs.Book.{Wide, Thin}
 use Rattle.scopes.specs.Search.{first_token}
 use Rattle.translation.specs.Translate.{kinds_of, values_of, in_room, make, on_rules, after_tokens}
 use Rattle.settled.specs.Texts.{all_tokens, Small, Text, Blanks}
-use Rattle.made.specs.declared.Answer.{Answer}
-use Rattle.made.specs.Answers.{Gives}
+use Rattle.made.specs.Answers.{Answer, Gives}
 
 module _ (source kinds : List ℕ) (w : Wide) (b : Thin) (before after : List ℕ) (r : Answer) where
   -- 4 and 5, then the rest: the text's tokens stand in the lists

@@ -8,24 +8,25 @@ ghost use Rattle.grammar.specs.Grammar.{nesting};
 ghost use Rattle.scopes.specs.Search.{first_token};
 ghost use Rattle.ledger.specs.Book.{wide_of, thin_of};
 ghost use Rattle.ledger.specs.Bounds.{Narrow, Nested};
-ghost use Rattle.translation.specs.Translate.{translate as translation, reports_none};
-ghost use Rattle.settled.specs.Texts.{Lent, Fits, Rooms};
+ghost use Rattle.translation.specs.Translate.{translate as translation, reports_none, spot_for};
+ghost use Rattle.settled.specs.Texts.{Lent, Fits, Rooms, rows_for};
 ghost use Rattle.made.specs.Answers.{Gives};
 ghost use Rattle.translate.specs.Answers.{outcome, defined, stood};
 ghost use Rattle.translate.specs.Groups.{OnTokens, OnTape};
-ghost use Rattle.translate.specs.Sizes as S;
 
 use ledger::clear_written;
 use settled::{FIRST_TOKEN, MORE_ROWS, TEXT_LIMIT, place_of};
 use spots::{Spot, spot_at, unplaced};
-use token::Tokens;
 
-// The bytes written; or a refusal's number and where it stands.
+// A refusal's number and where it stands.
 #[derive(Clone, Copy)]
-pub enum Answer {
-    Accepted(usize),
-    Refused(usize, Spot),
+pub struct Refused {
+    pub number: usize,
+    pub spot: Spot,
 }
+
+// The bytes written, or a refusal.
+pub type Answer = Result<usize, Refused>;
 
 // ── the groups ──
 
@@ -44,14 +45,16 @@ fn translate_tape(
 {
     let others = settled::bind(tape, wide, thin);
     let s = settled::settle(tape, kinds, wide, thin, others);
-    let broken = s.broken;
-    let number = broken.number;
-    let at = broken.at;
-    if number != 0 {
-        return made::Answer::Refused(number, place_of(src, at));
+    match s.broken {
+        Some(b) => Err(made::Refused {
+            number: b.refusal.number(),
+            place: place_of(src, b.at),
+        }),
+        None => {
+            clear_written(thin);
+            made::make(tape, kinds, wide, thin, s, out)
+        }
     }
-    clear_written(thin);
-    made::make(tape, kinds, wide, thin, s, out)
 }
 
 // The tokens: 4 and 5, then the rest.
@@ -66,14 +69,13 @@ fn translate_tokens(
     requires { ((tokens_of src.now).number ≡ 0) × (first_token ≤ length kinds.now) × (length tape.old ≡ length kinds.now) × Lent (length kinds.now) wide.old thin.old }
     ensures { OnTokens src.now kinds.now (wide_of wide.old) (thin_of thin.old) out.old out.new result }
 {
-    let p = parse::program(kinds, FIRST_TOKEN, tape);
-    let number = p.number;
-    let at = p.at;
-    let size = p.value;
-    if number != 0 {
-        return made::Answer::Refused(number as usize, place_of(src, at));
+    match parse::program(kinds, FIRST_TOKEN, tape) {
+        Ok(p) => translate_tape(src, &tape[..p.value], kinds, wide, thin, out),
+        Err(e) => Err(made::Refused {
+            number: e.why.number(),
+            place: place_of(src, e.at),
+        }),
     }
-    translate_tape(src, &tape[..size], kinds, wide, thin, out)
 }
 
 // The lists cut to n tokens and the names in front of them.
@@ -116,11 +118,11 @@ fn translate_in(
 {
     let tokens = settled::read(src, kinds, wide);
     match tokens {
-        Tokens::Read(n) => translate_read(src, n, kinds, tape, wide, thin, out),
-        Tokens::TooLong => made::Answer::Refused(1, TEXT_LIMIT),
-        Tokens::NoToken(there) => made::Answer::Refused(2, there.place),
-        Tokens::OutOfRange(there) => made::Answer::Refused(3, there.place),
-        Tokens::Room(needed) => made::Answer::Refused(16, needed),
+        Ok(n) => translate_read(src, n, kinds, tape, wide, thin, out),
+        Err(unread) => Err(made::Refused {
+            number: unread.number(),
+            place: unread.spot().place,
+        }),
     }
 }
 
@@ -130,58 +132,45 @@ const SHORT: usize = 1024;
 
 const MIDDLING: usize = 8192;
 
+// A row for each byte, and more; four columns.
+const SHORT_ROWS: usize = SHORT + MORE_ROWS;
+
+const SHORT_COLUMNS: usize = 4 * SHORT_ROWS;
+
+const MIDDLING_ROWS: usize = MIDDLING + MORE_ROWS;
+
+const MIDDLING_COLUMNS: usize = 4 * MIDDLING_ROWS;
+
+const LONG_ROWS: usize = TEXT_LIMIT + MORE_ROWS;
+
+const LONG_COLUMNS: usize = 4 * LONG_ROWS;
+
+// In lists of so many rows. Each number of them has a frame of its own, so a short text needs little stack.
 #[inline(never)]
-fn short(src: &[u8], out: &mut [u8]) -> made::Answer
-    requires { length src.now ≤ S.SHORT }
+fn listed<const ROWS: usize, const COLUMNS: usize>(src: &[u8], out: &mut [u8]) -> made::Answer
+    requires { (length src.now ≤ TEXT-LIMIT) × (rows_for (length src.now) ≤ ROWS) × (ROWS ≤ rows_for TEXT-LIMIT) × (COLUMNS ≡ 4 * ROWS) }
     ensures { Gives (translation src.now (length out.old)) out.old out.new result }
 {
-    let mut kinds = [0u8; SHORT + MORE_ROWS];
-    let mut tape = [0u32; SHORT + MORE_ROWS];
-    let mut wide = [0u64; 4 * (SHORT + MORE_ROWS)];
-    let mut thin = [0u16; 4 * (SHORT + MORE_ROWS)];
+    let mut kinds = [0u8; ROWS];
+    let mut tape = [0u32; ROWS];
+    let mut wide = [0u64; COLUMNS];
+    let mut thin = [0u16; COLUMNS];
     translate_in(src, &mut kinds, &mut tape, &mut wide, &mut thin, out)
 }
 
-#[inline(never)]
-fn middling(src: &[u8], out: &mut [u8]) -> made::Answer
-    requires { length src.now ≤ S.MIDDLING }
-    ensures { Gives (translation src.now (length out.old)) out.old out.new result }
-{
-    let mut kinds = [0u8; MIDDLING + MORE_ROWS];
-    let mut tape = [0u32; MIDDLING + MORE_ROWS];
-    let mut wide = [0u64; 4 * (MIDDLING + MORE_ROWS)];
-    let mut thin = [0u16; 4 * (MIDDLING + MORE_ROWS)];
-    translate_in(src, &mut kinds, &mut tape, &mut wide, &mut thin, out)
-}
-
-#[inline(never)]
-fn long(src: &[u8], out: &mut [u8]) -> made::Answer
-    requires { length src.now ≤ TEXT-LIMIT }
-    ensures { Gives (translation src.now (length out.old)) out.old out.new result }
-{
-    let mut kinds = [0u8; TEXT_LIMIT + MORE_ROWS];
-    let mut tape = [0u32; TEXT_LIMIT + MORE_ROWS];
-    let mut wide = [0u64; 4 * (TEXT_LIMIT + MORE_ROWS)];
-    let mut thin = [0u16; 4 * (TEXT_LIMIT + MORE_ROWS)];
-    translate_in(src, &mut kinds, &mut tape, &mut wide, &mut thin, out)
-}
-
-// By length. Each of the three has a frame of its own, so a short text needs little stack.
+// By length.
 #[inline(never)]
 fn sized(src: &[u8], out: &mut [u8]) -> made::Answer
     requires { length src.now ≤ TEXT-LIMIT }
     ensures { Gives (translation src.now (length out.old)) out.old out.new result }
 {
     if src.len() <= SHORT {
-        return short(src, out);
+        return listed::<SHORT_ROWS, SHORT_COLUMNS>(src, out);
     }
     if src.len() <= MIDDLING {
-        return middling(src, out);
+        return listed::<MIDDLING_ROWS, MIDDLING_COLUMNS>(src, out);
     }
-    if src.len() <= TEXT_LIMIT {
-        return long(src, out);
-    }
-    sized(&src[..TEXT_LIMIT], out)
+    listed::<LONG_ROWS, LONG_COLUMNS>(src, out)
 }
 
 // ── the last step ──
@@ -194,18 +183,22 @@ fn reports_none(number: usize) -> bool
 }
 
 // "every other with a place below the text's length reports its own, and one at the end where the next byte would stand"
+fn spot_for(src: &[u8], number: usize, place: usize) -> Spot
+    ensures { result ≡ spot_for src.now number place }
+{
+    if reports_none(number) {
+        return unplaced(place);
+    }
+    spot_at(src, place)
+}
+
 fn stand(src: &[u8], answer: made::Answer) -> Answer
     ensures { result ≡ stood src.now answer }
 {
-    match answer {
-        made::Answer::Accepted(written) => Answer::Accepted(written),
-        made::Answer::Refused(number, place) => {
-            if reports_none(number) {
-                return Answer::Refused(number, unplaced(place));
-            }
-            Answer::Refused(number, spot_at(src, place))
-        }
-    }
+    answer.map_err(|r| Refused {
+        number: r.number,
+        spot: spot_for(src, r.number, r.place),
+    })
 }
 
 // The object text of a source, laid at the front of a buffer: number, place, line, column and length, and the buffer, are the definition's.
@@ -216,5 +209,11 @@ pub fn translate(src: &[u8], out: &mut [u8]) -> Answer
         let answer = sized(src, out);
         return stand(src, answer);
     }
-    stand(src, made::Answer::Refused(1, TEXT_LIMIT))
+    stand(
+        src,
+        Err(made::Refused {
+            number: 1,
+            place: TEXT_LIMIT,
+        }),
+    )
 }

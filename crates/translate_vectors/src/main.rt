@@ -1,15 +1,18 @@
 // Every stored text through the proved translator: number, place, line, column, every byte of the object text, and every other byte of the buffer as it was.
 #![tactic(auto)]
 
-ghost use Rattle.std.specs.Prelude.{◌≡◌, ◌+◌, ◌≤◌, length};
+ghost use Rattle.std.specs.Prelude.{◌≤◌, length, IfSome};
 
-use lines::{checksum, output, tally, window};
+use lines::{output, tally, window};
 use std::io::Print;
 use std::rt::Files;
 use std::{fs, io};
 
 // No vector is longer.
 const VECTOR: usize = 49152;
+
+// A proved loop has to end, and nothing says that a file does: no file has so many vectors.
+const MOST: u64 = 1000000;
 
 // Text length, room, number, place, line, column and length of the object text.
 const FIELDS: usize = 7;
@@ -19,30 +22,18 @@ const LENGTH: usize = 6;
 // Every byte of the buffer before a translation.
 const BEFORE: u8 = 165;
 
-// How many bytes a vector has, 0 where there is none, and whether the answer is the stored one.
+// How many bytes a vector has, and whether the answer is the stored one.
 #[derive(Clone, Copy)]
 struct Compared {
     used: usize,
     is_equal: bool,
 }
 
-fn nothing() -> Compared
-    ensures { result.used ≡ 0 }
-{
-    Compared {
-        used: 0,
-        is_equal: false,
-    }
-}
-
 // A room beyond the buffer stands for an unlimited one: no object text is longer than the buffer.
 fn room_in(buffer: &[u8], room: u64) -> usize
     ensures { result ≤ length buffer.now }
 {
-    if (buffer.len() as u64) < room {
-        return buffer.len();
-    }
-    room as usize
+    room.min(buffer.len() as u64) as usize
 }
 
 // Whether number, place, line, column and length are the stored ones.
@@ -62,8 +53,8 @@ fn translates(
     fields: &[u64; FIELDS],
     object: &[u8],
 ) -> bool {
-    checksum::fill(buffer, BEFORE);
-    checksum::fill(expected, BEFORE);
+    buffer.fill(BEFORE);
+    expected.fill(BEFORE);
     output::put_all(expected, 0, object);
     let end = room_in(buffer, fields[1]);
     let mut answer = [0usize; 4];
@@ -72,53 +63,33 @@ fn translates(
     is_stored(said, answer, fields) & is_same
 }
 
-fn compare(input: &[u8], buffer: &mut [u8], expected: &mut [u8]) -> Compared
-    ensures { result.used ≤ length input.now }
+fn compare(input: &[u8], buffer: &mut [u8], expected: &mut [u8]) -> Option<Compared>
+    ensures { IfSome result (λ c. c.used ≤ length input.now) }
 {
     let mut fields = [0u64; FIELDS];
-    let s = text_cases::text_in(input, &mut fields);
-    let from = s.from;
-    let to = s.to;
-    if to == 0 {
-        return nothing();
+    let text = text_cases::text_in(input, &mut fields)?;
+    let rest = (input.len() - text.end) as u64;
+    if rest < 2 {
+        return None;
     }
-    let rest = input.len() - to;
-    if (rest as u64) < 2 {
-        return nothing();
+    if rest - 2 < fields[LENGTH] {
+        return None;
     }
-    if (rest as u64) - 2 < fields[LENGTH] {
-        return nothing();
-    }
-    let first = to + 1;
+    let first = text.end + 1;
     let end = first + fields[LENGTH] as usize;
     let is_equal = translates(
-        &input[from..to],
+        &input[text.start..text.end],
         buffer,
         expected,
         &fields,
         &input[first..end],
     );
-    Compared {
+    Some(Compared {
         used: end + 1,
-        is_equal: is_equal,
-    }
+        is_equal,
+    })
 }
 
-// The vector that begins at a place of what was read.
-fn compare_at(
-    input: &[u8],
-    at: usize,
-    to: usize,
-    buffer: &mut [u8],
-    expected: &mut [u8],
-) -> Compared
-    requires { (at ≤ to) × (to ≤ length input.now) }
-    ensures { at + result.used ≤ to }
-{
-    compare(&input[at..to], buffer, expected)
-}
-
-// A proved loop has to end, and nothing says that a file does: so the vectors are counted, up to a number that no file reaches.
 fn compare_all<R: Files + Print>(
     rt: &R,
     name: &str,
@@ -131,12 +102,16 @@ fn compare_all<R: Files + Print>(
     let mut to = window::refill(&mut file, input, 0, 0);
     let mut compared: u64 = 0;
     let mut equal: u64 = 0;
-    while compared < 1000000 && at < to {
-        let c = compare_at(input, at, to, buffer, expected);
-        let used = c.used;
-        let is_equal = c.is_equal;
-        compared += 1;
-        equal = tally::counted(rt, is_equal, compared, equal);
+    for number in 1..=MOST {
+        if at == to {
+            break;
+        }
+        let (used, is_equal) = match compare(&input[at..to], buffer, expected) {
+            Some(c) => (c.used, c.is_equal),
+            None => (0, false),
+        };
+        compared = number;
+        equal = tally::counted(rt, is_equal, number, equal);
         let next = window::keep(&mut file, input, at + used, to, VECTOR);
         at = next.at;
         to = next.to;

@@ -1,4 +1,5 @@
 -- What an acceptance says: each group let the text pass. The room counts for 16 only.
+use Rattle.std.specs.Prelude.{Some, None}
 use mathlib.Core.Path.{◌≡◌, refl, sym, ap, subst, ◌∙◌}
 use mathlib.Core.List.{List, ◌++◌}
 use mathlib.Core.Bool.{Bool, true, false}
@@ -15,6 +16,7 @@ use Rattle.grammar.specs.Reader.{Result, ok, bad}
 use Rattle.grammar.specs.Grammar.{program}
 use Rattle.grammar.specs.Refusals.{Grammatical, derived, four, five}
 use Rattle.grammar.proofs.Theorems.{answer_of, grammatical, one_told}
+use Rattle.scopes.specs.Broken.{refusal_number, Ruling, unbroken}
 use Rattle.scopes.specs.Search.{in_front, first_token}
 use Rattle.objtext.specs.Object.{object_text}
 use Rattle.translation.specs.Instructions.{sizes}
@@ -68,7 +70,7 @@ pub record Accepted (source object : List ℕ) : Type 0 where
   pub tree : Statement
   pub next : ℕ
   pub read : program (kinds_of tokens) first_token ≡ ok tree next
-  pub quiet : (make tokens tree).broken.number ≡ 0
+  pub quiet : (make tokens tree).broken ≡ unbroken
   pub short : sizes (make tokens tree).instructions ≤ segment_limit
   pub room : literals_end (make tokens tree).layout ≤ segment_limit
   pub made : object_text (segments (make tokens tree).bases (make tokens tree).layout (make tokens tree).instructions) ≡ object
@@ -88,13 +90,13 @@ finished m t e = go (ltb segment_limit (sizes m.instructions)) refl (ltb segment
     go false p true q h = absurd (not-accepted 15 0 t h)
     go false p false q h = record { short = ltb-false _ _ p; room = ltb-false _ _ q; made = accepted-is _ t h }
 
-judged : (ts : List Token) (m : Made) (t : List ℕ) → on_rules ts m ≡ accepted t → (m.broken.number ≡ 0) × Finished m t
+judged : (ts : List Token) (m : Made) (t : List ℕ) → on_rules ts m ≡ accepted t → (m.broken ≡ unbroken) × Finished m t
 unfolding on_rules
-judged ts m t e = go m.broken.number refl e
+judged ts m t e = go m.broken refl e
   where
-    go : (n : ℕ) → m.broken.number ≡ n → on_rules_by ts m n ≡ accepted t → (m.broken.number ≡ 0) × Finished m t
-    go zero q h = (q, finished m t h)
-    go (suc n) q h = absurd (not-accepted (suc n) _ t h)
+    go : (b : Ruling) → m.broken ≡ b → on_rules_by ts m b ≡ accepted t → (m.broken ≡ unbroken) × Finished m t
+    go None q h = (q, finished m t h)
+    go (Some b) q h = absurd (not-accepted (refusal_number b.refusal) _ t h)
 
 pub acceptance : (source : List ℕ) (t : List ℕ) → translated source ≡ accepted t → Accepted source t
 unfolding translated

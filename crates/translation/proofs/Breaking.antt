@@ -1,4 +1,5 @@
 -- What is broken in a program is the least of the rules that it breaks: of joined rules, along events, of the whole. Assumes nothing.
+use Rattle.std.specs.Prelude.{Some}
 use mathlib.Core.Path.{◌≡◌, refl, sym, ap, subst, ◌∙◌}
 use mathlib.Core.Logic.{◌⊎◌, inl, inr}
 use mathlib.Core.List.{List, [], ◌∷◌}
@@ -14,12 +15,15 @@ use Rattle.token.specs.declared.Token.{Token}
 use Rattle.grammar.specs.Tree.{Statement}
 use Rattle.grammar.specs.Events.{opened, closed, entered, left, Route, labelled, sent, named, celled, itemed, valued, based, Event, edge, route, entry, phrase, mark, uses, declares, events_of}
 use Rattle.grammar.specs.Places.{Place, after, along}
+use Rattle.scopes.specs.declared.Refusal.TheVariants as R
 use Rattle.scopes.specs.declared.Broken.{Broken}
-use Rattle.scopes.specs.Broken.{unbroken, broken, rule, before, ◌⊕◌}
+use Rattle.scopes.specs.declared.Refusal.{Refusal}
+use Rattle.scopes.specs.Broken.{refusal_number, Ruling, unbroken, broken, rule, before, ◌⊕◌}
 use Rattle.scopes.specs.Search.{in_block, find, innermost}
 use Rattle.scopes.specs.Names.{most_names, Named, names_in, note_found, use_name, declare_name, declare_names, use_names, name_event}
 use Rattle.scopes.specs.Labels.{most_labels, Labelled, labels_in, labels_set, note_label, set_label, label_event}
-use Rattle.scopes.proofs.Least.{LeastOf, join-least}
+use Rattle.scopes.proofs.Joins.{some-none, is_some}
+use Rattle.scopes.proofs.Least.{Leads, LeastOf, join-least}
 use Rattle.static_rules.specs.Meanings.{Filled, Meant}
 use Rattle.static_rules.specs.Tables.{Tables}
 use Rattle.static_rules.specs.Kinds.{rules_at, rule_event}
@@ -42,11 +46,11 @@ after_same (inl h) (inr (g, k)) = absurd (omega arith)
 after_same (inr (h, l)) (inl g) = absurd (omega arith)
 after_same (inr (h, l)) (inr (g, k)) = (omega arith, omega arith)
 
-not_after : (a b : Broken) → before a b ≡ true → NotAfter a.number a.at b.number b.at
-not_after a b h = go (ltb a.at b.at) refl (eqb a.at b.at) refl (leb a.number b.number) refl h
+not_after : (a b : Broken) → before a b ≡ true → NotAfter (refusal_number a.refusal) a.at (refusal_number b.refusal) b.at
+not_after a b h = go (ltb a.at b.at) refl (eqb a.at b.at) refl (leb (refusal_number a.refusal) (refusal_number b.refusal)) refl h
   where
-    go : (x : Bool) → ltb a.at b.at ≡ x → (y : Bool) → eqb a.at b.at ≡ y → (z : Bool) → leb a.number b.number ≡ z → (x || (y && z)) ≡ true
-        → NotAfter a.number a.at b.number b.at
+    go : (x : Bool) → ltb a.at b.at ≡ x → (y : Bool) → eqb a.at b.at ≡ y → (z : Bool) → leb (refusal_number a.refusal) (refusal_number b.refusal) ≡ z
+        → (x || (y && z)) ≡ true → NotAfter (refusal_number a.refusal) a.at (refusal_number b.refusal) b.at
     go true p y q z r h = inl (ltb-true _ _ p)
     go false p true q true r h = inr (eqb-true _ _ q, leb-true _ _ r)
     go false p true q false r h = never_true h
@@ -59,47 +63,59 @@ abbrev pub Which : Type 1
 Which = (n t : ℕ) → Type 0
 
 -- one rule, unless it holds
-abbrev pub Falls : (holds : Bool) (number token : ℕ) → Which
-Falls b n t m u = (b ≡ false) × (m ≡ n) × (u ≡ t)
+abbrev pub Falls : (holds : Bool) (refusal : Refusal) (token : ℕ) → Which
+Falls b r t m u = (b ≡ false) × (m ≡ refusal_number r) × (u ≡ t)
+
+-- b is broken, and not after rule n at token t
+pub record First (b : Ruling) (n t : ℕ) : Type 0 where
+  pub one : Broken
+  pub is : b ≡ Some one
+  pub not_after_it : NotAfter (refusal_number one.refusal) one.at n t
 
 -- b is unbroken where nothing is, and else the least of what is
-pub record Least (P : Which) (b : Broken) : Type 0 where
-  pub one_of : (b.number ≡ 0 → ⊥) → P b.number b.at
-  pub least : (n t : ℕ) → P n t → (b.number ≡ 0 → ⊥) × NotAfter b.number b.at n t
+pub record Least (P : Which) (b : Ruling) : Type 0 where
+  pub one_of : (x : Broken) → b ≡ Some x → P (refusal_number x.refusal) x.at
+  pub least : (n t : ℕ) → P n t → First b n t
 
-same-least : {P Q : Which} {b : Broken} → ((n t : ℕ) → P n t → Q n t) → ((n t : ℕ) → Q n t → P n t) → Least P b → Least Q b
-same-least f g l = record { one_of = λ z. f _ _ (l.one_of z); least = λ n t h. l.least n t (g n t h) }
+same-least : {P Q : Which} {b : Ruling} → ((n t : ℕ) → P n t → Q n t) → ((n t : ℕ) → Q n t → P n t) → Least P b → Least Q b
+same-least f g l = record { one_of = λ x e. f _ _ (l.one_of x e); least = λ n t h. l.least n t (g n t h) }
 
 none-least : Least (λ n t. ⊥) unbroken
-none-least = record { one_of = λ z. absurd (z refl); least = λ n t h. absurd h }
+none-least = record { one_of = λ x e. absurd (some-none (sym e)); least = λ n t h. absurd h }
 
-rule-least : (b : Bool) (n t : ℕ) → 0 < n → Least (Falls b n t) (rule b n t)
+rule-least : (b : Bool) (r : Refusal) (t : ℕ) → Least (Falls b r t) (rule b r t)
 unfolding rule
-rule-least true n t h = record { one_of = λ z. absurd (z refl); least = λ m u (e, f, g). never_true (sym e) }
-rule-least false n t h = record { one_of = λ z. (refl, refl, refl); least = λ m u (e, f, g). ((λ z. omega arith), inr (sym g, omega arith)) }
+rule-least true r t = record { one_of = λ x e. absurd (some-none (sym e)); least = λ m u (e, f, g). never_true (sym e) }
+rule-least false r t = record {
+  one_of = λ x e. (let q = is_some e in (refl, ap (λ (y : Broken). refusal_number y.refusal) (sym q), ap (λ (y : Broken). y.at) (sym q)));
+  least = λ m u (e, f, g). record { one = record { at = t; refusal = r }; is = refl; not_after_it = inr (sym g, omega arith) };
+}
 
-join-both : {P Q : Which} (a b : Broken) → Least P a → Least Q b → Least (λ n t. P n t ⊎ Q n t) (a ⊕ b)
-join-both {P} {Q} a b p q = record { one_of = λ z. go z j.one_of; least = by }
+join-both : {P Q : Which} (a b : Ruling) → Least P a → Least Q b → Least (λ n t. P n t ⊎ Q n t) (a ⊕ b)
+join-both {P} {Q} a b p q = record { one_of = λ x e. go x e j.one_of; least = by }
   where
     j : LeastOf a b (a ⊕ b)
     j = join-least a b
 
-    go : ((a ⊕ b).number ≡ 0 → ⊥) → ((a ⊕ b) ≡ a) ⊎ ((a ⊕ b) ≡ b) → P (a ⊕ b).number (a ⊕ b).at ⊎ Q (a ⊕ b).number (a ⊕ b).at
-    go z (inl e) = inl (subst (λ (x : Broken). P x.number x.at) (sym e) (p.one_of (λ y. z (ap (λ (x : Broken). x.number) e ∙ y))))
-    go z (inr e) = inr (subst (λ (x : Broken). Q x.number x.at) (sym e) (q.one_of (λ y. z (ap (λ (x : Broken). x.number) e ∙ y))))
+    go : (x : Broken) → (a ⊕ b) ≡ Some x → ((a ⊕ b) ≡ a) ⊎ ((a ⊕ b) ≡ b) → P (refusal_number x.refusal) x.at ⊎ Q (refusal_number x.refusal) x.at
+    go x e (inl d) = inl (p.one_of x (sym d ∙ e))
+    go x e (inr d) = inr (q.one_of x (sym d ∙ e))
 
-    by : (n t : ℕ) → P n t ⊎ Q n t → ((a ⊕ b).number ≡ 0 → ⊥) × NotAfter (a ⊕ b).number (a ⊕ b).at n t
-    by n t (inl h) = (let (z, l) = p.least n t h in ((λ y. z (j.unbroken y).0), after-trans (not_after (a ⊕ b) a (j.not-before-first z)) l))
-    by n t (inr h) = (let (z, l) = q.least n t h in ((λ y. z (j.unbroken y).1), after-trans (not_after (a ⊕ b) b (j.not-before-second z)) l))
+    first : (x : Broken) (n t : ℕ) → NotAfter (refusal_number x.refusal) x.at n t → Leads (a ⊕ b) x → First (a ⊕ b) n t
+    first x n t h l = record { one = l.one; is = l.is; not_after_it = after-trans (not_after l.one x l.before_it) h }
+
+    by : (n t : ℕ) → P n t ⊎ Q n t → First (a ⊕ b) n t
+    by n t (inl h) = (let f = p.least n t h in first f.one n t f.not_after_it (j.not-before-first f.one f.is))
+    by n t (inr h) = (let f = q.least n t h in first f.one n t f.not_after_it (j.not-before-second f.one f.is))
 
 -- a rule more
-join_rule : {P : Which} (a : Broken) (b : Bool) (n t : ℕ) → 0 < n → Least P a → Least (λ m u. P m u ⊎ Falls b n t m u) (a ⊕ rule b n t)
-join_rule a b n t h p = join-both a (rule b n t) p (rule-least b n t h)
+join_rule : {P : Which} (a : Ruling) (b : Bool) (r : Refusal) (t : ℕ) → Least P a → Least (λ m u. P m u ⊎ Falls b r t m u) (a ⊕ rule b r t)
+join_rule a b r t p = join-both a (rule b r t) p (rule-least b r t)
 
 -- ── along events ──
 
 module _
-    {S : Type 0} (f : Event → Place → S → S) (broken_in : S → Broken) (Q : Event → Place → S → Which)
+    {S : Type 0} (f : Event → Place → S → S) (broken_in : S → Ruling) (Q : Event → Place → S → Which)
     (step : (e : Event) (p : Place) (s : S) (P : Which) → Least P (broken_in s) → Least (λ n t. P n t ⊎ Q e p s n t) (broken_in (f e p s)))
   where
     along-least : (es : List Event) (p : Place) (s : S) (P : Which) → Least P (broken_in s)
@@ -130,14 +146,14 @@ module _ (keys : List ℕ) where
   used [] bs s P l = same-least (λ n t h. inl h) (λ n t h. elim h [ inl y ↦ y | inr y ↦ absurd y.1 ]) l
   used (u ∷ us) bs s P l =
       let d = find keys (get_or keys u 0) bs in
-      same-least there back (used us bs (use_name keys u bs s) _ (join_rule s.broken (ltb 0 d) 6 u (omega arith) l))
+      same-least there back (used us bs (use_name keys u bs s) _ (join_rule s.broken (ltb 0 d) R.NotFound u l))
     where
-      there : (n t : ℕ) → (P n t ⊎ Falls (ltb 0 (find keys (get_or keys u 0) bs)) 6 u n t) ⊎ Missing us bs n t → P n t ⊎ Missing (u ∷ us) bs n t
+      there : (n t : ℕ) → (P n t ⊎ Falls (ltb 0 (find keys (get_or keys u 0) bs)) R.NotFound u n t) ⊎ Missing us bs n t → P n t ⊎ Missing (u ∷ us) bs n t
       there n t (inl (inl h)) = inl h
       there n t (inl (inr (b, e, q))) = inr (e, inl q, rw q (let z = ltb-false 0 (find keys (get_or keys u 0) bs) b in omega arith))
       there n t (inr (e, h, z)) = inr (e, inr h, z)
 
-      back : (n t : ℕ) → P n t ⊎ Missing (u ∷ us) bs n t → (P n t ⊎ Falls (ltb 0 (find keys (get_or keys u 0) bs)) 6 u n t) ⊎ Missing us bs n t
+      back : (n t : ℕ) → P n t ⊎ Missing (u ∷ us) bs n t → (P n t ⊎ Falls (ltb 0 (find keys (get_or keys u 0) bs)) R.NotFound u n t) ⊎ Missing us bs n t
       back n t (inl h) = inl (inl h)
       back n t (inr (e, inl q, z)) = inl (inr (le-ltb 0 (find keys (get_or keys u 0) bs) (let y = rw q at z in omega arith), e, q))
       back n t (inr (e, inr h, z)) = inr (e, h, z)
@@ -157,17 +173,17 @@ module _ (keys : List ℕ) where
   one-declared u bs s P l =
       same-least there back
       (join-both s.broken _ l
-      (join-both _ _ (rule-least (eqb d 0) 7 u (omega arith)) (rule-least (ltb s.count most_names) 13 u (omega arith))))
+      (join-both _ _ (rule-least (eqb d 0) R.Twice u) (rule-least (ltb s.count most_names) R.TooMany u)))
     where
       d : ℕ
       d = in_block keys (get_or keys u 0) (innermost bs) 0
 
-      there : (n t : ℕ) → P n t ⊎ (Falls (eqb d 0) 7 u n t ⊎ Falls (ltb s.count most_names) 13 u n t) → P n t ⊎ Declared (u ∷ []) bs s n t
+      there : (n t : ℕ) → P n t ⊎ (Falls (eqb d 0) R.Twice u n t ⊎ Falls (ltb s.count most_names) R.TooMany u n t) → P n t ⊎ Declared (u ∷ []) bs s n t
       there n t (inl h) = inl h
       there n t (inr (inl (b, e, q))) = inr (inl (e, inl q, rw q (let z = eqb-false d 0 b in omega arith)))
       there n t (inr (inr (b, e, q))) = inr (inr (e, inl q, ltb-false s.count most_names b))
 
-      back : (n t : ℕ) → P n t ⊎ Declared (u ∷ []) bs s n t → P n t ⊎ (Falls (eqb d 0) 7 u n t ⊎ Falls (ltb s.count most_names) 13 u n t)
+      back : (n t : ℕ) → P n t ⊎ Declared (u ∷ []) bs s n t → P n t ⊎ (Falls (eqb d 0) R.Twice u n t ⊎ Falls (ltb s.count most_names) R.TooMany u n t)
       back n t (inl h) = inl h
       back n t (inr (inl (e, inl q, z))) = inr (inl (ne_eqb d 0 (λ w. (let y = rw q at z in omega arith)), e, q))
       back n t (inr (inl (e, inr h, z))) = absurd h
@@ -234,17 +250,17 @@ module _ (keys : List ℕ) where
       back n t (inr (LabelBroken.too_many q h z)) = absurd (not _ h)
 
   sent-step : (at u : ℕ) (p : Place) (s : Labelled) (P : Which) → Least P s.broken
-      → Least (λ n t. P n t ⊎ LabelBroken keys (route (sent at u)) p s n t) (s.broken ⊕ rule (ltb 0 (find keys (get_or keys u 0) (labels_in p))) 6 u)
-  sent-step at u p s P l = same-least there back (join_rule s.broken (ltb 0 d) 6 u (omega arith) l)
+      → Least (λ n t. P n t ⊎ LabelBroken keys (route (sent at u)) p s n t) (s.broken ⊕ rule (ltb 0 (find keys (get_or keys u 0) (labels_in p))) R.NotFound u)
+  sent-step at u p s P l = same-least there back (join_rule s.broken (ltb 0 d) R.NotFound u l)
     where
       d : ℕ
       d = find keys (get_or keys u 0) (labels_in p)
 
-      there : (n t : ℕ) → P n t ⊎ Falls (ltb 0 d) 6 u n t → P n t ⊎ LabelBroken keys (route (sent at u)) p s n t
+      there : (n t : ℕ) → P n t ⊎ Falls (ltb 0 d) R.NotFound u n t → P n t ⊎ LabelBroken keys (route (sent at u)) p s n t
       there n t (inl h) = inl h
       there n t (inr (b, e, q)) = inr (LabelBroken.not_found at e (rw q) (rw q (let z = ltb-false 0 d b in omega arith)))
 
-      back : (n t : ℕ) → P n t ⊎ LabelBroken keys (route (sent at u)) p s n t → P n t ⊎ Falls (ltb 0 d) 6 u n t
+      back : (n t : ℕ) → P n t ⊎ LabelBroken keys (route (sent at u)) p s n t → P n t ⊎ Falls (ltb 0 d) R.NotFound u n t
       back n t (inl h) = inl h
       back n t (inr (LabelBroken.not_found a e q z)) = (let w = sent_is q in inr (le-ltb 0 d (let y = rw w at z in omega arith), e, w))
       back n t (inr (LabelBroken.twice e q z)) = absurd (not-sent q)
@@ -255,17 +271,17 @@ module _ (keys : List ℕ) where
   unfolding set_label
   set-step u p s P l =
       same-least there back
-      (join-both s.broken _ l (join-both _ _ (rule-least (eqb d 0) 7 u (omega arith)) (rule-least (ltb s.count most_labels) 13 u (omega arith))))
+      (join-both s.broken _ l (join-both _ _ (rule-least (eqb d 0) R.Twice u) (rule-least (ltb s.count most_labels) R.TooMany u)))
     where
       d : ℕ
       d = in_block keys (get_or keys u 0) (labels_set p) 0
 
-      there : (n t : ℕ) → P n t ⊎ (Falls (eqb d 0) 7 u n t ⊎ Falls (ltb s.count most_labels) 13 u n t) → P n t ⊎ LabelBroken keys (route (labelled u)) p s n t
+      there : (n t : ℕ) → P n t ⊎ (Falls (eqb d 0) R.Twice u n t ⊎ Falls (ltb s.count most_labels) R.TooMany u n t) → P n t ⊎ LabelBroken keys (route (labelled u)) p s n t
       there n t (inl h) = inl h
       there n t (inr (inl (b, e, q))) = inr (LabelBroken.twice e (rw q) (rw q (let z = eqb-false d 0 b in omega arith)))
       there n t (inr (inr (b, e, q))) = inr (LabelBroken.too_many e (rw q) (ltb-false s.count most_labels b))
 
-      back : (n t : ℕ) → P n t ⊎ LabelBroken keys (route (labelled u)) p s n t → P n t ⊎ (Falls (eqb d 0) 7 u n t ⊎ Falls (ltb s.count most_labels) 13 u n t)
+      back : (n t : ℕ) → P n t ⊎ LabelBroken keys (route (labelled u)) p s n t → P n t ⊎ (Falls (eqb d 0) R.Twice u n t ⊎ Falls (ltb s.count most_labels) R.TooMany u n t)
       back n t (inl h) = inl h
       back n t (inr (LabelBroken.not_found a e q z)) = absurd (not-sent (sym q))
       back n t (inr (LabelBroken.twice e q z)) = (let w = set_is q in inr (inl (ne_eqb d 0 (λ v. (let y = rw w at z in omega arith)), e, w)))
@@ -283,18 +299,18 @@ module _ (keys : List ℕ) where
 
 -- ── kinds ──
 
-as-broken : (b : Broken) → Least (λ n t. (0 < n) × (b ≡ broken n t)) b
+as-broken : (b : Ruling) → Least (λ n t. (r : Refusal) × (n ≡ refusal_number r) × (b ≡ broken r t)) b
 as-broken b = record {
-  one_of = λ z. (omega arith, refl);
-  least = λ n t (h, e). (let f = ap (λ (x : Broken). x.number) e in let g = ap (λ (x : Broken). x.at) e in ((λ z. omega arith), inr (g, omega arith)));
+  one_of = λ x e. (x.refusal, refl, e);
+  least = λ n t (r, e, q). record { one = record { at = t; refusal = r }; is = q; not_after_it = inr (refl, omega arith) };
 }
 
-kind-step : (f : Tables) (e : Event) (p : Place) (s : Broken) (P : Which) → Least P s → Least (λ n t. P n t ⊎ KindBroken f e p n t) (rule_event f e p s)
+kind-step : (f : Tables) (e : Event) (p : Place) (s : Ruling) (P : Which) → Least P s → Least (λ n t. P n t ⊎ KindBroken f e p n t) (rule_event f e p s)
 unfolding rule_event
 kind-step f e p s P l =
     same-least
-    (λ n t h. elim h [ inl y ↦ inl y | inr y ↦ inr (record { some = y.0; is = y.1 }) ])
-    (λ n t h. elim h [ inl y ↦ inl y | inr y ↦ inr (y.some, y.is) ])
+    (λ n t h. elim h [ inl y ↦ inl y | inr y ↦ inr (record { refusal = y.0; number_is = y.1; is = y.2 }) ])
+    (λ n t h. elim h [ inl y ↦ inl y | inr y ↦ inr (y.refusal, y.number_is, y.is) ])
     (join-both s (rules_at f e p) l (as-broken (rules_at f e p)))
 
 -- ── cells ──
@@ -303,16 +319,16 @@ cells-least : (bases : ℕ) (ds : List Filled) → Least (CellBroken bases ds) (
 unfolding place_cells place_cell
 cells-least bases [] = none-least
 cells-least bases (d ∷ ds) =
-    same-least there back (join_rule (place_cells bases ds).broken (leb end segment_limit) 12 d.cell.name (omega arith) (cells-least bases ds))
+    same-least there back (join_rule (place_cells bases ds).broken (leb end segment_limit) R.NoRoom d.cell.name (cells-least bases ds))
   where
     end : ℕ
     end = end_for d.cell (place_cells bases ds).ends
 
-    there : (n t : ℕ) → CellBroken bases ds n t ⊎ Falls (leb end segment_limit) 12 d.cell.name n t → CellBroken bases (d ∷ ds) n t
+    there : (n t : ℕ) → CellBroken bases ds n t ⊎ Falls (leb end segment_limit) R.NoRoom d.cell.name n t → CellBroken bases (d ∷ ds) n t
     there n t (inl h) = inl h
     there n t (inr (b, e, q)) = inr (e, q, leb-false end segment_limit b)
 
-    back : (n t : ℕ) → CellBroken bases (d ∷ ds) n t → CellBroken bases ds n t ⊎ Falls (leb end segment_limit) 12 d.cell.name n t
+    back : (n t : ℕ) → CellBroken bases (d ∷ ds) n t → CellBroken bases ds n t ⊎ Falls (leb end segment_limit) R.NoRoom d.cell.name n t
     back n t (inl h) = inl h
     back n t (inr (e, q, z)) = inr (cases (leb end segment_limit) (λ b. absurd (omega (arith, leb-true end segment_limit b))) (λ b. b), e, q)
 
@@ -323,7 +339,7 @@ unfolding make T.named T.labelled layout
 make-least ts x =
     join-both _ _ (all-least (name_event (values_of ts)) (λ (s : Named). s.broken) (NameBroken (values_of ts)) (name-step (values_of ts)) (events_of x) _ refl)
     (join-both _ _ (all-least (label_event (values_of ts)) (λ (s : Labelled). s.broken) (LabelBroken (values_of ts)) (label-step (values_of ts)) (events_of x) _ refl)
-    (join-both _ _ (all-least (rule_event f) (λ (s : Broken). s) (λ e p s. KindBroken f e p) (kind-step f) (events_of x) unbroken refl)
+    (join-both _ _ (all-least (rule_event f) (λ (s : Ruling). s) (λ e p s. KindBroken f e p) (kind-step f) (events_of x) unbroken refl)
     (cells-least m.bases m.cells)))
   where
     m : Meant

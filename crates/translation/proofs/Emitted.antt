@@ -17,8 +17,9 @@ use Rattle.grammar.specs.Tree as T
 use Rattle.grammar.specs.Tree.{Designator, Operand, number, place, Sign, plain, abs, neg, neg_abs, Term, Assignment, Condition, compared, bare, Width, full, short, byte, Statement, Body, Items, Choices}
 use Rattle.grammar.specs.Events.{Event, edge, phrase, mark, closed, left, given, limited, ended_if, otherwise, ended_else, ended_while, ended_for, ended_choice, ended_case, each, events_value, events_item, events_register, events_declaration, events_sign, events_term, events_chain, events_arguments, events_statement, events_body, events_items, events_choices, events_of}
 use Rattle.grammar.specs.Places.{Place, Along}
-use Rattle.scopes.specs.Broken.{◌⊕◌, rule}
-use Rattle.scopes.proofs.Joins.{quiet-left, quiet-right, rule-holds}
+use Rattle.scopes.specs.declared.Refusal.TheVariants.{Misfit, OutOfBounds}
+use Rattle.scopes.specs.Broken.{unbroken, ◌⊕◌, rule}
+use Rattle.scopes.proofs.Joins.{some-none, quiet-left, quiet-right, rule-holds}
 use Rattle.static_rules.specs.Functions as F
 use Rattle.static_rules.specs.Functions.{Argument, written_register, read_register, byte_number, indexed_cell, plain_cell, surplus, Form, Function, function_table, arity, argument_at}
 use Rattle.static_rules.specs.Meaning.{Meaning, nothing, register, cell, routine, function, Cell, element_size, register_of, function_of, long_operand}
@@ -63,12 +64,12 @@ module _ (f : Tables) (l : Layout) (n : ℕ) (small : All Small f.means)
   first_fits short e h = omega arith
   first_fits (byte c) e h = omega arith
 
-  subscript-fits : (c : Cell) (s : Option ℕ) → 1 ≤ c.elements → (R.subscript_rules f c s).number ≡ 0 → subscript_of f s + element_size c.width ≤ element_size c.width * c.elements
+  subscript-fits : (c : Cell) (s : Option ℕ) → 1 ≤ c.elements → R.subscript_rules f c s ≡ unbroken → subscript_of f s + element_size c.width ≤ element_size c.width * c.elements
   unfolding R.subscript_rules
   subscript-fits c none h q = first_fits c.width c.elements h
-  subscript-fits c (some t) h q = (inside_is c (value_at f t) (rule-holds (inside c (value_at f t)) 11 t (omega arith) q)).1
+  subscript-fits c (some t) h q = (inside_is c (value_at f t) (rule-holds (inside c (value_at f t)) OutOfBounds t q)).1
 
-  place-ready : (m : Meaning) (d : Designator) → meaning_at f d.name ≡ m → Small m → (R.place_by f m d).number ≡ 0 → ReadyUse (use_by f m d)
+  place-ready : (m : Meaning) (d : Designator) → meaning_at f d.name ≡ m → Small m → R.place_by f m d ≡ unbroken → ReadyUse (use_by f m d)
   place-ready nothing d e h q = tt
   place-ready (register r) d e h q = h
   place-ready (cell c) d e h q =
@@ -77,11 +78,11 @@ module _ (f : Tables) (l : Layout) (n : ℕ) (small : All Small f.means)
   place-ready (routine r) d e h q = tt
   place-ready (function k) d e h q = tt
 
-  designator-ready : (d : Designator) → (R.place_rules f d).number ≡ 0 → ReadyUse (use_of f (place d))
+  designator-ready : (d : Designator) → R.place_rules f d ≡ unbroken → ReadyUse (use_of f (place d))
   unfolding use_of R.place_rules
   designator-ready d q = place-ready (meaning_at f d.name) d refl (small_at d.name) q
 
-  use-ready : (a : Operand) → (R.operand_rules f a).number ≡ 0 → ReadyUse (use_of f a)
+  use-ready : (a : Operand) → R.operand_rules f a ≡ unbroken → ReadyUse (use_of f a)
   unfolding use_of R.operand_rules
   use-ready (number t) q = tt
   use-ready (place d) q = designator-ready d (quiet-left (R.place_rules f d) (R.no_byte f d) q)
@@ -104,10 +105,10 @@ module _ (f : Tables) (l : Layout) (n : ℕ) (small : All Small f.means)
 
   -- ── chains ──
 
-  shift-ready : (op r : ℕ) (a : Operand) → op < 256 → r < 16 → (R.shift_rules f a).number ≡ 0 → AllReady (shift_by f op r a)
+  shift-ready : (op r : ℕ) (a : Operand) → op < 256 → r < 16 → R.shift_rules f a ≡ unbroken → AllReady (shift_by f op r a)
   unfolding shift_by R.shift_rules
   shift-ready op r (number t) o h q =
-      let e = (in-range 0 63 (value_at f t) (rule-holds (R.in_range 0 63 (value_at f t)) 11 t (omega arith) q)).1 in
+      let e = (in-range 0 63 (value_at f t) (rule-holds (R.in_range 0 63 (value_at f t)) OutOfBounds t q)).1 in
       ((o, h, omega arith, omega arith), tt)
   shift-ready op r (place d) o h q = ((o, h, register-at d.name, omega arith), tt)
 
@@ -115,7 +116,7 @@ module _ (f : Tables) (l : Layout) (n : ℕ) (small : All Small f.means)
   target-ready true r h = omega arith
   target-ready false r h = h
 
-  term-ready : (kept : List ℕ) (r : ℕ) (t : Term) → r < 16 → (R.term_rules f kept r t).number ≡ 0 → AllReady (term_of f r t)
+  term-ready : (kept : List ℕ) (r : ℕ) (t : Term) → r < 16 → R.term_rules f kept r t ≡ unbroken → AllReady (term_of f r t)
   unfolding term_of R.term_rules
   term-ready kept r t h q = go (member k shifts) (eqb k K.TIMES) (member k full_only) q
     where
@@ -126,7 +127,7 @@ module _ (f : Tables) (l : Layout) (n : ℕ) (small : All Small f.means)
       a = t.operand
 
       go : (x y z : Bool)
-          → (whether x then R.shift_rules f a else whether y then R.product_rules f kept r t ⊕ R.operand_rules f a else whether z then R.operand_rules f a ⊕ R.no_short f a else R.operand_rules f a).number ≡ 0
+          → (whether x then R.shift_rules f a else whether y then R.product_rules f kept r t ⊕ R.operand_rules f a else whether z then R.operand_rules f a ⊕ R.no_short f a else R.operand_rules f a) ≡ unbroken
           → AllReady (whether x then shift_by f (shift_code k) r a else whether y then apply times_row (product_target f r a) (use_of f a) else apply (row_of k) r (use_of f a))
       go true y z q = shift-ready (shift_code k) r a (shift_small k) h q
       go false true z q = apply-ready times_row (product_target f r a) (use_of f a) (target-ready (long_operand f.found f.means a) r h) (use-ready a (quiet-right _ _ q))
@@ -135,7 +136,7 @@ module _ (f : Tables) (l : Layout) (n : ℕ) (small : All Small f.means)
 
   -- each term of a chain, with the registers that are protected there
   abbrev Terms : Meaning → List Term → Type 0
-  Terms m ts = All (λ (t : Term). (kept : List ℕ) × ((R.term_by f m kept t).number ≡ 0)) ts
+  Terms m ts = All (λ (t : Term). (kept : List ℕ) × (R.term_by f m kept t ≡ unbroken)) ts
 
   chain-ready : (r : ℕ) (ts : List Term) → r < 16 → Terms (register r) ts → AllReady (chain_of f r ts)
   unfolding chain_of
@@ -144,7 +145,7 @@ module _ (f : Tables) (l : Layout) (n : ℕ) (small : All Small f.means)
 
   -- ── assignments and conditions ──
 
-  register-ready : (r : ℕ) (a : Assignment) → r < 16 → (R.operand_rules f a.first).number ≡ 0 → Terms (register r) a.rest → AllReady (to_register f r a)
+  register-ready : (r : ℕ) (a : Assignment) → r < 16 → R.operand_rules f a.first ≡ unbroken → Terms (register r) a.rest → AllReady (to_register f r a)
   unfolding to_register
   register-ready r a h q qs =
       all_both (Ready l n) (load a.sign r (use_of f a.first)) (chain_of f r a.rest) (load-ready a.sign r (use_of f a.first) h (use-ready a.first q)) (chain-ready r a.rest h qs)
@@ -154,30 +155,30 @@ module _ (f : Tables) (l : Layout) (n : ℕ) (small : All Small f.means)
   source-ready (place d) = register-at d.name
 
   -- by what the target means: its place, the first operand and the terms fit
-  assign-ready : (m : Meaning) (a : Assignment) → Small m → (R.place_rules f a.target).number ≡ 0 → (R.first_by f m a.first).number ≡ 0 → Terms m a.rest → AllReady (assign_by f m a)
+  assign-ready : (m : Meaning) (a : Assignment) → Small m → R.place_rules f a.target ≡ unbroken → R.first_by f m a.first ≡ unbroken → Terms m a.rest → AllReady (assign_by f m a)
   assign-ready nothing a h q u v = tt
   assign-ready (register r) a h q u v = register-ready r a h u v
   assign-ready (cell c) a h q u v = apply-ready store_row (source_of f a.first) (use_of f (place a.target)) (source-ready a.first) (designator-ready a.target q)
   assign-ready (routine r) a h q u v = tt
   assign-ready (function k) a h q u v = tt
 
-  compare-ready : (r : ℕ) (a : Operand) → r < 16 → (R.operand_rules f a).number ≡ 0 → AllReady (compare_with f r a)
+  compare-ready : (r : ℕ) (a : Operand) → r < 16 → R.operand_rules f a ≡ unbroken → AllReady (compare_with f r a)
   unfolding compare_with
   compare-ready r a h q = apply-ready compare_row r (use_of f a) h (use-ready a q)
 
-  test-ready : (c : Condition) → (R.condition_rules f c).number ≡ 0 → AllReady (test_of f c) × (mask_of f c < 16)
+  test-ready : (c : Condition) → R.condition_rules f c ≡ unbroken → AllReady (test_of f c) × (mask_of f c < 16)
   unfolding test_of R.condition_rules
   test-ready (compared m k a) q = (compare-ready (register_of (meaning_at f m)) a (register-at m) (quiet-right _ _ q), mask-small (kind_at f k))
   test-ready (bare k) q = (tt, mask-small (kind_at f k))
 
-  control-ready : (m : Meaning) (a : Assignment) (b : Bool) (t : ℕ) → Small m → (rule (R.is_register m && b) 8 t).number ≡ 0 → (R.first_by f m a.first).number ≡ 0 → Terms m a.rest
+  control-ready : (m : Meaning) (a : Assignment) (b : Bool) (t : ℕ) → Small m → rule (R.is_register m && b) Misfit t ≡ unbroken → R.first_by f m a.first ≡ unbroken → Terms m a.rest
       → AllReady (to_register f (register_of m) a)
   unfolding rule
-  control-ready nothing a b t h q u v = absurd (omega arith)
+  control-ready nothing a b t h q u v = absurd (some-none q)
   control-ready (register r) a b t h q u v = register-ready r a h u v
-  control-ready (cell c) a b t h q u v = absurd (omega arith)
-  control-ready (routine r) a b t h q u v = absurd (omega arith)
-  control-ready (function k) a b t h q u v = absurd (omega arith)
+  control-ready (cell c) a b t h q u v = absurd (some-none q)
+  control-ready (routine r) a b t h q u v = absurd (some-none q)
+  control-ready (function k) a b t h q u v = absurd (some-none q)
 
   exit-ready : (step : ℕ) → exit_mask step < 16
   exit-ready step = go (leb 2147483648 step)
@@ -199,34 +200,34 @@ module _ (f : Tables) (l : Layout) (n : ℕ) (small : All Small f.means)
   abbrev Argued : Operand → Type 0
   Argued a = ReadyUse (use_of f a) × (number_of f a < 256)
 
-  held-ready : (m : Meaning) (d : Designator) (b : Bool) (t : ℕ) → Small m → (rule (R.is_register m && b) 8 t).number ≡ 0 → ReadyUse (use_by f m d)
+  held-ready : (m : Meaning) (d : Designator) (b : Bool) (t : ℕ) → Small m → rule (R.is_register m && b) Misfit t ≡ unbroken → ReadyUse (use_by f m d)
   unfolding rule
   held-ready nothing d b t h q = tt
   held-ready (register r) d b t h q = h
-  held-ready (cell c) d b t h q = absurd (omega arith)
+  held-ready (cell c) d b t h q = absurd (some-none q)
   held-ready (routine r) d b t h q = tt
   held-ready (function k) d b t h q = tt
 
-  only-ready : (a : Operand) → (R.only_register f a).number ≡ 0 → Argued a
+  only-ready : (a : Operand) → R.only_register f a ≡ unbroken → Argued a
   unfolding use_of R.only_register
-  only-ready (number t) q = absurd (omega arith)
+  only-ready (number t) q = absurd (some-none q)
   only-ready (place d) q = (held-ready (meaning_at f d.name) d (R.bare_name d) d.name (small_at d.name) q, omega arith)
 
-  number-ready : (a : Operand) → (R.byte_rules f a).number ≡ 0 → Argued a
+  number-ready : (a : Operand) → R.byte_rules f a ≡ unbroken → Argued a
   unfolding use_of R.byte_rules
   number-ready (number t) q =
-      let e = (in-range 0 255 (value_at f t) (rule-holds (R.in_range 0 255 (value_at f t)) 11 t (omega arith) q)).1 in
+      let e = (in-range 0 255 (value_at f t) (rule-holds (R.in_range 0 255 (value_at f t)) OutOfBounds t q)).1 in
       (tt, omega arith)
-  number-ready (place d) q = absurd (omega arith)
+  number-ready (place d) q = absurd (some-none q)
 
-  cell-ready : (a : Operand) → (R.cell_rules f a).number ≡ 0 → Argued a
+  cell-ready : (a : Operand) → R.cell_rules f a ≡ unbroken → Argued a
   unfolding R.cell_rules
-  cell-ready (number t) q = absurd (omega arith)
-  cell-ready (place d) q = (designator-ready d (quiet-right (rule _ 8 d.name) (R.place_rules f d) q), omega arith)
+  cell-ready (number t) q = absurd (some-none q)
+  cell-ready (place d) q = (designator-ready d (quiet-right (rule _ Misfit d.name) (R.place_rules f d) q), omega arith)
 
-  plain_ready : (a : Operand) → (R.plain_rules f a).number ≡ 0 → Argued a
+  plain_ready : (a : Operand) → R.plain_rules f a ≡ unbroken → Argued a
   unfolding R.plain_rules
-  plain_ready (number t) q = absurd (omega arith)
+  plain_ready (number t) q = absurd (some-none q)
   plain_ready (place d) q = cell-ready (place d) (quiet-left (R.cell_rules f (place d)) (R.no_index d.index) q)
 
   -- what a function takes, and no more
@@ -238,7 +239,7 @@ module _ (f : Tables) (l : Layout) (n : ℕ) (small : All Small f.means)
   Taken plain_cell = Unit {0}
   Taken surplus = ⊥
 
-  argument-ready : (kept : List ℕ) (x : Argument) (a : Operand) → Taken x → (R.argument_rules f kept x a).number ≡ 0 → Argued a
+  argument-ready : (kept : List ℕ) (x : Argument) (a : Operand) → Taken x → R.argument_rules f kept x a ≡ unbroken → Argued a
   unfolding R.argument_rules
   argument-ready kept written_register a t q = only-ready a (quiet-left (R.only_register f a) (R.written_rules f kept a) q)
   argument-ready kept read_register a t q = only-ready a q
@@ -297,7 +298,7 @@ module _ (f : Tables) (l : Layout) (n : ℕ) (small : All Small f.means)
   -- the arguments of a use from position q on, each with the registers that are protected there
   abbrev Arguments : Function → ℕ → List Operand → Type 0
   Arguments g q [] = Unit {0}
-  Arguments g q (a ∷ xs) = ((kept : List ℕ) × ((R.argument_rules f kept (argument_at g q) a).number ≡ 0)) × Arguments g (q + 1) xs
+  Arguments g q (a ∷ xs) = ((kept : List ℕ) × (R.argument_rules f kept (argument_at g q) a ≡ unbroken)) × Arguments g (q + 1) xs
 
   function-ready : (g : Function) → Sound g → (a : Operand) (xs : List Operand) → Arguments g 0 (a ∷ xs) → AllReady (function_code f g a xs)
   unfolding function_code
@@ -348,7 +349,7 @@ module _ (f : Tables) (l : Layout) (n : ℕ) (small : All Small f.means)
 
   -- what follows a target
   chain-quiet : (a : Assignment) (k : List Event) (p : Place) → Quiet (events_chain a k) p
-      → ((R.first_by f (meaning_at f a.target.name) a.first).number ≡ 0) × Terms (meaning_at f a.target.name) a.rest × Quiet k p
+      → (R.first_by f (meaning_at f a.target.name) a.first ≡ unbroken) × Terms (meaning_at f a.target.name) a.rest × Quiet k p
   unfolding events_chain Along
   chain-quiet a k p h =
       let (q, r) = sign-quiet a.target a.sign (phrase (given a.target a.first) ∷ each (events_term a.target) a.rest k) p h in
@@ -390,7 +391,7 @@ module _ (f : Tables) (l : Layout) (n : ℕ) (small : All Small f.means)
         let (u, (o, (g, gs))) = core-made x (mark (ended_for v) ∷ k) p ss in
         let i = register-at a.target.name in (
           (
-            control-ready (meaning_at f a.target.name) a (R.bare_name a.target) a.target.name (small_at a.target.name) (quiet-left (rule _ 8 a.target.name) _ h) q r,
+            control-ready (meaning_at f a.target.name) a (R.bare_name a.target) a.target.name (small_at a.target.name) (quiet-left (rule _ Misfit a.target.name) _ h) q r,
             compare-ready (control_of f a) m i s,
             exit-ready (value_at f v),
             i,

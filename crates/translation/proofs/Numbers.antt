@@ -1,37 +1,21 @@
--- What is broken in a text has a number from 6 to 13. Assumes nothing.
-use mathlib.Core.Path.{ap}
+-- Each rule that a text breaks has a number from 6 to 13. Assumes nothing.
+use mathlib.Core.Path.{sym, subst}
 use mathlib.Core.Logic.{inl, inr}
 use mathlib.Core.List.{List, [], ◌∷◌}
-use Prim.Native.Nat.{ℕ, ◌≤◌}
+use Prim.Native.Nat.{ℕ}
 use native.Mathlib.Omega.{arith}
 use Rattle.token.specs.declared.Token.{Token}
 use Rattle.grammar.specs.Tree.{Statement}
 use Rattle.grammar.specs.Events.{Event, events_of}
 use Rattle.grammar.specs.Places.{Place, after}
-use Rattle.scopes.specs.declared.Broken.{Broken}
 use Rattle.scopes.specs.Names.{Named, name_event}
 use Rattle.scopes.specs.Labels.{Labelled, label_event}
-use Rattle.scopes.proofs.Numbers.{Ruled, ruled-none, ruled-rule, ruled-join, names-ruled, labels-ruled}
+use Rattle.scopes.proofs.Numbers.{InGroup, in-group}
 use Rattle.static_rules.specs.Meanings.{Filled}
 use Rattle.static_rules.specs.Tables.{Tables}
 use Rattle.static_rules.specs.Kinds.{rule_event}
-use Rattle.static_rules.proofs.Numbers.{event-ruled, rules-ruled}
-use Rattle.translation.specs.Layout.{place_cell, place_cells, layout}
-use Rattle.translation.specs.Translate.{values_of, named, labelled, meant, make}
+use Rattle.translation.specs.Translate.{values_of, named, meant}
 use Rattle.translation.specs.Broken.{NameBroken, LabelBroken, KindBroken, CellBroken, Somewhere, Breaks}
-
-cells-ruled : (n : ℕ) (ds : List Filled) → Ruled (place_cells n ds).broken
-unfolding place_cells place_cell
-cells-ruled n [] = ruled-none
-cells-ruled n (d ∷ ds) = ruled-join _ _ (cells-ruled n ds) (ruled-rule _ 12 d.cell.name tt)
-
-pub make-ruled : (ts : List Token) (x : Statement) → Ruled (make ts x).broken
-unfolding make named labelled layout
-make-ruled ts x =
-    ruled-join _ _ (names-ruled (values_of ts) x _ ruled-none)
-    (ruled-join _ _ (labels-ruled (values_of ts) x _ ruled-none) (ruled-join _ _ (rules-ruled _ x) (cells-ruled _ _)))
-
--- ── and so has each rule that is broken ──
 
 somewhere-is : {S : Type 0} (f : Event → Place → S → S) {Q : Event → Place → S → Type 0} {A : Type 0} → ((e : Event) (p : Place) (s : S) → Q e p s → A)
     → (es : List Event) (p : Place) (s : S) → Somewhere f Q es p s → A
@@ -39,9 +23,6 @@ unfolding Somewhere
 somewhere-is f g [] p s h = absurd h
 somewhere-is f g (e ∷ es) p s (inl h) = g e p s h
 somewhere-is f g (e ∷ es) p s (inr h) = somewhere-is f g es (after e p) (f e p s) h
-
-abbrev InGroup : ℕ → Type 0
-InGroup n = (6 ≤ n) × (n ≤ 13)
 
 name_in : (keys : List ℕ) (n t : ℕ) (e : Event) (p : Place) (s : Named) → NameBroken keys e p s n t → InGroup n
 name_in keys n t e p s (NameBroken.not_found q h z) = (omega arith, omega arith)
@@ -54,10 +35,7 @@ label-in keys n t e p s (LabelBroken.twice q h z) = (omega arith, omega arith)
 label-in keys n t e p s (LabelBroken.too_many q h z) = (omega arith, omega arith)
 
 kind-in : (f : Tables) (n t : ℕ) (e : Event) (p : Place) → KindBroken f e p n t → InGroup n
-kind-in f n t e p h =
-    let q = ap (λ (b : Broken). b.number) h.is in
-    let r = (event-ruled f e p).told (λ z. (let s = h.some in omega arith)) in
-    (omega arith, omega arith)
+kind-in f n t e p h = subst InGroup (sym h.number_is) (in-group h.refusal)
 
 cell_in : (bases : ℕ) (ds : List Filled) (n t : ℕ) → CellBroken bases ds n t → InGroup n
 cell_in bases [] n t h = absurd h

@@ -16,6 +16,7 @@ use Rattle.grammar.specs.Places.{Along}
 use Rattle.grammar.specs.Texts.{Text}
 use Rattle.grammar.proofs.Texts.{program-text}
 use Rattle.grammar.proofs.Theorems.{read-is-program, program-inside}
+use Rattle.scopes.specs.Broken.{unbroken}
 use Rattle.scopes.specs.Search.{in_front, first_token}
 use Rattle.scopes.specs.Names.{Named}
 use Rattle.scopes.proofs.Joins.{quiet-left, quiet-right}
@@ -49,7 +50,7 @@ use Rattle.translation.proofs.Tables.{length-map}
 use Rattle.translation.proofs.Answers.{Accepted}
 
 -- a text of tokens ts that is the program x up to token j, with no rule broken
-module _ (ts : List Token) (x : Statement) (j : ℕ) (front : first_token ≤ length ts) (read : is_program (kinds_of ts) x first_token j) (quiet : (make ts x).broken.number ≡ 0) where
+module _ (ts : List Token) (x : Statement) (j : ℕ) (front : first_token ≤ length ts) (read : is_program (kinds_of ts) x first_token j) (quiet : (make ts x).broken ≡ unbroken) where
   abbrev pub n : Named
   n = named ts x
 
@@ -65,11 +66,11 @@ module _ (ts : List Token) (x : Statement) (j : ℕ) (front : first_token ≤ le
   abbrev pub y : Layout
   y = layout m.bases m.cells (instructions core)
 
-  kinds-quiet : (rules_of f x).number ≡ 0
+  kinds-quiet : rules_of f x ≡ unbroken
   unfolding make
   kinds-quiet = quiet-left (rules_of f x) _ (quiet-right (labelled ts x).broken _ (quiet-right n.broken _ quiet))
 
-  pub cells-quiet : (place_cells m.bases m.cells).broken.number ≡ 0
+  pub cells-quiet : (place_cells m.bases m.cells).broken ≡ unbroken
   unfolding make layout
   cells-quiet = quiet-right (rules_of f x) _ (quiet-right (labelled ts x).broken _ (quiet-right n.broken _ quiet))
 

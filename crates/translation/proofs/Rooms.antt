@@ -15,6 +15,8 @@ use Rattle.base.specs.Choose.{whether◌then◌else◌}
 use Rattle.base.specs.Lists.{◌∈◌}
 use Rattle.base.proofs.Lists.{all_in}
 use Rattle.grammar.specs.Tree.{Width, full, short, byte}
+use Rattle.scopes.specs.declared.Refusal.TheVariants.{NoRoom}
+use Rattle.scopes.specs.Broken.{unbroken}
 use Rattle.scopes.proofs.Joins.{quiet-left, quiet-right, rule-holds}
 use Rattle.static_rules.specs.Meaning.{Cell, element_size}
 use Rattle.static_rules.specs.Meanings.{Filled}
@@ -75,12 +77,12 @@ zeros zero k = refl
 zeros (suc n) zero = refl
 zeros (suc n) (suc k) = zeros n k
 
-pub quiet-earlier : (d : Filled) (s : Room) → (place_cell d s).broken.number ≡ 0 → s.broken.number ≡ 0
+pub quiet-earlier : (d : Filled) (s : Room) → (place_cell d s).broken ≡ unbroken → s.broken ≡ unbroken
 unfolding place_cell
 quiet-earlier d s h = quiet-left s.broken _ h
 
 -- "A segment is at most 4,096 bytes, every cell included."
-pub ends-fit : (n : ℕ) (ds : List Filled) → (place_cells n ds).broken.number ≡ 0 → (k : ℕ) → get_or (place_cells n ds).ends k 0 ≤ segment_limit
+pub ends-fit : (n : ℕ) (ds : List Filled) → (place_cells n ds).broken ≡ unbroken → (k : ℕ) → get_or (place_cells n ds).ends k 0 ≤ segment_limit
 unfolding place_cells place_cell
 ends-fit n [] h zero = omega arith
 ends-fit n [] h (suc zero) = omega arith
@@ -95,11 +97,11 @@ ends-fit n (d ∷ ds) h k = go (ends-fit n ds (quiet-left (place_cells n ds).bro
     go b (inl e) = omega arith
     go b (inr t) =
         let q = t.2 in
-        let r : end_for d.cell s.ends ≤ segment_limit = leb-true _ _ (rule-holds (leb (end_for d.cell s.ends) segment_limit) 12 d.cell.name (omega arith) (quiet-right s.broken _ h)) in
+        let r : end_for d.cell s.ends ≤ segment_limit = leb-true _ _ (rule-holds (leb (end_for d.cell s.ends) segment_limit) NoRoom d.cell.name (quiet-right s.broken _ h)) in
         omega arith
 
 -- and every cell begins in its segment
-pub offsets-fit : (n : ℕ) (ds : List Filled) → (place_cells n ds).broken.number ≡ 0 → (t : ℕ) → offset_of (place_cells n ds).placed t ≤ segment_limit
+pub offsets-fit : (n : ℕ) (ds : List Filled) → (place_cells n ds).broken ≡ unbroken → (t : ℕ) → offset_of (place_cells n ds).placed t ≤ segment_limit
 unfolding place_cells place_cell offset_of
 offsets-fit n [] h t = omega arith
 offsets-fit n (d ∷ ds) h t = go (eqb d.cell.name t) (offsets-fit n ds (quiet-left (place_cells n ds).broken _ h) t)
@@ -109,7 +111,7 @@ offsets-fit n (d ∷ ds) h t = go (eqb d.cell.name t) (offsets-fit n ds (quiet-l
 
     go : (b : Bool) → offset_of s.placed t ≤ segment_limit → (whether b then offset_for d.cell s.ends else offset_of s.placed t) ≤ segment_limit
     go true k =
-        let r : end_for d.cell s.ends ≤ segment_limit = leb-true _ _ (rule-holds (leb (end_for d.cell s.ends) segment_limit) 12 d.cell.name (omega arith) (quiet-right s.broken _ h)) in
+        let r : end_for d.cell s.ends ≤ segment_limit = leb-true _ _ (rule-holds (leb (end_for d.cell s.ends) segment_limit) NoRoom d.cell.name (quiet-right s.broken _ h)) in
         omega arith
     go false k = k
 

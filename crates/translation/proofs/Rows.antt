@@ -1,15 +1,16 @@
 -- Each row of the table against the definition, group by group: a source that a group lets pass is answered by the groups after it. Assumes nothing.
+use Rattle.std.specs.Prelude.{Some, None}
 use mathlib.Core.Path.{◌≡◌, refl, sym, ap, subst, ◌∙◌}
 use mathlib.Core.Logic.{◌⊎◌, inl, inr, ◌↔◌}
 use mathlib.Core.Bool.{false, ◌&&◌}
 use mathlib.Core.List.{List, [], ◌∷◌, ◌++◌}
 use Prim.Native.Nat.{ℕ, zero, suc, ◌<◌, ◌≤◌}
 use native.Mathlib.Omega.{arith}
-use lib.Dec.{T, eqb, ltb, leb, leb→le}
+use lib.Dec.{eqb, ltb, leb}
 use lib.ListN.{length, length-append}
 use borrow.Author.Tests.{eqb-true, eqb-false, ne_eqb, ltb-true, ltb-false, lt-ltb, le-ltb, le-leb}
 use Rattle.base.specs.Choose.{choose}
-use Rattle.base.proofs.Tests.{cases, and_left}
+use Rattle.base.proofs.Tests.{cases}
 use Rattle.spots.specs.declared.Spot.{Spot}
 use Rattle.token.specs.declared.Token.{Token}
 use Rattle.token.specs.Text.{Reading, TEXT-LIMIT, tokens_of}
@@ -20,7 +21,11 @@ use Rattle.grammar.specs.Reader.{Result, ok, bad}
 use Rattle.grammar.specs.Grammar.{program}
 use Rattle.grammar.specs.Refusals.{FourAt, FiveAt}
 use Rattle.grammar.proofs.Theorems as G
+use Rattle.scopes.specs.declared.Broken.{Broken}
+use Rattle.scopes.specs.Broken.{refusal_number, Ruling, unbroken}
 use Rattle.scopes.specs.Search.{in_front, first_token}
+use Rattle.scopes.proofs.Joins.{some-none, is_some}
+use Rattle.scopes.proofs.Numbers.{in-group}
 use Rattle.objtext.specs.Object.{Segment, content_of, frames_for, head_frame, content_frames, object_frames, line, hex, newline, text_of, object_text}
 use Rattle.translation.specs.Instructions.{sizes}
 use Rattle.translation.specs.Layout.{literals_end, segment_limit}
@@ -29,22 +34,30 @@ use Rattle.translation.specs.Translate.{Answer, accepted, refused, kinds_of, pla
 use Rattle.translation.specs.Broken.{Breaks, NotAfter}
 use Rattle.translation.specs.Rows.{Tokens, Program, Keeps, Fits, object_of, TokenAt, BrokenAt, ProgramLong, LiteralsLong, BufferShort, Row, Given}
 use Rattle.translation.proofs.Answers.{read-grammar}
-use Rattle.translation.proofs.Numbers.{make-ruled}
 use Rattle.translation.proofs.Tokens.{place_inside}
 use Rattle.translation.proofs.Breaking.{after_same, make-least}
 
 -- ── what is broken is the least of the rules that are ──
 
-none-broken : (ts : List Token) (x : Statement) → ((n t : ℕ) → Breaks ts x n t → ⊥) → (make ts x).broken.number ≡ 0
-none-broken ts x h = go (make ts x).broken.number refl
+none-broken : (ts : List Token) (x : Statement) → ((n t : ℕ) → Breaks ts x n t → ⊥) → (make ts x).broken ≡ unbroken
+none-broken ts x h = go (make ts x).broken refl
   where
-    go : (n : ℕ) → (make ts x).broken.number ≡ n → (make ts x).broken.number ≡ 0
-    go zero e = e
-    go (suc n) e = absurd (h _ _ ((make-least ts x).one_of (λ z. (let q : suc n ≡ 0 = sym e ∙ z in omega arith))))
+    go : (b : Ruling) → (make ts x).broken ≡ b → (make ts x).broken ≡ unbroken
+    go None e = e
+    go (Some b) e = absurd (h _ _ ((make-least ts x).one_of b e))
 
-least-broken : (ts : List Token) (x : Statement) (n t : ℕ) → Breaks ts x n t → ((m u : ℕ) → Breaks ts x m u → NotAfter n t m u)
-    → ((make ts x).broken.number ≡ n) × ((make ts x).broken.at ≡ t)
-least-broken ts x n t b l = (let h = (make-least ts x).least n t b in after_same h.1 (l _ _ ((make-least ts x).one_of h.0)))
+-- the broken rule that is answered is rule n at token t
+record BrokenIs (b : Ruling) (n t : ℕ) : Type 0 where
+  one : Broken
+  is : b ≡ Some one
+  number_is : refusal_number one.refusal ≡ n
+  at_is : one.at ≡ t
+
+least-broken : (ts : List Token) (x : Statement) (n t : ℕ) → Breaks ts x n t → ((m u : ℕ) → Breaks ts x m u → NotAfter n t m u) → BrokenIs (make ts x).broken n t
+least-broken ts x n t b l =
+    let h = (make-least ts x).least n t b in
+    let e = after_same h.not_after_it (l _ _ ((make-least ts x).one_of h.one h.is)) in
+    record { one = h.one; is = h.is; number_is = e.0; at_is = e.1 }
 
 module _ (source : List ℕ) (room : ℕ) where
   -- ── what the groups after those that are passed answer ──
@@ -66,9 +79,9 @@ module _ (source : List ℕ) (room : ℕ) where
       after-tree : Program source ts x → translate source room ≡ in_room room (on_rules ts (make ts x))
       after-tree p = after_text p.tokens ∙ rw ((G.accepted (kinds_of ts) first_token x p.end).1 p.is)
 
-      rules-refused : Program source ts x → (n : ℕ) → (make ts x).broken.number ≡ suc n → translate source room ≡ refused (suc n) (place_at ts (make ts x).broken.at)
+      rules-refused : Program source ts x → (b : Broken) → (make ts x).broken ≡ Some b → translate source room ≡ refused (refusal_number b.refusal) (place_at ts b.at)
       unfolding on_rules in_room
-      rules-refused p n e = after-tree p ∙ rw e
+      rules-refused p b e = after-tree p ∙ rw e
 
       after-rules : Keeps source ts x → translate source room ≡ in_room room (finish (make ts x))
       unfolding on_rules
@@ -130,18 +143,17 @@ module _ (source : List ℕ) (room : ℕ) where
       rw (eqb-true n 5 e) (tree-refused g.ts g.tokens 5 g.token ((G.refusal-5 (kinds_of g.ts) first_token g.token).1 g.is) ∙ ap (refused 5) g.place))
       (λ e. later n p (rw (a, b, c, d, e) at h))))))
     where
-      broken : (n p : ℕ) → BrokenAt source n p → 6 ≤ n → translate source room ≡ refused n p
-      broken zero p g l = absurd (omega arith)
-      broken (suc n) p g l =
-          let e = least-broken g.ts g.x (suc n) g.token g.breaks g.least in
-          rules-refused g.ts g.x g.program n e.0 ∙ ap (refused (suc n)) (ap (place_at g.ts) e.1 ∙ g.place)
+      broken : (n p : ℕ) → BrokenAt source n p → translate source room ≡ refused n p
+      broken n p g =
+          let e = least-broken g.ts g.x n g.token g.breaks g.least in
+          rules-refused g.ts g.x g.program e.one e.is ∙ rw e.number_is (ap (refused n) (ap (place_at g.ts) e.at_is ∙ g.place))
 
       later : (n p : ℕ) → choose (leb 6 n && leb n 13) (BrokenAt source n p)
           (choose (eqb n 14) (ProgramLong source p) (choose (eqb n 15) (LiteralsLong source p) (choose (eqb n 16) (BufferShort source room p) ⊥)))
           → translate source room ≡ refused n p
       later n p h =
           cases (leb 6 n && leb n 13)
-          (λ a. let g : BrokenAt source n p = rw a at h in broken n p g (leb→le 6 n (and_left (leb 6 n) (leb n 13) (subst T (sym a) tt))))
+          (λ a. let g : BrokenAt source n p = rw a at h in broken n p g)
           (λ a.
           cases (eqb n 14)
           (λ b. let g : ProgramLong source p = rw (a, b) at h in rw (eqb-true n 14 b, g.place) (program-long g.ts g.x g.keeps g.long))
@@ -197,22 +209,23 @@ module _ (source : List ℕ) (room : ℕ) where
       (λ r. (rw (one, two, three, four, five, le-leb 6 n l, le-leb n 13 h) at r), λ b. rw (one, two, three, four, five, le-leb 6 n l, le-leb n 13 h) b)
 
   program-given : (ts : List Token) (x : Statement) → Program source ts x → Given source room (translate source room)
-  program-given ts x p = go (make ts x).broken.number refl
+  program-given ts x p = go (make ts x).broken refl
     where
-      go : (n : ℕ) → (make ts x).broken.number ≡ n → Given source room (translate source room)
-      go zero e = keeps_given ts x (record { program = p; unbroken = λ n t h. ((make-least ts x).least n t h).0 e })
-      go (suc n) e =
-          let r = (make-ruled ts x).told (λ z. (let q : suc n ≡ 0 = sym e ∙ z in omega arith)) in
-          let at = place_at ts (make ts x).broken.at in
-          answered-by (refused (suc n) at) (rules-refused ts x p n e)
-          ((group-row (suc n) at (rw e at r.0) (rw e at r.1)).1
+      go : (b : Ruling) → (make ts x).broken ≡ b → Given source room (translate source room)
+      go None e = keeps_given ts x (record { program = p; unbroken = λ n t h. some-none (sym ((make-least ts x).least n t h).is ∙ e) })
+      go (Some b) e =
+          let n = refusal_number b.refusal in
+          let r = in-group b.refusal in
+          let at = place_at ts b.at in
+          answered-by (refused n at) (rules-refused ts x p b e)
+          ((group-row n at r.0 r.1).1
           (record {
             ts = ts;
             x = x;
             program = p;
-            token = (make ts x).broken.at;
-            breaks = subst (λ (m : ℕ). Breaks ts x m (make ts x).broken.at) e ((make-least ts x).one_of (λ z. (let q : suc n ≡ 0 = sym e ∙ z in omega arith)));
-            least = λ m t h. subst (λ (k : ℕ). NotAfter k (make ts x).broken.at m t) e ((make-least ts x).least m t h).1;
+            token = b.at;
+            breaks = (make-least ts x).one_of b e;
+            least = λ m t h. (let f = (make-least ts x).least m t h in rw (is_some (sym f.is ∙ e)) at f.not_after_it);
             place = refl;
           }))
 

@@ -13,8 +13,7 @@ use Rattle.spots.proofs.Theorems.{line-is, column-is, first-column-is}
 use Rattle.token.specs.declared.Token.{Token}
 use Rattle.token.specs.Text.{tokens_of}
 use Rattle.grammar.specs.Tree.{Statement}
-use Rattle.scopes.specs.declared.Broken.{Broken}
-use Rattle.scopes.specs.Broken.{◌⊕◌}
+use Rattle.scopes.specs.Broken.{Ruling, ◌⊕◌}
 use Rattle.scopes.specs.Search.{in_front, first_token}
 use Rattle.scopes.proofs.Least.{LeastOf, join-least}
 use Rattle.objtext.specs.Object.{Segment, Object, object_text}
@@ -29,7 +28,7 @@ use Rattle.translation.proofs.Tokens.{later-token}
 use Rattle.translation.proofs.Rows.{group-row, row-answered, row-given, place-in-text, number-some, text-some}
 
 -- of broken rules that are joined the least is answered, as it is of those of one event
-pub least : (a b : Broken) → LeastOf a b (a ⊕ b)
+pub least : (a b : Ruling) → LeastOf a b (a ⊕ b)
 least a b = join-least a b
 
 -- and each rule has a number from 6 to 13, so that a number belongs to one row of the table

@@ -6,7 +6,8 @@ use Rattle.token.specs.declared.Token.{Token}
 use Rattle.grammar.specs.Tree.{Statement}
 use Rattle.grammar.specs.Events.{labelled, sent, Event, route, uses, declares, events_of}
 use Rattle.grammar.specs.Places.{Place, after}
-use Rattle.scopes.specs.Broken.{unbroken, broken}
+use Rattle.scopes.specs.declared.Refusal.{Refusal}
+use Rattle.scopes.specs.Broken.{refusal_number, unbroken, broken}
 use Rattle.scopes.specs.Search.{in_block, find, innermost}
 use Rattle.scopes.specs.Names.{most_names, Named, names_in, name_event}
 use Rattle.scopes.specs.Labels.{most_labels, Labelled, labels_in, labels_set, label_event}
@@ -32,8 +33,9 @@ pub data LabelBroken (keys : List ℕ) (e : Event) (p : Place) (s : Labelled) (n
 
 -- of kinds, registers, values and bases, 8 to 12: the least of those of one event
 pub record KindBroken (f : Tables) (e : Event) (p : Place) (n t : ℕ) : Type 0 where
-  pub some : 0 < n
-  pub is : rules_at f e p ≡ broken n t
+  pub refusal : Refusal
+  pub number_is : n ≡ refusal_number refusal
+  pub is : rules_at f e p ≡ broken refusal t
 
 -- "12: cell ends past 4,096 … the cell's name", of the cells, the newest first, with so many base declarations
 abbrev pub CellBroken : (bases : ℕ) → List Filled → (n t : ℕ) → Type 0

@@ -3,8 +3,8 @@ use Rattle.std.specs.Prelude.{List, [], ◌∷◌, ◌++◌, ℕ, ◌+◌, ◌*�
 use Rattle.base.specs.Choose.{whether◌then◌else◌}
 use Rattle.base.specs.Lists.{member}
 use Rattle.base.specs.Numbers.{bytes_of}
-use Rattle.scopes.specs.declared.Broken.{Broken}
-use Rattle.scopes.specs.Broken.{unbroken, rule, ◌⊕◌}
+use Rattle.scopes.specs.declared.Refusal.TheVariants.{NoRoom}
+use Rattle.scopes.specs.Broken.{Ruling, unbroken, rule, ◌⊕◌}
 use Rattle.grammar.specs.Tree.{Width}
 use Rattle.static_rules.specs.Meaning.{Cell, element_size}
 use Rattle.static_rules.specs.Meanings.{Filled}
@@ -31,7 +31,7 @@ pub record Layout : Type 0 where
   pub placed : List Placed
   pub literals : List ℕ
   pub literals_at : ℕ
-  pub broken : Broken
+  pub broken : Ruling
 
 -- "the next multiple of" z
 abbrev pub round_up : ℕ → ℕ → ℕ
@@ -48,7 +48,7 @@ value_bytes w (v ∷ vs) = bytes_of (element_size w) v ++ value_bytes w vs
 pub record Room : Type 0 where
   pub ends : List ℕ
   pub placed : List Placed
-  pub broken : Broken
+  pub broken : Ruling
 
 abbrev pub offset_for : Cell → List ℕ → ℕ
 offset_for c ends = round_up (element_size c.width) (get_or ends c.base.segment 0)
@@ -64,7 +64,7 @@ place_cell d s =
       ends = set s.ends c.base.segment (end_for c s.ends);
       placed =
           record { name = c.name; segment = c.base.segment; offset = offset_for c s.ends; content = value_bytes c.width d.values } ∷ s.placed;
-      broken = s.broken ⊕ rule (leb (end_for c s.ends) segment_limit) 12 c.name;
+      broken = s.broken ⊕ rule (leb (end_for c s.ends) segment_limit) NoRoom c.name;
     }
 
 -- the ends before any cell: of the program, which has none, of segment 1, and of n segments more, which "start at 0"

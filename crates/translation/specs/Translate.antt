@@ -1,5 +1,5 @@
 -- Document 01, "Numbers answered": the whole translation, a function of the source and the buffer's room. "Groups in order: 1; 2, 3; 4, 5; 6 to 13; 14; 15; 16."
-use Rattle.std.specs.Prelude.{Bool, ◌||◌, List, ◌++◌, map, ℕ, zero, suc, ◌-◌, ltb, leb, length, drop, get_or, replicate}
+use Rattle.std.specs.Prelude.{Bool, ◌||◌, List, ◌++◌, map, ℕ, zero, suc, ◌-◌, ltb, leb, length, drop, get_or, replicate, Some, None}
 use Rattle.base.specs.Choose.{whether◌then◌else◌}
 use Rattle.base.specs.Text.{within}
 use Rattle.spots.specs.declared.Spot.{Spot}
@@ -10,8 +10,7 @@ use Rattle.grammar.specs.Tree.{Statement}
 use Rattle.grammar.specs.Reader.{Result, ok, bad}
 use Rattle.grammar.specs.Refusals.{Grammatical, derived, four, five}
 use Rattle.grammar.proofs.Theorems.{grammatical}
-use Rattle.scopes.specs.declared.Broken.{Broken}
-use Rattle.scopes.specs.Broken.{unbroken, ◌⊕◌}
+use Rattle.scopes.specs.Broken.{refusal_number, Ruling, unbroken, ◌⊕◌}
 use Rattle.scopes.specs.Search.{in_front, first_token}
 use Rattle.scopes.specs.Names.{Named, name_program}
 use Rattle.scopes.specs.Labels.{Labelled, label_program}
@@ -87,7 +86,7 @@ pub record Made : Type 0 where
   pub instructions : List Instruction
   pub layout : Layout
   pub bases : ℕ
-  pub broken : Broken
+  pub broken : Ruling
 
 unfoldable pub meant : List Token → Named → Statement → Meant
 meant ts n x = mean_program (kinds_of ts) (values_of ts) n.found x (standard (length ts - first_token))
@@ -116,12 +115,12 @@ finish m =
     accepted (object_text (segments m.bases m.layout m.instructions))
 
 -- "6 to 13"
-abbrev pub on_rules_by : List Token → Made → ℕ → Answer
-on_rules_by ts m zero = finish m
-on_rules_by ts m (suc n) = refused (suc n) (place_at ts m.broken.at)
+abbrev pub on_rules_by : List Token → Made → Ruling → Answer
+on_rules_by ts m None = finish m
+on_rules_by ts m (Some b) = refused (refusal_number b.refusal) (place_at ts b.at)
 
 unfoldable pub on_rules : List Token → Made → Answer
-on_rules ts m = on_rules_by ts m m.broken.number
+on_rules ts m = on_rules_by ts m m.broken
 
 -- "4 … 5 … token, or text length", which is the place of the end
 abbrev pub on_grammar : (ts : List Token) → Grammatical (kinds_of ts) first_token → Answer

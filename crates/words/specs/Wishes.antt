@@ -5,165 +5,135 @@
 --     same FILE OBJECT
 --     help [COMMAND|NUMBER]
 -- Each word is ended by a zero byte and named by its number, counted from 0. A word that begins with `-` and has more than that one byte is an option.
-use Rattle.std.specs.Prelude.{ℕ, zero, suc, ◌+◌, ◌-◌, ◌^◌, Bool, true, ◌&&◌, List, eqb, ltb, length, get_or}
+use Rattle.std.specs.Prelude.{ℕ, zero, suc, ◌+◌, ◌-◌, ◌^◌, Bool, ◌&&◌, ◌||◌, List, Option, Some, None, Result, Ok, Err, eqb, ltb, length, get_or}
+use Rattle.std.specs.Option.{ok_or}
 use Rattle.base.specs.Choose.{choose}
 use Rattle.base.specs.Text.{bytes, same_bytes}
 use Rattle.figures.specs.Parts.{part_count, part_of}
 use Rattle.figures.specs.Numbers.{digit_of, whole_number}
-use Rattle.figures.specs.declared.Reading.{Reading}
-use Rattle.figures.specs.declared.Reading.TheVariants.{Number, Nothing}
-use Rattle.words.specs.declared.Names.{Names}
-use Rattle.words.specs.declared.Options.{Options}
+use Rattle.words.specs.declared.Command.{Command}
+use Rattle.words.specs.declared.Command.TheVariants as command
+use Rattle.words.specs.declared.Awaited.{Awaited}
+use Rattle.words.specs.declared.Awaited.TheVariants.{Object, Set, Show, Budget, Code}
+use Rattle.words.specs.declared.Why.{Why}
+use Rattle.words.specs.declared.Why.TheVariants.{UnknownCommand, UnknownOption, TooMany, NoNumber, NoValue, NoName}
+use Rattle.words.specs.declared.Fault.{Fault}
 use Rattle.words.specs.declared.Wish.{Wish}
+use Rattle.words.specs.declared.Wish.TheVariants.{Translate, Check, Run, Same, Help}
+use Rattle.words.specs.declared.Said.{Said}
 
--- the commands, and 0 for any other word
-abbrev pub command_of : List ℕ → ℕ
+-- a word behind a wrong one is not looked at
+infixl 10 ◌>>=◌
+abbrev pub ◌>>=◌ : {A B : Type 0} → Result A Fault → (A → Result B Fault) → Result B Fault
+(Ok x) >>= f = f x
+(Err e) >>= f = Err e
+
+abbrev pub command_of : List ℕ → Option Command
 command_of s =
-    choose (same_bytes s (bytes "translate")) 1
-    (choose (same_bytes s (bytes "check")) 2
-    (choose (same_bytes s (bytes "run")) 3 (choose (same_bytes s (bytes "same")) 4 (choose (same_bytes s (bytes "help")) 5 (choose (same_bytes s (bytes "--help")) 5 0)))))
+    choose (same_bytes s (bytes "translate")) (Some command.Translate)
+    (choose (same_bytes s (bytes "check")) (Some command.Check)
+    (choose (same_bytes s (bytes "run")) (Some command.Run)
+    (choose (same_bytes s (bytes "same")) (Some command.Same)
+    (choose (same_bytes s (bytes "help") || same_bytes s (bytes "--help")) (Some command.Help) None))))
 
 abbrev pub is_option : List ℕ → Bool
 is_option s = eqb (get_or s 0 0) 45 && ltb 1 (length s)
 
--- the options, by the command that has them: what they wait for, and 0 for any other word
-abbrev pub run_option : List ℕ → ℕ
+-- the options, by the command that has them: what they wait for
+abbrev pub run_option : List ℕ → Option Awaited
 run_option s =
-    choose (same_bytes s (bytes "--set")) 2
-    (choose (same_bytes s (bytes "--show")) 3 (choose (same_bytes s (bytes "--budget")) 4 (choose (same_bytes s (bytes "--cc")) 5 0)))
+    choose (same_bytes s (bytes "--set")) (Some Set)
+    (choose (same_bytes s (bytes "--show")) (Some Show)
+    (choose (same_bytes s (bytes "--budget")) (Some Budget) (choose (same_bytes s (bytes "--cc")) (Some Code) None)))
 
-abbrev pub option_of : ℕ → List ℕ → ℕ
-option_of command s = choose (eqb command 1) (choose (same_bytes s (bytes "-o")) 1 0) (choose (eqb command 3) (run_option s) 0)
+abbrev pub option_of : Command → List ℕ → Option Awaited
+option_of command.Translate s = choose (same_bytes s (bytes "-o")) (Some Object) None
+option_of command.Run s = run_option s
+option_of _ s = None
 
--- how many names a command has at most: any number is checked
-abbrev pub most_names : ℕ → ℕ → Bool
-most_names command names = choose (eqb command 2) true (choose (eqb command 4) (ltb names 2) (ltb names 1))
+-- the word with the number n is wrong
+abbrev pub wrong_at : ℕ → Why → Fault
+wrong_at n why = record { why = why; word = n }
 
--- the reasons why a word is wrong
-abbrev pub unknown_command : ℕ
-unknown_command = 1
-
-abbrev pub unknown_option : ℕ
-unknown_option = 2
-
-abbrev pub too_many : ℕ
-too_many = 3
-
-abbrev pub no_number : ℕ
-no_number = 4
-
-abbrev pub no_value : ℕ
-no_value = 5
-
-abbrev pub no_name : ℕ
-no_name = 6
-
--- a wish with one part changed
-abbrev pub naming : Wish → Names → Wish
-naming w names = record { command = w.command; names = names; options = w.options; fault = w.fault }
-
-abbrev pub asking : Wish → Options → Wish
-asking w options = record { command = w.command; names = w.names; options = options; fault = w.fault }
-
-abbrev pub wrong_at : Wish → ℕ → ℕ → Wish
-wrong_at w n why = record { command = w.command; names = w.names; options = w.options; fault = record { why = why; word = n } }
-
--- the first name is the file's, the second the other's; the object of `-o` is the other, and not counted
-abbrev pub first_name : Names → ℕ → Names
-first_name names n = record { count = 1; file = n; other = names.other }
-
-abbrev pub second_name : Names → ℕ → Names
-second_name names n = record { count = 2; file = names.file; other = n }
-
-abbrev pub object_name : Names → ℕ → Names
-object_name names n = record { count = names.count; file = names.file; other = n }
-
--- what an option waits for, and the number that it waited for
-abbrev pub waiting_for : Options → ℕ → Options
-waiting_for options option = record { waiting = option; budget = options.budget; code = options.code }
-
-abbrev pub with_number : Options → ℕ → Options
-with_number options v =
-    choose (eqb options.waiting 4)
-    (record { waiting = 0; budget = v; code = options.code })
-    (record { waiting = 0; budget = options.budget; code = v })
-
-abbrev pub waits_for : Wish → ℕ → Wish
-waits_for w option = asking w (waiting_for w.options option)
-
-abbrev pub with_name : Wish → ℕ → Wish
-with_name w n =
-    choose (eqb w.names.count 0) (naming w (first_name w.names n))
-    (choose (eqb w.names.count 1) (naming w (second_name w.names n)) w)
-
-abbrev pub with_object : Wish → ℕ → Wish
-with_object w n = naming (waits_for w 0) (object_name w.names n)
-
--- nothing but a command; `translate` without `-o` has word 0 for its object
-abbrev pub start_of : ℕ → Wish
-start_of command =
-    record {
-      command = command;
-      names = record { count = 0; file = 0; other = 0 };
-      options = record { waiting = 0; budget = 1000000; code = 0 };
-      fault = record { why = 0; word = 0 };
-    }
+-- nothing but a command
+abbrev pub start_of : Command → Said
+start_of c = record { command = c; first = None; second = None; waiting = None; object = None; budget = 1000000; code = 0 }
 
 -- a value that an option waits for
-abbrev pub numbered : Wish → ℕ → Wish
-numbered w v = asking w (with_number w.options v)
-
-abbrev pub counted : Wish → ℕ → Reading → Wish
-counted w n (Number v) = numbered w v
-counted w n Nothing = wrong_at w n no_number
+abbrev pub number_at : ℕ → List ℕ → Result ℕ Fault
+number_at n s = ok_or (whole_number 10 (2 ^ 32 - 1) s) (wrong_at n NoNumber)
 
 -- one object is named
-abbrev pub object_named : Wish → ℕ → Wish
-object_named w n = choose (eqb w.names.other 0) (with_object w n) (wrong_at w n too_many)
+abbrev pub object_named : Said → ℕ → Result Said Fault
+object_named said n = elim said.object [ None ↦ Ok (record said { object = Some n }) | Some _ ↦ Err (wrong_at n TooMany) ]
 
-abbrev pub valued : Wish → ℕ → List ℕ → Wish
-valued w n s =
-    choose (is_option s) (wrong_at w n no_value)
-    (choose (eqb w.options.waiting 1) (object_named w n)
-    (choose (ltb w.options.waiting 4) (waits_for w 0) (counted w n (whole_number 10 (2 ^ 32 - 1) s))))
+abbrev pub value_for : Awaited → Said → ℕ → List ℕ → Result Said Fault
+value_for Object said n s = object_named said n
+value_for Set said n s = Ok said
+value_for Show said n s = Ok said
+value_for Budget said n s = do
+  v ← number_at n s
+  Ok (record said { budget = v })
+value_for Code said n s = do
+  v ← number_at n s
+  Ok (record said { code = v })
 
--- an option, or a name
-abbrev pub opened : Wish → ℕ → ℕ → Wish
-opened w n option = choose (eqb option 0) (wrong_at w n unknown_option) (waits_for w option)
+abbrev pub valued : Said → Awaited → ℕ → List ℕ → Result Said Fault
+valued said option n s = choose (is_option s) (Err (wrong_at n NoValue)) (value_for option (record said { waiting = None }) n s)
 
-abbrev pub named_by : Wish → ℕ → Wish
-named_by w n = choose (most_names w.command w.names.count) (with_name w n) (wrong_at w n too_many)
+-- an option
+abbrev pub opened : Said → ℕ → List ℕ → Result Said Fault
+opened said n s = do
+  option ← ok_or (option_of said.command s) (wrong_at n UnknownOption)
+  Ok (record said { waiting = Some option })
 
--- the word with the number n behind the command; a word behind a wrong one is not looked at
-abbrev pub taken : Wish → ℕ → List ℕ → Wish
-taken w n s =
-    choose (ltb 0 w.fault.why) w
-    (choose (ltb 0 w.options.waiting) (valued w n s)
-    (choose (is_option s) (opened w n (option_of w.command s)) (named_by w n)))
+-- a name: `same` takes two, `check` any number, and any other command one
+abbrev pub named_again : Command → Said → ℕ → Result Said Fault
+named_again command.Check said n = Ok said
+named_again command.Same said n = elim said.second [ None ↦ Ok (record said { second = Some n }) | Some _ ↦ Err (wrong_at n TooMany) ]
+named_again _ said n = Err (wrong_at n TooMany)
+
+abbrev pub named : Said → ℕ → Result Said Fault
+named said n = elim said.first [ None ↦ Ok (record said { first = Some n }) | Some _ ↦ named_again said.command said n ]
+
+-- the word with the number n behind the command
+abbrev pub taken : Said → ℕ → List ℕ → Result Said Fault
+taken said n s = elim said.waiting [ Some option ↦ valued said option n s | None ↦ choose (is_option s) (opened said n s) (named said n) ]
 
 -- k words from the number n
-unfoldable pub taken_all : List ℕ → ℕ → ℕ → Wish → Wish
-taken_all words zero n w = w
-taken_all words (suc k) n w = taken_all words k (n + 1) (taken w n (part_of 0 n words))
+unfoldable pub taken_all : List ℕ → ℕ → ℕ → Said → Result Said Fault
+taken_all words zero n said = Ok said
+taken_all words (suc k) n said = taken said n (part_of 0 n words) >>= λ then. taken_all words k (n + 1) then
 
--- how many names a command has at least
-abbrev pub least_names : ℕ → ℕ
-least_names command = choose (eqb command 5) 0 (choose (eqb command 4) 2 1)
+-- at the end of n words: `help` wants no name, `same` two, and any other command one
+abbrev pub name_at : ℕ → Option ℕ → Result ℕ Fault
+name_at n name = ok_or name (wrong_at n NoName)
 
--- at the end of n words
-abbrev pub finished : ℕ → Wish → Wish
-finished n w =
-    choose (ltb 0 w.fault.why) w
-    (choose (ltb 0 w.options.waiting) (wrong_at w n no_value)
-    (choose (ltb w.names.count (least_names w.command)) (wrong_at w n no_name) w))
+abbrev pub wish_by : Command → ℕ → Said → Result Wish Fault
+wish_by command.Translate n said = do
+  file ← name_at n said.first
+  Ok (Translate file said.object)
+wish_by command.Check n said = do
+  file ← name_at n said.first
+  Ok Check
+wish_by command.Run n said = do
+  file ← name_at n said.first
+  Ok (Run (record { file = file; budget = said.budget; code = said.code }))
+wish_by command.Same n said = do
+  file ← name_at n said.first
+  object ← name_at n said.second
+  Ok (Same file object)
+wish_by command.Help n said = Ok (Help said.first)
 
-abbrev pub wish_for : ℕ → List ℕ → ℕ → Wish
-wish_for count words command =
-    choose (eqb command 0) (wrong_at (start_of 0) 0 unknown_command) (finished count (taken_all words (count - 1) 1 (start_of command)))
+abbrev pub wish_for : ℕ → Said → Result Wish Fault
+wish_for n said = elim said.waiting [ Some _ ↦ Err (wrong_at n NoValue) | None ↦ wish_by said.command n said ]
 
-abbrev pub wish_of : List ℕ → Wish
-wish_of words = wish_for (part_count 0 words) words (command_of (part_of 0 0 words))
+abbrev pub wish_of : List ℕ → Result Wish Fault
+wish_of words = do
+  c ← ok_or (command_of (part_of 0 0 words)) (wrong_at 0 UnknownCommand)
+  said ← taken_all words (part_count 0 words - 1) 1 (start_of c)
+  wish_for (part_count 0 words) said
 
--- "NAME is a register (R1, RA)": its number, and 16 for any other word
-abbrev pub register_in : List ℕ → ℕ
-register_in s = choose (eqb (length s) 2) (choose (eqb (get_or s 0 0) 82) (digit_of (get_or s 1 0)) 16) 16
+-- "NAME is a register (R1, RA)": its number
+abbrev pub register_in : List ℕ → Option ℕ
+register_in s = choose (eqb (length s) 2 && eqb (get_or s 0 0) 82) (digit_of (get_or s 1 0)) None

@@ -6,4 +6,4 @@ use Rattle.alu.proofs.add.Goals as goal
 pub returns : goal.returns
 returns c =
     add-made (search rules) (search rules) c.biased.ensures.0 c.biased-2.ensures.0
-    c.wrapping_add_u32.ensures.value c.settled_code.ensures
+    (search rules) c.settled_code.ensures

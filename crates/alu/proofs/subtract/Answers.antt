@@ -6,4 +6,4 @@ use Rattle.alu.proofs.subtract.Goals as goal
 pub returns : goal.returns
 returns c =
     subtract-made (search rules) (search rules) c.biased.ensures.0 c.biased-2.ensures.0
-    c.wrapping_sub_u32.ensures.value (search rules) c.settled_code.ensures
+    (search rules) (search rules) c.settled_code.ensures

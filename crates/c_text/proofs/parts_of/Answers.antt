@@ -1,29 +1,26 @@
--- `parts_of` puts down place, line, column and count of what was read, arm by arm. Assumes nothing.
-use mathlib.Core.Path.{◌≡◌, sym, ap}
-use Rattle.token.specs.Answers.{summary_of}
-use Rattle.token.specs.declared.Tokens.{Tokens}
+-- `parts_of` puts down place, line, column and count of what was read. Assumes nothing.
+use Rattle.std.proofs.Common.{ℕ, [], ◌∷◌, ◌≡◌, refl, sym, ap, ◌∙◌}
+use Rattle.token.specs.Answers.{Tokens, refusal_of, summary_of}
+use Rattle.token.specs.declared.Unread.{Unread}
+use Rattle.token.specs.declared.Unread.TheVariants as U
 use Rattle.c_text.specs.Lent.{parts_of}
 use Rattle.c_text.proofs.parts_of.Goals as goal
 
 of : {a b : Tokens} → a ≡ b → parts_of (summary_of b) ≡ parts_of (summary_of a)
 of e = ap (λ (t : Tokens). parts_of (summary_of t)) (sym e)
 
-pub returns-in-Read : goal.returns-in-Read
-returns-in-Read c =
-    of c.in-Read.is
+-- a refusal counts no token
+none-counted : (u : Unread) → (refusal_of u).count ≡ 0
+none-counted U.TooLong = refl
+none-counted (U.Refused r) = refl
+none-counted (U.Room needed) = refl
 
-pub returns-in-TooLong : goal.returns-in-TooLong
-returns-in-TooLong c =
-    of c.in-TooLong.is
+pub returns-in-Ok : goal.returns-in-Ok
+returns-in-Ok c =
+    of c.in-Ok.is
 
-pub returns-in-NoToken : goal.returns-in-NoToken
-returns-in-NoToken c =
-    of c.in-NoToken.is
-
-pub returns-in-OutOfRange : goal.returns-in-OutOfRange
-returns-in-OutOfRange c =
-    of c.in-OutOfRange.is
-
-pub returns-in-Room : goal.returns-in-Room
-returns-in-Room c =
-    of c.in-Room.is
+pub returns-in-Err : goal.returns-in-Err
+returns-in-Err c =
+    let e = refusal_of c.in-Err.unread in
+    rw c.spot-spot.ensures
+    (ap (λ (k : ℕ). e.spot.place ∷ e.spot.line ∷ e.spot.column ∷ k ∷ []) (sym (none-counted c.in-Err.unread)) ∙ of c.in-Err.is)

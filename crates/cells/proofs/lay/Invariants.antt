@@ -1,15 +1,10 @@
 -- `lay` goes word by word. The invariant: the whole is what the words that are left make of the storage and the fault so far. Assumes nothing.
-use Prim.Native.Nat.{◌≤◌, ◌-◌}
+use Prim.Native.Nat.{◌-◌}
 use mathlib.Core.Path.{◌≡◌}
-use lib.ListN.{length}
 use Rattle.settings.specs.Setting.{words_from}
-use Rattle.cells.specs.Setting.{laying_of, lay_word, laid_by}
+use Rattle.cells.specs.Setting.{laying_of, lay_next, laid_by}
 use Rattle.cells.proofs.lay.Given as goal
 
 abbrev pub invariant-loop-n : goal.invariant-loop-n
 invariant-loop-n l =
-    (1 ≤ l.n) × (length l.store ≡ length l.initial.store) × (laid_by l.source l.words l.initial.store ≡ words_from (lay_word l.source) l.words (l.count - l.n) l.n (laying_of l.store l.x))
-
-abbrev pub decreases-loop-n : goal.decreases-loop-n
-decreases-loop-n l =
-    l.count - l.n
+    laid_by l.source l.words l.initial.store ≡ words_from (lay_next l.source) l.words (l.count - l.n) l.n (laying_of l.store l.x)

@@ -6,17 +6,17 @@ use Rattle.cells.proofs.placed_at.Goals as goal
 pub returns-then-segment-gt3 : goal.returns-then-segment-gt3
 unfolding placed_at
 returns-then-segment-gt3 c =
-    rw (c.no_element.ensures, lt-ltb _ _ c.if-segment-gt3.true)
+    rw (lt-ltb _ _ c.if-segment-gt3.true)
 
 pub returns-then-offset-gt-PAGE : goal.returns-then-offset-gt-PAGE
 unfolding placed_at
 returns-then-offset-gt-PAGE c =
-    rw (c.no_element-then-offset-gt-PAGE.ensures, le-ltb _ _ c.if-segment-gt3.false, lt-ltb _ _ c.if-offset-gt-PAGE.true)
+    rw (le-ltb _ _ c.if-segment-gt3.false, lt-ltb _ _ c.if-offset-gt-PAGE.true)
 
 pub returns-then-v-gt-PAGE : goal.returns-then-v-gt-PAGE
 unfolding placed_at
 returns-then-v-gt-PAGE c =
-    rw (c.no_element-then-v-gt-PAGE.ensures, le-ltb _ _ c.if-segment-gt3.false, le-ltb _ _ c.if-offset-gt-PAGE.false, lt-ltb _ _ c.if-v-gt-PAGE.true)
+    rw (le-ltb _ _ c.if-segment-gt3.false, le-ltb _ _ c.if-offset-gt-PAGE.false, lt-ltb _ _ c.if-v-gt-PAGE.true)
 
 pub returns : goal.returns
 unfolding placed_at

@@ -1,27 +1,17 @@
--- `find` searches the first literals. Assumes nothing.
-use borrow.Author.Rules.{rules}
-use Rattle.code.proofs.Coding.{find-on, find-stop, find-end}
+-- `find` searches the first literals: the place of the first that is equal, or their number. Assumes nothing.
+use Rattle.std.proofs.Common.{rules, ◌≡◌, ℕ, take, tests, sym, ap, ◌∙◌, Option}
+use Rattle.std.proofs.lemmas.Iterator.Search.{position_from_yields_List}
+use Rattle.std.proofs.lemmas.Iterator.{YieldsList-from_slice}
+use Rattle.std.specs.List.{position}
+use Rattle.std.specs.Option.{unwrap_or}
+use lib.Dec.{eqb}
+use lib.Seq.{length-take-le}
+use Rattle.code.proofs.Coding.{found_is}
 use Rattle.code.proofs.find.Goals as goal
 
-pub returns-then-literals-i : goal.returns-then-literals-i
-returns-then-literals-i c = (
-  find-stop c.args.v c.args.literals.now c.args.count
-      c.requires c.loop-i.i c.loop-i-test.true c.if-literals-i.true
-      c.loop-i.invariant.1,
-  search rules,
-)
-
-pub loop-i-preserved : goal.loop-i-preserved
-loop-i-preserved c = (
-  search rules,
-  find-on c.args.v c.args.literals.now c.args.count
-      c.requires c.loop-i.i c.loop-i-test.true c.if-literals-i.false
-      c.loop-i.invariant.1,
-)
-
 pub returns : goal.returns
-returns c = (
-  find-end c.args.v c.args.literals.now c.args.count c.requires c.loop-i.i
-      c.loop-i-test.false c.loop-i.invariant.1,
-  search rules,
-)
+returns c =
+    let e : c.position.result ≡ position (λ (x : ℕ). eqb x c.args.v) (take c.args.count c.args.literals.now) =
+    position_from_yields_List (λ (x : ℕ). eqb x c.args.v) _ _ c.position.result c.position.ensures.ran (YieldsList-from_slice _ c.iter.ensures.rest) (λ x b q k. search (rules, tests)) in
+    found_is c.args.v (take c.args.count c.args.literals.now) c.args.count c.unwrap_or.result (sym (length-take-le c.args.count c.args.literals.now c.requires))
+    (c.unwrap_or.ensures ∙ ap (λ (o : Option ℕ). unwrap_or o c.args.count) e)

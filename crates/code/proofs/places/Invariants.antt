@@ -6,14 +6,10 @@ use Rattle.ledger.specs.Book.{wide_of, thin_of}
 use Rattle.tape.specs.Pass.{pass}
 use lib.ListN.{length, drop}
 use mathlib.Core.Path.{◌≡◌}
-use Prim.Native.Nat.{◌≤◌, ◌-◌, ◌*◌}
+use Prim.Native.Nat.{◌≤◌, ◌*◌}
 use Rattle.code.proofs.places.Given as goal
 
-abbrev pub invariant-loop-i : goal.invariant-loop-i
-invariant-loop-i l =
-    (l.i ≤ length l.tape) × (l.p ≤ most_bytes * l.i) × (length l.thin ≡ length l.initial.thin) × Same (thin_of l.initial.thin) (thin_of l.thin)
-    × (pass (place_step l.kinds (wide_of l.wide) (thin_of l.initial.thin)) (placing_of l.p l.w (thin_of l.thin).written) (drop l.i l.tape) ≡ places_in l.kinds (wide_of l.wide) (thin_of l.initial.thin) l.tape)
-
-abbrev pub decreases-loop-i : goal.decreases-loop-i
-decreases-loop-i l =
-    length l.tape - l.i
+abbrev pub invariant-loop-e : goal.invariant-loop-e
+invariant-loop-e l =
+    (l.e-index ≤ length l.tape) × (l.p ≤ most_bytes * l.e-index) × (length l.thin ≡ length l.initial.thin) × Same (thin_of l.initial.thin) (thin_of l.thin)
+    × (pass (place_step l.kinds (wide_of l.wide) (thin_of l.initial.thin)) (placing_of l.p l.w (thin_of l.thin).written) (drop l.e-index l.tape) ≡ places_in l.kinds (wide_of l.wide) (thin_of l.initial.thin) l.tape)

@@ -1,9 +1,11 @@
 -- `write_code` is the pass, and the last instruction. Assumes nothing.
 use Rattle.code.proofs.Holding.{holds-first, tape-turn, tape-end}
 use Rattle.code.specs.Coding.{laid_of}
-use Rattle.ledger.specs.Book.{wide_of, thin_of}
+use Rattle.emit.specs.Books.{wide_in, thin_in}
 use Rattle.emit.specs.declared.Emitted.{Emitted}
 use lib.ListN.{length}
+use Prim.Native.Nat.{◌+◌}
+use Rattle.base.proofs.Parts.{to_end}
 use native.Mathlib.Omega.{arith}
 use mathlib.Core.Path.{◌≡◌, refl, sym, ap, ◌∙◌}
 use mathlib.Core.List.{[]}
@@ -40,11 +42,7 @@ pub lay_table-length-requires : goal.lay_table-length-requires
 lay_table-length-requires c =
     let h = c.loop-i-test.true in
     let n = c.requires in
-    (h, n.0, omega (arith, c.loop-i.invariant.1, c.lay_codes-from.ensures.3, n.0))
-
-pub overflow_add-i : goal.overflow_add-i
-overflow_add-i c =
-    omega (arith, c.loop-i-test.true, c.requires.0)
+    (omega (arith, h, n.0), omega (arith, c.loop-i.invariant.1, c.lay_codes-from.ensures.3, n.0))
 
 pub loop-i-preserved : goal.loop-i-preserved
 loop-i-preserved c =
@@ -58,6 +56,7 @@ loop-i-preserved c =
     let laid = c.lay_codes-from in
     let table = c.lay_table-length in
     let n = c.requires in
+    let later = rw (to_end a.tape.now (l.i + 1)) at table.ensures.0 in
     let len : length l.literals ≡ length a.literals.now = l.invariant.5 in (
       omega arith,
       omega (arith, l.invariant.1, laid.ensures.3, table.ensures.1, n.0),
@@ -65,8 +64,8 @@ loop-i-preserved c =
       omega (arith, len, laid.ensures.2),
       table.auto.image ∙ (laid.auto.image ∙ l.invariant.4),
       laid.auto.literals ∙ len,
-      tape-turn a.start (length a.literals.now) a.kinds.now (wide_of a.wide.now) (thin_of a.thin.now) a.tape.now l.i op.result t.result _ _ _ _ _ _ _ _ _ _
-          c.event-made.result.codes l.w _ _ h op.ensures.0 t.ensures.0 codes written len laid.ensures.0 table.ensures.0 l.invariant.6,
+      tape-turn a.start (length a.literals.now) a.book.kinds.now (wide_in a.book) (thin_in a.book) a.tape.now l.i op.result t.result _ _ _ _ _ _ _ _ _ _
+          c.event-made.result.codes l.w _ _ h op.ensures.0 t.ensures.0 codes written len laid.ensures.0 later l.invariant.6,
     )
 
 pub lay_code-n-requires : goal.lay_code-n-requires
@@ -89,7 +88,7 @@ pub returns : goal.returns
 returns c =
     let a = c.args in let l = c.loop-i in let laid = c.lay_code-n in let len : length l.literals ≡ length a.literals.now = l.invariant.5
     in (
-      tape-end a.start (length a.literals.now) a.kinds.now (wide_of a.wide.now) (thin_of a.thin.now) a.tape.now a.image.now l.i
+      tape-end a.start (length a.literals.now) a.book.kinds.now (wide_in a.book) (thin_in a.book) a.tape.now a.image.now l.i
           l.at.length l.at.literals laid.result l.image l.literals _ _ l.w c.stop.result c.loop-i-test.false (laid.auto.literals ∙ len) c.stop.ensures (λ g. laid.ensures.0 (omega (arith, g, len))) (λ g. laid.ensures.1 (g ∙ sym len)) laid.ensures.2 l.invariant.6,
       omega (arith, laid.ensures.2, l.invariant.2, l.invariant.0),
     )

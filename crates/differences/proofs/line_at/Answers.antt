@@ -2,13 +2,11 @@
 use mathlib.Core.Path.{ap}
 use native.Mathlib.Omega.{arith}
 use lib.ListN.{length, length-take}
-use Rattle.differences.specs.Differences.{line_at}
 use Rattle.differences.proofs.line_at.Goals as goal
 
 pub returns : goal.returns
-unfolding line_at
 returns c = (
-  rw (c.part_count.ensures.0, c.front.ensures, c.common.ensures.0),
+  rw (c.part_count.ensures.0, c.front.ensures, c.common.ensures.value),
   omega (
     arith,
     c.part_count.ensures.1,

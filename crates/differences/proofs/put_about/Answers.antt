@@ -1,9 +1,7 @@
 -- The place, and what the text is not, piece by piece. Assumes nothing.
-use Rattle.differences.specs.Differences.{about_text}
-use Rattle.figures.proofs.Writing.{two}
+use Rattle.figures.proofs.Writing.{then}
 use Rattle.differences.proofs.put_about.Goals as goal
 
 pub returns : goal.returns
-unfolding about_text
 returns c =
-    two (two (two c.put_place-placed.ensures c.put_all-parted.ensures) c.put_all-named.ensures) c.put_all.ensures
+    then (then (then c.put_place.ensures c.put_all.ensures) c.put_all-2.ensures) c.put_all-3.ensures

@@ -1,15 +1,12 @@
 -- Head, lines and hint, of the lines with one number in both texts. Assumes nothing.
-use Rattle.figures.proofs.Writing.{called, two}
-use Rattle.differences.specs.Differences.{difference_at}
+use Rattle.figures.proofs.Writing.{called, then}
 use Rattle.differences.proofs.put_difference.Goals as goal
 
 pub returns : goal.returns
-unfolding difference_at
 returns c =
     called (rw (
       c.part-is.ensures,
       c.part-was.ensures,
-      c.common.ensures.0,
+      c.common.ensures.value,
     ))
-    (two (two c.put_head-headed.ensures
-    c.put_lines-shown.ensures) c.put_hint.ensures)
+    (then (then c.put_head.ensures c.put_lines.ensures) c.put_hint.ensures)

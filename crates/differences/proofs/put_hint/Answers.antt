@@ -1,19 +1,12 @@
 -- A text that begins with 01 has no hint. Assumes nothing.
-use Rattle.figures.proofs.Writing.{called, nothing}
+use Rattle.figures.proofs.Writing.{called, still}
 use Rattle.base.proofs.Tests.{told}
-use Rattle.differences.specs.Differences.{hint_text}
 use Rattle.differences.proofs.put_hint.Goals as goal
 
-pub returns-then-same : goal.returns-then-same
-unfolding hint_text
-returns-then-same c =
-    called (rw (← c.front.ensures, told c.same.ensures c.if-same.true)) (nothing _ _)
+pub returns-then-not-starts_with : goal.returns-then-not-starts_with
+returns-then-not-starts_with c =
+    called (rw (told c.starts_with.ensures.value c.if-not-starts_with.true)) c.put_all.ensures
 
-pub returns : goal.returns
-unfolding hint_text
-returns c =
-    called (rw (
-      ← c.front.ensures,
-      told c.same.ensures c.if-same.false,
-    ))
-    c.put_all.ensures
+pub returns-else-not-starts_with : goal.returns-else-not-starts_with
+returns-else-not-starts_with c =
+    called (rw (told c.starts_with.ensures.value c.if-not-starts_with.false)) still

@@ -1,14 +1,13 @@
--- None for an operand that there is not. Assumes nothing.
-use Rattle.base.proofs.Tests.{told}
+-- By whether there is an instruction. Assumes nothing.
 use Rattle.emit.specs.Codes.{apply_codes}
 use Rattle.emit.proofs.applied.Goals as goal
 
-pub returns-then-is_absent : goal.returns-then-is_absent
+pub returns-in-None : goal.returns-in-None
 unfolding apply_codes
-returns-then-is_absent c =
-    λ k h. rw (told c.is_absent.ensures c.if-is_absent.true)
+returns-in-None c =
+    λ k h. rw (← (c.in-None.ensures k h))
 
-pub returns : goal.returns
+pub returns-in-Some : goal.returns-in-Some
 unfolding apply_codes
-returns c =
-    λ k h. rw (told c.is_absent.ensures c.if-is_absent.false, ← (c.apply.ensures k h))
+returns-in-Some c =
+    λ k h. rw (← (c.in-Some.ensures k h))

@@ -7,7 +7,7 @@ use Rattle.emit.proofs.apply.Goals as goal
 pub returns-in-Absent : goal.returns-in-Absent
 unfolding apply_code
 returns-in-Absent c =
-    λ k h. rw c.in-Absent.is c.blank.ensures
+    λ k h. rw c.in-Absent.is
 
 pub returns-in-Held : goal.returns-in-Held
 unfolding apply_code

@@ -72,9 +72,8 @@ returns-then-family-eq-COUNTED c =
       ne_eqb _ _ c.if-family-eq-END_FOR.false,
       eq-eqb _ _ c.if-family-eq-COUNTED.true,
       ← c.meaning.ensures,
-      ← c.meant.ensures,
     )
-    c.used.ensures
+    (c.used.ensures _ c.meant.ensures)
 
 pub returns-then-family-eq-CHOSEN : goal.returns-then-family-eq-CHOSEN
 unfolding codes_of

@@ -6,7 +6,7 @@ use Rattle.emit.proofs.register_at.Goals as goal
 pub returns-then-family-eq-END_PROCEDURE : goal.returns-then-family-eq-END_PROCEDURE
 unfolding register_at
 returns-then-family-eq-END_PROCEDURE c =
-    rw (eq-eqb _ _ c.if-family-eq-END_PROCEDURE.true, ← c.meaning.ensures) c.register.ensures.0
+    rw (eq-eqb _ _ c.if-family-eq-END_PROCEDURE.true) c.register.ensures
 
 pub returns-then-family-eq-COMPARED : goal.returns-then-family-eq-COMPARED
 unfolding register_at
@@ -15,9 +15,8 @@ returns-then-family-eq-COMPARED c =
       ne_eqb _ _ c.if-family-eq-END_PROCEDURE.false,
       eq-eqb _ _ c.if-family-eq-COMPARED.true,
       ← c.less.ensures,
-      ← c.meaning-then-family-eq-COMPARED.ensures,
     )
-    c.register-then-family-eq-COMPARED.ensures.0
+    c.register-then-family-eq-COMPARED.ensures
 
 pub returns-then-family-eq-CALL : goal.returns-then-family-eq-CALL
 unfolding register_at
@@ -26,7 +25,7 @@ returns-then-family-eq-CALL c =
       ne_eqb _ _ c.if-family-eq-END_PROCEDURE.false,
       ne_eqb _ _ c.if-family-eq-COMPARED.false,
       eq-eqb _ _ c.if-family-eq-CALL.true,
-      ← c.meaning-then-family-eq-CALL.ensures,
+      ← c.meaning.ensures,
     )
     c.return_register.ensures
 
@@ -37,6 +36,5 @@ returns c =
       ne_eqb _ _ c.if-family-eq-END_PROCEDURE.false,
       ne_eqb _ _ c.if-family-eq-COMPARED.false,
       ne_eqb _ _ c.if-family-eq-CALL.false,
-      ← c.meaning-2.ensures,
     )
-    c.register-2.ensures.0
+    c.register-2.ensures

@@ -28,7 +28,6 @@ returns c =
       eq-eqb _ _ c.if-kind-ne-CLOSE.false,
       ← c.kind-2.ensures,
       ne_eqb _ _ c.if-kind-eq-NUMBER.false,
-      ← c.meaning.ensures,
-      ← c.register.ensures.0,
+      ← c.register.ensures,
     )
     c.function_codes-2.ensures

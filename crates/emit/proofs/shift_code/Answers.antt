@@ -1,15 +1,24 @@
--- The opcode at the kind's place, 0 past the table. Assumes nothing.
-use native.Mathlib.Omega.{arith}
-use Rattle.emit.proofs.Tables.{shift_past}
+-- By the kind of the operator. Assumes nothing.
+use Rattle.base.specs.Runs.{run_len}
 use Rattle.translation.specs.Instructions.{shift_code}
 use Rattle.emit.proofs.shift_code.Goals as goal
 
-pub returns-then-i-lt4 : goal.returns-then-i-lt4
-unfolding shift_code
-returns-then-i-lt4 c =
-    (rw (← c.index_of-i.ensures.0) c.wide.ensures.0, c.wide.ensures.1)
+pub returns-in-29 : goal.returns-in-29
+unfolding shift_code run_len
+returns-in-29 c =
+    rw c.in-29.is
 
-pub returns : goal.returns
-unfolding shift_code
-returns c =
-    (rw (← c.index_of-i.ensures.0) (shift_past c.index_of-i.result c.if-i-lt4.false), omega arith)
+pub returns-in-30 : goal.returns-in-30
+unfolding shift_code run_len
+returns-in-30 c =
+    rw c.in-30.is
+
+pub returns-in-31 : goal.returns-in-31
+unfolding shift_code run_len
+returns-in-31 c =
+    rw c.in-31.is
+
+pub returns-in-32 : goal.returns-in-32
+unfolding shift_code run_len
+returns-in-32 c =
+    rw c.in-32.is

@@ -1,26 +1,24 @@
--- The sizes are summed. Assumes nothing.
-use borrow.Author.Rules.{rules}
+-- Of each shape. Assumes nothing.
 use native.Mathlib.Omega.{arith}
-use Rattle.emit.specs.Codes.{list_of}
-use Rattle.emit.proofs.Lists.{sizes-turn, sizes-end}
+use Rattle.emit.specs.Codes.{list_of, code_size}
 use Rattle.emit.proofs.size.Goals as goal
 
-pub loop-k-init : goal.loop-k-init
-loop-k-init c =
-    (search rules, search rules, search rules)
+pub returns-in-None : goal.returns-in-None
+unfolding list_of
+returns-in-None c =
+    (rw c.in-None.is, omega arith)
 
-pub loop-k-preserved : goal.loop-k-preserved
-loop-k-preserved c = (
-  search rules,
-  search rules,
-  sizes-turn (list_of c.args.m) c.loop-k.k c.loop-k.size _ _
-      (omega (arith, c.count-n.ensures.0, c.loop-k-test.true)) c.nth.ensures c.code_size-size.ensures.0
-      c.loop-k.invariant.2,
-)
+pub returns-in-One : goal.returns-in-One
+unfolding list_of
+returns-in-One c =
+    (rw (c.in-One.is, ← c.code_size.ensures.0) (omega arith), omega (arith, c.code_size.ensures.1))
 
-pub returns : goal.returns
-returns c = (
-  sizes-end (list_of c.args.m) c.loop-k.k c.loop-k.size
-      (omega (arith, c.count-n.ensures.0, c.loop-k-test.false)) c.loop-k.invariant.2,
-  search rules,
-)
+pub returns-in-Both : goal.returns-in-Both
+unfolding list_of
+returns-in-Both c =
+    (rw (c.in-Both.is, ← c.code_size-in-Both.ensures.0, ← c.code_size-in-Both-2.ensures.0) (omega arith), omega (arith, c.code_size-in-Both.ensures.1, c.code_size-in-Both-2.ensures.1))
+
+pub returns-in-Head : goal.returns-in-Head
+unfolding list_of code_size
+returns-in-Head c =
+    (rw c.in-Head.is, omega arith)

@@ -3,25 +3,20 @@ use mathlib.Core.Path.{refl}
 use native.Mathlib.Omega.{arith}
 use Rattle.translation.specs.Instructions.{times_row}
 use borrow.Author.Tests.{eq-eqb, ne_eqb}
-use Rattle.base.proofs.Tests.{told}
 use Rattle.emit.specs.Codes.{term_codes}
+use Rattle.emit.proofs.Tables.{shifted, unshifted}
 use Rattle.emit.proofs.term.Goals as goal
 
-pub returns-then-is_shift : goal.returns-then-is_shift
+pub returns-in-Some : goal.returns-in-Some
 unfolding term_codes
-returns-then-is_shift c =
-    rw (
-      told c.is_shift.ensures c.if-is_shift.true,
-      ← c.held.ensures,
-      ← c.amount.ensures,
-      ← c.shift_code.ensures.0,
-    )
+returns-in-Some c =
+    let (a, b) = shifted c.args.k c.in-Some.op c.in-Some.ensures in rw (a, ← c.held.ensures, ← c.amount.ensures, ← b)
 
 pub returns-then-k-eq-TIMES : goal.returns-then-k-eq-TIMES
 unfolding term_codes
 returns-then-k-eq-TIMES c =
     rw (
-      told c.is_shift.ensures c.if-is_shift.false,
+      unshifted c.args.k c.in_default.ensures,
       eq-eqb _ _ c.if-k-eq-TIMES.true,
       ← c.product_register.ensures,
     )
@@ -30,8 +25,5 @@ returns-then-k-eq-TIMES c =
 pub returns : goal.returns
 unfolding term_codes
 returns c =
-    rw (
-      told c.is_shift.ensures c.if-is_shift.false,
-      ne_eqb _ _ c.if-k-eq-TIMES.false,
-    )
+    rw (unshifted c.args.k c.in_default.ensures, ne_eqb _ _ c.if-k-eq-TIMES.false)
     (c.applied-2.ensures _ c.row_of.ensures)

@@ -16,7 +16,7 @@ returns-then-family-eq-CONTROL c =
 pub returns-then-family : goal.returns-then-family
 unfolding written_after
 returns-then-family c =
-    rw (ne_eqb _ _ c.if-family-eq-TARGET.false, ne_eqb _ _ c.if-family-eq-CONTROL.false, c.if-family.true) c.signing.ensures
+    rw (ne_eqb _ _ c.if-family-eq-TARGET.false, ne_eqb _ _ c.if-family-eq-CONTROL.false, c.if-family.true) (rw c.sign_at.ensures)
 
 pub returns-then-family-eq-ARGUED : goal.returns-then-family-eq-ARGUED
 unfolding written_after

@@ -1,22 +1,17 @@
 -- `behind` passes over n separators. Assumes nothing.
 use borrow.Author.Rules.{rules}
+use native.Mathlib.Omega.{arith}
 use Rattle.figures.proofs.Parts.{behind-on, behind-none, behind-end}
 use Rattle.figures.proofs.behind.Goals as goal
 
-pub returns-then-s-i : goal.returns-then-s-i
-returns-then-s-i c =
-    (behind-end _ _ _ _ _ c.if-s-i.true c.loop-left.invariant.1, search rules)
+pub returns-then-left-eq0 : goal.returns-then-left-eq0
+returns-then-left-eq0 c =
+    (behind-none _ _ _ _ c.loop-i.left (omega arith) c.loop-i.invariant, search rules)
 
-pub loop-left-preserved : goal.loop-left-preserved
-loop-left-preserved c = (
-  search rules,
-  rw c.left_after-left.ensures
-      (behind-on _ _ _ _ _ c.if-s-i.false c.loop-left-test.true c.loop-left.invariant.1),
-)
+pub loop-i-preserved : goal.loop-i-preserved
+loop-i-preserved c =
+    rw c.left_after-left.ensures (behind-on _ _ _ _ c.loop-i.left c.loop-i-test.true (omega arith) c.loop-i.invariant)
 
 pub returns : goal.returns
-returns c = (
-  behind-none c.args.sep c.args.n c.args.s.now
-      c.loop-left.i c.loop-left.left c.loop-left-test.false c.loop-left.invariant.1,
-  search rules,
-)
+returns c =
+    (behind-end _ _ _ _ c.loop-i.left c.loop-i-test.false c.loop-i.invariant, search rules)

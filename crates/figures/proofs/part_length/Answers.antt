@@ -1,17 +1,14 @@
--- `part_length` counts the bytes before the separator. Assumes nothing.
+-- `part_length` is where the first separator stands. Assumes nothing.
 use borrow.Author.Rules.{rules}
-use borrow.Author.Tests.{eq-eqb, ne_eqb}
-use Rattle.base.proofs.Runs.{run_on, run-stop, run_end}
+use borrow.Author.Tests.{tests}
+use lib.Dec.{eqb}
+use Rattle.std.proofs.lemmas.Iterator.{YieldsList-from_slice}
+use Rattle.std.proofs.lemmas.Iterator.Search.{position_from_yields_List}
+use Rattle.figures.proofs.Parts.{first_place}
 use Rattle.figures.proofs.part_length.Goals as goal
-
-pub returns-then-s-i : goal.returns-then-s-i
-returns-then-s-i c =
-    (run-stop _ _ _ (search rules) (rw (eq-eqb _ _ c.if-s-i.true)) (search rules), search rules)
-
-pub loop-i-preserved : goal.loop-i-preserved
-loop-i-preserved c =
-    (search rules, run_on _ _ _ (search rules) (rw (ne_eqb _ _ c.if-s-i.false)) (search rules))
 
 pub returns : goal.returns
 returns c =
-    (run_end _ _ _ (search rules) (search rules), search rules)
+    first_place (λ b. eqb b c.args.sep) c.args.s.now {r = c.position.result}
+    (position_from_yields_List (λ b. eqb b c.args.sep) _ _ c.position.result c.position.ensures.ran (YieldsList-from_slice c.args.s.now cc) (λ x b q k. search (rules, tests)))
+    c.unwrap_or.ensures

@@ -1,5 +1,5 @@
 -- `put_hex` lays two digits a byte. The invariant: the digits of the bytes that are left, laid from the place reached, make the whole. Assumes nothing.
-use Prim.Native.Nat.{◌+◌, ◌-◌, ◌*◌, ◌≤◌}
+use Prim.Native.Nat.{◌+◌, ◌*◌}
 use mathlib.Core.Path.{◌≡◌}
 use lib.ListN.{length, drop}
 use lib.Seq.{sets}
@@ -8,8 +8,4 @@ use Rattle.frames.proofs.put_hex.Given as goal
 
 abbrev pub invariant-loop-i : goal.invariant-loop-i
 invariant-loop-i l =
-    (l.i ≤ length l.bytes) × (length l.out ≡ length l.initial.out) × (sets l.out (l.at + 2 * l.i) (hex (drop l.i l.bytes)) ≡ sets l.initial.out l.at (hex l.bytes))
-
-abbrev pub decreases-loop-i : goal.decreases-loop-i
-decreases-loop-i l =
-    length l.bytes - l.i
+    (length l.out ≡ length l.initial.out) × (sets l.out (l.at + 2 * l.i) (hex (drop l.i l.bytes)) ≡ sets l.initial.out l.at (hex l.bytes))

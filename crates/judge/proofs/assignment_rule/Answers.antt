@@ -81,4 +81,4 @@ returns c =
           c.if-k-eq-FIRST.false,
       ne_eqb _ E.TERM c.if-k-eq-TERM.false,
       c.if-op.false,
-    ) c.none.ensures
+    )

@@ -32,7 +32,7 @@ returns-then-op-eq-ITEM c =
 pub returns-then-op-eq-VALUE : goal.returns-then-op-eq-VALUE
 unfolding cells_after form_at
 returns-then-op-eq-VALUE c =
-    λ f v. rw (c.if-op-eq-VALUE.true, c.one_less.ensures)
+    λ f v. rw (c.if-op-eq-VALUE.true, c.saturating_sub.ensures)
 
 pub returns : goal.returns
 unfolding cells_after

@@ -10,4 +10,4 @@ returns-then-is_register c =
 
 pub returns : goal.returns
 returns c =
-    λ f s. answers.control-nothing s _ _ c.meaning-m.ensures _ _ (sym c.is_register.ensures ∙ c.if-is_register.false) c.broken.ensures
+    λ f s. answers.control-nothing s _ _ c.meaning-m.ensures _ _ (sym c.is_register.ensures ∙ c.if-is_register.false) c.at.ensures

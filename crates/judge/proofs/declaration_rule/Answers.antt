@@ -50,4 +50,3 @@ returns c =
       ne_eqb _ E.BASE c.if-op-eq-BASE.false,
       ne_eqb _ E.PROCEDURE c.if-op-eq-PROCEDURE.false,
     )
-    c.none.ensures

@@ -6,4 +6,4 @@ pub returns : goal.returns
 returns c =
     λ kept.
     moves.left-block kept c.args.counts.now c.args.d _ _ _
-    c.fewer.ensures c.top.ensures c.less.ensures
+    c.saturating_sub.ensures c.top.ensures c.saturating_sub-2.ensures

@@ -3,7 +3,7 @@ use Rattle.tape.specs.Events as E
 use Rattle.tape.specs.Numbers.{form_at}
 use Rattle.judge.specs.Along.{open_after, open_of, aim_of}
 use Rattle.judge.proofs.Answers as answers
-use Prim.Native.Nat.{ℕ}
+use Rattle.judge.specs.declared.Target.{Target}
 use mathlib.Core.Path.{ap}
 use borrow.Author.Tests.{eq-eqb, ne_eqb}
 use Rattle.judge.proofs.open_after.Goals as goal
@@ -14,7 +14,7 @@ returns-then-k c =
     λ f s.
     let a = c.args in
     rw (← c.family-k.ensures, c.if-k.true)
-    (ap (λ (x : ℕ). open_of x a.o.name a.o.position) (answers.told s a.t _ c.meaning.ensures aim_of _ c.aim_of.ensures))
+    (ap (λ (x : Target). open_of x a.o.name a.o.position) (answers.told s a.t _ c.meaning.ensures aim_of _ c.aim_of.ensures))
 
 pub returns-then-op-eq-APPLIED : goal.returns-then-op-eq-APPLIED
 unfolding open_after form_at

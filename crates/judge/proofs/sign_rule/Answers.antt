@@ -1,13 +1,18 @@
 -- A sign is refused where the target is a cell.
 use Rattle.judge.specs.Along.{sign_rule}
-use Rattle.judge.proofs.Answers as answers
 use Rattle.judge.proofs.sign_rule.Goals as goal
 
-pub returns-then-target-eq1 : goal.returns-then-target-eq1
+pub returns-in-Cell : goal.returns-in-Cell
 unfolding sign_rule
-returns-then-target-eq1 c =
-    rw c.if-target-eq1.true c.broken.ensures
+returns-in-Cell c =
+    rw c.in-Cell.is c.at.ensures
 
-pub returns : goal.returns
-returns c =
-    answers.sign-else _ _ c.if-target-eq1.false c.none.ensures
+pub returns-in-Unfit : goal.returns-in-Unfit
+unfolding sign_rule
+returns-in-Unfit c =
+    rw c.in-Unfit.is
+
+pub returns-in-Register : goal.returns-in-Register
+unfolding sign_rule
+returns-in-Register c =
+    rw c.in-Register.is

@@ -6,29 +6,29 @@ use borrow.Author.Rules.{rules}
 use mathlib.Core.Path.{refl}
 use Rattle.layout.proofs.fill.Goals as goal
 
-pub loop-i-init : goal.loop-i-init
-loop-i-init c =
+pub loop-e-init : goal.loop-e-init
+loop-e-init c =
     (search rules, search rules, search rules, refl)
 
-pub loop-i-preserved : goal.loop-i-preserved
-loop-i-preserved c = (
+pub loop-e-preserved : goal.loop-e-preserved
+loop-e-preserved c = (
   search rules,
   search rules,
   search rules,
   rw c.image_event-f.ensures.0 (pass-turn
       (image_in c.args.k
       (wide_of c.args.wide.now))
-      (imaging_of c.loop-i.image
-      c.loop-i.f)
+      (imaging_of c.loop-e.image
+      c.loop-e.f)
       c.args.tape.now
-      c.loop-i.i c.op.result
-      c.token.result c.loop-i-test.true
+      c.loop-e.e-index c.op.result
+      c.token.result c.loop-e-test.true
       c.op.ensures.0 c.token.ensures.0
-      c.loop-i.invariant.3),
+      c.loop-e.invariant.3),
 )
 
 pub returns : goal.returns
 returns c =
     pass-end (image_in c.args.k (wide_of c.args.wide.now))
-    (imaging_of c.loop-i.image c.loop-i.f) c.args.tape.now c.loop-i.i
-    c.loop-i-test.false c.loop-i.invariant.3
+    (imaging_of c.loop-e.image c.loop-e.f) c.args.tape.now c.loop-e.e-index
+    c.loop-e-test.false c.loop-e.invariant.3

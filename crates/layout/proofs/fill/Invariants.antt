@@ -4,14 +4,10 @@ use Rattle.tape.specs.Pass.{pass}
 use Rattle.ledger.specs.Book.{wide_of}
 use lib.ListN.{length, drop}
 use mathlib.Core.Path.{◌≡◌}
-use Prim.Native.Nat.{◌≤◌, ◌-◌}
+use Prim.Native.Nat.{◌≤◌}
 use Rattle.layout.proofs.fill.Given as goal
 
-abbrev pub invariant-loop-i : goal.invariant-loop-i
-invariant-loop-i l =
+abbrev pub invariant-loop-e : goal.invariant-loop-e
+invariant-loop-e l =
     let step = image_in l.k (wide_of l.wide) in
-    (l.i ≤ length l.tape) × (length l.image ≡ length l.initial.image) × (l.f.size ≤ 4) × (pass step (imaging_of l.image l.f) (drop l.i l.tape) ≡ pass step (imaging_of l.initial.image nowhere) l.tape)
-
-abbrev pub decreases-loop-i : goal.decreases-loop-i
-decreases-loop-i l =
-    length l.tape - l.i
+    (l.e-index ≤ length l.tape) × (length l.image ≡ length l.initial.image) × (l.f.size ≤ 4) × (pass step (imaging_of l.image l.f) (drop l.e-index l.tape) ≡ pass step (imaging_of l.initial.image nowhere) l.tape)

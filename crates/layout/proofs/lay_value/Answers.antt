@@ -3,13 +3,13 @@ use borrow.Author.Rules.{rules}
 use Rattle.layout.proofs.Along.{laid-is, not-laid}
 use Rattle.layout.proofs.lay_value.Goals as goal
 
-pub returns-then-at-lt-SEGMENT_LIMIT : goal.returns-then-at-lt-SEGMENT_LIMIT
-returns-then-at-lt-SEGMENT_LIMIT c = (
+pub returns-then-f-lt-SEGMENT_LIMIT : goal.returns-then-f-lt-SEGMENT_LIMIT
+returns-then-f-lt-SEGMENT_LIMIT c = (
   laid-is c.args.image.now c.args.f
-      c.args.v c.if-at-lt-SEGMENT_LIMIT.true c.lay.ensures,
+      c.args.v c.if-f-lt-SEGMENT_LIMIT.true c.lay.ensures,
   search rules,
 )
 
 pub returns : goal.returns
 returns c =
-    (not-laid c.args.image.now c.args.f c.args.v c.if-at-lt-SEGMENT_LIMIT.false, search rules)
+    (not-laid c.args.image.now c.args.f c.args.v c.if-f-lt-SEGMENT_LIMIT.false, search rules)

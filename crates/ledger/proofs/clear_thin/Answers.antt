@@ -12,14 +12,6 @@ pub put_thin-requires : goal.put_thin-requires
 put_thin-requires c =
     (c.requires, omega arith)
 
-pub overflow_add-t : goal.overflow_add-t
-overflow_add-t c =
-    omega (arith, c.loop-t-test.true)
-
-pub loop-t-smaller : goal.loop-t-smaller
-loop-t-smaller c =
-    omega (arith, c.loop-t-test.true)
-
 pub loop-t-preserved : goal.loop-t-preserved
 loop-t-preserved c = (
   thin-turns c.args.thin.now c.loop-t.t

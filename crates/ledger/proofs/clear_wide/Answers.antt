@@ -12,14 +12,6 @@ pub put_wide-requires : goal.put_wide-requires
 put_wide-requires c =
     c.requires
 
-pub overflow_add-t : goal.overflow_add-t
-overflow_add-t c =
-    omega (arith, c.loop-t-test.true)
-
-pub loop-t-smaller : goal.loop-t-smaller
-loop-t-smaller c =
-    omega (arith, c.loop-t-test.true)
-
 pub loop-t-preserved : goal.loop-t-preserved
 loop-t-preserved c = (
   wide-turns c.args.wide.now c.loop-t.t

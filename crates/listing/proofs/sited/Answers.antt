@@ -13,6 +13,7 @@ returns-then-is_cell-value c =
       c.element_size.ensures.0,
       c.number.ensures.0,
       c.is_array.ensures,
+      c.is_some.ensures,
       c.mean-m.ensures,
     ) (sited-here (wide_of c.args.wide.now) c.args.key c.args.t c.args.later (rw (
       c.is_cell.ensures,

@@ -4,8 +4,8 @@ use Rattle.machine.proofs.service_step.Goals as goal
 
 pub returns-then-g-eq0 : goal.returns-then-g-eq0
 returns-then-g-eq0 c =
-    rw (eq-eqb _ _ c.if-g-eq0.true) c.halt.ensures
+    λ rs. rw (eq-eqb _ _ c.if-g-eq0.true, c.halt.ensures)
 
 pub returns-else-g-eq0 : goal.returns-else-g-eq0
 returns-else-g-eq0 c =
-    rw (ne_eqb _ _ c.if-g-eq0.false) c.halt-else-g-eq0.ensures
+    λ rs. rw (ne_eqb _ _ c.if-g-eq0.false, c.halt-else-g-eq0.ensures)

@@ -1,6 +1,5 @@
 -- `lay_literals` stores four bytes a literal. Assumes nothing.
 use borrow.Author.Rules.{rules}
-use Prim.Native.Nat.{◌-◌}
 use mathlib.Core.Path.{refl}
 use Rattle.made.proofs.Literals.{words-start, words-turn, words-end}
 use Rattle.made.proofs.lay_literals.Goals as goal

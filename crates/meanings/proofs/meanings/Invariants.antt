@@ -2,14 +2,8 @@
 use Rattle.meanings.specs.Flat.{view_of}
 use Rattle.ledger.specs.Book.{wide_of, thin_of}
 use Rattle.meanings.proofs.Along.{Going, Same}
-use lib.ListN.{length}
-use Prim.Native.Nat.{◌-◌}
 use Rattle.meanings.proofs.meanings.Given as goal
 
-abbrev pub invariant-loop-i : goal.invariant-loop-i
-invariant-loop-i l =
-    Going l.tape l.kinds (view_of (wide_of l.initial.wide) (thin_of l.initial.thin) 0) (wide_of l.wide) (thin_of l.thin) l.owners l.outer l.s l.form l.target l.first l.bases l.i × Same l.initial.wide l.initial.thin l.initial.owners l.initial.outer l.wide l.thin l.owners l.outer
-
-abbrev pub decreases-loop-i : goal.decreases-loop-i
-decreases-loop-i l =
-    length l.tape - l.i
+abbrev pub invariant-loop-e : goal.invariant-loop-e
+invariant-loop-e l =
+    Going l.tape l.kinds (view_of (wide_of l.initial.wide) (thin_of l.initial.thin) 0) (wide_of l.wide) (thin_of l.thin) l.owners l.outer l.s l.form l.target l.first l.bases l.e-index × Same l.initial.wide l.initial.thin l.initial.owners l.initial.outer l.wide l.thin l.owners l.outer

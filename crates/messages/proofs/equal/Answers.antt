@@ -1,7 +1,8 @@
 -- `equal` follows the definition. Assumes nothing.
-use Rattle.figures.proofs.Writing.{into, two}
+use borrow.Author.Rules.{rules}
+use Rattle.figures.proofs.Writing.{from_front, then}
 use Rattle.messages.proofs.equal.Goals as goal
 
 pub returns : goal.returns
 returns c =
-    into (two (two (two c.put_all-named.ensures c.put_all-told.ensures) c.put_all-made.ensures) c.put_all.ensures)
+    from_front c.new-told.ensures (then (then (then c.put_all.ensures c.put_all-2.ensures) c.put_all-3.ensures) c.put_all-4.ensures) c.end.ensures (search rules)

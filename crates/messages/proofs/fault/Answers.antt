@@ -1,7 +1,10 @@
 -- `fault` follows the definition. Assumes nothing.
-use Rattle.figures.proofs.Writing.{into, two}
+use borrow.Author.Rules.{rules}
+use Rattle.figures.proofs.Writing.{called, from_front, then}
 use Rattle.messages.proofs.fault.Goals as goal
 
 pub returns : goal.returns
 returns c =
-    into (two (two (two (two c.put_all-begun.ensures c.put_all-named.ensures) c.put_all-parted.ensures) c.put_phrase-told.ensures) c.put_all.ensures)
+    from_front c.new-told.ensures
+    (then (then (then (then c.put_all.ensures c.put_all-2.ensures) c.put_all-3.ensures) (called c.entry.ensures c.put_all-4.ensures)) c.put_all-5.ensures)
+    c.end.ensures (search rules)

@@ -1,31 +1,22 @@
 -- `in_block` finds the newest entry with a key. Assumes nothing.
 use Rattle.names.proofs.Search.{hit, miss, out}
-use native.Mathlib.Omega.{arith}
 use mathlib.Core.Path.{refl, sym}
 use Rattle.names.proofs.in_block.Goals as goal
 
 pub loop-j-init : goal.loop-j-init
 loop-j-init c =
-    refl
-
-pub overflow_sub-j : goal.overflow_sub-j
-overflow_sub-j c =
-    omega arith
+    λ further. refl
 
 pub returns-then-value-wanted : goal.returns-then-value-wanted
-returns-then-value-wanted c =
-    sym (hit _ _ _ _ _ c.loop-j.j _ _ c.loop-j-test.true
-    c.opens-d.ensures.0 c.value.ensures c.if-value-wanted.true c.loop-j.invariant)
-
-pub loop-j-smaller : goal.loop-j-smaller
-loop-j-smaller c =
-    omega arith
+returns-then-value-wanted c = record {
+  is = λ further. sym (hit _ _ _ _ further c.loop-j.j _ _ c.loop-j-test.true c.opens-d.ensures.0 c.value.ensures c.if-value-wanted.true (c.loop-j.invariant further));
+  small = c.opens-d.ensures.1;
+}
 
 pub loop-j-preserved : goal.loop-j-preserved
 loop-j-preserved c =
-    miss _ _ _ _ _ c.loop-j.j _ _ c.loop-j-test.true
-    c.opens-d.ensures.0 c.value.ensures c.if-value-wanted.false c.loop-j.invariant
+    λ further. miss _ _ _ _ further c.loop-j.j _ _ c.loop-j-test.true c.opens-d.ensures.0 c.value.ensures c.if-value-wanted.false (c.loop-j.invariant further)
 
 pub returns : goal.returns
 returns c =
-    sym (out _ _ _ _ _ c.loop-j.j c.loop-j-test.false c.loop-j.invariant)
+    record { is = λ further. sym (out _ _ _ _ further c.loop-j.j c.loop-j-test.false (c.loop-j.invariant further)); small = tt }

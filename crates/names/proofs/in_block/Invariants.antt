@@ -2,13 +2,11 @@
 use Rattle.names.specs.Flat.{span}
 use Rattle.scopes.specs.Search.{in_block}
 use Rattle.ledger.specs.Book.{wide_of, thin_of}
+use Prim.Native.Nat.{ℕ}
 use mathlib.Core.Path.{◌≡◌}
 use Rattle.names.proofs.in_block.Given as goal
 
 abbrev pub invariant-loop-j : goal.invariant-loop-j
 invariant-loop-j l =
-    in_block (wide_of l.wide).values l.wanted (span (thin_of l.thin).opens l.lo l.hi) 0 ≡ in_block (wide_of l.wide).values l.wanted (span (thin_of l.thin).opens l.lo l.j) 0
-
-abbrev pub decreases-loop-j : goal.decreases-loop-j
-decreases-loop-j l =
-    l.j
+    (further : ℕ) → in_block (wide_of l.wide).values l.wanted (span (thin_of l.thin).opens l.lo l.hi) further
+    ≡ in_block (wide_of l.wide).values l.wanted (span (thin_of l.thin).opens l.lo l.j) further

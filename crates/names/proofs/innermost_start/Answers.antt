@@ -3,10 +3,10 @@ use Rattle.names.proofs.Changes.{innermost-none, innermost-some}
 use Rattle.ledger.specs.Book.{thin_of}
 use Rattle.names.proofs.innermost_start.Goals as goal
 
-pub returns-then-depth-eq0 : goal.returns-then-depth-eq0
-returns-then-depth-eq0 c =
-    innermost-none (thin_of c.args.thin.now) c.args.b c.if-depth-eq0.true
+pub returns-then-b-eq0 : goal.returns-then-b-eq0
+returns-then-b-eq0 c =
+    innermost-none (thin_of c.args.thin.now) c.args.b c.if-b-eq0.true
 
 pub returns : goal.returns
 returns c =
-    innermost-some (thin_of c.args.thin.now) c.args.b _ c.if-depth-eq0.false c.written.ensures.0
+    innermost-some (thin_of c.args.thin.now) c.args.b _ c.if-b-eq0.false c.written.ensures.0

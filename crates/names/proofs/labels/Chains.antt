@@ -1,12 +1,12 @@
 -- A search along chains: what a hit, a miss and the end of a chain say of the definition's search. A chain falls, so it ends.
-use mathlib.Core.Path.{◌≡◌, refl, sym, ap, ◌∙◌}
+use mathlib.Core.Path.{◌≡◌, refl, ap, ◌∙◌}
 use mathlib.Core.List.{List, [], ◌∷◌}
 use Prim.Native.Nat.{ℕ, zero, suc, ◌≤◌, ◌<◌}
 use native.Mathlib.Omega.{arith}
-use lib.Dec.{ltb, eqb}
+use lib.Dec.{ltb}
 use lib.ListN.{get_or}
 use borrow.Author.Tests.{eq-eqb, ne_eqb, ltb-true}
-use Rattle.base.proofs.Tests.{by-test, cases}
+use Rattle.base.proofs.Tests.{by-test}
 use Rattle.scopes.specs.Search.{in_block, find}
 use Rattle.names.specs.Chains.{after, chain_of, chain, labels_in, blocks_in}
 
@@ -52,23 +52,6 @@ module _ (keys : List ℕ) (key : ℕ) (links : List ℕ) (further : ℕ) {X : �
   unfolding in_block
   out l h i = i ∙ rw (chain-end links l h)
 
--- what a chain gives is one of its labels, so more than 0: where it gives 0, the search goes on
-module _ (keys : List ℕ) (key : ℕ) (a : List ℕ) (further : ℕ) where
-  some-found : (most t : ℕ) → 0 < in_block keys key (chain_of a most t) 0 → in_block keys key (chain_of a most t) further ≡ in_block keys key (chain_of a most t) 0
-  unfolding in_block chain_of
-  some-found zero t h = absurd (omega arith)
-  some-found (suc most) zero h = absurd (omega arith)
-  some-found (suc most) (suc t) h = cases (eqb (get_or keys (suc t) 0) key) (λ e. rw e) (λ e. rw e (some-found most (after a (suc t)) (rw e at h)))
-
-  none_found : (most t : ℕ) → in_block keys key (chain_of a most t) 0 ≡ 0 → in_block keys key (chain_of a most t) further ≡ further
-  unfolding in_block chain_of
-  none_found zero t h = refl
-  none_found (suc most) zero h = refl
-  none_found (suc most) (suc t) h =
-      cases (eqb (get_or keys (suc t) 0) key)
-      (λ e. let z : suc t ≡ 0 = rw e at h in absurd (omega arith))
-      (λ e. rw e (none_found most (after a (suc t)) (rw e at h)))
-
 module _ (keys : List ℕ) (key : ℕ) (links outer : List ℕ) where
   pub blocks-turn : (b : ℕ) → 0 < b → blocks_in links outer b ≡ labels_in links b ∷ blocks_in links outer (after outer b)
   unfolding blocks_in
@@ -81,11 +64,3 @@ module _ (keys : List ℕ) (key : ℕ) (links outer : List ℕ) where
   pub find-end : (b : ℕ) → b ≤ 0 → find keys key (blocks_in links outer b) ≡ 0
   unfolding find blocks_in
   find-end b h = rw (chain-end outer b h)
-
-  -- a block at hand, whose newest label is l: d is what its chain gives
-  module _ {X : ℕ} (b l d : ℕ) (h : 0 < b) (e : l ≡ get_or links b 0) (g : d ≡ in_block keys key (chain links l) 0) (i : X ≡ find keys key (blocks_in links outer b)) where
-    pub found_in : 0 < d → X ≡ d
-    found_in s = i ∙ (find-in b l h e ∙ (some-found keys key links _ l l (rw (← g) s) ∙ sym g))
-
-    pub not_in : (next : ℕ) → d ≤ 0 → next ≡ after outer b → X ≡ find keys key (blocks_in links outer next)
-    not_in next z n = i ∙ (find-in b l h e ∙ (none_found keys key links _ l l (rw (← g) (omega arith)) ∙ rw n))

@@ -9,18 +9,18 @@ pub open_around-b-requires : goal.open_around-b-requires
 open_around-b-requires c =
     omega (arith, c.requires.1.0)
 
-pub loop-i-init : goal.loop-i-init
-loop-i-init c =
+pub loop-e-init : goal.loop-e-init
+loop-e-init c =
     going _ _ _ _ c.open_around-b.ensures.0
 
 pub declare_at-n-requires : goal.declare_at-n-requires
 declare_at-n-requires c =
-    (let f = c.loop-i.invariant.few in omega (arith, c.loop-i-test.true, c.requires.1.0, c.requires.1.1))
+    (let f = c.loop-e.invariant.few in omega (arith, c.loop-e-test.true, c.requires.1.0, c.requires.1.1))
 
 pub blocks_after-b-requires : goal.blocks_after-b-requires
 blocks_after-b-requires c = (
-  roomy _ _ _ _ _ _ _ c.loop-i.invariant
-      c.loop-i-test.true (omega (
+  roomy _ _ _ _ _ _ _ c.loop-e.invariant
+      c.loop-e-test.true (omega (
         arith,
         c.open_around-b.auto.thin,
         c.requires.1.0,
@@ -30,7 +30,7 @@ blocks_after-b-requires c = (
         c.requires.1.1,
       )),
   narrow_at c.args.tape.now _ _
-      c.loop-i.i
+      c.loop-e.e-index
       c.requires.0
       c.op-op.ensures.0 c.token-t.ensures.0,
 )
@@ -39,23 +39,10 @@ pub use_at-n-requires : goal.use_at-n-requires
 use_at-n-requires c =
     omega (arith, c.token-t.ensures.1)
 
-pub overflow_add-i : goal.overflow_add-i
-overflow_add-i c =
-    omega (
-      arith,
-      c.loop-i-test.true,
-      c.requires.1.0,
-      c.requires.1.1,
-    )
-
-pub loop-i-smaller : goal.loop-i-smaller
-loop-i-smaller c =
-    omega (arith, c.loop-i-test.true)
-
-pub loop-i-preserved : goal.loop-i-preserved
-loop-i-preserved c =
-    going_on c.loop-i.invariant _ _ _
-    c.loop-i-test.true
+pub loop-e-preserved : goal.loop-e-preserved
+loop-e-preserved c =
+    going_on c.loop-e.invariant _ _ _
+    c.loop-e-test.true
     c.op-op.ensures.0
     c.token-t.ensures.0
     c.declare_at-n.ensures
@@ -65,9 +52,9 @@ loop-i-preserved c =
 
 pub shape_of-thin : goal.shape_of-thin
 shape_of-thin c =
-    c.loop-i.invariant.same ∙ c.open_around-b.auto.thin
+    c.loop-e.invariant.same ∙ c.open_around-b.auto.thin
 
 pub returns : goal.returns
 returns c =
-    going_end c.loop-i.invariant c.args.thin.now
-    c.open_around-b.ensures.1 c.loop-i-test.false
+    going_end c.loop-e.invariant c.args.thin.now
+    c.open_around-b.ensures.1 c.loop-e-test.false

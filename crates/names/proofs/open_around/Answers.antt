@@ -29,14 +29,6 @@ enter_name-b-requires c =
       ),
     ))
 
-pub overflow_sub-t : goal.overflow_sub-t
-overflow_sub-t c =
-    omega arith
-
-pub loop-t-smaller : goal.loop-t-smaller
-loop-t-smaller c =
-    omega arith
-
 pub loop-t-preserved : goal.loop-t-preserved
 loop-t-preserved c = (
   entering-on c.loop-t.invariant.0 c.loop-t-test.true
@@ -51,4 +43,4 @@ shape_of-thin c =
 
 pub returns : goal.returns
 returns c =
-    (entering-end c.loop-t.invariant.0 c.loop-t-test.false, stays_on c.open_block-b.ensures.1 c.loop-t.invariant.0.stays)
+    (entering-end c.loop-t.invariant.0 (omega (arith, c.loop-t-test.false)), stays_on c.open_block-b.ensures.1 c.loop-t.invariant.0.stays)

@@ -8,7 +8,3 @@ use Rattle.names.proofs.open_around.Given as goal
 abbrev pub invariant-loop-t : goal.invariant-loop-t
 invariant-loop-t l =
     Entering (thin_of l.initial.thin) (thin_of l.thin) l.b l.t × (length l.thin ≡ length l.initial.thin)
-
-abbrev pub decreases-loop-t : goal.decreases-loop-t
-decreases-loop-t l =
-    l.t

@@ -16,7 +16,7 @@ returns-then-family-eq-COMPARED c =
     rw (
       ne_eqb _ E.PROCEDURE c.if-op-eq-PROCEDURE.false,
       eq-eqb _ E.COMPARED (same c.family.ensures c.if-family-eq-COMPARED.true),
-      ← c.less.ensures,
+      ← c.saturating_sub.ensures,
     ) c.use_name-then-family-eq-COMPARED.ensures
 
 pub returns : goal.returns

@@ -1,30 +1,25 @@
 -- `digit` follows the definition's tests. Assumes nothing.
-use borrow.Author.Rules.{rules}
+use Rattle.std.proofs.Common.{rules, sym}
 use Rattle.base.proofs.Tests.{picks}
 use Rattle.objtext.specs.Reader.{digit_of}
 use Rattle.objtext.proofs.digit.Goals as goal
 
-pub returns-then-c-lt48 : goal.returns-then-c-lt48
+pub returns-in-48-to-57 : goal.returns-in-48-to-57
 unfolding digit_of
-returns-then-c-lt48 c =
-    (search (picks, rules) depth 9, search rules)
+returns-in-48-to-57 c = (sym (search (picks, rules) depth 9), search rules)
 
-pub returns-then-c-le57 : goal.returns-then-c-le57
+pub returns-in-65-to-70 : goal.returns-in-65-to-70
 unfolding digit_of
-returns-then-c-le57 c =
-    (search (picks, rules) depth 9, search rules)
+returns-in-65-to-70 c = (sym (search (picks, rules) depth 9), search rules)
 
-pub returns-then-c-lt65 : goal.returns-then-c-lt65
+pub returns-in_default : goal.returns-in_default
 unfolding digit_of
-returns-then-c-lt65 c =
-    (search (picks, rules) depth 9, search rules)
+returns-in_default c = sym (search (picks, rules) depth 9)
 
-pub returns-then-c-le70 : goal.returns-then-c-le70
+pub returns-in_default-2 : goal.returns-in_default-2
 unfolding digit_of
-returns-then-c-le70 c =
-    (search (picks, rules) depth 9, search rules)
+returns-in_default-2 c = sym (search (picks, rules) depth 9)
 
-pub returns : goal.returns
+pub returns-in_default-3 : goal.returns-in_default-3
 unfolding digit_of
-returns c =
-    (search (picks, rules) depth 9, search rules)
+returns-in_default-3 c = sym (search (picks, rules) depth 9)

@@ -1,5 +1,5 @@
 -- `fill` lays the content. The invariant: what is left of the content, laid from the place reached, makes the whole. Assumes nothing.
-use Prim.Native.Nat.{◌+◌, ◌-◌, ◌≤◌}
+use Prim.Native.Nat.{◌+◌}
 use mathlib.Core.Path.{◌≡◌}
 use lib.ListN.{length, drop}
 use lib.Seq.{sets}
@@ -9,8 +9,4 @@ use Rattle.objtext.proofs.fill.Given as goal
 
 abbrev pub invariant-loop-j : goal.invariant-loop-j
 invariant-loop-j l =
-    (l.j ≤ l.n) × (length l.s ≡ length l.initial.s) × (sets l.s (l.at + l.j) (drop l.j (content_at (frames_for l.n) l.n (drop l.i l.t))) ≡ sets l.initial.s l.at (content_at (frames_for l.n) l.n (drop l.i l.t)))
-
-abbrev pub decreases-loop-j : goal.decreases-loop-j
-decreases-loop-j l =
-    l.n - l.j
+    (length l.s ≡ length l.initial.s) × (sets l.s (l.at + l.j) (drop l.j (content_at (frames_for l.n) l.n (drop l.i l.t))) ≡ sets l.initial.s l.at (content_at (frames_for l.n) l.n (drop l.i l.t)))

@@ -1,5 +1,5 @@
 -- `read` counts the segments. Assumes nothing.
-use borrow.Author.Rules.{rules}
+use Rattle.std.proofs.Common.{rules, arith, ◌≡◌}
 use Rattle.base.proofs.Tests.{told}
 use Rattle.objtext.proofs.Places.{after-program-place}
 use Rattle.objtext.proofs.Segments.{no_program, no-data, first-data, at_last_lem, not_last, no_more, one_more}
@@ -27,8 +27,6 @@ after_data-at-requires c =
 pub loop-k-init : goal.loop-k-init
 loop-k-init c = (
   search rules,
-  search rules,
-  search rules,
   rw c.after_data-at.ensures.0 (first-data c.args.t.now c.after_program-at.result
       (told c.is_program.ensures.0 c.if-not-is_program.false)
       (rw c.after_program-at.ensures.0 (after-program-place c.args.t.now))
@@ -38,14 +36,14 @@ loop-k-init c = (
 pub returns-then-is_last : goal.returns-then-is_last
 returns-then-is_last c =
     at_last_lem c.args.t.now
-    c.loop-k.k c.loop-k.at (search rules) c.loop-k.invariant.3
+    c.loop-k.k c.loop-k.at (search rules) c.loop-k.invariant.1
     (told c.is_last.ensures c.if-is_last.true)
 
 pub returns-then-not-is_data-2 : goal.returns-then-not-is_data-2
 returns-then-not-is_data-2 c =
     no_more c.args.t.now
     c.loop-k.k c.loop-k.at (search rules)
-    c.loop-k.invariant.3 c.loop-k-test.true
+    c.loop-k.invariant.1 c.loop-k-test.true
     (told c.is_last.ensures c.if-is_last.false) (told c.is_data-in-loop-k.ensures.0 c.if-not-is_data-2.true)
 
 pub after_data-at-requires-in-loop-k : goal.after_data-at-requires-in-loop-k
@@ -55,21 +53,20 @@ after_data-at-requires-in-loop-k c =
 pub loop-k-preserved : goal.loop-k-preserved
 loop-k-preserved c = (
   search rules,
-  search rules,
-  search rules,
-  rw c.after_data-at-in-loop-k.ensures.0 (one_more c.args.t.now c.loop-k.k c.loop-k.at (search rules) c.loop-k.invariant.3
+  rw c.after_data-at-in-loop-k.ensures.0 (one_more c.args.t.now c.loop-k.k c.loop-k.at (search rules) c.loop-k.invariant.1
       c.loop-k-test.true (told c.is_last.ensures c.if-is_last.false)
       (told c.is_data-in-loop-k.ensures.0 c.if-not-is_data-2.false)),
 )
 
 pub returns-then-is_last-2 : goal.returns-then-is_last-2
 returns-then-is_last-2 c =
-    at_last_lem c.args.t.now
-    c.loop-k.k c.loop-k.at (search rules) c.loop-k.invariant.3
-    (told c.is_last-2.ensures c.if-is_last-2.true)
+    let e : c.loop-k.k ≡ 4 = omega arith in
+    rw e at (at_last_lem c.args.t.now
+    c.loop-k.k c.loop-k.at (search rules) c.loop-k.invariant.1
+    (told c.is_last-2.ensures c.if-is_last-2.true))
 
-pub returns : goal.returns
-returns c =
+pub returns-else-is_last-2 : goal.returns-else-is_last-2
+returns-else-is_last-2 c =
     not_last c.args.t.now
-    c.loop-k.k c.loop-k.at (search rules) c.loop-k.invariant.3
+    c.loop-k.k c.loop-k.at (search rules) c.loop-k.invariant.1
     c.loop-k-test.false (told c.is_last-2.ensures c.if-is_last-2.false)

@@ -1,5 +1,5 @@
 -- `read` counts the segments. The invariant, `Reading`: those read, in front of what is read next, are the whole. Assumes nothing.
-use Prim.Native.Nat.{◌+◌, ◌-◌, ◌*◌, ◌≤◌}
+use Prim.Native.Nat.{◌+◌, ◌*◌, ◌≤◌}
 use Rattle.objtext.proofs.Segments.{Reading}
 use Rattle.objtext.specs.Reader.{data_line, content_length}
 use Rattle.objtext.specs.Object.{content_limit}
@@ -7,8 +7,4 @@ use Rattle.objtext.proofs.read.Given as goal
 
 abbrev pub invariant-loop-k : goal.invariant-loop-k
 invariant-loop-k l =
-    (2 ≤ l.k) × (l.k ≤ 4) × (l.at ≤ (data_line + content_length content_limit) * l.k) × Reading l.t l.k l.at
-
-abbrev pub decreases-loop-k : goal.decreases-loop-k
-decreases-loop-k l =
-    4 - l.k
+    (l.at ≤ (data_line + content_length content_limit) * l.k) × Reading l.t l.k l.at

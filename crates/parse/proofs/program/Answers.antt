@@ -1,45 +1,23 @@
--- `program` reads a block and `@`, and says what the definition's reader makes. Assumes nothing.
-use native.Mathlib.Omega.{arith}
-use borrow.Author.Tests.{eq-eqb, ne_eqb}
-use borrow.Author.Rules.{rules}
-use Rattle.base.proofs.Tests.{same, other}
+-- `program` says what the reader has read, or where it stands at a refusal. Assumes nothing.
+use Rattle.std.proofs.Common.{◌≡◌, arith, sym, ◌∙◌, subst, ℕ, ◌≤◌, List, [], length}
+use mathlib.Core.List.{append-nil}
 use Rattle.grammar.specs.Grammar as G
-use Rattle.grammar.specs.Reader.{and_then, look}
-use Rattle.readers.proofs.Reading.{done, no, stops, halts, goes}
-use Rattle.parse.proofs.Answers.{parsed}
+use Rattle.tape.specs.Tape.{tape_statement}
+use Rattle.readers.specs.declared.reader.Reader.{Reader}
+use Rattle.readers.specs.Reads.{Written}
+use Rattle.parse.specs.Programs.{Accepted}
 use Rattle.parse.proofs.program.Goals as goal
 
-pub returns-then-kind_at-ne-BEGIN : goal.returns-then-kind_at-ne-BEGIN
-unfolding G.program and_then look
-returns-then-kind_at-ne-BEGIN c =
-    parsed c.args.tape.now
-    (rw (ne_eqb _ _ (other c.kind_at.ensures.is c.if-kind_at-ne-BEGIN.true)) (no c.refused.ensures tt (search rules))) (λ z. search rules)
-    (search rules) (search rules)
+accepts : {ks before after : List ℕ} {i : ℕ} {new : Reader} → Written tape_statement ks i 0 before new (G.program ks i) → after ≡ new.tape.now
+    → Accepted ks i after (record { at = new.at; value = new.events })
+accepts {ks} {before} {after} {i} {new} w e =
+    let inside : new.at ≤ length ks = subst (λ (l : List ℕ). new.at ≤ length l) w.same new.inside in
+    let room : length new.kinds.now ≤ length after = rw e new.room in
+    let at = new.inside in
+    let low = new.low in
+    let far = w.low in
+    record { tree = w.what; is = w.is; events = rw e (sym (append-nil _) ∙ w.laid []); inside = inside; fits = omega arith; few = omega arith }
 
-pub returns-then-b-ne0 : goal.returns-then-b-ne0
-unfolding G.program and_then look
-returns-then-b-ne0 c =
-    parsed c.args.tape.now
-    (rw (eq-eqb _ _ (same c.kind_at.ensures.is
-    c.if-kind_at-ne-BEGIN.false))
-    (halts _ c.statement-b.ensures.read c.if-b-ne0.true c.refused-then-b-ne0.ensures)) (λ z. search rules)
-    (search rules) (search rules)
-
-pub returns-then-last-ne0 : goal.returns-then-last-ne0
-unfolding G.program and_then look
-returns-then-last-ne0 c =
-    parsed c.args.tape.now
-    (rw (eq-eqb _ _ (same c.kind_at.ensures.is
-    c.if-kind_at-ne-BEGIN.false))
-    (goes _ c.statement-b.ensures.read c.if-b-ne0.false (λ x w.
-    stops _ c.wanted-last.ensures.read c.if-last-ne0.true))) (λ z. search rules) (search rules) (search rules)
-
-pub returns : goal.returns
-unfolding G.program and_then look
-returns c =
-    parsed c.args.tape.now
-    (rw (eq-eqb _ _ (same c.kind_at.ensures.is
-    c.if-kind_at-ne-BEGIN.false))
-    (goes _ c.statement-b.ensures.read c.if-b-ne0.false (λ x w.
-    goes _ c.wanted-last.ensures.read c.if-last-ne0.false (λ u e. done c.read.ensures (omega arith) (omega arith) w)))) (λ z.
-    absurd (z c.read.ensures.number_is)) (search rules) (search rules)
+pub returns-in-Ok : goal.returns-in-Ok
+returns-in-Ok c =
+    accepts c.in-Ok.ensures.read (grind arith)

@@ -4,4 +4,4 @@ use Rattle.rules.proofs.argued_rules.Goals as goal
 
 pub returns : goal.returns
 returns c =
-    λ f s. rw (← (answers.takes_at s _ _ c.meaning.ensures _ _ c.meant-function.ensures c.argument-takes.ensures)) (c.argument_rules.ensures f s)
+    λ f s. rw (← (answers.takes_at s _ _ c.meaning.ensures _ c.takes-takes.ensures)) (c.argument_rules.ensures f s)

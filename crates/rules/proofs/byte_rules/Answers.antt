@@ -20,4 +20,4 @@ returns-then-shape-eq-NUMBER c =
 pub returns : goal.returns
 unfolding byte_rules
 returns c =
-    λ f e. rw (answers.a-place _ c.args.t c.if-shape-eq-NUMBER.false) c.broken.ensures
+    λ f e. rw (answers.a-place _ c.args.t c.if-shape-eq-NUMBER.false) c.at.ensures

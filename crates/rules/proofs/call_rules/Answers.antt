@@ -16,4 +16,4 @@ pub returns : goal.returns
 returns c =
     λ f s.
     answers.no-routine s _ _ _ _ c.found-p.ensures.0 c.mean-m.ensures
-    (sym c.is_routine.ensures ∙ c.if-is_routine.false) c.broken.ensures
+    (sym c.is_routine.ensures ∙ c.if-is_routine.false) c.at.ensures

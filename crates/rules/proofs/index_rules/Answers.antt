@@ -1,4 +1,5 @@
 -- By shape the index stands two or five tokens on, or there is none.
+use mathlib.Core.Path.{refl}
 use Rattle.rules.proofs.Answers as answers
 use Rattle.rules.proofs.index_rules.Goals as goal
 
@@ -12,4 +13,4 @@ returns-then-shape-eq-SUBSCRIPTED_INDEXED c =
 
 pub returns : goal.returns
 returns c =
-    λ f s. answers.no_index_lem f _ _ (answers.index-none _ _ c.if-shape-eq-INDEXED.false c.if-shape-eq-SUBSCRIPTED_INDEXED.false) c.none.ensures
+    λ f s. answers.no_index_lem f _ _ (answers.index-none _ _ c.if-shape-eq-INDEXED.false c.if-shape-eq-SUBSCRIPTED_INDEXED.false) refl

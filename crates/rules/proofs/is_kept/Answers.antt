@@ -1,25 +1,16 @@
 -- The loop goes down the stack: none above is the register.
 use Rattle.rules.proofs.Sorts as sorts
 use mathlib.Core.Path.{refl, sym}
-use native.Mathlib.Omega.{arith}
 use Rattle.rules.proofs.is_kept.Goals as goal
 
 pub loop-i-init : goal.loop-i-init
 loop-i-init c =
     refl
 
-pub overflow_sub-i : goal.overflow_sub-i
-overflow_sub-i c =
-    omega arith
-
 pub returns-then-r-offset : goal.returns-then-r-offset
 returns-then-r-offset c =
     sym (sorts.kept-hit _ _ c.loop-i.i _ c.loop-i-test.true c.offset.ensures c.if-r-offset.true
     c.loop-i.invariant)
-
-pub loop-i-smaller : goal.loop-i-smaller
-loop-i-smaller c =
-    omega arith
 
 pub loop-i-preserved : goal.loop-i-preserved
 loop-i-preserved c =

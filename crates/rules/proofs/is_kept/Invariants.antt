@@ -8,7 +8,3 @@ use Rattle.rules.proofs.is_kept.Given as goal
 abbrev pub invariant-loop-i : goal.invariant-loop-i
 invariant-loop-i l =
     member l.r (stack_of (wide_of l.wide).offsets l.depth) ≡ member l.r (stack_of (wide_of l.wide).offsets l.i)
-
-abbrev pub decreases-loop-i : goal.decreases-loop-i
-decreases-loop-i l =
-    l.i

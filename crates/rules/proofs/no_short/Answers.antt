@@ -6,7 +6,7 @@ use Rattle.rules.proofs.no_short.Goals as goal
 pub returns-then-shape-eq-NUMBER : goal.returns-then-shape-eq-NUMBER
 unfolding no_short
 returns-then-shape-eq-NUMBER c =
-    λ f s. rw (answers.a-number _ c.args.t c.if-shape-eq-NUMBER.true) c.none.ensures
+    λ f s. rw (answers.a-number _ c.args.t c.if-shape-eq-NUMBER.true)
 
 pub returns : goal.returns
 returns c =

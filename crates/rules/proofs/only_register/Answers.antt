@@ -6,7 +6,7 @@ use Rattle.rules.proofs.only_register.Goals as goal
 pub returns-then-shape-eq-NUMBER : goal.returns-then-shape-eq-NUMBER
 unfolding only_register
 returns-then-shape-eq-NUMBER c =
-    λ f s. rw (answers.a-number _ c.args.t c.if-shape-eq-NUMBER.true) c.broken.ensures
+    λ f s. rw (answers.a-number _ c.args.t c.if-shape-eq-NUMBER.true) c.at.ensures
 
 pub returns : goal.returns
 returns c =

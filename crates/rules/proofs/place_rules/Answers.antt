@@ -17,4 +17,4 @@ returns-then-is_cell c =
 pub returns : goal.returns
 returns c =
     λ f s. answers.placed-nowhere s _ _ c.meaning-m.ensures _ (sym c.is_register.ensures ∙ c.if-is_register.false)
-    (sym c.is_cell.ensures ∙ c.if-is_cell.false) c.broken.ensures
+    (sym c.is_cell.ensures ∙ c.if-is_cell.false) c.at.ensures

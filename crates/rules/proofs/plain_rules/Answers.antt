@@ -1,7 +1,6 @@
 -- A number is judged as a cell; a name is one without an index.
 use Rattle.static_rules.specs.Rules.{cell_rules, plain_rules}
-use Rattle.scopes.specs.Broken.{◌⊕◌}
-use Rattle.scopes.specs.declared.Broken.{Broken}
+use Rattle.scopes.specs.Broken.{Ruling, ◌⊕◌}
 use Rattle.rules.proofs.Answers as answers
 use mathlib.Core.Path.{ap₂, ◌∙◌}
 use Rattle.rules.proofs.plain_rules.Goals as goal
@@ -18,4 +17,4 @@ unfolding plain_rules
 returns c =
     λ f s.
     let e = answers.a-place _ c.args.t c.if-shape-eq-NUMBER.false in
-    rw e (c.join.ensures ∙ ap₂ (λ (x y : Broken). x ⊕ y) (rw e at (c.cell_rules-cell.ensures f s)) c.no_index.ensures)
+    rw e (c.join.ensures ∙ ap₂ (λ (x y : Ruling). x ⊕ y) (rw e at (c.cell_rules-cell.ensures f s)) c.no_index.ensures)

@@ -1,8 +1,7 @@
 -- The rules of a shift's operand, by its shape: a number is compared as it is, since what is at most 63 is not negative.
 use Rattle.static_rules.specs.Rules.{shift_rules}
 use Rattle.static_rules.proofs.Elements.{from_zero}
-use Rattle.scopes.specs.Broken.{◌⊕◌}
-use Rattle.scopes.specs.declared.Broken.{Broken}
+use Rattle.scopes.specs.Broken.{Ruling, ◌⊕◌}
 use Rattle.rules.proofs.Answers as answers
 use mathlib.Core.Path.{ap₂, ◌∙◌}
 use native.Mathlib.Omega.{arith}
@@ -28,5 +27,5 @@ returns c =
     let other = c.if-shape-eq-NUMBER.false in
     rw (answers.a-place _ t other)
     (c.join.ensures
-    ∙ ap₂ (λ (x y : Broken). x ⊕ y) (rw (answers.a-place _ t other) at (c.only_register-only.ensures f s))
+    ∙ ap₂ (λ (x y : Ruling). x ⊕ y) (rw (answers.a-place _ t other) at (c.only_register-only.ensures f s))
     (answers.no_zero s _ _ c.meaning.ensures c.zero_rule.ensures))

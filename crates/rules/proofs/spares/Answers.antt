@@ -1,25 +1,16 @@
 -- The loop goes down the stack: none above is in the set.
 use Rattle.rules.proofs.Sorts as sorts
 use mathlib.Core.Path.{refl, sym}
-use native.Mathlib.Omega.{arith}
 use Rattle.rules.proofs.spares.Goals as goal
 
 pub loop-i-init : goal.loop-i-init
 loop-i-init c =
     refl
 
-pub overflow_sub-i : goal.overflow_sub-i
-overflow_sub-i c =
-    omega arith
-
 pub returns-then-has : goal.returns-then-has
 returns-then-has c =
     sym (sorts.spares-hit _ _ c.loop-i.i _ _ c.loop-i-test.true
     c.offset.ensures c.has.ensures c.if-has.true c.loop-i.invariant)
-
-pub loop-i-smaller : goal.loop-i-smaller
-loop-i-smaller c =
-    omega arith
 
 pub loop-i-preserved : goal.loop-i-preserved
 loop-i-preserved c =

@@ -9,7 +9,3 @@ use Rattle.rules.proofs.spares.Given as goal
 abbrev pub invariant-loop-i : goal.invariant-loop-i
 invariant-loop-i l =
     spares (set_of l.set) (stack_of (wide_of l.wide).offsets l.depth) ≡ spares (set_of l.set) (stack_of (wide_of l.wide).offsets l.i)
-
-abbrev pub decreases-loop-i : goal.decreases-loop-i
-decreases-loop-i l =
-    l.i

@@ -1,4 +1,5 @@
 -- Two shapes have a subscript, two tokens on.
+use mathlib.Core.Path.{refl}
 use Rattle.rules.proofs.Answers as answers
 use Rattle.rules.proofs.subscript_rules.Goals as goal
 
@@ -11,4 +12,4 @@ returns-then-shape c =
 
 pub returns : goal.returns
 returns c =
-    λ f s n b. answers.no-subscript f _ _ c.if-shape.false c.none.ensures _
+    λ f s n b. answers.no-subscript f _ _ c.if-shape.false refl _

@@ -1,13 +1,13 @@
 -- A number is no register, and what is written is by what its name means.
 use Rattle.static_rules.specs.Rules.{written_rules}
 use Rattle.rules.proofs.Answers as answers
-use mathlib.Core.Path.{sym, ◌∙◌}
+use mathlib.Core.Path.{refl, sym, ◌∙◌}
 use Rattle.rules.proofs.written_rules.Goals as goal
 
 pub returns-then-shape-eq-NUMBER : goal.returns-then-shape-eq-NUMBER
 unfolding written_rules
 returns-then-shape-eq-NUMBER c =
-    λ f s. rw (answers.a-number _ c.args.t c.if-shape-eq-NUMBER.true) c.none.ensures
+    λ f s. rw (answers.a-number _ c.args.t c.if-shape-eq-NUMBER.true)
 
 pub returns-then-is_register : goal.returns-then-is_register
 unfolding written_rules
@@ -23,4 +23,4 @@ returns c =
     λ f s.
     rw (answers.a-place _ c.args.t c.if-shape-eq-NUMBER.false)
     (answers.writes-none s _ _ c.meaning-m.ensures _ (sym c.is_register.ensures ∙ c.if-is_register.false)
-    c.none-2.ensures)
+    refl)

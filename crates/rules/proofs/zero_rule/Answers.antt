@@ -1,4 +1,5 @@
 -- Register 0 is told by the packed number.
+use Rattle.scopes.specs.declared.Refusal.TheVariants.{WrongRegister}
 use Rattle.scopes.specs.Broken.{rule}
 use Prim.Native.Nat.{ℕ}
 use lib.Dec.{eqb}
@@ -10,5 +11,5 @@ use Rattle.rules.proofs.zero_rule.Goals as goal
 pub returns : goal.returns
 returns c =
     λ n b.
-    c.rule.ensures ∙ ap (λ (x : Bool). rule (not x) 9 c.args.t)
+    c.rule.ensures ∙ ap (λ (x : Bool). rule (not x) WrongRegister c.args.t)
     (ap₂ (λ (r : Bool) (k : ℕ). r && eqb k 0) c.is_register.ensures c.number.ensures.0 ∙ sorts.zero-sort n _ b)

@@ -1,14 +1,10 @@
--- `compare_all` ends, and stays in what is lent. The measure is the number of vectors up to the bound. Assumes nothing.
-use Prim.Native.Nat.{◌≤◌, ◌-◌}
+-- `compare_all` stays in what is lent. Assumes nothing.
+use Prim.Native.Nat.{◌<◌, ◌≤◌}
 use lib.ListN.{length}
 use mathlib.Core.Path.{◌≡◌}
 use Rattle.run_vectors.proofs.compare_all.Given as goal
 
-abbrev pub invariant-loop-compared : goal.invariant-loop-compared
-invariant-loop-compared g l =
+abbrev pub invariant-loop-number : goal.invariant-loop-number
+invariant-loop-number g l =
     (l.at ≤ l.to) × (l.to ≤ length l.input)
-    × (length l.input ≡ length l.initial.input) × (length l.store ≡ length l.initial.store) × (length l.out ≡ length l.initial.out) × (l.compared ≤ 1000000) × (l.equal ≤ l.compared)
-
-abbrev pub decreases-loop-compared : goal.decreases-loop-compared
-decreases-loop-compared g l =
-    1000000 - l.compared
+    × (length l.input ≡ length l.initial.input) × (length l.store ≡ length l.initial.store) × (length l.out ≡ length l.initial.out) × (l.equal < l.number)

@@ -8,10 +8,9 @@ use Rattle.runner.specs.Charted.{charted}
 use Rattle.runner.proofs.chart.Given as goal
 
 abbrev pub invariant-loop-k : goal.invariant-loop-k
-invariant-loop-k l =
-    (1 ≤ l.k) × (l.k ≤ l.count) × (l.count ≤ 4) × (l.at ≤ 11025 * l.k) × Walked (l.count - l.k) l.k (drop l.at l.t)
-    × (charted (l.count - l.k) l.k (drop l.at l.t) l.map ≡ charted (l.count - 1) 1 (after_program l.t) l.initial.map)
-
-abbrev pub decreases-loop-k : goal.decreases-loop-k
-decreases-loop-k l =
-    l.count - l.k
+invariant-loop-k l = record {
+  few : l.count ≤ 4;
+  near : l.at ≤ 11025 * l.k;
+  walked : Walked (l.count - l.k) l.k (drop l.at l.t);
+  charted : charted (l.count - l.k) l.k (drop l.at l.t) l.map ≡ charted (l.count - 1) 1 (after_program l.t) l.initial.map;
+}

@@ -3,47 +3,30 @@ use mathlib.Core.Path.{◌∙◌}
 use Rattle.machine.specs.Space.{needed}
 use Rattle.objtext.proofs.Places.{after-program-place}
 use Rattle.objtext.proofs.Walks.{object-walk, program-short}
-use Rattle.runner.proofs.Loads.{length-placed, length-cleared}
+use Rattle.runner.proofs.Loads.{zeros, length-placed, length-cleared}
 use Rattle.runner.proofs.Spaces.{loaded-is}
 use Rattle.runner.proofs.load.Goals as goal
 
 pub after_program-requires : goal.after_program-requires
 after_program-requires c =
-    program-short 0 c.args.t.now
-    (object-walk c.args.count
-    c.args.t.now
-    c.requires.0
-    c.requires.1).program
+    program-short 0 c.args.t.now (object-walk c.args.count c.args.t.now c.requires.0).program
 
 pub table-requires : goal.table-requires
 table-requires c = (
-  (object-walk c.args.count
-      c.args.t.now
-      c.requires.0
-      c.requires.1).few,
+  (object-walk c.args.count c.args.t.now c.requires.0).few,
   rw (
     c.place.ensures,
     length-placed,
-    c.clear.ensures,
-    length-cleared needed c.args.s.now
-        c.requires.2,
+    zeros needed c.args.s.now _ c.requires.1 (c.fill.ensures.after (λ _ e. e)),
+    length-cleared needed c.args.s.now c.requires.1,
   )
-      c.requires.2,
+      c.requires.1,
 )
 
 pub returns : goal.returns
 returns c =
-    c.table.ensures ∙ rw (
-      c.place.ensures,
-      c.clear.ensures,
-    )
-    (loaded-is c.args.count
-    c.args.t.now
-    c.args.s.now
-    c.after_program.result c.two_at.result
-    (object-walk c.args.count
-    c.args.t.now
-    c.requires.0
-    c.requires.1).some
-    (rw c.after_program.ensures.0
-    (after-program-place c.args.t.now)) c.two_at.ensures.0)
+    c.table.ensures
+    ∙ rw (c.place.ensures, zeros needed c.args.s.now _ c.requires.1 (c.fill.ensures.after (λ _ e. e)))
+    (loaded-is c.args.count c.args.t.now c.args.s.now c.after_program.result c.two_at.result
+    (object-walk c.args.count c.args.t.now c.requires.0).some
+    (rw c.after_program.ensures.0 (after-program-place c.args.t.now)) c.two_at.ensures.0)

@@ -1,25 +1,15 @@
 -- `table` enters each word. Assumes nothing.
-use mathlib.Core.Path.{◌∙◌}
-use borrow.Author.Rules.{rules}
-use Rattle.runner.proofs.Loads.{table_on, table-end, length-word, table-start}
+use Rattle.runner.proofs.Loads.{table_on, table-end, table-start}
 use Rattle.runner.proofs.table.Goals as goal
 
 pub loop-k-init : goal.loop-k-init
 loop-k-init c =
-    (search rules, search rules, table-start c.args.l c.args.count c.args.s.now)
+    table-start c.args.l c.args.count c.args.s.now
 
 pub loop-k-preserved : goal.loop-k-preserved
-loop-k-preserved c = (
-  search rules,
-  rw c.table_word.ensures
-      (length-word c.args.l c.loop-k.k
-      c.loop-k.s ∙ c.loop-k.invariant.1),
-  rw c.table_word.ensures (table_on c.args.l
-      c.args.count c.loop-k.k
-      c.loop-k.s c.loop-k-test.true
-      c.loop-k.invariant.2),
-)
+loop-k-preserved c =
+    rw c.table_word.ensures (table_on c.args.l c.args.count c.loop-k.k c.loop-k.s c.loop-k-test.true c.loop-k.invariant)
 
 pub returns : goal.returns
 returns c =
-    table-end c.args.count c.loop-k.k c.loop-k-test.false c.args.l c.loop-k.s c.loop-k.invariant.2
+    table-end c.args.count c.loop-k.k c.loop-k-test.false c.args.l c.loop-k.s c.loop-k.invariant

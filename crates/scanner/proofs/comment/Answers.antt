@@ -8,6 +8,7 @@ use lib.Dec.{eqb}
 use Rattle.base.proofs.Tests.{tests}
 use Rattle.base.proofs.Parts.{to_end}
 use Rattle.base.specs.Runs.{run_len}
+use Rattle.base.proofs.Runs.{prefix-run}
 use Rattle.token.specs.Text.{comment}
 use Rattle.scanner.proofs.comment.Goals as goal
 
@@ -17,9 +18,9 @@ ran n s e = sym (e ∙ ap (λ (t : List ℕ). run_len (λ b. not (eqb b 59)) t) 
 pub returns-then-m-s : goal.returns-then-m-s
 unfolding comment
 returns-then-m-s c =
-    rw (ran c.args.n c.args.s.now c.run.ensures.is) (search tests)
+    rw (ran c.args.n c.args.s.now (c.run.ensures.is ∙ prefix-run _ _)) (search tests)
 
 pub returns : goal.returns
 unfolding comment
 returns c =
-    rw (ran c.args.n c.args.s.now c.run.ensures.is) (search tests)
+    rw (ran c.args.n c.args.s.now (c.run.ensures.is ∙ prefix-run _ _)) (search tests)

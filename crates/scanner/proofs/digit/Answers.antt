@@ -1,26 +1,25 @@
--- `digit` gives what a byte stands for: each test of the code is one of the definition. Assumes nothing.
-use native.Mathlib.Omega.{arith}
-use borrow.Author.Rules.{rules}
+-- `digit` gives what a byte stands for, as the definition's tests do. Assumes nothing.
+use Rattle.std.proofs.Common.{arith}
 use Rattle.base.proofs.Tests.{tests}
 use Rattle.scanner.proofs.Spelling.{low_byte}
 use Rattle.scanner.proofs.digit.Goals as goal
 
-pub returns-then-b-lt48 : goal.returns-then-b-lt48
-returns-then-b-lt48 c =
-    (low_byte c.args.b (search rules), omega arith)
-
-pub returns-then-b-le57 : goal.returns-then-b-le57
-returns-then-b-le57 c =
+pub returns-in-48-to-57 : goal.returns-in-48-to-57
+returns-in-48-to-57 c =
     (search (tests, arith), omega arith)
 
-pub returns-then-b-lt65 : goal.returns-then-b-lt65
-returns-then-b-lt65 c =
+pub returns-in-65-to-90 : goal.returns-in-65-to-90
+returns-in-65-to-90 c =
     (search (tests, arith), omega arith)
 
-pub returns-then-b-le90 : goal.returns-then-b-le90
-returns-then-b-le90 c =
+pub returns-in_default : goal.returns-in_default
+returns-in_default c =
+    (low_byte c.args.b (omega arith), omega arith)
+
+pub returns-in_default-2 : goal.returns-in_default-2
+returns-in_default-2 c =
     (search (tests, arith), omega arith)
 
-pub returns : goal.returns
-returns c =
+pub returns-in_default-3 : goal.returns-in_default-3
+returns-in_default-3 c =
     (search (tests, arith), omega arith)

@@ -1,4 +1,6 @@
 -- `digits` counts the digits at the front and gives their number, cut off. Assumes nothing.
+use mathlib.Core.Path.{◌≡◌, sym, ◌∙◌}
+use lib.ListN.{length}
 use native.Mathlib.Nat.{mul-le-mul_left}
 use native.Mathlib.Omega.{arith}
 use borrow.Author.Rules.{rules}
@@ -8,32 +10,40 @@ use Rattle.base.specs.Numbers.{number_from}
 use Rattle.scanner.proofs.Spelling.{value_on}
 use Rattle.scanner.proofs.digits.Goals as goal
 
-pub loop-i-init : goal.loop-i-init
+pub loop-size-init : goal.loop-size-init
 unfolding number_from
-loop-i-init c =
-    (search rules, search rules, search rules)
+loop-size-init c =
+    record { run = search rules; value = search rules }
 
 pub returns-then-base-d : goal.returns-then-base-d
 returns-then-base-d c =
-    record { size = run-stop _ _ _ (search rules) (rw (← c.digit-d.ensures.0) (search tests)) (search rules); value = search rules; fits = search rules }
+    record {
+      size = run-stop _ _ _ c.loop-size-test.true (rw (← c.digit-d.ensures.0) (search tests)) c.loop-size.invariant.run;
+      value = c.loop-size.invariant.value;
+      fits = search rules;
+    }
 
-pub overflow_mul-v : goal.overflow_mul-v
-overflow_mul-v c =
-    omega (arith, mul-le-mul_left c.loop-i.v c.requires, c.loop-i.invariant.2)
+pub overflow_mul-value : goal.overflow_mul-value
+overflow_mul-value c =
+    omega (arith, mul-le-mul_left c.loop-size.value c.requires, c.loop-size.invariant.value)
 
-pub overflow_add-v : goal.overflow_add-v
-overflow_add-v c =
-    omega (arith, mul-le-mul_left c.loop-i.v c.requires, c.loop-i.invariant.2)
+pub overflow_add-value : goal.overflow_add-value
+overflow_add-value c =
+    omega (arith, mul-le-mul_left c.loop-size.value c.requires, c.loop-size.invariant.value)
 
-pub loop-i-preserved : goal.loop-i-preserved
-loop-i-preserved c = (
-  search rules,
-  run_on _ _ _ (search rules) (rw (← c.digit-d.ensures.0) (search tests)) (search rules),
-  value_on _ c.args.base c.args.s.now
-      c.loop-i.i c.loop-i.v c.digit-d.result _
-      c.loop-i.invariant.2 (search rules) (search rules) (search rules),
-)
+pub loop-size-preserved : goal.loop-size-preserved
+loop-size-preserved c = record {
+  run = run_on _ _ _ c.loop-size-test.true (rw (← c.digit-d.ensures.0) (search tests)) c.loop-size.invariant.run;
+  value =
+      value_on _ c.args.base c.args.s.now c.loop-size.size c.loop-size.value c.digit-d.result _
+      c.loop-size.invariant.value c.loop-size-test.true c.digit-d.ensures.0 (search rules);
+}
 
 pub returns : goal.returns
 returns c =
-    record { size = run_end _ _ _ (search rules) (search rules); value = search rules; fits = search rules }
+    let e : c.loop-size.size ≡ length c.args.s.now = omega arith in
+    record {
+      size = sym e ∙ run_end _ _ _ (omega arith) c.loop-size.invariant.run;
+      value = rw e at c.loop-size.invariant.value;
+      fits = omega arith;
+    }

@@ -8,13 +8,14 @@ use borrow.Author.Tests.{eq-eqb, ne_eqb}
 use Rattle.base.proofs.Parts.{to_end}
 use Rattle.scanner.proofs.Spelling.{decimal, hexadecimal}
 use Rattle.scanner.specs.Inner.{in_base}
-use Rattle.token.specs.Text.{lexeme, number, plain, negated}
+use Rattle.base.proofs.Runs.{prefix-run}
+use Rattle.token.specs.Text.{separates, lexeme, number, plain, negated}
 use Rattle.scanner.proofs.front.Goals as goal
 
 pub returns-then-b : goal.returns-then-b
 unfolding lexeme
 returns-then-b c =
-    rw (c.if-b.true, ← c.run.ensures.is)
+    rw (c.if-b.true, ← (c.run.ensures.is ∙ prefix-run separates c.args.s.now))
 
 pub returns-then-b-2 : goal.returns-then-b-2
 unfolding lexeme

@@ -7,7 +7,7 @@ unfolding rule
 returns-then-holds c =
     rw c.if-holds.true
 
-pub returns : goal.returns
+pub returns-else-holds : goal.returns-else-holds
 unfolding rule
-returns c =
-    rw c.if-holds.false
+returns-else-holds c =
+    rw (c.if-holds.false, c.at.ensures)

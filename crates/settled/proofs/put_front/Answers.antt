@@ -8,22 +8,20 @@ use Rattle.settled.proofs.put_front.Goals as goal
 
 pub loop-t-init : goal.loop-t-init
 loop-t-init c =
-    (search rules, refl, refl, refl, refl)
+    record { same-kinds = refl; same-wide = refl; kinds = refl; values = refl }
 
 pub loop-t-preserved : goal.loop-t-preserved
-loop-t-preserved c = (
-  search rules,
-  search rules,
-  c.put_value.auto.wide ∙ c.loop-t.invariant.2,
-  lay-turn (kinds_of in_front) _ _ _ c.loop-t-test.true
-      refl c.loop-t.invariant.3,
-  values-turn (values_of in_front) _ _ _ _ c.loop-t-test.true (front-key c.loop-t.t) c.put_value.ensures c.loop-t.invariant.4,
-)
+loop-t-preserved c = record {
+  same-kinds = search rules;
+  same-wide = c.put_value.auto.wide ∙ c.loop-t.invariant.same-wide;
+  kinds = lay-turn (kinds_of in_front) _ _ _ c.loop-t-test.true refl c.loop-t.invariant.kinds;
+  values = values-turn (values_of in_front) _ _ _ _ c.loop-t-test.true (front-key c.loop-t.t) c.put_value.ensures c.loop-t.invariant.values;
+}
 
 pub shape_of-wide : goal.shape_of-wide
 shape_of-wide c =
-    c.loop-t.invariant.2
+    c.loop-t.invariant.same-wide
 
 pub returns : goal.returns
 returns c =
-    (lay-end (kinds_of in_front) _ _ c.loop-t-test.false c.loop-t.invariant.3, values-end (values_of in_front) _ _ c.loop-t-test.false c.loop-t.invariant.4)
+    (lay-end (kinds_of in_front) _ _ c.loop-t-test.false c.loop-t.invariant.kinds, values-end (values_of in_front) _ _ c.loop-t-test.false c.loop-t.invariant.values)

@@ -5,9 +5,8 @@ use mathlib.Core.List.{List}
 use native.Mathlib.Omega.{arith}
 use lib.ListN.{drop, length, length-set, set, take}
 use Rattle.token.specs.Text as T
-use Rattle.token.specs.declared.Next.{Next}
-use Rattle.token.specs.Answers.{outcome_of, kind_of}
-use Rattle.token.proofs.Readings.{Reads, reads-start, Answered, ends-inside, some_bytes, reads_on, reads-last, laid_on, laid-last, refused-inside, reads-no, laid-no}
+use Rattle.token.specs.Answers.{Next, outcome_of, kind_of}
+use Rattle.token.proofs.Readings.{Reads, reads-start, Answered, ends-inside, some_bytes, reads_on, reads-last, laid_on, laid-last, refused-inside, refused-some, reads-no, laid-no}
 use Rattle.token_lists.proofs.lay_kinds.Goals as goal
 
 kept : (l m : List ℕ) (i v : ℕ) → m ≡ set l i v → length m ≡ length l
@@ -28,46 +27,35 @@ shape_of-kinds-then-is_last c =
 pub returns-then-is_last : goal.returns-then-is_last
 returns-then-is_last c =
     let a = answered c.next_token-next.result c.loop-t.invariant.0 c.next_token-next.ensures in
-    let q = c.in-Token.is in
+    let q = c.in-Ok.is in
     let l = sym c.is_last.ensures ∙ c.if-is_last.true in
     record { is = reads-last a q l; are-laid = c.put_byte.ensures ∙ laid-last a q kind_of _ _ c.loop-t.invariant.1 l }
 
 pub overflow_add-at : goal.overflow_add-at
 overflow_add-at c =
-    omega (arith, ends-inside (answered c.next_token-next.result c.loop-t.invariant.0 c.next_token-next.ensures) c.in-Token.is)
+    omega (arith, ends-inside (answered c.next_token-next.result c.loop-t.invariant.0 c.next_token-next.ensures) c.in-Ok.is)
 
 pub loop-t-smaller : goal.loop-t-smaller
 loop-t-smaller c =
     let a = answered c.next_token-next.result c.loop-t.invariant.0 c.next_token-next.ensures in
-    let q = c.in-Token.is in
+    let q = c.in-Ok.is in
     omega (arith, ends-inside a q, some_bytes a q (sym c.is_last.ensures ∙ c.if-is_last.false))
 
 pub loop-t-preserved : goal.loop-t-preserved
 loop-t-preserved c =
     let a = answered c.next_token-next.result c.loop-t.invariant.0 c.next_token-next.ensures in
-    let q = c.in-Token.is in
+    let q = c.in-Ok.is in
     let l = sym c.is_last.ensures ∙ c.if-is_last.false in
     let e = c.put_byte.ensures in
     (reads_on a q l, rw e (laid_on a q kind_of _ _ c.loop-t.invariant.1 l), kept c.loop-t.kinds _ _ _ e ∙ c.loop-t.invariant.2)
 
-pub overflow_add-at-in-NoToken : goal.overflow_add-at-in-NoToken
-overflow_add-at-in-NoToken c =
-    omega (arith, refused-inside (answered c.next_token-next.result c.loop-t.invariant.0 c.next_token-next.ensures) (ap outcome_of c.in-NoToken.is))
+pub overflow_add-at-in-Err : goal.overflow_add-at-in-Err
+overflow_add-at-in-Err c =
+    omega (arith, refused-inside (answered c.next_token-next.result c.loop-t.invariant.0 c.next_token-next.ensures) (ap outcome_of c.in-Err.is))
 
-pub returns-in-NoToken : goal.returns-in-NoToken
-returns-in-NoToken c =
+pub returns-in-Err : goal.returns-in-Err
+returns-in-Err c =
     let a = answered c.next_token-next.result c.loop-t.invariant.0 c.next_token-next.ensures in
-    let q = ap outcome_of c.in-NoToken.is in
+    let q = ap outcome_of c.in-Err.is in
     let w = c.loop-t.invariant.1 in
-    record { is = rw c.spot_at.ensures (reads-no a q refl); are-laid = laid-no a q kind_of _ _ w }
-
-pub overflow_add-at-in-OutOfRange : goal.overflow_add-at-in-OutOfRange
-overflow_add-at-in-OutOfRange c =
-    omega (arith, refused-inside (answered c.next_token-next.result c.loop-t.invariant.0 c.next_token-next.ensures) (ap outcome_of c.in-OutOfRange.is))
-
-pub returns-in-OutOfRange : goal.returns-in-OutOfRange
-returns-in-OutOfRange c =
-    let a = answered c.next_token-next.result c.loop-t.invariant.0 c.next_token-next.ensures in
-    let q = ap outcome_of c.in-OutOfRange.is in
-    let w = c.loop-t.invariant.1 in
-    record { is = rw c.spot_at-in-OutOfRange.ensures (reads-no a q refl); are-laid = laid-no a q kind_of _ _ w }
+    record { is = rw c.spot_at-spot.ensures (reads-no a q (refused-some _)); are-laid = laid-no a q kind_of _ _ w }

@@ -39,19 +39,19 @@ pub place_of-requires : goal.place_of-requires
 place_of-requires c =
     c.requires.0
 
-pub shape_of-wide-then-number-ne0 : goal.shape_of-wide-then-number-ne0
-shape_of-wide-then-number-ne0 c =
+pub shape_of-wide-in-Some : goal.shape_of-wide-in-Some
+shape_of-wide-in-Some c =
     c.settle-s.auto.wide
 
-pub shape_of-thin-then-number-ne0 : goal.shape_of-thin-then-number-ne0
-shape_of-thin-then-number-ne0 c =
+pub shape_of-thin-in-Some : goal.shape_of-thin-in-Some
+shape_of-thin-in-Some c =
     c.settle-s.auto.thin ∙ c.bind-others.auto.thin
 
-pub returns-then-number-ne0 : goal.returns-then-number-ne0
-returns-then-number-ne0 c =
+pub returns-in-Some : goal.returns-in-Some
+returns-in-Some c =
     λ x t ek bs. let ts = all_tokens c.args.src.now in let b = c.bind-others.ensures.1 ts x t bs.no_found bs.no-goes in let many = rows_are ts _
     _ _ ek c.requires.4 in let rows = ap (λ (n : ℕ). replicate {A = ℕ} n 0) many.1 in let s = c.settle-s.ensures.2 ts x t ek b.found-is bs.no-means (c.bind-others.ensures.0.opens-are ∙ rows) (c.bind-others.ensures.0.written-are ∙ rows) many.0 in rule-broken ts x _ _ _ _ _ _ _ t b
-    c.settle-s.ensures.1 s _ _ c.place_of.ensures c.if-number-ne0.true
+    c.settle-s.ensures.1 s _ _ _ _ c.in-Some.is c.number.ensures c.place_of.ensures
 
 pub make-requires : goal.make-requires
 make-requires c =
@@ -63,20 +63,20 @@ make-requires c =
           (arith, e.three-is),
     )
 
-pub shape_of-wide : goal.shape_of-wide
-shape_of-wide c =
+pub shape_of-wide-in-None : goal.shape_of-wide-in-None
+shape_of-wide-in-None c =
     c.settle-s.auto.wide
 
-pub shape_of-thin : goal.shape_of-thin
-shape_of-thin c =
+pub shape_of-thin-in-None : goal.shape_of-thin-in-None
+shape_of-thin-in-None c =
     c.make.auto.thin ∙ (c.clear_written.auto.thin ∙ (c.settle-s.auto.thin ∙ c.bind-others.auto.thin))
 
 pub shape_of-out : goal.shape_of-out
 shape_of-out c =
     c.make.auto.out
 
-pub returns : goal.returns
-returns c =
+pub returns-in-None : goal.returns-in-None
+returns-in-None c =
     λ x t ek bs. let ts = all_tokens c.args.src.now in let b = c.bind-others.ensures.1 ts x t bs.no_found bs.no-goes in let many = rows_are ts _
     _ _ ek c.requires.4 in let rows = ap (λ (n : ℕ). replicate {A = ℕ} n 0) many.1 in let s = c.settle-s.ensures.2 ts x t ek b.found-is bs.no-means (c.bind-others.ensures.0.opens-are ∙ rows) (c.bind-others.ensures.0.written-are ∙ rows) many.0 in let long = thin-length 3 _ ∙ (ap (λ (n
-    : ℕ). n / 4) (c.settle-s.auto.thin ∙ c.bind-others.auto.thin) ∙ many.1) in none-broken ts x _ _ _ _ _ _ _ t b c.settle-s.ensures.1 s c.args.kinds.now c.args.out.now _ _ _ ek c.clear_written.ensures long c.if-number-ne0.false (c.make.ensures _ c.settle-s.ensures.0)
+    : ℕ). n / 4) (c.settle-s.auto.thin ∙ c.bind-others.auto.thin) ∙ many.1) in none-broken ts x _ _ _ _ _ _ _ t b c.settle-s.ensures.1 s c.args.kinds.now c.args.out.now _ _ _ ek c.clear_written.ensures long c.in-None.is (c.make.ensures _ c.settle-s.ensures.0)

@@ -1,4 +1,4 @@
--- `taken_all` takes word by word. The invariant: the whole is what the words that are left make of the wish so far. Assumes nothing.
+-- `taken_all` takes word by word. The invariant: the whole is what the words that are left make of what the words so far say. Assumes nothing.
 use Rattle.words.specs.Wishes.{taken_all, start_of}
 use mathlib.Core.Path.{◌≡◌}
 use Prim.Native.Nat.{◌-◌}
@@ -6,8 +6,4 @@ use Rattle.words.proofs.taken_all.Given as goal
 
 abbrev pub invariant-loop-n : goal.invariant-loop-n
 invariant-loop-n l =
-    taken_all l.words (l.count - 1) 1 (start_of l.command) ≡ taken_all l.words (l.count - l.n) l.n l.w
-
-abbrev pub decreases-loop-n : goal.decreases-loop-n
-decreases-loop-n l =
-    l.count - l.n
+    taken_all l.words (l.count - 1) 1 (start_of l.fn.command) ≡ taken_all l.words (l.count - l.n) l.n l.said

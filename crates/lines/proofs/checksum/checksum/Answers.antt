@@ -1,25 +1,16 @@
-use Rattle.std.proofs.Common.{arith, rules}
+use Rattle.std.proofs.Common.{rules}
 use Rattle.base.proofs.Walk.{fold-turn, fold_end}
 use Rattle.lines.specs.Checksum.{mixed, checksum}
 use Rattle.lines.proofs.checksum.checksum.Goals as goal
 
-pub loop-i-init : goal.loop-i-init
+pub loop-b-init : goal.loop-b-init
 unfolding checksum
-loop-i-init c =
-    search rules
+loop-b-init c = search rules
 
-pub overflow_cast-s : goal.overflow_cast-s
-overflow_cast-s c =
-    omega (arith, c.shared_slice_known-in-loop-i-1.given c.loop-i.i)
-
-pub loop-i-preserved : goal.loop-i-preserved
-loop-i-preserved c = (
-  search rules,
-  rw c.times_prime-h.ensures
-      (fold-turn mixed c.loop-i.h c.args.s.now c.loop-i.i 0
-      (search rules) c.loop-i.invariant.1),
-)
+pub loop-b-preserved : goal.loop-b-preserved
+loop-b-preserved c =
+    rw c.times_prime-h.ensures (fold-turn mixed c.loop-b.h c.args.s.now c.loop-b.b-index 0 (search rules) c.loop-b.invariant)
 
 pub returns : goal.returns
 returns c =
-    fold_end mixed c.loop-i.h c.args.s.now c.loop-i.i (search rules) c.loop-i.invariant.1
+    fold_end mixed c.loop-b.h c.args.s.now c.loop-b.b-index (search rules) c.loop-b.invariant

@@ -1,8 +1,6 @@
 -- `times_prime` is the product without what goes past 64 bits, by the two parts of the prime and the two halves of the number. Assumes nothing.
-use Rattle.std.proofs.Common.{◌∙◌}
 use Rattle.lines.proofs.Products.{product-wraps}
 use Rattle.lines.proofs.checksum.times_prime.Goals as goal
 
 pub returns : goal.returns
-returns c =
-    c.wrapping_add_u64-2.ensures.value ∙ rw c.wrapping_add_u64.ensures.value (product-wraps _)
+returns c = product-wraps _

@@ -8,13 +8,13 @@ use Rattle.names.proofs.labels.in_chain.Goals as goal
 
 pub loop-l-init : goal.loop-l-init
 loop-l-init c =
-    (refl, search rules)
+    ((λ further. refl), search rules)
 
 pub returns-then-value-wanted : goal.returns-then-value-wanted
-returns-then-value-wanted c = (
-  sym (hit _ _ _ _ c.loop-l.l _ c.loop-l-test.true c.value.ensures c.if-value-wanted.true c.loop-l.invariant.0),
-  c.loop-l.invariant.1,
-)
+returns-then-value-wanted c = record {
+  is = λ further. sym (hit _ _ _ further c.loop-l.l _ c.loop-l-test.true c.value.ensures c.if-value-wanted.true (c.loop-l.invariant.0 further));
+  small = c.loop-l.invariant.1;
+}
 
 pub loop-l-smaller : goal.loop-l-smaller
 loop-l-smaller c =
@@ -28,12 +28,11 @@ loop-l-smaller c =
 
 pub loop-l-preserved : goal.loop-l-preserved
 loop-l-preserved c = (
-  miss _ _ _ _ c.loop-l.l _ _ c.loop-l-test.true
-      c.value.ensures c.if-value-wanted.false (c.after-l.ensures.0 _ c.opens.ensures.0)
-      c.loop-l.invariant.0,
+  (λ further. miss _ _ _ further c.loop-l.l _ _ c.loop-l-test.true c.value.ensures c.if-value-wanted.false (c.after-l.ensures.0 _ c.opens.ensures.0)
+      (c.loop-l.invariant.0 further)),
   c.after-l.ensures.1,
 )
 
 pub returns : goal.returns
 returns c =
-    (sym (out _ _ _ _ c.loop-l.l c.loop-l-test.false c.loop-l.invariant.0), omega arith)
+    record { is = λ further. sym (out _ _ _ further c.loop-l.l c.loop-l-test.false (c.loop-l.invariant.0 further)); small = tt }

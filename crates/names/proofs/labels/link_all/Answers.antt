@@ -1,41 +1,32 @@
 -- `link_all` passes over the tape. Assumes nothing.
 use Rattle.names.proofs.labels.Along.{linking, linking-on, linking-end}
 use Rattle.ledger.proofs.Bounds.{narrow_at}
-use native.Mathlib.Omega.{arith}
 use Rattle.names.proofs.labels.link_all.Goals as goal
 
-pub loop-i-init : goal.loop-i-init
-loop-i-init c =
+pub loop-e-init : goal.loop-e-init
+loop-e-init c =
     linking _ _
 
 pub block_after-next-requires : goal.block_after-next-requires
 block_after-next-requires c = (
   narrow_at c.args.tape.now _ _
-      c.loop-i.i c.requires
+      c.loop-e.e-index c.requires
       c.op-op.ensures.0 c.token-t.ensures.0,
-  c.loop-i.invariant.small,
+  c.loop-e.invariant.small,
 )
 
 pub link-requires : goal.link-requires
 link-requires c =
-    narrow_at c.args.tape.now _ _ c.loop-i.i c.requires c.op-op.ensures.0 c.token-t.ensures.0
+    narrow_at c.args.tape.now _ _ c.loop-e.e-index c.requires c.op-op.ensures.0 c.token-t.ensures.0
 
 pub enclose-requires : goal.enclose-requires
 enclose-requires c =
-    c.loop-i.invariant.small
+    c.loop-e.invariant.small
 
-pub overflow_add-i : goal.overflow_add-i
-overflow_add-i c =
-    omega (arith, c.loop-i-test.true)
-
-pub loop-i-smaller : goal.loop-i-smaller
-loop-i-smaller c =
-    omega (arith, c.loop-i-test.true)
-
-pub loop-i-preserved : goal.loop-i-preserved
-loop-i-preserved c =
-    linking-on c.loop-i.invariant _ _ _
-    c.loop-i-test.true
+pub loop-e-preserved : goal.loop-e-preserved
+loop-e-preserved c =
+    linking-on c.loop-e.invariant _ _ _
+    c.loop-e-test.true
     c.op-op.ensures.0
     c.token-t.ensures.0
     c.block_after-next.ensures.0
@@ -45,8 +36,8 @@ loop-i-preserved c =
 
 pub shape_of-thin : goal.shape_of-thin
 shape_of-thin c =
-    c.loop-i.invariant.same
+    c.loop-e.invariant.same
 
 pub returns : goal.returns
 returns c =
-    linking-end c.loop-i.invariant c.loop-i-test.false
+    linking-end c.loop-e.invariant c.loop-e-test.false

@@ -1,5 +1,5 @@
 -- `lookup` finds the label that a key means. Assumes nothing.
-use Rattle.names.proofs.labels.Chains.{after_less, found_in, not_in, find-end}
+use Rattle.names.proofs.labels.Chains.{after_less, find-in, find-end}
 use Rattle.ledger.specs.Book.{thin_of}
 use native.Mathlib.Omega.{arith}
 use mathlib.Core.Path.{refl, sym, ◌∙◌}
@@ -9,11 +9,10 @@ pub loop-b-init : goal.loop-b-init
 loop-b-init c =
     refl
 
-pub returns-then-l-gt0 : goal.returns-then-l-gt0
-returns-then-l-gt0 c = (
-  sym (found_in _ _ _ _ c.loop-b.b _ _ c.loop-b-test.true c.opens.ensures.0
-      c.in_chain-l.ensures.0 c.loop-b.invariant c.if-l-gt0.true),
-  c.in_chain-l.ensures.1,
+pub returns-in-Some : goal.returns-in-Some
+returns-in-Some c = (
+  sym (c.loop-b.invariant ∙ (find-in _ _ _ _ c.loop-b.b _ c.loop-b-test.true c.opens.ensures.0 ∙ sym (c.in-Some.ensures.is _))),
+  c.in-Some.ensures.small,
 )
 
 pub loop-b-smaller : goal.loop-b-smaller
@@ -26,9 +25,8 @@ loop-b-smaller c =
 
 pub loop-b-preserved : goal.loop-b-preserved
 loop-b-preserved c =
-    not_in _ _ _ _ c.loop-b.b _ _ c.loop-b-test.true
-    c.opens.ensures.0 c.in_chain-l.ensures.0
-    c.loop-b.invariant _ (omega arith) (c.after-b.ensures.0 _ c.written.ensures.0)
+    rw (c.after-b.ensures.0 _ c.written.ensures.0)
+    (c.loop-b.invariant ∙ (find-in _ _ _ _ c.loop-b.b _ c.loop-b-test.true c.opens.ensures.0 ∙ sym (c.in-None.ensures.is _)))
 
 pub returns : goal.returns
 returns c =

@@ -1,101 +1,109 @@
 -- `designator` reads what follows a name: a chain of parts, or the first that is refused. Assumes nothing.
-use mathlib.Core.Path.{refl}
-use native.Mathlib.Omega.{arith}
+use Rattle.std.proofs.Common.{arith, rules, refl}
 use borrow.Author.Tests.{eq-eqb, ne_eqb}
-use borrow.Author.Rules.{rules}
 use Rattle.base.proofs.Tests.{same, other}
-use Rattle.grammar.specs.Grammar.{designator_of}
+use Rattle.grammar.specs.Grammar as G
 use Rattle.grammar.specs.Reader.{and_then, look, next}
-use Rattle.readers.proofs.Reading.{done, since, stops, goes}
+use Rattle.readers.proofs.Reading.{passed, stays, seen}
 use Rattle.phrases.proofs.assignments.designator.Goals as goal
 
-pub returns-then-kind_at-ne-OPEN : goal.returns-then-kind_at-ne-OPEN
-unfolding designator_of and_then look next
-returns-then-kind_at-ne-OPEN c =
-    record {
-      read = rw (ne_eqb _ _ (other c.kind_at.ensures.is c.if-kind_at-ne-OPEN.true))
-          (done c.read.ensures (omega arith) (omega arith) (refl, refl));
-      small = search rules;
-    }
+pub returns-then-kind-ne-OPEN-clause-read : goal.returns-then-kind-ne-OPEN-clause-read
+unfolding G.designator_of and_then look next
+returns-then-kind-ne-OPEN-clause-read c =
+    rw (ne_eqb _ _ (other c.kind.ensures.is c.if-kind-ne-OPEN.true)) (seen (refl, refl, search rules) (omega arith))
 
-pub returns-then-one-ne0 : goal.returns-then-one-ne0
-unfolding designator_of and_then look next
-returns-then-one-ne0 c =
-    record {
-      read = rw (eq-eqb _ _ (same c.kind_at.ensures.is
-          c.if-kind_at-ne-OPEN.false)) (since (omega arith) (stops _ c.number_or_name-one.ensures.read c.if-one-ne0.true));
-      small = search rules;
-    }
+pub returns-in_err-number_or_name-clause-read : goal.returns-in_err-number_or_name-clause-read
+unfolding G.designator_of and_then look next
+returns-in_err-number_or_name-clause-read c =
+    let t = c.take.ensures.moved in
+    let one = c.in_err-number_or_name.ensures.read in
+    rw (passed c.from_residual.ensures, eq-eqb _ _ (same c.kind.ensures.is c.if-kind-ne-OPEN.false), ← t.same, ← t.there, one.is) (stays one (omega arith))
 
-pub returns-then-close-ne0 : goal.returns-then-close-ne0
-unfolding designator_of and_then look next
-returns-then-close-ne0 c =
-    record {
-      read = rw (eq-eqb _ _ (same c.kind_at.ensures.is
-          c.if-kind_at-ne-OPEN.false))
-          (since (omega arith) (goes _ c.number_or_name-one.ensures.read c.if-one-ne0.false (λ s e.
-          stops _ c.wanted-close.ensures.read c.if-close-ne0.true)));
-      small = search rules;
-    }
+pub returns-in_err-wanted-clause-read : goal.returns-in_err-wanted-clause-read
+unfolding G.designator_of and_then look next
+returns-in_err-wanted-clause-read c =
+    let t = c.take.ensures.moved in
+    let one = c.in_ok-number_or_name.ensures.read in
+    let close = c.in_err-wanted.ensures.read in
+    rw (passed c.from_residual-in_err-wanted.ensures, eq-eqb _ _ (same c.kind.ensures.is c.if-kind-ne-OPEN.false), ← t.same, ← t.there, one.is, ← one.same, close.is) (stays close (omega arith))
 
-pub returns-then-k-eq-NAME : goal.returns-then-k-eq-NAME
-unfolding designator_of and_then look next
-returns-then-k-eq-NAME c =
-    record {
-      read = rw (eq-eqb _ _ (same c.kind_at.ensures.is
-          c.if-kind_at-ne-OPEN.false))
-          (since (omega arith) (goes _ c.number_or_name-one.ensures.read
-          c.if-one-ne0.false (λ s e.
-          goes _ c.wanted-close.ensures.read c.if-close-ne0.false (λ t f.
-          rw (eq-eqb _ _ (same c.kind_at-k.ensures.is c.if-k-eq-NAME.true))
-          (done c.read-then-k-eq-NAME.ensures (omega arith) (omega arith) (refl, refl))))));
-      small = search rules;
-    }
+pub returns-then-k-eq-NAME-clause-read : goal.returns-then-k-eq-NAME-clause-read
+unfolding G.designator_of and_then look next
+returns-then-k-eq-NAME-clause-read c =
+    let t = c.take.ensures.moved in
+    let one = c.in_ok-number_or_name.ensures.read in
+    let close = c.in_ok-wanted.ensures.read in
+    rw (
+      eq-eqb _ _ (same c.kind.ensures.is c.if-kind-ne-OPEN.false),
+      ← t.same,
+      ← t.there,
+      eq-eqb _ _ (same c.kind-k.ensures.is c.if-k-eq-NAME.true),
+      one.is,
+      ← one.same,
+      close.is,
+      ← close.same,
+    )
+    (seen (refl, refl, search rules) (omega arith))
 
-pub returns-then-kind_at-ne-OPEN-2 : goal.returns-then-kind_at-ne-OPEN-2
-unfolding designator_of and_then look next
-returns-then-kind_at-ne-OPEN-2 c =
-    record {
-      read = rw (eq-eqb _ _ (same c.kind_at.ensures.is c.if-kind_at-ne-OPEN.false))
-          (since (omega arith) (goes _ c.number_or_name-one.ensures.read c.if-one-ne0.false
-          (λ s e. goes _ c.wanted-close.ensures.read c.if-close-ne0.false
-          (λ t f. rw (
-            ne_eqb _ _ (other c.kind_at-k.ensures.is c.if-k-eq-NAME.false),
-            ne_eqb _ _ (other c.kind_at-2.ensures.is c.if-kind_at-ne-OPEN-2.true),
-          )
-          (done c.read-then-kind_at-ne-OPEN-2.ensures (omega arith) (omega arith) (refl, refl))))));
-      small = search rules;
-    }
+pub returns-then-kind-ne-OPEN-2-clause-read : goal.returns-then-kind-ne-OPEN-2-clause-read
+unfolding G.designator_of and_then look next
+returns-then-kind-ne-OPEN-2-clause-read c =
+    let t = c.take.ensures.moved in
+    let one = c.in_ok-number_or_name.ensures.read in
+    let close = c.in_ok-wanted.ensures.read in
+    rw (
+      eq-eqb _ _ (same c.kind.ensures.is c.if-kind-ne-OPEN.false),
+      ← t.same,
+      ← t.there,
+      ne_eqb _ _ (other c.kind-k.ensures.is c.if-k-eq-NAME.false),
+      one.is,
+      ← one.same,
+      close.is,
+      ← close.same,
+      ne_eqb _ _ (other c.kind-2.ensures.is c.if-kind-ne-OPEN-2.true),
+    )
+    (seen (refl, refl, search rules) (omega arith))
 
-pub returns-then-index-ne0 : goal.returns-then-index-ne0
-unfolding designator_of and_then look next
-returns-then-index-ne0 c =
-    record {
-      read = rw (eq-eqb _ _ (same c.kind_at.ensures.is c.if-kind_at-ne-OPEN.false))
-          (since (omega arith) (goes _ c.number_or_name-one.ensures.read c.if-one-ne0.false
-          (λ s e. goes _ c.wanted-close.ensures.read c.if-close-ne0.false
-          (λ t f. rw (
-            ne_eqb _ _ (other c.kind_at-k.ensures.is c.if-k-eq-NAME.false),
-            eq-eqb _ _ (same c.kind_at-2.ensures.is c.if-kind_at-ne-OPEN-2.false),
-          ) (stops _ c.in_parens-index.ensures.read c.if-index-ne0.true)))));
-      small = search rules;
-    }
+pub returns-in_err-in_parens-clause-read : goal.returns-in_err-in_parens-clause-read
+unfolding G.designator_of and_then look next
+returns-in_err-in_parens-clause-read c =
+    let t = c.take.ensures.moved in
+    let one = c.in_ok-number_or_name.ensures.read in
+    let close = c.in_ok-wanted.ensures.read in
+    let index = c.in_err-in_parens.ensures.read in
+    rw (
+      passed c.from_residual-in_err-in_parens.ensures,
+      eq-eqb _ _ (same c.kind.ensures.is c.if-kind-ne-OPEN.false),
+      ← t.same,
+      ← t.there,
+      ne_eqb _ _ (other c.kind-k.ensures.is c.if-k-eq-NAME.false),
+      one.is,
+      ← one.same,
+      close.is,
+      ← close.same,
+      eq-eqb _ _ (same c.kind-2.ensures.is c.if-kind-ne-OPEN-2.false),
+      index.is,
+    )
+    (stays index (omega arith))
 
-pub returns : goal.returns
-unfolding designator_of and_then look next
-returns c =
-    record {
-      read = rw (eq-eqb _ _
-          (same c.kind_at.ensures.is
-          c.if-kind_at-ne-OPEN.false))
-          (since (omega arith) (goes _ c.number_or_name-one.ensures.read c.if-one-ne0.false
-          (λ s e. goes _ c.wanted-close.ensures.read
-          c.if-close-ne0.false
-          (λ t f. rw (
-            ne_eqb _ _ (other c.kind_at-k.ensures.is c.if-k-eq-NAME.false),
-            eq-eqb _ _ (same c.kind_at-2.ensures.is c.if-kind_at-ne-OPEN-2.false),
-          )
-          (goes _ c.in_parens-index.ensures.read c.if-index-ne0.false
-          (λ x g. done c.read-2.ensures (omega arith) (omega arith) (refl, refl)))))));
-      small = search rules;
-    }
+pub returns-clause-read : goal.returns-clause-read
+unfolding G.designator_of and_then look next
+returns-clause-read c =
+    let t = c.take.ensures.moved in
+    let one = c.in_ok-number_or_name.ensures.read in
+    let close = c.in_ok-wanted.ensures.read in
+    let index = c.in_ok-in_parens.ensures.read in
+    rw (
+      eq-eqb _ _ (same c.kind.ensures.is c.if-kind-ne-OPEN.false),
+      ← t.same,
+      ← t.there,
+      ne_eqb _ _ (other c.kind-k.ensures.is c.if-k-eq-NAME.false),
+      one.is,
+      ← one.same,
+      close.is,
+      ← close.same,
+      eq-eqb _ _ (same c.kind-2.ensures.is c.if-kind-ne-OPEN-2.false),
+      index.is,
+      ← index.same,
+    )
+    (seen (refl, refl, search rules) (omega arith))

@@ -1,41 +1,37 @@
 -- `number_or_name` takes a number or a name, and refuses any other token. Assumes nothing.
-use mathlib.Core.Path.{refl}
-use native.Mathlib.Omega.{arith}
+use Rattle.std.proofs.Common.{arith, refl}
 use borrow.Author.Tests.{ne_eqb}
-use borrow.Author.Rules.{rules}
 use Rattle.base.proofs.Tests.{same, other}
 use Rattle.grammar.specs.Reader.{want_one}
-use Rattle.readers.proofs.Reading.{done, no}
 use Rattle.phrases.proofs.assignments.number_or_name.Goals as goal
 
-pub returns-then-k-eq-NUMBER : goal.returns-then-k-eq-NUMBER
+pub returns-then-k-eq-NUMBER-clause-read : goal.returns-then-k-eq-NUMBER-clause-read
 unfolding want_one
-returns-then-k-eq-NUMBER c =
+returns-then-k-eq-NUMBER-clause-read c =
+    let m = c.take.ensures.moved in
     record {
-      read = rw (same c.kind_at-k.ensures.is c.if-k-eq-NUMBER.true)
-          (done c.read.ensures (omega arith) (omega arith) refl);
-      moved = search rules;
-      none = search rules;
+      is = rw (c.take.ensures.token, m.there, same c.kind-k.ensures.is c.if-k-eq-NUMBER.true) refl;
+      same = m.same;
+      from = omega arith;
+      onward = omega arith;
     }
 
-pub returns-then-k-eq-NAME : goal.returns-then-k-eq-NAME
+pub returns-then-k-eq-NAME-clause-read : goal.returns-then-k-eq-NAME-clause-read
 unfolding want_one
-returns-then-k-eq-NAME c =
+returns-then-k-eq-NAME-clause-read c =
+    let m = c.take-then-k-eq-NAME.ensures.moved in
     record {
-      read = rw (same c.kind_at-k.ensures.is c.if-k-eq-NAME.true)
-          (done c.read-then-k-eq-NAME.ensures (omega arith) (omega arith) refl);
-      moved = search rules;
-      none = search rules;
+      is = rw (c.take-then-k-eq-NAME.ensures.token, m.there, same c.kind-k.ensures.is c.if-k-eq-NAME.true) refl;
+      same = m.same;
+      from = omega arith;
+      onward = omega arith;
     }
 
-pub returns : goal.returns
+pub returns-clause-read : goal.returns-clause-read
 unfolding want_one
-returns c =
+returns-clause-read c =
     record {
-      read = rw (
-        ne_eqb _ _ (other c.kind_at-k.ensures.is c.if-k-eq-NUMBER.false),
-        ne_eqb _ _ (other c.kind_at-k.ensures.is c.if-k-eq-NAME.false),
-      ) (no c.refused.ensures tt (omega arith));
-      moved = search rules;
-      none = search rules;
+      is = rw (ne_eqb _ _ (other c.kind-k.ensures.is c.if-k-eq-NUMBER.false), ne_eqb _ _ (other c.kind-k.ensures.is c.if-k-eq-NAME.false)) refl;
+      same = refl;
+      onward = omega arith;
     }

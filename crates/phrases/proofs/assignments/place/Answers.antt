@@ -1,19 +1,13 @@
 -- `place` writes the event of the designator that was read. Assumes nothing.
-use native.Mathlib.Omega.{arith}
-use borrow.Author.Rules.{rules}
+use Rattle.std.proofs.Common.{arith}
 use Rattle.tape.specs.Tape.{tape_designator}
-use Rattle.readers.proofs.Reading.{since, refuses, turns}
+use Rattle.readers.proofs.Reading.{wrote}
 use Rattle.phrases.proofs.assignments.place.Goals as goal
 
-pub returns-then-d-ne0 : goal.returns-then-d-ne0
-returns-then-d-ne0 c =
-    record { read = since (omega arith) (refuses c.designator-d.ensures.read c.if-d-ne0.true c.refused.ensures); low = search rules }
-
-pub returns : goal.returns
+pub returns-clause-read : goal.returns-clause-read
 unfolding tape_designator
-returns c =
-    record {
-      read = since (omega arith) (turns c.designator-d.ensures.read c.if-d-ne0.false
-          (λ a (e, f) k. rw (e, ← f) (c.write.ensures k)) c.read.ensures);
-      low = search rules;
-    }
+returns-clause-read c =
+    let d = c.in_ok-shape.ensures.read in
+    let s = c.in_ok-shape.ensures.still in
+    let w = c.write.ensures in
+    rw (d.is, ← w.here, ← d.same, ← w.same) (wrote (λ k. rw (← s.events, ← s.tape, d.fits.0, ← d.fits.1) (w.laid k)) (omega arith) (omega arith))

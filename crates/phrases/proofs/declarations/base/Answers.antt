@@ -1,29 +1,28 @@
 -- `base` joins BASE and a name. Assumes nothing.
-use native.Mathlib.Omega.{arith}
-use borrow.Author.Rules.{rules}
+use Rattle.std.proofs.Common.{arith}
+use Rattle.grammar.specs.Reader.{and_then}
 use Rattle.tape.specs.Tape.{tape_declaration}
-use Rattle.readers.proofs.Reading.{done, stops, goes}
+use Rattle.readers.proofs.Reading.{passed, stays, stills, wrote}
 use Rattle.phrases.proofs.declarations.base.Goals as goal
 
-pub returns-then-word-ne0 : goal.returns-then-word-ne0
-returns-then-word-ne0 c =
-    record { read = stops _ c.wanted-word.ensures.read c.if-word-ne0.true; low = search rules }
+pub returns-in_err-wanted-clause-read : goal.returns-in_err-wanted-clause-read
+unfolding and_then
+returns-in_err-wanted-clause-read c =
+    let word = c.in_err-wanted.ensures.read in rw (passed c.from_residual.ensures, word.is) (stays word (omega arith))
 
-pub returns-then-name-ne0 : goal.returns-then-name-ne0
-returns-then-name-ne0 c =
-    record {
-      read = goes _ c.wanted-word.ensures.read c.if-word-ne0.false (λ t e.
-          stops _ c.wanted-name.ensures.read c.if-name-ne0.true);
-      low = search rules;
-    }
+pub returns-in_err-name-clause-read : goal.returns-in_err-name-clause-read
+unfolding and_then
+returns-in_err-name-clause-read c =
+    let name = c.in_err-name.ensures.read in
+    let word = c.in_ok-wanted.ensures.read in
+    rw (passed c.from_residual-in_err-name.ensures, word.is, ← word.same, name.is) (stays name (omega arith))
 
-pub returns : goal.returns
-unfolding tape_declaration
-returns c =
-    record {
-      read = goes _ c.wanted-word.ensures.read
-          c.if-word-ne0.false (λ t e.
-          goes _ c.wanted-name.ensures.read c.if-name-ne0.false (λ n f.
-          done c.read.ensures (omega arith) (omega arith) (λ k. rw f (c.write.ensures k))));
-      low = search rules;
-    }
+pub returns-clause-read : goal.returns-clause-read
+unfolding and_then tape_declaration
+returns-clause-read c =
+    let word = c.in_ok-wanted.ensures.read in
+    let name = c.in_ok-name.ensures.read in
+    let still = stills c.in_ok-wanted.ensures.still c.in_ok-name.ensures.still in
+    let w = c.write.ensures in
+    rw (word.is, ← word.same, name.is, ← name.same, ← w.same, ← w.here)
+    (wrote (λ k. rw (← still.events, ← still.tape) (w.laid k)) (omega arith) (omega arith))

@@ -1,40 +1,27 @@
 -- `declaration` goes by its first token. Assumes nothing.
-use native.Mathlib.Omega.{arith}
+use Rattle.std.proofs.Common.{arith}
 use borrow.Author.Tests.{ne_eqb}
-use borrow.Author.Rules.{rules}
 use Rattle.base.proofs.Tests.{same, other}
-use Rattle.grammar.specs.Grammar.{declaration}
+use Rattle.grammar.specs.Grammar as G
 use Rattle.grammar.specs.Reader.{and_then, look, next}
-use Rattle.readers.proofs.Reading.{since}
+use Rattle.readers.proofs.Reading.{later}
 use Rattle.phrases.proofs.declarations.declaration.Goals as goal
 
-pub returns-then-k-eq-SEGMENT : goal.returns-then-k-eq-SEGMENT
-unfolding declaration and_then look next
-returns-then-k-eq-SEGMENT c =
-    record {
-      read = rw (same c.kind_at-k.ensures.is c.if-k-eq-SEGMENT.true)
-          (since (omega arith) c.base.ensures.read);
-      low = search rules;
-    }
+pub returns-then-k-eq-SEGMENT-clause-read : goal.returns-then-k-eq-SEGMENT-clause-read
+unfolding G.declaration and_then look next
+returns-then-k-eq-SEGMENT-clause-read c =
+    let t = c.take.ensures.moved in
+    rw (same c.kind-k.ensures.is c.if-k-eq-SEGMENT.true, ← t.same, ← t.there, ← t.events, ← t.tape)
+    (later _ _ _ _ _ _ _ _ _ (omega arith) c.base.ensures.read)
 
-pub returns-then-k-eq-ARRAY : goal.returns-then-k-eq-ARRAY
-unfolding declaration and_then look next
-returns-then-k-eq-ARRAY c =
-    record {
-      read = rw (same c.kind_at-k.ensures.is
-          c.if-k-eq-ARRAY.true) (since (omega arith) c.array.ensures.read);
-      low = search rules;
-    }
+pub returns-then-k-eq-ARRAY-clause-read : goal.returns-then-k-eq-ARRAY-clause-read
+unfolding G.declaration and_then look next
+returns-then-k-eq-ARRAY-clause-read c =
+    let t = c.take-then-k-eq-ARRAY.ensures.moved in
+    rw (same c.kind-k.ensures.is c.if-k-eq-ARRAY.true, ← t.same, ← t.there, ← t.events, ← t.tape)
+    (later _ _ _ _ _ _ _ _ _ (omega arith) c.array.ensures.read)
 
-pub returns : goal.returns
-unfolding declaration and_then look next
-returns c =
-    record {
-      read = rw (
-        ne_eqb _ _ (other c.kind_at-k.ensures.is
-            c.if-k-eq-SEGMENT.false),
-        ne_eqb _ _ (other c.kind_at-k.ensures.is c.if-k-eq-ARRAY.false),
-      )
-          c.typed.ensures.read;
-      low = search rules;
-    }
+pub returns-clause-read : goal.returns-clause-read
+unfolding G.declaration and_then look next
+returns-clause-read c =
+    rw (ne_eqb _ _ (other c.kind-k.ensures.is c.if-k-eq-SEGMENT.false), ne_eqb _ _ (other c.kind-k.ensures.is c.if-k-eq-ARRAY.false)) c.typed.ensures.read

@@ -1,45 +1,40 @@
--- `numbers` goes along the initial values: whatever reads the rest reads the whole. Assumes nothing.
-use mathlib.Core.List.{◌∷◌}
-use mathlib.Core.Path.{refl, ◌∙◌}
-use native.Mathlib.Omega.{arith}
+-- `numbers` goes along the numbers in parentheses. Assumes nothing.
+use Rattle.std.proofs.Common.{arith, refl, ◌∙◌}
 use borrow.Author.Tests.{eq-eqb, ne_eqb}
-use borrow.Author.Rules.{rules}
 use Rattle.base.proofs.Tests.{same, other}
-use Rattle.grammar.specs.Grammar.{numbers}
+use Rattle.grammar.specs.Grammar as G
 use Rattle.grammar.specs.Reader.{and_then, look}
 use Rattle.tape.specs.Tape.{tape_each}
-use Rattle.readers.proofs.Loops.{starts, leaves, turn}
-use Rattle.readers.proofs.Reading.{done, stops, goes, gives}
+use Rattle.readers.proofs.Reading.{passed, stays, wrote}
+use Rattle.std.proofs.Common.{◌∷◌}
+use Rattle.readers.proofs.Loops.{starts, turn}
 use Rattle.phrases.proofs.declarations.numbers.Goals as goal
 
-pub loop-one-init : goal.loop-one-init
-loop-one-init c =
-    starts (search rules)
+pub loop-r-init : goal.loop-r-init
+loop-r-init c =
+    starts
 
-pub returns-then-one-ne0 : goal.returns-then-one-ne0
-unfolding numbers and_then look
-returns-then-one-ne0 c =
-    record {
-      read = leaves c.loop-one.invariant (λ f.
-          rw (eq-eqb _ _ (same c.kind_at.ensures.is c.loop-one-test.true))
-          (stops _ c.in_parens-one.ensures.read c.if-one-ne0.true));
-      low = search rules;
-    }
+pub returns-in_err-number-clause-read : goal.returns-in_err-number-clause-read
+unfolding G.numbers and_then look
+returns-in_err-number-clause-read c =
+    let one = c.in_err-number.ensures.read in
+    let v = c.loop-r.invariant in
+    rw (passed c.from_residual.ensures, v.rest, eq-eqb _ _ (same c.kind.ensures.is c.loop-r-test.true), ← v.same, one.is) (stays one (omega arith))
 
-pub loop-one-preserved : goal.loop-one-preserved
-unfolding numbers and_then look tape_each
-loop-one-preserved c =
-    turn c.loop-one.invariant (search rules) (search rules) (search rules)
-    (search rules) (λ f s after d. rw (eq-eqb _ _ (same c.kind_at.ensures.is
-    c.loop-one-test.true))
-    (goes _ c.in_parens-one.ensures.read c.if-one-ne0.false (λ t e.
-    gives (λ ts. t ∷ ts) (λ ts l k. l k ∙ rw e (c.write.ensures _)) d)))
+pub loop-r-preserved : goal.loop-r-preserved
+unfolding G.numbers and_then look tape_each
+loop-r-preserved c =
+    let one = c.in_ok-number.ensures.read in
+    let still = c.in_ok-number.ensures.still in
+    let w = c.write.ensures in
+    turn (λ ts. c.in_ok-number.number ∷ ts) c.loop-r.invariant (omega arith) (omega arith) (w.same ∙ one.same)
+    (w.name ∙ still.name)
+    (λ f. rw (eq-eqb _ _ (same c.kind.ensures.is c.loop-r-test.true), one.is, ← one.same, ← w.same, ← w.here) refl)
+    (λ v after ts l k. l k ∙ rw (← still.events, ← still.tape) (w.laid _))
 
-pub returns : goal.returns
-unfolding numbers and_then look tape_each
-returns c =
-    record {
-      read = leaves c.loop-one.invariant (λ f. rw (ne_eqb _ _ (other c.kind_at.ensures.is c.loop-one-test.false))
-          (done c.read.ensures (omega arith) (omega arith) (λ k. refl)));
-      low = search rules;
-    }
+pub returns-clause-read : goal.returns-clause-read
+unfolding G.numbers and_then look tape_each
+returns-clause-read c =
+    let v = c.loop-r.invariant in
+    rw (v.rest, ne_eqb _ _ (other c.kind.ensures.is c.loop-r-test.false), ← v.same)
+    (wrote (v.fits _ _ _ (λ k. refl)) (omega arith) (omega arith))

@@ -1,30 +1,28 @@
--- `register_item` joins a name and its number. Assumes nothing.
-use native.Mathlib.Omega.{arith}
-use borrow.Author.Rules.{rules}
-use Rattle.grammar.specs.Grammar.{register_item}
-use Rattle.readers.proofs.Reading.{done, stops, goes}
+-- `register_item` joins a name and a number. Assumes nothing.
+use Rattle.std.proofs.Common.{arith}
+use Rattle.grammar.specs.Grammar as G
+use Rattle.grammar.specs.Reader.{and_then}
+use Rattle.readers.proofs.Reading.{passed, stays, stills, wrote}
 use Rattle.phrases.proofs.declarations.register_item.Goals as goal
 
-pub returns-then-name-ne0 : goal.returns-then-name-ne0
-unfolding register_item
-returns-then-name-ne0 c =
-    record { read = stops _ c.wanted-name.ensures.read c.if-name-ne0.true; low = search rules }
+pub returns-in_err-name-clause-read : goal.returns-in_err-name-clause-read
+unfolding G.register_item and_then
+returns-in_err-name-clause-read c =
+    let name = c.in_err-name.ensures.read in rw (passed c.from_residual.ensures, name.is) (stays name (omega arith))
 
-pub returns-then-number-ne0 : goal.returns-then-number-ne0
-unfolding register_item
-returns-then-number-ne0 c =
-    record {
-      read = goes _ c.wanted-name.ensures.read c.if-name-ne0.false (λ n e.
-          stops _ c.in_parens-number.ensures.read c.if-number-ne0.true);
-      low = search rules;
-    }
+pub returns-in_err-in_parens-clause-read : goal.returns-in_err-in_parens-clause-read
+unfolding G.register_item and_then
+returns-in_err-in_parens-clause-read c =
+    let number = c.in_err-in_parens.ensures.read in
+    let name = c.in_ok-name.ensures.read in
+    rw (passed c.from_residual-in_err-in_parens.ensures, name.is, ← name.same, number.is) (stays number (omega arith))
 
-pub returns : goal.returns
-unfolding register_item
-returns c =
-    record {
-      read = goes _ c.wanted-name.ensures.read c.if-name-ne0.false
-          (λ n e. goes _ c.in_parens-number.ensures.read c.if-number-ne0.false
-          (λ t f. done c.read.ensures (omega arith) (omega arith) (λ k. rw e (c.write.ensures k))));
-      low = search rules;
-    }
+pub returns-clause-read : goal.returns-clause-read
+unfolding G.register_item and_then
+returns-clause-read c =
+    let name = c.in_ok-name.ensures.read in
+    let number = c.in_ok-in_parens.ensures.read in
+    let still = stills c.in_ok-name.ensures.still c.in_ok-in_parens.ensures.still in
+    let w = c.write.ensures in
+    rw (name.is, ← name.same, number.is, ← number.same, ← w.same, ← w.here)
+    (wrote (λ k. rw (← still.events, ← still.tape) (w.laid k)) (omega arith) (omega arith))

@@ -1,40 +1,49 @@
--- `typed` reads registers or cells by what follows the type. Assumes nothing.
-use mathlib.Core.Path.{◌∙◌}
-use mathlib.Core.Option.{none}
-use native.Mathlib.Omega.{arith}
-use borrow.Author.Rules.{rules}
-use Rattle.grammar.specs.Grammar.{cells_of}
-use Rattle.grammar.specs.Tree.{registers, cells}
+-- `typed` tells registers from cells behind a type. Assumes nothing.
+use Rattle.std.proofs.Common.{arith, ◌∙◌}
+use Rattle.grammar.specs.Grammar as G
+use Rattle.grammar.specs.Tree as T
+use Rattle.grammar.specs.Reader.{and_then}
 use Rattle.tape.specs.Tape.{tape_declaration}
+use Rattle.readers.proofs.Reading.{passed, stays, gives}
+use Rattle.std.proofs.Math.Option.{none}
 use Rattle.readers.proofs.Choices.{registered, after-registers, after-cells}
-use Rattle.readers.proofs.Reading.{halts, goes, gives, since}
 use Rattle.phrases.proofs.declarations.typed.Goals as goal
 
-pub returns-then-width-ne0 : goal.returns-then-width-ne0
-returns-then-width-ne0 c =
-    record { read = halts _ c.type_at-width.ensures.read c.if-width-ne0.true c.refused.ensures; low = search rules }
+pub returns-in_err-width-clause-read : goal.returns-in_err-width-clause-read
+unfolding and_then
+returns-in_err-width-clause-read c =
+    let width = c.in_err-width.ensures.read in rw (passed c.from_residual.ensures, width.is) (stays width (omega arith))
 
-pub registers-requires : goal.registers-requires
-registers-requires c =
-    let h = registered c.type_at-width.result.value c.kind_at.ensures c.if-width-kind_at.true in search rules
+pub take-requires : goal.take-requires
+take-requires c =
+    registered _ c.kind.ensures c.if-width-kind.true
 
-pub returns-then-width-kind_at : goal.returns-then-width-kind_at
-unfolding tape_declaration
-returns-then-width-kind_at c =
-    let h = registered c.type_at-width.result.value c.kind_at.ensures
-    c.if-width-kind_at.true in record {
-      read = goes _ c.type_at-width.ensures.read c.if-width-ne0.false
-          (λ w f. rw (after-registers w _ c.kind_at.ensures f c.if-width-kind_at.true)
-          (since (omega arith) (gives registers (λ rs l. l) c.registers.ensures.read)));
-      low = search rules;
-    }
+pub returns-then-width-kind-clause-read : goal.returns-then-width-kind-clause-read
+unfolding and_then tape_declaration
+returns-then-width-kind-clause-read c =
+    let width = c.in_ok-width.ensures.read.0 in
+    let still = c.in_ok-width.ensures.still in
+    let t = c.take.ensures.moved in
+    rw (
+      width.is,
+      ← width.same,
+      after-registers _ _ c.kind.ensures width.fits.0 c.if-width-kind.true,
+      ← t.same,
+      ← t.there,
+      ← still.events,
+      ← t.events,
+      ← still.tape,
+      ← t.tape,
+    )
+    (gives _ _ T.registers _ _ _ _ _ _ _ _ _ _ (omega arith) (omega arith) (λ rs l. l) c.registers.ensures.read)
 
-pub returns : goal.returns
-unfolding cells_of tape_declaration
-returns c =
-    record {
-      read = goes _ c.type_at-width.ensures.read c.if-width-ne0.false
-          (λ w f. rw (after-cells w _ c.kind_at.ensures f c.if-width-kind_at.false)
-          (gives (cells none w) (λ is l k. l k ∙ rw (← f) (c.write.ensures _)) c.cells.ensures.read));
-      low = search rules;
-    }
+pub returns-clause-read : goal.returns-clause-read
+unfolding and_then G.cells_of tape_declaration
+returns-clause-read c =
+    let width = c.in_ok-width.ensures.read.0 in
+    let far = c.in_ok-width.ensures.read.1 in
+    let still = c.in_ok-width.ensures.still in
+    let w = c.write.ensures in
+    rw (width.is, ← width.same, after-cells _ _ c.kind.ensures width.fits.0 c.if-width-kind.false, ← w.same, ← w.here)
+    (gives _ _ (T.cells none width.what) _ _ _ _ _ _ _ _ _ _ (omega arith) (omega arith)
+    (λ is l k. l k ∙ rw (← width.fits.0, ← still.events, ← still.tape) (w.laid _)) c.cells.ensures.read)

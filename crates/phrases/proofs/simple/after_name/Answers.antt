@@ -1,23 +1,33 @@
 -- `after_name` goes by whether the name begins a target. Assumes nothing.
-use mathlib.Core.Path.{sym, ◌∙◌}
-use borrow.Author.Rules.{rules}
-use Rattle.grammar.specs.Tree.{assign}
+use Rattle.std.proofs.Common.{arith, ◌∙◌}
+use Rattle.grammar.specs.Tree as T
 use Rattle.tape.specs.Tape.{tape_statement}
 use Rattle.readers.proofs.Reading.{gives}
+use Rattle.std.proofs.Common.{sym}
 use Rattle.phrases.proofs.Targets.{target-read, use-read}
 use Rattle.phrases.proofs.simple.after_name.Goals as goal
 
-pub returns-then-is_target : goal.returns-then-is_target
+pub returns-then-is_target-clause-read : goal.returns-then-is_target-clause-read
 unfolding tape_statement
-returns-then-is_target c =
-    record {
-      read = rw (target-read _ _ (sym c.is_target.ensures ∙ c.if-is_target.true) (search rules)) (gives assign (λ a w. w) c.assignment.ensures.read);
-      low = search rules;
-    }
+returns-then-is_target-clause-read c =
+    let m = c.is_target.ensures.kept in
+    rw (
+      target-read _ _ _ c.requires.1.0 (sym c.is_target.ensures.target ∙ c.if-is_target.true) c.requires.1.1,
+      ← m.there,
+      ← m.same,
+      ← m.events,
+      ← m.tape,
+    )
+    (gives _ _ T.assign _ _ _ _ _ _ _ _ _ _ (omega arith) (omega arith) (λ a l. l) c.assignment.ensures.read)
 
-pub returns : goal.returns
-returns c =
-    record {
-      read = rw (use-read _ _ (sym c.is_target.ensures ∙ c.if-is_target.false) (search rules)) c.used.ensures.read;
-      low = search rules;
-    }
+pub returns-clause-read : goal.returns-clause-read
+returns-clause-read c =
+    let m = c.is_target.ensures.kept in
+    rw (
+      use-read _ _ _ c.requires.1.0 (sym c.is_target.ensures.target ∙ c.if-is_target.false) c.requires.1.1,
+      ← m.there,
+      ← m.same,
+      ← m.events,
+      ← m.tape,
+    )
+    c.used.ensures.read

@@ -1,60 +1,67 @@
--- `arguments` goes along the row: whatever reads the rest reads the whole. Assumes nothing.
-use mathlib.Core.Path.{refl, ◌∙◌}
-use mathlib.Core.List.{◌∷◌}
-use native.Mathlib.Omega.{arith}
+-- `arguments` goes along the row. Assumes nothing.
+use Rattle.std.proofs.Common.{arith, rules, refl, ◌∙◌}
 use borrow.Author.Tests.{ne_eqb}
-use borrow.Author.Rules.{rules}
 use Rattle.base.proofs.Tests.{same, other}
-use Rattle.grammar.specs.Grammar.{arguments}
+use Rattle.grammar.specs.Grammar as G
 use Rattle.grammar.specs.Reader.{and_then, look, next}
 use Rattle.tape.specs.Tape.{tape_each}
-use Rattle.readers.proofs.Loops.{starts, leaves, turn}
-use Rattle.readers.proofs.Reading.{done, since, stops, goes, gives}
+use Rattle.readers.proofs.Reading.{passed, stays, wrote}
+use Rattle.std.proofs.Common.{◌∷◌}
+use Rattle.readers.proofs.Loops.{starts, turn}
 use Rattle.phrases.proofs.simple.arguments.Goals as goal
 
-pub loop-tape-init : goal.loop-tape-init
-loop-tape-init c =
-    (starts (search rules), λ h. absurd (h (search rules)))
+pub loop-r-init : goal.loop-r-init
+loop-r-init c =
+    (starts, λ h. absurd (h (search rules)))
 
-pub returns-then-a-ne0 : goal.returns-then-a-ne0
-unfolding arguments and_then look next
-returns-then-a-ne0 c = (
-  record {
-    read = leaves c.loop-tape.invariant.0 (λ f. rw (same c.kind_at.ensures.is c.loop-tape-test.true)
-        (since (omega arith) (stops _ c.operand-a.ensures.read c.if-a-ne0.true)));
-    low = search rules;
-  },
-  search rules,
-)
+pub returns-in_err-operand-clause-read : goal.returns-in_err-operand-clause-read
+unfolding G.arguments and_then look next
+returns-in_err-operand-clause-read c =
+    let t = c.take.ensures.moved in
+    let a = c.in_err-operand.ensures.read in
+    let v = c.loop-r.invariant.0 in
+    rw (passed c.from_residual.ensures, v.rest, same c.kind.ensures.is c.loop-r-test.true, ← v.same, ← t.there, ← t.same, a.is)
+    (stays a (omega arith))
 
-pub returns-then-close-ne0 : goal.returns-then-close-ne0
-unfolding arguments and_then look next
-returns-then-close-ne0 c = (
-  record {
-    read = leaves c.loop-tape.invariant.0 (λ f. rw (same c.kind_at.ensures.is c.loop-tape-test.true)
-        (since (omega arith) (goes _ c.operand-a.ensures.read c.if-a-ne0.false (λ a w. stops _ c.wanted-close.ensures.read c.if-close-ne0.true))));
-    low = search rules;
-  },
-  search rules,
-)
-
-pub loop-tape-preserved : goal.loop-tape-preserved
-unfolding arguments and_then look next tape_each
-loop-tape-preserved c = (
-  turn c.loop-tape.invariant.0 (search rules) (search rules) (search rules) (search rules) (λ f s after d. rw (same c.kind_at.ensures.is c.loop-tape-test.true)
-      (since (omega arith) (goes _ c.operand-a.ensures.read c.if-a-ne0.false (λ a w.
-      goes _ c.wanted-close.ensures.read c.if-close-ne0.false (λ t e. gives (λ xs. a ∷ xs) (λ xs l k. l k ∙ w _) d))))),
-  λ h. search rules,
-)
-
-pub returns : goal.returns
-unfolding arguments and_then look next tape_each
-returns c =
-    let far = c.loop-tape.invariant.1 (other c.kind_at.ensures.is c.loop-tape-test.false) in (
-      record {
-        read = leaves c.loop-tape.invariant.0 (λ f. rw (ne_eqb _ _ (other c.kind_at.ensures.is c.loop-tape-test.false))
-            (done c.read.ensures (omega arith) (omega arith) (λ k. refl)));
-        low = search rules;
-      },
-      search rules,
+pub returns-in_err-wanted-clause-read : goal.returns-in_err-wanted-clause-read
+unfolding G.arguments and_then look next
+returns-in_err-wanted-clause-read c =
+    let t = c.take.ensures.moved in
+    let a = c.in_ok-operand.ensures.read in
+    let close = c.in_err-wanted.ensures.read in
+    let v = c.loop-r.invariant.0 in
+    rw (
+      passed c.from_residual-in_err-wanted.ensures,
+      v.rest,
+      same c.kind.ensures.is c.loop-r-test.true,
+      ← v.same,
+      ← t.there,
+      ← t.same,
+      a.is,
+      ← a.same,
+      close.is,
     )
+    (stays close (omega arith))
+
+pub loop-r-preserved : goal.loop-r-preserved
+unfolding G.arguments and_then look next tape_each
+loop-r-preserved c =
+    let t = c.take.ensures.moved in
+    let a = c.in_ok-operand.ensures.read in
+    let close = c.in_ok-wanted.ensures.read in
+    let still = c.in_ok-wanted.ensures.still in
+    let v = c.loop-r.invariant.0 in (
+      turn (λ xs. a.what ∷ xs) v (omega arith) (omega arith) (close.same ∙ (a.same ∙ t.same))
+          (still.name ∙ (c.in_ok-operand.ensures.same ∙ t.name))
+          (λ f. rw (same c.kind.ensures.is c.loop-r-test.true, ← t.there, ← t.same, a.is, ← a.same, close.is, ← close.same) refl)
+          (λ w after xs l k. l k ∙ rw (still.events, still.tape, ← t.events, ← t.tape) (a.laid _)),
+      λ h. omega arith,
+    )
+
+pub returns-clause-read : goal.returns-clause-read
+unfolding G.arguments and_then look next tape_each
+returns-clause-read c =
+    let v = c.loop-r.invariant.0 in
+    let far = c.loop-r.invariant.1 (other c.kind.ensures.is c.loop-r-test.false) in
+    rw (v.rest, ne_eqb _ _ (other c.kind.ensures.is c.loop-r-test.false), ← v.same)
+    (wrote (v.fits _ _ _ (λ k. refl)) (omega arith) (omega arith), omega arith)

@@ -1,17 +1,15 @@
 -- `arguments` goes along the row: whatever reads the rest reads the whole. Assumes nothing.
-use mathlib.Core.Path.{◌≡◌}
-use Prim.Native.Nat.{◌+◌, ◌-◌, ◌<◌}
-use lib.ListN.{length, get_or}
+use Rattle.std.proofs.Common.{◌≡◌, ◌+◌, ◌-◌, ◌<◌, length, get_or}
 use Rattle.token.specs.Kinds as K
 use Rattle.grammar.specs.Grammar.{arguments}
 use Rattle.tape.specs.Tape.{tape_each, tape_argument}
 use Rattle.readers.proofs.Loops.{Going}
 use Rattle.phrases.proofs.simple.arguments.Given as goal
 
-abbrev pub invariant-loop-tape : goal.invariant-loop-tape
-invariant-loop-tape l =
-    Going (tape_each tape_argument) arguments l.kinds l.i l.p l.initial.tape l.tape l.at l.q × ((get_or l.kinds l.at 0 ≡ K.OPEN → ⊥) → l.q + l.i < l.at + l.p)
+abbrev pub invariant-loop-r : goal.invariant-loop-r
+invariant-loop-r l =
+    Going (tape_each tape_argument) arguments l.initial.r l.r × ((get_or l.r.kinds.now l.r.at 0 ≡ K.OPEN → ⊥) → l.r.events + l.initial.r.at < l.r.at + l.initial.r.events)
 
-abbrev pub decreases-loop-tape : goal.decreases-loop-tape
-decreases-loop-tape l =
-    length l.kinds - l.at
+abbrev pub decreases-loop-r : goal.decreases-loop-r
+decreases-loop-r l =
+    length l.initial.r.kinds.now - l.r.at

@@ -1,35 +1,37 @@
 -- `case_head` joins the tokens before the list of a CASE. Assumes nothing.
-use native.Mathlib.Omega.{arith}
-use borrow.Author.Rules.{rules}
-use Rattle.readers.proofs.Reading.{done, stops, goes}
+use Rattle.std.proofs.Common.{arith}
+use Rattle.grammar.specs.Reader.{and_then}
+use Rattle.readers.proofs.Reading.{passed, stays, stills, wrote}
 use Rattle.phrases.proofs.simple.case_head.Goals as goal
 
-pub returns-then-name-ne0 : goal.returns-then-name-ne0
-returns-then-name-ne0 c =
-    record { read = stops _ c.wanted-name.ensures.read c.if-name-ne0.true; low = search rules }
+pub returns-in_err-name-clause-read : goal.returns-in_err-name-clause-read
+unfolding and_then
+returns-in_err-name-clause-read c =
+    let name = c.in_err-name.ensures.read in
+    rw (passed c.from_residual.ensures, name.is) (stays name (omega arith))
 
-pub returns-then-of-ne0 : goal.returns-then-of-ne0
-returns-then-of-ne0 c =
-    record {
-      read = goes _ c.wanted-name.ensures.read c.if-name-ne0.false
-          (λ t e. stops _ c.wanted-of.ensures.read c.if-of-ne0.true);
-      low = search rules;
-    }
+pub returns-in_err-wanted-clause-read : goal.returns-in_err-wanted-clause-read
+unfolding and_then
+returns-in_err-wanted-clause-read c =
+    let name = c.in_ok-name.ensures.read in
+    let of = c.in_err-wanted.ensures.read in
+    rw (passed c.from_residual-in_err-wanted.ensures, name.is, ← name.same, of.is) (stays of (omega arith))
 
-pub returns-then-begin-ne0 : goal.returns-then-begin-ne0
-returns-then-begin-ne0 c =
-    record {
-      read = goes _ c.wanted-name.ensures.read c.if-name-ne0.false
-          (λ t e. goes _ c.wanted-of.ensures.read c.if-of-ne0.false (λ u f. stops _ c.wanted-begin.ensures.read c.if-begin-ne0.true));
-      low = search rules;
-    }
+pub returns-in_err-wanted-2-clause-read : goal.returns-in_err-wanted-2-clause-read
+unfolding and_then
+returns-in_err-wanted-2-clause-read c =
+    let name = c.in_ok-name.ensures.read in
+    let of = c.in_ok-wanted.ensures.read in
+    let begin = c.in_err-wanted-2.ensures.read in
+    rw (passed c.from_residual-in_err-wanted-2.ensures, name.is, ← name.same, of.is, ← of.same, begin.is) (stays begin (omega arith))
 
-pub returns : goal.returns
-returns c =
-    record {
-      read = goes _ c.wanted-name.ensures.read c.if-name-ne0.false
-          (λ t e. goes _ c.wanted-of.ensures.read c.if-of-ne0.false
-          (λ u f. goes _ c.wanted-begin.ensures.read c.if-begin-ne0.false
-          (λ v g. done c.read.ensures (omega arith) (omega arith) (rw e c.write.ensures))));
-      low = search rules;
-    }
+pub returns-clause-read : goal.returns-clause-read
+unfolding and_then
+returns-clause-read c =
+    let name = c.in_ok-name.ensures.read in
+    let of = c.in_ok-wanted.ensures.read in
+    let begin = c.in_ok-wanted-2.ensures.read in
+    let still = stills (stills c.in_ok-name.ensures.still c.in_ok-wanted.ensures.still) c.in_ok-wanted-2.ensures.still in
+    let w = c.write.ensures in
+    rw (name.is, ← name.same, of.is, ← of.same, begin.is, ← begin.same, ← w.same, ← w.here)
+    (wrote (λ k. rw (← still.events, ← still.tape) (w.laid k)) (omega arith) (omega arith))

@@ -1,52 +1,47 @@
 -- `limit` joins number, UNTIL, operand and DO. Assumes nothing.
-use native.Mathlib.Omega.{arith}
-use borrow.Author.Rules.{rules}
-use Rattle.readers.proofs.Reading.{done, stops, goes}
+use Rattle.std.proofs.Common.{arith}
+use Rattle.grammar.specs.Reader.{and_then}
+use Rattle.readers.proofs.Reading.{passed, stays, stills, wrote}
 use Rattle.phrases.proofs.simple.limit.Goals as goal
 
-pub returns-then-number-ne0 : goal.returns-then-number-ne0
-returns-then-number-ne0 c =
-    (record { read = stops _ c.wanted-number.ensures.read c.if-number-ne0.true; low = search rules }, search rules)
+pub returns-in_err-wanted-clause-read : goal.returns-in_err-wanted-clause-read
+unfolding and_then
+returns-in_err-wanted-clause-read c =
+    let number = c.in_err-wanted.ensures.read in
+    rw (passed c.from_residual.ensures, number.is) (stays number (omega arith))
 
-pub returns-then-until-ne0 : goal.returns-then-until-ne0
-returns-then-until-ne0 c = (
-  record {
-    read = goes _ c.wanted-number.ensures.read c.if-number-ne0.false (λ t e.
-        stops _ c.wanted-until.ensures.read c.if-until-ne0.true);
-    low = search rules;
-  },
-  search rules,
-)
+pub returns-in_err-wanted-2-clause-read : goal.returns-in_err-wanted-2-clause-read
+unfolding and_then
+returns-in_err-wanted-2-clause-read c =
+    let number = c.in_ok-wanted.ensures.read in
+    let until = c.in_err-wanted-2.ensures.read in
+    rw (passed c.from_residual-in_err-wanted-2.ensures, number.is, ← number.same, until.is) (stays until (omega arith))
 
-pub returns-then-a-ne0 : goal.returns-then-a-ne0
-returns-then-a-ne0 c = (
-  record {
-    read = goes _ c.wanted-number.ensures.read c.if-number-ne0.false
-        (λ t e. goes _ c.wanted-until.ensures.read c.if-until-ne0.false (λ u f. stops _ c.operand-a.ensures.read c.if-a-ne0.true));
-    low = search rules;
-  },
-  search rules,
-)
+pub returns-in_err-operand-clause-read : goal.returns-in_err-operand-clause-read
+unfolding and_then
+returns-in_err-operand-clause-read c =
+    let number = c.in_ok-wanted.ensures.read in
+    let until = c.in_ok-wanted-2.ensures.read in
+    let a = c.in_err-operand.ensures.read in
+    rw (passed c.from_residual-in_err-operand.ensures, number.is, ← number.same, until.is, ← until.same, a.is) (stays a (omega arith))
 
-pub returns-then-word-ne0 : goal.returns-then-word-ne0
-returns-then-word-ne0 c = (
-  record {
-    read = goes _ c.wanted-number.ensures.read c.if-number-ne0.false
-        (λ t e. goes _ c.wanted-until.ensures.read c.if-until-ne0.false
-        (λ u f. goes _ c.operand-a.ensures.read c.if-a-ne0.false (λ a w. stops _ c.wanted-word.ensures.read c.if-word-ne0.true)));
-    low = search rules;
-  },
-  search rules,
-)
+pub returns-in_err-wanted-3-clause-read : goal.returns-in_err-wanted-3-clause-read
+unfolding and_then
+returns-in_err-wanted-3-clause-read c =
+    let number = c.in_ok-wanted.ensures.read in
+    let until = c.in_ok-wanted-2.ensures.read in
+    let a = c.in_ok-operand.ensures.read in
+    let word = c.in_err-wanted-3.ensures.read in
+    rw (passed c.from_residual-in_err-wanted-3.ensures, number.is, ← number.same, until.is, ← until.same, a.is, ← a.same, word.is) (stays word (omega arith))
 
-pub returns : goal.returns
-returns c = (
-  record {
-    read = goes _ c.wanted-number.ensures.read c.if-number-ne0.false
-        (λ t e. goes _ c.wanted-until.ensures.read c.if-until-ne0.false
-        (λ u f. goes _ c.operand-a.ensures.read c.if-a-ne0.false
-        (λ a w. goes _ c.wanted-word.ensures.read c.if-word-ne0.false (λ v g. done c.read.ensures (omega arith) (omega arith) w))));
-    low = let a = c.wanted-number.ensures in let b = c.wanted-until.ensures in let o = c.operand-a.ensures in let d = c.wanted-word.ensures in let r = c.read.ensures in search rules;
-  },
-  (let a = c.wanted-number.ensures in let b = c.wanted-until.ensures in let o = c.operand-a.ensures in let d = c.wanted-word.ensures in let r = c.read.ensures in search rules),
-)
+pub returns-clause-read : goal.returns-clause-read
+unfolding and_then
+returns-clause-read c =
+    let number = c.in_ok-wanted.ensures.read in
+    let until = c.in_ok-wanted-2.ensures.read in
+    let a = c.in_ok-operand.ensures.read in
+    let word = c.in_ok-wanted-3.ensures.read in
+    let first = stills c.in_ok-wanted.ensures.still c.in_ok-wanted-2.ensures.still in
+    let still = c.in_ok-wanted-3.ensures.still in
+    rw (number.is, ← number.same, until.is, ← until.same, a.is, ← a.same, word.is, ← word.same)
+    (wrote (λ k. rw (still.events, still.tape, ← first.events, ← first.tape) (a.laid k)) (omega arith) (omega arith), omega arith)

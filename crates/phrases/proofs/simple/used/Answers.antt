@@ -1,35 +1,40 @@
 -- `used` writes a call, or a use with its arguments and its end. Assumes nothing.
-use mathlib.Core.Path.{◌∙◌}
-use native.Mathlib.Omega.{arith}
+use Rattle.std.proofs.Common.{arith, ◌∙◌}
 use borrow.Author.Tests.{ne_eqb}
-use borrow.Author.Rules.{rules}
-use Rattle.base.proofs.Tests.{other}
-use Rattle.grammar.specs.Grammar.{arguments}
+use Rattle.base.proofs.Tests.{same, other}
+use Rattle.grammar.specs.Grammar as G
 use Rattle.grammar.specs.Reader.{and_then, look}
 use Rattle.tape.specs.Tape.{tape_statement}
-use Rattle.readers.proofs.Reading.{done, since, halts, goes}
-use Rattle.phrases.proofs.Targets.{some-argument, with-some, use-tape}
+use Rattle.readers.proofs.Reading.{passed, stays, wrote}
+use Rattle.std.proofs.Common.{◌≡◌, get_or}
+use Rattle.token.specs.Kinds as K
+use Rattle.phrases.proofs.Targets.{full, use-tape}
 use Rattle.phrases.proofs.simple.used.Goals as goal
 
-pub returns-then-kind_at-ne-OPEN : goal.returns-then-kind_at-ne-OPEN
-unfolding arguments and_then look tape_statement
-returns-then-kind_at-ne-OPEN c =
-    record {
-      read = rw (ne_eqb _ _ (other c.kind_at.ensures.is c.if-kind_at-ne-OPEN.true)) (done c.read.ensures (omega arith) (omega arith) c.write.ensures);
-      low = search rules;
-    }
+pub returns-then-kind-ne-OPEN-clause-read : goal.returns-then-kind-ne-OPEN-clause-read
+unfolding G.arguments and_then look tape_statement
+returns-then-kind-ne-OPEN-clause-read c =
+    let w = c.write.ensures in
+    rw (ne_eqb _ _ (other c.kind.ensures.is c.if-kind-ne-OPEN.true), ← w.same, ← w.here) (wrote w.laid (omega arith) (omega arith))
 
-pub returns-then-row-ne0 : goal.returns-then-row-ne0
-returns-then-row-ne0 c =
-    record {
-      read = since (omega arith) (halts _ c.arguments-row.ensures.0.read c.if-row-ne0.true c.refused.ensures);
-      low = search rules;
-    }
+pub arguments-requires : goal.arguments-requires
+arguments-requires c =
+    let w = c.write-2.ensures in rw (w.same, w.here) (same c.kind.ensures.is c.if-kind-ne-OPEN.false)
 
-pub returns : goal.returns
-returns c =
-    record {
-      read = since (omega arith) (goes _ (with-some c.arguments-row.ensures.0.read (some-argument _ _ _ (search rules))) c.if-row-ne0.false (λ xs (w, z).
-          done c.read-2.ensures (omega arith) (omega arith) (λ k. rw (← use-tape _ xs z k) (c.write-3.ensures k ∙ w _ ∙ c.write-2.ensures _))));
-      low = search rules;
-    }
+pub returns-in_err-arguments-clause-read : goal.returns-in_err-arguments-clause-read
+unfolding and_then
+returns-in_err-arguments-clause-read c =
+    let w = c.write-2.ensures in
+    let row = c.in_err-arguments.ensures.read in rw (passed c.from_residual.ensures, ← w.same, ← w.here, row.is) (stays row (omega arith))
+
+pub returns-clause-read : goal.returns-clause-read
+unfolding and_then
+returns-clause-read c =
+    let w = c.write-2.ensures in
+    let row = c.in_ok-arguments.ensures.read.0 in
+    let far = c.in_ok-arguments.ensures.read.1 in
+    let e = c.write-3.ensures in
+    let begins : get_or c.write-2.new.self.kinds.now c.write-2.new.self.at 0 ≡ K.OPEN = rw (w.same, w.here) (same c.kind.ensures.is c.if-kind-ne-OPEN.false) in
+    let h = full _ _ _ _ row.what begins row.is in
+    rw (← w.same, ← w.here, row.is, ← row.same, ← e.same, ← e.here)
+    (wrote (λ k. rw (← use-tape _ row.what h k) (e.laid k ∙ (row.laid _ ∙ w.laid _))) (omega arith) (omega arith))

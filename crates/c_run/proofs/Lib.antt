@@ -1,2 +1,0 @@
--- Laws behind the runner's interface for C.
-pub mod Told

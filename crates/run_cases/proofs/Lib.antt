@@ -1,1 +1,0 @@
--- The functions' proofs stand in folders of their names.
