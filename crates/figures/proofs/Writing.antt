@@ -5,11 +5,15 @@ use mathlib.Core.Path.{◌≡◌, refl, sym, ap, ◌∙◌}
 use mathlib.Core.List.{List, [], ◌∷◌, ◌++◌, append_assoc, append-nil}
 use native.Mathlib.Omega.{arith}
 use native.Mathlib.Numerals.{add-one}
-use lib.ListN.{length, take, get_or, replicate}
+use lib.ListN.{length, take, drop, get_or, replicate, length-append, length-take, length-drop}
 use lib.Seq.{take-nil, take-suc}
 use Rattle.std.specs.Borrow.{MutBor}
 use Rattle.figures.specs.declared.Text.{Text}
 use Rattle.figures.specs.Writing.{Adds, Holds, Puts, StandsIn}
+
+-- a room keeps its length
+pub holds-length : {room text now : List ℕ} {at : ℕ} → Holds room text now at → length now ≡ length room
+holds-length {room} {text} h = ap length h.stands ∙ length-append (take (length room) text) (drop (length text) room) ∙ omega (arith, length-take (length room) text, length-drop (length text) room)
 
 pub still : {t : Text} → Puts [] t t
 still {t} = record { adds = λ room text h. rw (append-nil text) h; same_room = refl }

@@ -22,7 +22,7 @@ use rules::{
     only_register, operand_rules, register_rule, taken_rules, term_rules, used_register,
     write_rule,
 };
-use scopes::{Broken, Refusal, join, rule};
+use scopes::{Broken, Refusal, join, join_to, rule};
 use tables::{is_cell, is_register, number, register, top};
 use tape::{family, layer};
 
@@ -496,8 +496,10 @@ pub fn judge(
     for e in tape {
         let op = tape::op(*e);
         let t = tape::token(*e);
-        let r = event_rule(op, t, kinds, wide, thin, d.kept, c, o);
-        least = join(least, r);
+        join_to(
+            &mut least,
+            event_rule(op, t, kinds, wide, thin, d.kept, c, o),
+        );
         d = held_after(op, t, wide, thin, counts, d);
         c = cells_after(op, t, wide, c);
         o = open_after(op, t, wide, thin, o);

@@ -12,7 +12,7 @@ ghost use Rattle.layout.specs.Along.{segment_at, capped, book_in, place_in, even
 
 use base::put_byte;
 use ledger::{clear_written, mean, offset, put_offset, put_written, under, value, written};
-use scopes::{Broken, Refusal, join, rule};
+use scopes::{Broken, Refusal, join_to, rule};
 use tables::{element_size, number};
 
 // "A segment is at most 4,096 bytes, every cell included."
@@ -49,13 +49,8 @@ fn cap(end: u64) -> usize
     PAST_LIMIT
 }
 
-fn place_cell(
-    wide: &mut [u64],
-    thin: &mut [u16],
-    t: usize,
-    broken: Option<Broken>,
-) -> Option<Broken>
-    ensures { book_in wide.new thin.new result ≡ place_in t (book_in wide.old thin.old broken) }
+fn place_cell(wide: &mut [u64], thin: &mut [u16], t: usize, broken: &mut Option<Broken>)
+    ensures { book_in wide.new thin.new broken.new ≡ place_in t (book_in wide.old thin.old broken.old) }
 {
     let m = mean(wide, t);
     let size = element_size(m);
@@ -64,25 +59,18 @@ fn place_cell(
     let end = start + size * number(m);
     put_offset(wide, t, start);
     put_written(thin, k, cap(end));
-    join(
+    join_to(
         broken,
         rule(end <= SEGMENT_LIMIT as u64, Refusal::NoRoom, t),
-    )
+    );
 }
 
-fn layout_event(
-    op: u32,
-    t: usize,
-    wide: &mut [u64],
-    thin: &mut [u16],
-    broken: Option<Broken>,
-) -> Option<Broken>
-    ensures { book_in wide.new thin.new result ≡ event_in op t (book_in wide.old thin.old broken) }
+fn layout_event(op: u32, t: usize, wide: &mut [u64], thin: &mut [u16], broken: &mut Option<Broken>)
+    ensures { book_in wide.new thin.new broken.new ≡ event_in op t (book_in wide.old thin.old broken.old) }
 {
     if op == tape::ITEM {
-        return place_cell(wide, thin, t, broken);
+        place_cell(wide, thin, t, broken);
     }
-    broken
 }
 
 // Where cells stand, by token, and where they end, by segment, in the column `written`, whatever stood there.
@@ -93,7 +81,7 @@ pub fn layout(tape: &[u32], wide: &mut [u64], thin: &mut [u16]) -> Option<Broken
     put_written(thin, 1, TABLE_BYTES);
     let mut broken = None;
     for e in tape {
-        broken = layout_event(tape::op(*e), tape::token(*e), wide, thin, broken);
+        layout_event(tape::op(*e), tape::token(*e), wide, thin, &mut broken);
     }
     broken
 }

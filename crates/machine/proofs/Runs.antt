@@ -48,3 +48,6 @@ unfolding run
 run_out m c s b n h l g =
     let w : b - n ≡ 0 = omega arith in
     with-count (let v : b ≡ n + 0 = omega arith in v) ∙ ap (counted n) (sym (ap (λ (k : ℕ). run k m c s) w)) ∙ g
+
+pub run-start : (m : Space) (c : Cpu) (s : List ℕ) (b : ℕ) → counted 0 (run (b - 0) m c s) ≡ run b m c s
+run-start m c s b = let w : b - 0 ≡ b = omega arith in rw w (with-count (let v : 0 + (run b m c s).count ≡ (run b m c s).count = omega arith in v))

@@ -17,7 +17,7 @@ use arrays::{kind, put_wide};
 use base::less;
 use ledger::{found, mean, meaning, put_mean, put_opens, put_under, put_written, value, written};
 use tables::{
-    Sort, Width, is_long, is_register, is_routine, number, packed, register, top, width_by,
+    Sort, Width, is_long, is_register, is_routine, number, packed_as, register, top, width_by,
 };
 use tape::family;
 
@@ -136,10 +136,10 @@ fn form_after(op: u32, t: usize, wide: &[u64], form: u64) -> u64
     let k = family(op);
     let width = width_by(tape::form(op) as u64);
     if k == tape::SINGLE_FULL {
-        return packed(Sort::Cell, width, 1);
+        return packed_as(Sort::Cell, width, 1);
     }
     if k == tape::ARRAY_FULL {
-        return packed(Sort::Array, width, value(wide, t));
+        return packed_as(Sort::Array, width, value(wide, t));
     }
     form
 }
@@ -241,7 +241,7 @@ fn declare_routine(wide: &mut [u64], thin: &[u16], t: usize)
         (view_of (wide_of wide.old) (thin_of thin.now) n) }
 {
     let r = register(meaning(wide, thin, t + 2));
-    put_mean(wide, t, packed(Sort::Routine, Width::Full, r));
+    put_mean(wide, t, packed_as(Sort::Routine, Width::Full, r));
 }
 
 fn declared_after(
@@ -264,7 +264,7 @@ fn declared_after(
         put_mean(
             wide,
             t,
-            packed(Sort::Register, Width::Full, value(wide, t + 2)),
+            packed_as(Sort::Register, Width::Full, value(wide, t + 2)),
         );
         return bases;
     }
@@ -385,9 +385,9 @@ fn standard_meaning(n: usize) -> u64
     ensures { result ≡ standard_meaning n }
 {
     if n < REGISTER_NAMES {
-        return packed(Sort::Register, Width::Full, n as u64);
+        return packed_as(Sort::Register, Width::Full, n as u64);
     }
-    packed(Sort::Function, Width::Full, (n - REGISTER_NAMES) as u64)
+    packed_as(Sort::Function, Width::Full, (n - REGISTER_NAMES) as u64)
 }
 
 // "R0 to R9 and RA to RF are declared in a block around the program.", and so are the standard functions.

@@ -117,37 +117,37 @@ fn link_all(tape: &[u32], thin: &mut [u16])
 
 // ── the second loop: rules, and what each GOTO means ──
 
-fn set_label(wide: &[u64], thin: &[u16], t: usize, n: Noted) -> Noted
-    requires { n.count < 4294967296 }
-    ensures { (goes : List ℕ) → labelled_in goes result ≡ set_label (wide_of wide.now).values t
-        (chain (thin_of thin.now).opens (after_of (thin_of thin.now).opens t)) (labelled_in goes n) }
+fn set_label(wide: &[u64], thin: &[u16], t: usize, n: &mut Noted)
+    requires { n.old.count < 4294967296 }
+    ensures { (goes : List ℕ) → labelled_in goes n.new ≡ set_label (wide_of wide.now).values t
+        (chain (thin_of thin.now).opens (after_of (thin_of thin.now).opens t)) (labelled_in goes n.old) }
 {
     let earlier = after(opens(thin, t), t);
     let first = in_chain(wide, thin, value(wide, t), earlier);
-    entered(first.unwrap_or(0), MOST_LABELS, t, n)
+    entered(first.unwrap_or(0), MOST_LABELS, t, n);
 }
 
-fn bind(wide: &[u64], thin: &mut [u16], block: usize, t: usize, n: Noted) -> Noted
-    ensures { mark_in (thin_of thin.new) result ≡ marking
+fn bind(wide: &[u64], thin: &mut [u16], block: usize, t: usize, n: &mut Noted)
+    ensures { mark_in (thin_of thin.new) n.new ≡ marking
         (λ links outer. note_label t (find (wide_of wide.now).values (get_or (wide_of wide.now).values t 0) (blocks_in links outer block)))
-        (mark_in (thin_of thin.old) n) }
+        (mark_in (thin_of thin.old) n.old) }
 {
     let l = lookup(wide, thin, value(wide, t), block);
     put_goes(thin, t, l);
-    sought(l, t, n)
+    sought(l, t, n);
 }
 
-fn label_at(op: u32, t: usize, wide: &[u64], thin: &mut [u16], block: usize, n: Noted) -> Noted
-    requires { n.count < 4294967296 }
-    ensures { mark_in (thin_of thin.new) result ≡ marking (λ links outer. label_at (wide_of wide.now).values links outer op t block) (mark_in (thin_of thin.old) n) }
+fn label_at(op: u32, t: usize, wide: &[u64], thin: &mut [u16], block: usize, n: &mut Noted)
+    requires { n.old.count < 4294967296 }
+    ensures { mark_in (thin_of thin.new) n.new ≡ marking (λ links outer. label_at (wide_of wide.now).values links outer op t block) (mark_in (thin_of thin.old) n.old) }
 {
     if op == tape::LABEL {
-        return set_label(wide, thin, t, n);
+        set_label(wide, thin, t, n);
+        return;
     }
     if op == tape::GOTO {
-        return bind(wide, thin, block, t, n);
+        bind(wide, thin, block, t, n);
     }
-    n
 }
 
 fn label_all(tape: &[u32], wide: &[u64], thin: &mut [u16]) -> Noted
@@ -164,7 +164,7 @@ fn label_all(tape: &[u32], wide: &[u64], thin: &mut [u16]) -> Noted
     for e in tape {
         let op = tape::op(*e);
         let t = tape::token(*e);
-        n = label_at(op, t, wide, thin, block, n);
+        label_at(op, t, wide, thin, block, &mut n);
         block = block_after(op, t, thin, block);
     }
     n

@@ -15,7 +15,7 @@ ghost use Rattle.names.specs.Naming.{outer, blocks_after, declare_at, use_regist
 ghost use Rattle.names.specs.Flat.{span, blocks_of, blocks_in, named_in, Rising, Roomy, Changed, Stays, search_in, naming, Begun};
 
 use ledger::{opens, put_found, put_opens, put_written, value, written};
-use scopes::{Noted, Refusal, join, rule};
+use scopes::{Noted, Refusal, join, join_to, rule};
 
 // "257th declared name … in the program".
 const MOST_NAMES: usize = 256;
@@ -45,18 +45,25 @@ fn in_block(wide: &[u64], thin: &[u16], wanted: u64, lo: usize, hi: usize) -> Op
 
 // "the search goes outward from the innermost block and ends at the first match"
 // Kept: 0 for none, as the definition `find` (scopes/specs/Search) and the ledger's column `found` have it; so in `entered` and `sought`.
+// Not inlined: among all that a pass holds, the inner loop would go by memory instead of registers.
+#[inline(never)]
 fn lookup(wide: &[u64], thin: &[u16], wanted: u64, depth: usize, count: usize) -> usize
     ensures { (result ≡ find (wide_of wide.now).values wanted (blocks_of (thin_of thin.now).opens (thin_of thin.now).written depth count)) × (result < thin_limit) }
 {
     let mut end = count;
-    for b in (0..depth).rev() {
+    let mut found: usize = 0;
+    'search: for b in (0..depth).rev() {
         let start = written(thin, b);
-        match in_block(wide, thin, wanted, start, end) {
-            Some(d) => return d,
-            None => end = start,
+        for j in (start..end).rev() {
+            let d = opens(thin, j);
+            if value(wide, d) == wanted {
+                found = d;
+                break 'search;
+            }
         }
+        end = start;
     }
-    0
+    found
 }
 
 // ── the open blocks ──
@@ -116,26 +123,21 @@ fn blocks_after(op: u32, t: usize, thin: &mut [u16], b: Blocks) -> Blocks
 // ── the rules of names and of labels ──
 
 // One more, with what stands earlier in its block under the same key, or 0.
-fn entered(earlier: usize, most: usize, t: usize, n: Noted) -> Noted
-    requires { n.count < 4294967296 }
-    ensures { result ≡ entered_by earlier most t n }
+fn entered(earlier: usize, most: usize, t: usize, n: &mut Noted)
+    requires { n.old.count < 4294967296 }
+    ensures { n.new ≡ entered_by earlier most t n.old }
 {
     let once = rule(earlier == 0, Refusal::Twice, t);
     let few = rule(n.count < most, Refusal::TooMany, t);
-    Noted {
-        count: n.count + 1,
-        broken: join(n.broken, join(once, few)),
-    }
+    n.count += 1;
+    join_to(&mut n.broken, join(once, few));
 }
 
 // What was looked for, with what was found, or 0.
-fn sought(d: usize, t: usize, n: Noted) -> Noted
-    ensures { result ≡ sought_by d t n }
+fn sought(d: usize, t: usize, n: &mut Noted)
+    ensures { n.new ≡ sought_by d t n.old }
 {
-    Noted {
-        broken: join(n.broken, rule(0 < d, Refusal::NotFound, t)),
-        ..n
-    }
+    join_to(&mut n.broken, rule(0 < d, Refusal::NotFound, t));
 }
 
 // ── declarations and uses ──
@@ -150,71 +152,71 @@ fn innermost_start(thin: &[u16], b: Blocks) -> usize
     written(thin, b.depth - 1)
 }
 
-fn declare_name(wide: &[u64], thin: &[u16], b: Blocks, t: usize, n: Noted) -> Noted
-    requires { n.count < 4294967296 }
-    ensures { (found : List ℕ) → named_in found result ≡ declare_name (wide_of wide.now).values t (blocks_in (thin_of thin.now) b) (named_in found n) }
+fn declare_name(wide: &[u64], thin: &[u16], b: Blocks, t: usize, n: &mut Noted)
+    requires { n.old.count < 4294967296 }
+    ensures { (found : List ℕ) → named_in found n.new ≡ declare_name (wide_of wide.now).values t (blocks_in (thin_of thin.now) b) (named_in found n.old) }
 {
     let start = innermost_start(thin, b);
     let earlier = in_block(wide, thin, value(wide, t), start, b.count);
-    entered(earlier.unwrap_or(0), MOST_NAMES, t, n)
+    entered(earlier.unwrap_or(0), MOST_NAMES, t, n);
 }
 
-fn use_name(wide: &[u64], thin: &mut [u16], b: Blocks, t: usize, n: Noted) -> Noted
-    ensures { search_in (thin_of thin.new) result ≡ naming b (use_name (wide_of wide.now).values t) (search_in (thin_of thin.old) n) }
+fn use_name(wide: &[u64], thin: &mut [u16], b: Blocks, t: usize, n: &mut Noted)
+    ensures { search_in (thin_of thin.new) n.new ≡ naming b (use_name (wide_of wide.now).values t) (search_in (thin_of thin.old) n.old) }
 {
     let d = lookup(wide, thin, value(wide, t), b.depth, b.count);
     put_found(thin, t, d);
-    sought(d, t, n)
+    sought(d, t, n);
 }
 
 // ── an event ──
 
-fn declare_at(op: u32, t: usize, wide: &[u64], thin: &[u16], b: Blocks, n: Noted) -> Noted
-    requires { n.count < 4294967296 }
-    ensures { (found : List ℕ) → named_in found result ≡ declare_at (wide_of wide.now).values op t (blocks_in (thin_of thin.now) b) (named_in found n) }
+fn declare_at(op: u32, t: usize, wide: &[u64], thin: &[u16], b: Blocks, n: &mut Noted)
+    requires { n.old.count < 4294967296 }
+    ensures { (found : List ℕ) → named_in found n.new ≡ declare_at (wide_of wide.now).values op t (blocks_in (thin_of thin.now) b) (named_in found n.old) }
 {
     if tape::declares(op) {
-        return declare_name(wide, thin, b, t, n);
+        declare_name(wide, thin, b, t, n);
     }
-    n
 }
 
-fn use_register(op: u32, t: usize, wide: &[u64], thin: &mut [u16], b: Blocks, n: Noted) -> Noted
+fn use_register(op: u32, t: usize, wide: &[u64], thin: &mut [u16], b: Blocks, n: &mut Noted)
     requires { t < 4294967296 }
-    ensures { search_in (thin_of thin.new) result ≡ naming b (use_register (wide_of wide.now).values op t) (search_in (thin_of thin.old) n) }
+    ensures { search_in (thin_of thin.new) n.new ≡ naming b (use_register (wide_of wide.now).values op t) (search_in (thin_of thin.old) n.old) }
 {
     if op == tape::PROCEDURE {
-        return use_name(wide, thin, b, t + 2, n);
+        use_name(wide, thin, b, t + 2, n);
+        return;
     }
     if tape::family(op) == tape::COMPARED {
-        return use_name(wide, thin, b, t.saturating_sub(2), n);
+        use_name(wide, thin, b, t.saturating_sub(2), n);
     }
-    n
 }
 
-fn use_place(shape: u32, t: usize, wide: &[u64], thin: &mut [u16], b: Blocks, n: Noted) -> Noted
+fn use_place(shape: u32, t: usize, wide: &[u64], thin: &mut [u16], b: Blocks, n: &mut Noted)
     requires { t < 4294967296 }
-    ensures { search_in (thin_of thin.new) result ≡ naming b (use_place (wide_of wide.now).values shape t) (search_in (thin_of thin.old) n) }
+    ensures { search_in (thin_of thin.new) n.new ≡ naming b (use_place (wide_of wide.now).values shape t) (search_in (thin_of thin.old) n.old) }
 {
     if tape::SUBSCRIPTED_INDEXED < shape {
-        return n;
+        return;
     }
-    let m = use_name(wide, thin, b, t, n);
+    use_name(wide, thin, b, t, n);
     if shape < tape::INDEXED {
-        return m;
+        return;
     }
     if shape == tape::INDEXED {
-        return use_name(wide, thin, b, t + 2, m);
+        use_name(wide, thin, b, t + 2, n);
+        return;
     }
-    use_name(wide, thin, b, t + 5, m)
+    use_name(wide, thin, b, t + 5, n);
 }
 
-fn use_at(op: u32, t: usize, wide: &[u64], thin: &mut [u16], b: Blocks, n: Noted) -> Noted
+fn use_at(op: u32, t: usize, wide: &[u64], thin: &mut [u16], b: Blocks, n: &mut Noted)
     requires { t < 4294967296 }
-    ensures { search_in (thin_of thin.new) result ≡ naming b (use_at (wide_of wide.now).values op t) (search_in (thin_of thin.old) n) }
+    ensures { search_in (thin_of thin.new) n.new ≡ naming b (use_at (wide_of wide.now).values op t) (search_in (thin_of thin.old) n.old) }
 {
-    let m = use_register(op, t, wide, thin, b, n);
-    use_place(tape::shape(op), t, wide, thin, b, m)
+    use_register(op, t, wide, thin, b, n);
+    use_place(tape::shape(op), t, wide, thin, b, n);
 }
 
 // ── the tape ──
@@ -247,9 +249,9 @@ pub fn names(tape: &[u32], wide: &[u64], thin: &mut [u16]) -> Noted
     for e in tape {
         let op = tape::op(*e);
         let t = tape::token(*e);
-        n = declare_at(op, t, wide, thin, b, n);
+        declare_at(op, t, wide, thin, b, &mut n);
         b = blocks_after(op, t, thin, b);
-        n = use_at(op, t, wide, thin, b, n);
+        use_at(op, t, wide, thin, b, &mut n);
     }
     n
 }

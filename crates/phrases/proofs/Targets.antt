@@ -3,8 +3,9 @@ use mathlib.Core.Path.{◌≡◌, refl, subst}
 use mathlib.Core.Bool.{true, false}
 use mathlib.Core.List.{List, [], ◌∷◌}
 use Prim.Native.Nat.{ℕ, suc, ◌+◌}
+use lib.Dec.{eqb}
 use lib.ListN.{get_or}
-use borrow.Author.Tests.{eqb-true}
+use borrow.Author.Tests.{eqb-true, ne_eqb}
 use Rattle.base.proofs.Tests.{never_true}
 use Rattle.token.specs.Kinds as K
 use Rattle.grammar.specs.Tree.{Designator, Operand, assign}
@@ -14,6 +15,11 @@ use Rattle.grammar.proofs.Names.{assigns, uses}
 use Rattle.tape.specs.Events as E
 use Rattle.tape.specs.Tape.{event, tape_each, tape_argument, tape_statement}
 use Rattle.phrases.specs.Parts.{targeted, used_of}
+
+-- a name with no parenthesis behind it is a designator
+pub target-bare : (ks : List ℕ) (n : ℕ) → (get_or ks (n + 1) 0 ≡ K.OPEN → ⊥) → targeted ks (designator_of n ks (n + 1)) ≡ eqb (get_or ks (n + 1) 0) K.BECOMES
+unfolding designator_of and_then look
+target-bare ks n h = rw (ne_eqb (get_or ks (n + 1) 0) K.OPEN h) refl
 
 module _ (ks : List ℕ) (n i : ℕ) (behind : i ≡ n + 1) where
   pub target-read : targeted ks (designator_of n ks i) ≡ true → get_or ks n 0 ≡ K.NAME → after_name n ks i ≡ and_then (assignment_of n ks i) (λ a i. ok (assign a) i)
@@ -39,7 +45,7 @@ unfolding and_then
 some_then (ok a j) f h = h a j
 some_then (bad n t) f h = tt
 
-some-argument : (ks : List ℕ) (f i : ℕ) → get_or ks i 0 ≡ K.OPEN → Some (arguments (suc f) ks i)
+pub some-argument : (ks : List ℕ) (f i : ℕ) → get_or ks i 0 ≡ K.OPEN → Some (arguments (suc f) ks i)
 unfolding arguments and_then look next
 some-argument ks f i h = rw h (some_then (operand ks (i + 1)) _ (λ a j. some_then (want K.CLOSE ks j) _ (λ c m. some_then (arguments f ks m) _ (λ xs l. tt))))
 

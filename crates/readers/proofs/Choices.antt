@@ -1,15 +1,17 @@
 -- Which way the definition goes, by the tests that the code made. Assumes nothing.
 use mathlib.Core.Path.{◌≡◌, refl, ◌∙◌, sym, subst}
-use mathlib.Core.Bool.{Bool, true, false, ◌&&◌, true≢false}
+use mathlib.Core.Bool.{Bool, true, false, not, ◌&&◌, true≢false}
 use mathlib.Core.List.{List}
 use mathlib.Core.Option.{none}
 use Prim.Native.Nat.{ℕ, zero, suc, ◌+◌, ◌<◌}
 use native.Mathlib.Omega.{arith}
 use borrow.Author.Tests.{eqb-true}
-use lib.Dec.{eqb}
+use lib.Dec.{T, eqb}
 use lib.ListN.{get_or, length}
 use Rattle.base.specs.Choose.{whether◌then◌else◌}
 use Rattle.base.specs.Lists.{member}
+use Rattle.base.specs.Tables.{all_below}
+use Rattle.base.proofs.Tables.{all-below}
 use Rattle.base.proofs.Tests.{never_true, both}
 use Rattle.token.specs.Kinds as K
 use Rattle.grammar.specs.Tree.{Width, full, short, byte, registers}
@@ -34,6 +36,16 @@ one-no l h e f = rw (among l h e f)
 pub is-token : (l : List ℕ) {ks : List ℕ} {i k : ℕ} {b : Bool} → Kind ks i k → b ≡ member k l → b ≡ true → member 0 l ≡ false → i < length ks
 is-token l {k = zero} h e f g = absurd (true≢false (sym f ∙ e ∙ g))
 is-token l {k = suc k} h e f g = omega arith
+
+-- two tests that agree on every byte
+pub same_test : (f g : ℕ → Bool) → T (all_below 256 (λ k. whether f k then g k else not (g k))) → (k : ℕ) → k < 256 → f k ≡ g k
+same_test f g t k h = go (f k) (g k) (all-below 256 (λ k. whether f k then g k else not (g k)) t k h)
+  where
+    go : (a b : Bool) → T (whether a then b else not b) → a ≡ b
+    go true true t = refl
+    go true false t = absurd t
+    go false true t = absurd t
+    go false false t = refl
 
 pub either : {A : Type 0} (t : Bool) (a : A) → (whether t then a else a) ≡ a
 either true a = refl

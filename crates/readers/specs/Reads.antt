@@ -106,6 +106,10 @@ abbrev pub WroteFewer : {A : Type 0} → (A → List ℕ → List ℕ) → G.Rea
 WroteFewer out m old new (Ok u) = Written out old.kinds.now old.at old.events old.tape.now new (m old.kinds.now old.at) × (new.events + old.at < new.at + old.events)
 WroteFewer out m old new (Err e) = Refuses old.kinds.now old.at new e (m old.kinds.now old.at)
 
+-- an event written on a tape behind what stands before p
+abbrev pub Behind : ℕ → ℕ → List ℕ → List ℕ → Type 0
+Behind e p before after = (k : List ℕ) → take (p + 1) after ++ k ≡ take p before ++ (e ∷ k)
+
 -- an event written
 pub record Pushed (e : ℕ) (old new : Reader) : Type 0 where
   pub laid : (k : List ℕ) → take new.events new.tape.now ++ k ≡ take old.events old.tape.now ++ (e ∷ k)

@@ -2,5 +2,6 @@
 #![tactic(auto)]
 
 pub mod classes;
+pub mod events;
 pub mod reader;
 pub mod tokens;

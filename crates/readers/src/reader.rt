@@ -4,6 +4,7 @@ ghost use Rattle.tape.specs.Events.{EVENTS, TOKEN-LIMIT};
 ghost use Rattle.tape.specs.Tape.{event};
 ghost use Rattle.readers.specs.Kinds.{Kind};
 
+use crate::events;
 use crate::tokens::Why;
 use token::kinds;
 
@@ -105,7 +106,7 @@ impl Reader<'_> {
         requires { (self.old.events < self.old.at) × ((op < EVENTS) × (token < TOKEN-LIMIT)) }
         ensures { Pushed (event op token) self.old self.new }
     {
-        self.tape[self.events] = (token as u32) * tape::EVENTS + op;
+        events::write(self.tape, self.events, op, token);
         self.events += 1;
     }
 
@@ -125,6 +126,6 @@ impl Reader<'_> {
         requires { (place < length self.old.tape.now) × ((op < EVENTS) × (token < TOKEN-LIMIT)) }
         ensures { Put place (event op token) self.old self.new }
     {
-        self.tape[place] = (token as u32) * tape::EVENTS + op;
+        events::put(self.tape, place, op, token);
     }
 }

@@ -44,7 +44,7 @@ fn tell_stop<R: Host>(
 
 // A word that is wrong, on standard error.
 fn complain<R: Host>(rt: &R, words: &[u8], fault: Fault) -> ExitStatus {
-    saying::complain(rt, words, fault.word, fault.why as usize)
+    saying::complain(rt, words, fault.word, fault.why.number())
 }
 
 fn tell_run<R: Host>(

@@ -1,4 +1,5 @@
 -- The files of this crate's proofs.
+pub mod Order
 pub mod Joins
 pub mod Least
 pub mod Hiding
@@ -7,3 +8,4 @@ pub mod Finding
 pub mod Bound
 pub mod Early
 pub mod Led
+pub mod ByNumber

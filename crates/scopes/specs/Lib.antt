@@ -4,3 +4,4 @@ pub mod Search
 pub mod Names
 pub mod Labels
 pub mod Found
+pub mod ByNumber

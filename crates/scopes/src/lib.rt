@@ -60,9 +60,28 @@ pub fn rule(holds: bool, refusal: Refusal, token: usize) -> Option<Broken>
 pub fn join(a: Option<Broken>, b: Option<Broken>) -> Option<Broken>
     ensures { result ≡ a ⊕ b }
 {
-    match (a, b) {
-        (Some(x), Some(y)) => Some(x.min(y)),
-        (Some(x), None) => Some(x),
-        (None, y) => y,
+    match b {
+        None => a,
+        Some(y) => match a {
+            None => b,
+            Some(x) => Some(x.min(y)),
+        },
+    }
+}
+
+// A ruling joined to what is answered so far, where that stands: mostly nothing is broken, and then nothing is moved.
+pub fn join_to(least: &mut Option<Broken>, b: Option<Broken>)
+    ensures { least.new ≡ least.old ⊕ b }
+{
+    match b {
+        None => {}
+        Some(y) => match *least {
+            None => *least = b,
+            Some(x) => {
+                if y < x {
+                    *least = b;
+                }
+            }
+        },
     }
 }

@@ -45,7 +45,13 @@ fn newlines(s: &[u8]) -> usize
     ensures is { result ≡ count_by (λ b. eqb b 10) s.now }
     ensures fits { result ≤ length s.now }
 {
-    s.iter().filter(|b| **b == NEWLINE).count()
+    let mut n = 0;
+    for b in s {
+        if *b == NEWLINE {
+            n += 1;
+        }
+    }
+    n
 }
 
 // How many of these bytes stand behind the last that ends a line; all, where none does.

@@ -32,11 +32,19 @@ const SORTS: u64 = 16;
 
 const WIDTHS: u64 = 4;
 
-// A number of 32 bits, what it is a number of, and the width of a cell's elements.
-pub fn packed(sort: Sort, width: Width, v: u64) -> u64
+// A number of 32 bits, what it is a number of, and the width of a cell's elements, by their numbers: there is room for more sorts than `Sort` has.
+pub fn packed(sort: u64, width: u64, v: u64) -> u64
+    requires { (sort < 16) × (width < 4) }
+    ensures { result ≡ packed_of sort width v }
+{
+    (v % 4294967296 * WIDTHS + width) * SORTS + sort
+}
+
+// The same of a sort and a width that there are.
+pub fn packed_as(sort: Sort, width: Width, v: u64) -> u64
     ensures { result ≡ packed_of (sort_number sort) (width_number width) v }
 {
-    (v % 4294967296 * WIDTHS + width as u64) * SORTS + sort as u64
+    packed(sort as u64, width as u64, v)
 }
 
 // What a packed meaning is, is this.

@@ -72,7 +72,7 @@ fn help<R: Host>(rt: &R, words: &[u8], about: Option<usize>) -> ExitStatus {
 // ── the command ──
 
 fn complain<R: Host>(rt: &R, words: &[u8], fault: Fault) -> ExitStatus {
-    saying::complain(rt, words, fault.word, fault.why as usize)
+    saying::complain(rt, words, fault.word, fault.why.number())
 }
 
 fn translate_named<R: Host>(

@@ -14,8 +14,10 @@ use Rattle.token.specs.declared.Token.{Token}
 use Rattle.token.specs.Text.{tokens_of}
 use Rattle.grammar.specs.Tree.{Statement}
 use Rattle.scopes.specs.Broken.{Ruling, ◌⊕◌}
+use Rattle.scopes.specs.ByNumber.{Numbered, joined, numbered}
 use Rattle.scopes.specs.Search.{in_front, first_token}
 use Rattle.scopes.proofs.Least.{LeastOf, join-least}
+use Rattle.scopes.proofs.ByNumber.{LeastByNumber, least-joined, joined-numbers}
 use Rattle.objtext.specs.Object.{Segment, Object, object_text}
 use Rattle.translation.specs.Image.{segments}
 use Rattle.translation.specs.Translate.{Answer, accepted, refused, number_of, spot_of, length_of, place_at, make, translate}
@@ -30,6 +32,13 @@ use Rattle.translation.proofs.Rows.{group-row, row-answered, row-given, place-in
 -- of broken rules that are joined the least is answered, as it is of those of one event
 pub least : (a b : Ruling) → LeastOf a b (a ⊕ b)
 least a b = join-least a b
+
+-- so it is of any two numbers with their tokens, whatever refusals have them, and rulings are joined as their numbers are
+pub least-by-number : (a b : Numbered) → LeastByNumber a b (joined a b)
+least-by-number a b = least-joined a b
+
+pub joined-by-number : (a b : Ruling) → numbered (a ⊕ b) ≡ joined (numbered a) (numbered b)
+joined-by-number a b = joined-numbers a b
 
 -- and each rule has a number from 6 to 13, so that a number belongs to one row of the table
 pub rules-6-to-13 : (ts : List Token) (x : Statement) (n t : ℕ) → Breaks ts x n t → (6 ≤ n) × (n ≤ 13)

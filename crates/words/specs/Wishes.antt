@@ -16,7 +16,7 @@ use Rattle.words.specs.declared.Command.TheVariants as command
 use Rattle.words.specs.declared.Awaited.{Awaited}
 use Rattle.words.specs.declared.Awaited.TheVariants.{Object, Set, Show, Budget, Code}
 use Rattle.words.specs.declared.Why.{Why}
-use Rattle.words.specs.declared.Why.TheVariants.{UnknownCommand, UnknownOption, TooMany, NoNumber, NoValue, NoName}
+use Rattle.words.specs.declared.Why.TheVariants.{UnknownCommand, UnknownOption, TooMany, NoNumber, NoValue, NoName, BadValue, NoRegister, NoPage, NoCell, NoElement, NotShort, NotByte}
 use Rattle.words.specs.declared.Fault.{Fault}
 use Rattle.words.specs.declared.Wish.{Wish}
 use Rattle.words.specs.declared.Wish.TheVariants.{Translate, Check, Run, Same, Help}
@@ -50,6 +50,22 @@ abbrev pub option_of : Command → List ℕ → Option Awaited
 option_of command.Translate s = choose (same_bytes s (bytes "-o")) (Some Object) None
 option_of command.Run s = run_option s
 option_of _ s = None
+
+-- the reasons why a word is wrong, by the number of what is said of it
+abbrev pub why_number : Why → ℕ
+why_number UnknownCommand = 1
+why_number UnknownOption = 2
+why_number TooMany = 3
+why_number NoNumber = 4
+why_number NoValue = 5
+why_number NoName = 6
+why_number BadValue = 7
+why_number NoRegister = 8
+why_number NoPage = 9
+why_number NoCell = 10
+why_number NoElement = 11
+why_number NotShort = 12
+why_number NotByte = 13
 
 -- the word with the number n is wrong
 abbrev pub wrong_at : ℕ → Why → Fault

@@ -3,7 +3,7 @@
 
 ghost use Rattle.std.specs.Prelude.{◌≡◌, ◌-◌, ◌<◌, IfSome};
 ghost use Rattle.std.specs.Option.{ok_or};
-ghost use Rattle.words.specs.Wishes.{command_of, is_option, run_option, option_of, start_of, number_at, object_named, valued as valued_of};
+ghost use Rattle.words.specs.Wishes.{why_number, command_of, is_option, run_option, option_of, start_of, number_at, object_named, valued as valued_of};
 ghost use Rattle.words.specs.Wishes.{opened as opened_of, named as named_of, taken as taken_of, taken_all, name_at, wish_for, wish_of, register_in};
 
 use figures::same;
@@ -43,6 +43,15 @@ pub enum Why {
     NoElement,
     NotShort,
     NotByte,
+}
+
+impl Why {
+    // The number of what is said of it.
+    pub fn number(self) -> usize
+        ensures { result ≡ why_number self }
+    {
+        self as usize
+    }
 }
 
 // Why a word is wrong, and which.

@@ -14,8 +14,8 @@ loop-e-init c =
       (refl, refl),
     )
 
-pub event_rule-r-requires : goal.event_rule-r-requires
-event_rule-r-requires c =
+pub event_rule-requires : goal.event_rule-requires
+event_rule-requires c =
     omega (arith, c.token-t.ensures.1)
 
 pub held_after-d-requires : goal.held_after-d-requires
@@ -35,7 +35,7 @@ pub loop-e-preserved : goal.loop-e-preserved
 loop-e-preserved c =
     let before = c.loop-e.invariant in let held = c.held_after-d in let wides = held.auto.wide in let countings = held.auto.counts in (
       going_on _ _ _ _ _ before.0 c.loop-e-test.true _ _ c.op-op.ensures.0 c.token-t.ensures.0
-          c.event_rule-r.ensures c.join-least.ensures held.ensures.0 held.ensures.1 c.cells_after-c.ensures
+          c.event_rule.ensures c.join_to.ensures held.ensures.0 held.ensures.1 c.cells_after-c.ensures
           c.open_after-o.ensures wides countings,
       (wides ∙ before.1.0, countings ∙ before.1.1),
     )

@@ -13,10 +13,10 @@ loop-e-preserved c = (
   going_on _ _ c.loop-e.invariant.0
       c.loop-e-test.true
       c.op.ensures.0
-      c.token.ensures.0 c.layout_event-broken.ensures,
-  c.layout_event-broken.auto.wide
+      c.token.ensures.0 c.layout_event.ensures,
+  c.layout_event.auto.wide
       ∙ c.loop-e.invariant.1,
-  c.layout_event-broken.auto.thin
+  c.layout_event.auto.thin
       ∙ c.loop-e.invariant.2,
 )
 

@@ -9,7 +9,7 @@ returns-then-op-eq-ITEM c =
     c.args.t _
     c.if-op-eq-ITEM.true c.place_cell.ensures
 
-pub returns : goal.returns
-returns c =
+pub returns-else-op-eq-ITEM : goal.returns-else-op-eq-ITEM
+returns-else-op-eq-ITEM c =
     other-is c.args.op c.args.t
-    (book_in c.args.wide.now c.args.thin.now c.args.broken) c.if-op-eq-ITEM.false
+    (book_in c.args.wide.now c.args.thin.now c.args.broken.now) c.if-op-eq-ITEM.false

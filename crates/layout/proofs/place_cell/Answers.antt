@@ -24,7 +24,7 @@ overflow_add-end c =
 
 pub returns : goal.returns
 returns c =
-    place_is (wide_of c.args.wide.now) (thin_of c.args.thin.now) c.args.t c.args.broken c.mean-m.ensures
+    place_is (wide_of c.args.wide.now) (thin_of c.args.thin.now) c.args.t c.args.broken.now c.mean-m.ensures
     c.element_size-size.ensures.0 c.segment-k.ensures.0 c.written.ensures.0 c.round_up-start.ensures.0
     c.number.ensures.0 c.put_offset.ensures c.cap.ensures.0 c.put_written.ensures
-    c.rule.ensures c.join.ensures
+    c.rule.ensures c.join_to.ensures

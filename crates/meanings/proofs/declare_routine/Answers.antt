@@ -13,4 +13,4 @@ returns c =
     (thin_of c.args.thin.now) n
     c.args.t _ _ _
     c.meaning.ensures c.register-r.ensures.0
-    c.register-r.ensures.1 c.packed.ensures
+    c.register-r.ensures.1 c.packed_as.ensures

@@ -19,7 +19,7 @@ returns-then-op-eq-REGISTER c = (
       (thin_of c.args.thin.now)
       c.args.bases
       c.args.t _ _ c.value.ensures
-      c.packed.ensures),
+      c.packed_as.ensures),
   omega arith,
 )
 

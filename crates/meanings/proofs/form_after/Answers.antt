@@ -7,7 +7,7 @@ use Rattle.meanings.proofs.form_after.Goals as goal
 pub returns-then-k-eq-SINGLE_FULL : goal.returns-then-k-eq-SINGLE_FULL
 unfolding form_after
 returns-then-k-eq-SINGLE_FULL c =
-    rw (← c.family-k.ensures, eq-eqb _ E.SINGLE-FULL c.if-k-eq-SINGLE_FULL.true, ← c.form.ensures.0, ← c.width_by-width.ensures) c.packed.ensures
+    rw (← c.family-k.ensures, eq-eqb _ E.SINGLE-FULL c.if-k-eq-SINGLE_FULL.true, ← c.form.ensures.0, ← c.width_by-width.ensures) c.packed_as.ensures
 
 pub returns-then-k-eq-ARRAY_FULL : goal.returns-then-k-eq-ARRAY_FULL
 unfolding form_after
@@ -19,7 +19,7 @@ returns-then-k-eq-ARRAY_FULL c =
       ← c.form.ensures.0,
       ← c.width_by-width.ensures,
       ← c.value.ensures,
-    ) c.packed-then-k-eq-ARRAY_FULL.ensures
+    ) c.packed_as-then-k-eq-ARRAY_FULL.ensures
 
 pub returns : goal.returns
 unfolding form_after

@@ -8,7 +8,7 @@ unfolding declare_at
 returns-then-declares c =
     λ found. rw (told c.declares.ensures c.if-declares.true) (c.declare_name.ensures found)
 
-pub returns : goal.returns
+pub returns-else-declares : goal.returns-else-declares
 unfolding declare_at
-returns c =
+returns-else-declares c =
     λ found. rw (told c.declares.ensures c.if-declares.false)

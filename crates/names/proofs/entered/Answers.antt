@@ -6,4 +6,4 @@ use Rattle.names.proofs.entered.Goals as goal
 pub returns : goal.returns
 unfolding entered
 returns c =
-    rw (add-one, c.join-2.ensures, c.join.ensures, c.rule-few.ensures, c.rule-once.ensures)
+    rw (add-one, c.join_to.ensures, c.join.ensures, c.rule-few.ensures, c.rule-once.ensures)

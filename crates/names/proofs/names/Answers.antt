@@ -13,8 +13,8 @@ pub loop-e-init : goal.loop-e-init
 loop-e-init c =
     going _ _ _ _ c.open_around-b.ensures.0
 
-pub declare_at-n-requires : goal.declare_at-n-requires
-declare_at-n-requires c =
+pub declare_at-requires : goal.declare_at-requires
+declare_at-requires c =
     (let f = c.loop-e.invariant.few in omega (arith, c.loop-e-test.true, c.requires.1.0, c.requires.1.1))
 
 pub blocks_after-b-requires : goal.blocks_after-b-requires
@@ -35,8 +35,8 @@ blocks_after-b-requires c = (
       c.op-op.ensures.0 c.token-t.ensures.0,
 )
 
-pub use_at-n-requires : goal.use_at-n-requires
-use_at-n-requires c =
+pub use_at-requires : goal.use_at-requires
+use_at-requires c =
     omega (arith, c.token-t.ensures.1)
 
 pub loop-e-preserved : goal.loop-e-preserved
@@ -45,10 +45,10 @@ loop-e-preserved c =
     c.loop-e-test.true
     c.op-op.ensures.0
     c.token-t.ensures.0
-    c.declare_at-n.ensures
+    c.declare_at.ensures
     c.blocks_after-b.ensures.0 c.blocks_after-b.ensures.1
-    c.use_at-n.ensures c.blocks_after-b.auto.thin
-    c.use_at-n.auto.thin
+    c.use_at.ensures c.blocks_after-b.auto.thin
+    c.use_at.auto.thin
 
 pub shape_of-thin : goal.shape_of-thin
 shape_of-thin c =

@@ -5,4 +5,4 @@ use Rattle.names.proofs.sought.Goals as goal
 pub returns : goal.returns
 unfolding sought
 returns c =
-    rw (c.join.ensures, c.rule.ensures)
+    rw (c.join_to.ensures, c.rule.ensures)

@@ -12,4 +12,4 @@ returns c =
     ∙ ap (λ (s : Searching). naming c.args.b
     (use_place (wide_of c.args.wide.now).values
     c.shape.result c.args.t) s)
-    c.use_register-m.ensures)
+    c.use_register.ensures)

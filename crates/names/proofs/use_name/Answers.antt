@@ -7,6 +7,6 @@ pub returns : goal.returns
 returns c =
     used _ (thin_of c.args.thin.now)
     c.args.b _
-    c.args.n _ _ _ _
+    c.args.n.now _ _ _ _
     c.value.ensures c.lookup-d.ensures.0
     c.put_found.ensures c.sought.ensures

@@ -17,7 +17,7 @@ returns-then-shape-gt-SUBSCRIPTED_INDEXED c =
 pub returns-then-shape-lt-INDEXED : goal.returns-then-shape-lt-INDEXED
 unfolding use_place
 returns-then-shape-lt-INDEXED c =
-    rw (le-ltb E.SUBSCRIPTED-INDEXED _ c.if-shape-gt-SUBSCRIPTED_INDEXED.false, lt-ltb _ E.INDEXED c.if-shape-lt-INDEXED.true) c.use_name-m.ensures
+    rw (le-ltb E.SUBSCRIPTED-INDEXED _ c.if-shape-gt-SUBSCRIPTED_INDEXED.false, lt-ltb _ E.INDEXED c.if-shape-lt-INDEXED.true) c.use_name.ensures
 
 pub returns-then-shape-eq-INDEXED : goal.returns-then-shape-eq-INDEXED
 unfolding use_place
@@ -26,11 +26,11 @@ returns-then-shape-eq-INDEXED c =
       le-ltb E.SUBSCRIPTED-INDEXED _ c.if-shape-gt-SUBSCRIPTED_INDEXED.false,
       le-ltb _ E.INDEXED c.if-shape-lt-INDEXED.false,
       eq-eqb _ E.INDEXED c.if-shape-eq-INDEXED.true,
-    ) (c.use_name.ensures
+    ) (c.use_name-then-shape-eq-INDEXED.ensures
     ∙ ap (λ (s : Searching). naming c.args.b
     (use_name (wide_of c.args.wide.now).values
     (c.args.t + 2)) s)
-    c.use_name-m.ensures)
+    c.use_name.ensures)
 
 pub returns : goal.returns
 unfolding use_place
@@ -43,4 +43,4 @@ returns c =
     ∙ ap (λ (s : Searching). naming c.args.b
     (use_name (wide_of c.args.wide.now).values
     (c.args.t + 5)) s)
-    c.use_name-m.ensures)
+    c.use_name.ensures)

@@ -19,7 +19,7 @@ returns-then-family-eq-COMPARED c =
       ← c.saturating_sub.ensures,
     ) c.use_name-then-family-eq-COMPARED.ensures
 
-pub returns : goal.returns
+pub returns-else-family-eq-COMPARED : goal.returns-else-family-eq-COMPARED
 unfolding use_register
-returns c =
+returns-else-family-eq-COMPARED c =
     rw (ne_eqb _ E.PROCEDURE c.if-op-eq-PROCEDURE.false, ne_eqb _ E.COMPARED (other c.family.ensures c.if-family-eq-COMPARED.false))

@@ -6,7 +6,7 @@ use Rattle.names.proofs.labels.bind.Goals as goal
 
 pub returns : goal.returns
 returns c =
-    bound _ _ _ _ c.args.n _ _ _ _
+    bound _ _ _ _ c.args.n.now _ _ _ _
     (thin_of c.args.thin.now) _ refl refl
     c.value.ensures c.lookup-l.ensures.0
     c.put_goes.ensures c.sought.ensures

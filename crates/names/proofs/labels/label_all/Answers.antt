@@ -8,8 +8,8 @@ pub loop-e-init : goal.loop-e-init
 loop-e-init c =
     binding _ _ _
 
-pub label_at-n-requires : goal.label_at-n-requires
-label_at-n-requires c =
+pub label_at-requires : goal.label_at-requires
+label_at-requires c =
     (let f = c.loop-e.invariant.few in omega (arith, c.loop-e-test.true, c.requires.1))
 
 pub block_after-block-requires : goal.block_after-block-requires
@@ -21,8 +21,8 @@ loop-e-preserved c =
     binding-on c.loop-e.invariant _ _
     c.loop-e-test.true
     c.op-op.ensures.0 c.token-t.ensures.0
-    c.label_at-n.ensures c.block_after-block.ensures.0 c.block_after-block.ensures.1
-    c.label_at-n.auto.thin
+    c.label_at.ensures c.block_after-block.ensures.0 c.block_after-block.ensures.1
+    c.label_at.auto.thin
 
 pub shape_of-thin : goal.shape_of-thin
 shape_of-thin c =

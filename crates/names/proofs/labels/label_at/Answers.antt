@@ -13,14 +13,14 @@ unfolding label_at
 returns-then-op-eq-LABEL c =
     rw (eq-eqb _ E.LABEL c.if-op-eq-LABEL.true)
     (ap (λ (x : Labelled). marking (λ _ _ _. x) (mark_in (thin_of c.args.thin.now)
-    c.args.n)) (c.set_label.ensures _))
+    c.args.n.now)) (c.set_label.ensures _))
 
 pub returns-then-op-eq-GOTO : goal.returns-then-op-eq-GOTO
 unfolding label_at
 returns-then-op-eq-GOTO c =
     rw (ne_eqb _ E.LABEL c.if-op-eq-LABEL.false, eq-eqb _ E.GOTO c.if-op-eq-GOTO.true) c.bind.ensures
 
-pub returns : goal.returns
+pub returns-else-op-eq-GOTO : goal.returns-else-op-eq-GOTO
 unfolding label_at
-returns c =
+returns-else-op-eq-GOTO c =
     rw (ne_eqb _ E.LABEL c.if-op-eq-LABEL.false, ne_eqb _ E.GOTO c.if-op-eq-GOTO.false)

@@ -6,5 +6,5 @@ use Rattle.names.proofs.labels.set_label.Goals as goal
 
 pub returns : goal.returns
 returns c =
-    label-set _ _ (thin_of c.args.thin.now).written _ c.args.n _ _ _ _ c.value.ensures
+    label-set _ _ (thin_of c.args.thin.now).written _ c.args.n.now _ _ _ _ c.value.ensures
     (c.after-earlier.ensures.0 _ c.opens.ensures.0) (c.unwrap_or.ensures ∙ c.in_chain-first.ensures.is 0) c.entered.ensures
