@@ -124,6 +124,23 @@ const COMPARE: u32 = 0x19594900;
 
 const STORE: u32 = 0x00504000;
 
+const CODES: [u32; 11] = [
+    LOAD,
+    ADD,
+    SUBTRACT,
+    TIMES,
+    ADD_LOGICAL,
+    SUBTRACT_LOGICAL,
+    AND,
+    OR,
+    XOR,
+    COMPARE,
+    STORE,
+];
+
+// "Masks when a condition is false: = 7, ^= 9, < 11, <= 3, >= 5, > 13, OVERFLOW 14."
+const FALSE_MASKS: [u64; 7] = [7, 9, 11, 3, 5, 13, 14];
+
 // "Branch `47 m0`"; "Call: `45 r0`"; "`07 Fr`"; "The last instruction is `0A 00`."
 pub const BRANCH: u64 = 0x47;
 
@@ -166,31 +183,31 @@ fn row_of(k: u8) -> u32
     ensures { IsRow (row_of k) result }
 {
     match k {
-        kinds::BECOMES => LOAD,
-        kinds::PLUS => ADD,
-        kinds::MINUS => SUBTRACT,
-        kinds::TIMES => TIMES,
-        kinds::ADD_LOGICAL => ADD_LOGICAL,
-        kinds::SUBTRACT_LOGICAL => SUBTRACT_LOGICAL,
-        kinds::AND => AND,
-        kinds::OR => OR,
-        kinds::XOR => XOR,
-        _ => COMPARE,
+        kinds::BECOMES => CODES[0],
+        kinds::PLUS => CODES[1],
+        kinds::MINUS => CODES[2],
+        kinds::TIMES => CODES[3],
+        kinds::ADD_LOGICAL => CODES[4],
+        kinds::SUBTRACT_LOGICAL => CODES[5],
+        kinds::AND => CODES[6],
+        kinds::OR => CODES[7],
+        kinds::XOR => CODES[8],
+        _ => CODES[9],
     }
 }
 
-// "Masks when a condition is false: = 7, ^= 9, < 11, <= 3, >= 5, > 13, OVERFLOW 14."
+// By the kind of the condition; an element at a known place is a constant of the program.
 fn false_mask(k: u8) -> u64
     ensures { (result ≡ false_mask k) × (result < 256) }
 {
     match k {
-        kinds::EQUAL => 7,
-        kinds::UNEQUAL => 9,
-        kinds::LESS => 11,
-        kinds::AT_MOST => 3,
-        kinds::AT_LEAST => 5,
-        kinds::MORE => 13,
-        kinds::OVERFLOW => 14,
+        kinds::EQUAL => FALSE_MASKS[0],
+        kinds::UNEQUAL => FALSE_MASKS[1],
+        kinds::LESS => FALSE_MASKS[2],
+        kinds::AT_MOST => FALSE_MASKS[3],
+        kinds::AT_LEAST => FALSE_MASKS[4],
+        kinds::MORE => FALSE_MASKS[5],
+        kinds::OVERFLOW => FALSE_MASKS[6],
         _ => 0,
     }
 }
